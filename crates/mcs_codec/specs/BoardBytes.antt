@@ -1,4 +1,4 @@
--- The bytes that spell a board. (Our own choice.)
+-- The bytes that encode a board. (Our own choice.)
 use Rattle.std.specs.Prelude.{ℕ, List, [], ◌∷◌, ◌++◌, length, Option, Some, None}
 use Rattle.std.specs.List.{flat_map}
 use Rattle.mcs_nibble.specs.declared.lines.LineMask.{LineMask}
@@ -9,7 +9,7 @@ use Rattle.mcs_model.specs.declared.board.KeyMatrix.{KeyMatrix}
 use Rattle.mcs_model.specs.declared.board.Line.{Line}
 use Rattle.mcs_model.specs.declared.board.Line.TheVariants.{Rom, Ram, Chain}
 
--- the four port lines of a ROM, lines 3, 2, 1, 0 in this order, or `----` if it is absent
+-- the characters of a ROM's port lines 3, 2, 1, 0, in this order, or `----` if the ROM is absent
 abbrev pub rom_bytes : Option (List LineMask) → List ℕ
 rom_bytes (Some mask) =
     mask_character (mask_at mask 3)
@@ -19,7 +19,7 @@ rom_bytes (Some mask) =
     ∷ []
 rom_bytes None = 45 ∷ 45 ∷ 45 ∷ 45 ∷ []
 
--- four bytes: the kind of line, and its numbers
+-- the four bytes of a line: its kind, and its numbers (a third number that the line lacks is 0)
 abbrev pub board_line_bytes : Line → List ℕ
 board_line_bytes (Rom chip k) = 0 ∷ chip ∷ k ∷ 0 ∷ []
 board_line_bytes (Ram bank chip k) = 1 ∷ bank ∷ chip ∷ k ∷ []
@@ -28,16 +28,16 @@ board_line_bytes (Chain n i) = 2 ∷ n ∷ i ∷ 0 ∷ []
 abbrev pub chain_bytes : ChainPart → List ℕ
 chain_bytes c = board_line_bytes c.clock ++ (board_line_bytes c.data_in ++ c.chips ∷ [])
 
--- the number of items, and each of them
+-- the number of items, and then the bytes of each item
 abbrev pub counted_bytes : {A : Type 0} → (A → List ℕ) → List A → List ℕ
 counted_bytes text items = length items ∷ flat_map text items
 
--- 0 without keys, or 1 and the matrix
+-- 0 if there are no keys, or 1 and then the key matrix
 abbrev pub keys_bytes : Option KeyMatrix → List ℕ
 keys_bytes None = 0 ∷ []
 keys_bytes (Some m) = 1 ∷ m.chain ∷ m.first ∷ m.rows ∷ counted_bytes board_line_bytes m.columns.items
 
--- the ROMs, the number of chips of each bank, the chains, the keys, the lamps
+-- the bytes of a board: its ROMs, the number of chips of each bank, its chains, keys and lamps
 abbrev pub board_bytes : BoardParts → List ℕ
 board_bytes b =
     flat_map rom_bytes b.roms

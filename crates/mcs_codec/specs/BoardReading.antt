@@ -1,4 +1,5 @@
--- Nothing to believe: this reading is proved to invert the bytes of `BoardBytes`.
+-- These definitions need not be trusted: this reading is proved to invert the bytes of
+-- `BoardBytes`.
 use Rattle.std.specs.Prelude.{ℕ, ◌==◌, ◌&&◌, List, [], ◌∷◌, Option, Some, None, is_none, if◌then◌else◌}
 use Rattle.mcs_nibble.specs.declared.lines.LineMask.{LineMask}
 use Rattle.mcs_nibble.specs.Ports.{mask_of}
@@ -11,7 +12,7 @@ use Rattle.mcs_model.specs.declared.limits.TheConstants.{BANKS, CHAINS, KEY_COLU
 use Rattle.mcs_model.specs.Boards.{board_fault_of}
 use Rattle.mcs_codec.specs.Reading.{◌>>=◌, Reading, giving, giving_some, refusing, byte_at, only, many, bytes_at, counted_at}
 
--- the port lines that four characters stand for
+-- the port lines 0 to 3 of a ROM, from the characters of its lines 3 to 0
 abbrev pub masks_of : ℕ → ℕ → ℕ → ℕ → Reading (List LineMask)
 masks_of a b c d = do
   line_3 ← giving_some (mask_of a)
@@ -20,7 +21,7 @@ masks_of a b c d = do
   line_0 ← giving_some (mask_of d)
   giving (line_0 ∷ line_1 ∷ line_2 ∷ line_3 ∷ [])
 
--- the ROM that four characters stand for; `----` is an absent one
+-- the ROM that four characters encode; `----` is an absent ROM
 abbrev pub rom_of : ℕ → ℕ → ℕ → ℕ → Reading (Option (List LineMask))
 rom_of a b c d =
     if a == 45 && b == 45 && c == 45 && d == 45 then giving None
@@ -34,7 +35,8 @@ rom_at = do
   d ← byte_at
   rom_of a b c d
 
--- the line of this kind and with these numbers, if there is one
+-- the line of this kind with these numbers; there is none for an unknown kind or a wrong padding
+-- byte
 abbrev pub board_line_of : ℕ → ℕ → ℕ → ℕ → Reading Line
 board_line_of kind a b c =
     if kind == 0 && c == 0 then giving (Rom a b)
@@ -80,7 +82,7 @@ keys_at = do
   tag ← byte_at
   keys_after_tag tag
 
--- the parts, whether or not they make a valid board
+-- the parts of a board, even if they do not make a valid board
 unfoldable pub parts_at : Reading BoardParts
 parts_at = do
   roms ← many ROMS rom_at
@@ -96,6 +98,6 @@ parts_at = do
     lamps = record { items = lamps };
   })
 
--- the parts of a valid board
+-- the parts of a board, which must be valid
 unfoldable pub board_at : Reading BoardParts
 board_at = only (λ b. is_none (board_fault_of b)) parts_at

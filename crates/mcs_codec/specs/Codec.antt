@@ -1,5 +1,5 @@
--- The bytes that spell a command, and those that spell a state, in version 2 and in version 1. (Our
--- own choice.)
+-- The bytes that encode a command, and those that encode a state, in version 2 and in version 1.
+-- (Our own choice.)
 use Rattle.std.specs.Prelude.{◌≡◌, ◌⊎◌, ℕ, Bool, true, ◌==◌, ◌||◌, List, [], ◌∷◌, take, drop, Option, Some, None, if◌then◌else◌}
 use Rattle.mcs_model.specs.BenchState.{BenchState}
 use Rattle.mcs_model.specs.Validity.{IsValid}
@@ -13,7 +13,7 @@ use Rattle.mcs_codec.specs.StateBytes.{state_bytes, state_bytes_1}
 use Rattle.mcs_codec.specs.declared.versions.Version.{Version}
 use Rattle.mcs_codec.specs.declared.versions.Version.TheVariants.{One, Two}
 
--- holds if these bytes spell this command
+-- holds if these bytes encode this command
 pub record Spells (bytes : List ℕ) (c : Command) : Type 0 where
   pub is : bytes ≡ command_bytes c
   pub in_range : IsCommand c
@@ -23,46 +23,46 @@ abbrev pub has_command : Version → Command → Bool
 has_command One c = in_version_1 c
 has_command Two c = true
 
--- holds if these bytes spell this command in a session of this version
+-- holds if these bytes encode this command in a session of this version
 abbrev pub SpellsBy : Version → List ℕ → Command → Type 0
 SpellsBy version bytes c = Spells bytes c × (has_command version c ≡ true)
 
--- holds if these bytes begin as those of a load do
+-- holds if these bytes begin with the tag of a load
 abbrev pub BeginsAsLoad : List ℕ → Type 0
 BeginsAsLoad bytes = take 1 bytes ≡ 2 ∷ []
 
--- holds if these bytes spell this state
+-- holds if these bytes encode this state
 pub record SpellsState (bytes : List ℕ) (s : BenchState) : Type 0 where
   pub is : bytes ≡ state_bytes s
   pub valid : IsValid s
 
--- holds if these bytes spell this state of version 1
+-- holds if these bytes encode this state of version 1
 pub record SpellsState1 (bytes : List ℕ) (s : BenchState1) : Type 0 where
   pub is : bytes ≡ state_bytes_1 s
   pub valid : IsValid1 s
 
--- holds if these bytes spell a state of version 1 that is carried over to this state
+-- holds if these bytes encode a state of version 1 that is converted (`lift`) to this state
 pub record SpellsLifted (bytes : List ℕ) (s : BenchState) : Type 0 where
   pub version_1 : BenchState1
   pub spells : SpellsState1 bytes version_1
   pub lifted : s ≡ lift version_1
 
--- holds if these bytes spell this state in this version; in version 1, the state is carried over
+-- holds if these bytes encode this state in this version; in version 1, the state is converted
 abbrev pub SpellsStateBy : Version → List ℕ → BenchState → Type 0
 SpellsStateBy One bytes s = SpellsLifted bytes s
 SpellsStateBy Two bytes s = SpellsState bytes s
 
--- holds if these bytes spell this state in one of the versions
+-- holds if these bytes encode this state in one of the two versions
 abbrev pub SpellsInSomeVersion : List ℕ → BenchState → Type 0
 SpellsInSomeVersion bytes s = SpellsState bytes s ⊎ SpellsLifted bytes s
 
--- the number of a version
+-- the number of a version, 1 or 2
 abbrev pub version_number : Version → ℕ
 version_number One = 1
 version_number Two = 2
 
--- The version that the byte after the count of commands names. In version 1 it is a port character
--- (`i`, `0`, `1` or `-`), and in version 2 it is 02.
+-- The version that the first of these bytes names. It is the byte after the count of commands: a
+-- port character (`i`, `0`, `1` or `-`) in version 1, and 02 in version 2.
 abbrev pub version_read : List ℕ → Option Version
 version_read [] = None
 version_read (b ∷ bytes) =

@@ -1,4 +1,4 @@
--- The bytes that spell a command: a tag, and the contents of the command. (Our own choice.)
+-- The bytes that encode a command: a tag, and then its fields. (Our own choice.)
 use Rattle.std.specs.Prelude.{ℕ, ◌+◌, ◌*◌, ◌^◌, ◌<◌, ◌==◌, List, [], ◌∷◌, ◌++◌, map, if◌then◌else◌}
 use Rattle.std.specs.List.{list_any}
 use Rattle.std.specs.Int.{w16, w32, to_be_bytes}
@@ -11,13 +11,13 @@ use Rattle.mcs_model.specs.declared.command.Command.{Command}
 use Rattle.mcs_model.specs.declared.command.Command.TheVariants.{Wire, Load, Press, Release, Run, Step, Poke, Test, Reset, Break, Unbreak, Watch, Unwatch}
 use Rattle.mcs_codec.specs.BoardBytes.{board_bytes}
 
--- ---- spelling
+-- ---- encoding
 
--- an address: two bytes, the high one first
+-- the two bytes of an address, the high byte first
 abbrev pub address_bytes : ℕ → List ℕ
 address_bytes at = to_be_bytes w16 at
 
--- a place, and its new value
+-- the bytes of a `Place` with its new value: its number, and then its fields
 abbrev pub place_bytes : Place → List ℕ
 place_bytes (Acc n) = 0 ∷ n ∷ []
 place_bytes (Cy b) = 1 ∷ b ∷ []
@@ -28,7 +28,7 @@ place_bytes (Rom at byte) = 5 ∷ (address_bytes at ++ byte ∷ [])
 place_bytes (Ram bank src n) = 6 ∷ bank ∷ src ∷ n ∷ []
 place_bytes (Status bank high k n) = 7 ∷ bank ∷ high ∷ k ∷ n ∷ []
 
--- 1 if an image has a byte at an address, and otherwise 0
+-- 1 if the image has a byte at this address, and 0 otherwise
 abbrev pub mark : List (ℕ × ℕ) → ℕ → ℕ
 mark image at = if list_any (λ p. p.0 == at) image then 1 else 0
 
@@ -36,14 +36,14 @@ mark image at = if list_any (λ p. p.0 == at) image then 1 else 0
 abbrev pub byte_of : (ℕ → ℕ) → ℕ
 byte_of f = f 0 + 2 * f 1 + 4 * f 2 + 8 * f 3 + 16 * f 4 + 32 * f 5 + 64 * f 6 + 128 * f 7
 
--- the marks of an image: bit k of byte i is 1 if the image has a byte at address 8 * i + k
+-- the marks of an image: bit k of byte i is 1 if the image has a byte at the address 8 * i + k
 unfoldable pub mark_bytes : List (ℕ × ℕ) → List ℕ
 mark_bytes image = table_of 512 (λ i. byte_of (λ k. mark image (8 * i + k)))
 
 abbrev pub values : List (ℕ × ℕ) → List ℕ
 values image = map (λ p. p.1) image
 
--- the marks, and the bytes by rising address
+-- the bytes of an image: its marks, and then its bytes in ascending order of address
 abbrev pub image_bytes : List (ℕ × ℕ) → List ℕ
 image_bytes image = mark_bytes image ++ values image
 
@@ -64,7 +64,7 @@ command_bytes (Unwatch bank src) = 13 ∷ bank ∷ src ∷ []
 
 -- ---- range
 
--- holds if each number of a place is in its range
+-- holds if each number of a `Place` is in its range
 abbrev pub IsPlace : Place → Type 0
 IsPlace (Acc n) = n < 16
 IsPlace (Cy b) = b < 2

@@ -1,4 +1,5 @@
--- Nothing to believe: this reading is proved to invert the bytes of `CommandBytes`.
+-- These definitions need not be trusted: this reading is proved to invert the bytes of
+-- `CommandBytes`.
 use Rattle.std.specs.Prelude.{ℕ, zero, suc, ◌+◌, ◌/◌, ◌%◌, ◌==◌, List, [], ◌∷◌, slice_index, if◌then◌else◌}
 use Rattle.std.specs.Int.{w32}
 use Rattle.mcs_nibble.specs.Bits.{bit_of}
@@ -9,7 +10,7 @@ use Rattle.mcs_model.specs.declared.command.Command.TheVariants.{Wire, Load, Pre
 use Rattle.mcs_codec.specs.Reading.{◌>>=◌, Reading, giving, refusing, byte_at, wide_number_at, address_at, bytes_at, small_at}
 use Rattle.mcs_codec.specs.BoardReading.{board_at}
 
--- a RAM nibble, and its value
+-- the `Place` of a RAM nibble, with its value
 abbrev pub character_at : Reading Place
 character_at = do
   bank ← small_at 8
@@ -17,7 +18,7 @@ character_at = do
   n ← small_at 16
   giving (Ram bank src n)
 
--- a status nibble, and its value
+-- the `Place` of a status nibble, with its value
 abbrev pub status_character_at : Reading Place
 status_character_at = do
   bank ← small_at 8
@@ -43,11 +44,11 @@ place_at = do
   tag ← byte_at
   place_after_tag tag
 
--- the bit of an address among marks
+-- the mark of an address: bit at % 8 of byte at / 8 of the marks
 unfoldable pub mark_bit : List ℕ → ℕ → ℕ
 mark_bit marks at = bit_of (slice_index marks (at / 8)) (at % 8)
 
--- the bytes of the marked addresses among the next n addresses, from one on
+-- the bytes of the marked addresses among the n addresses from `at` on, each with its address
 unfoldable pub addressed_at : List ℕ → ℕ → ℕ → Reading (List (ℕ × ℕ))
 addressed_at marks zero at = giving []
 addressed_at marks (suc n) at =
@@ -60,7 +61,7 @@ image_at = do
   marks ← bytes_at 512
   addressed_at marks 4096 0
 
--- the rest of a command after a tag, if reading it needs no memory: any command but a load of an
+-- the rest of a command after its tag, for any command that needs no memory: all but a load of an
 -- image
 abbrev pub command_without_image : ℕ → Reading Command
 command_without_image tag =
@@ -78,7 +79,7 @@ command_without_image tag =
     if tag == 13 then (do bank ← small_at 8; src ← byte_at; giving (Unwatch bank src)) else
     refusing
 
--- the rest of a command after any tag
+-- the rest of a command after its tag, for any command
 unfoldable pub command_after_tag : ℕ → Reading Command
 command_after_tag tag =
     if tag == 2 then (do image ← image_at; giving (Load image)) else command_without_image tag

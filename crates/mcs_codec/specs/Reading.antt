@@ -1,11 +1,11 @@
--- Nothing to believe: the readings built from these steps are proved to invert the bytes of
--- `BoardBytes`, `CommandBytes` and `StateBytes`. A reading goes from left to right. It gives a
--- value and the bytes after it, or nothing if the bytes spell no such value. In a `do` block each
--- step starts at the point at which the step before it stopped.
+-- These definitions need not be trusted: the readings that are built from these steps are proved to
+-- invert the bytes of `BoardBytes`, `CommandBytes` and `StateBytes`. A reading consumes bytes from
+-- left to right. It gives a value and the bytes after it, or nothing if the bytes do not encode
+-- such a value. In a `do` block, each step starts at the byte at which the step before it stopped.
 use Rattle.std.specs.Prelude.{ℕ, zero, suc, Bool, List, [], ◌∷◌, length, take, drop, Option, Some, None, nat_lt, nat_le, if◌then◌else◌}
 use Rattle.std.specs.Int.{Width, w16, byte_len, from_be_bytes}
 
--- a value, and the bytes after it, or nothing
+-- the result of a reading: a value and the bytes after it, or `None`
 abbrev pub Read : Type 0 → Type 0
 Read A = Option (A × List ℕ)
 
@@ -22,19 +22,19 @@ infixl 10 ◌>>=◌
 abbrev pub ◌>>=◌ : {A B : Type 0} → Reading A → (A → Reading B) → Reading B
 read >>= next = λ bytes. and_then (read bytes) next
 
--- this value, without reading on
+-- gives this value, and consumes no bytes
 abbrev pub giving : {A : Type 0} → A → Reading A
 giving a = λ bytes. Some (a, bytes)
 
--- no value
+-- gives no value: the reading fails
 abbrev pub refusing : {A : Type 0} → Reading A
 refusing = λ bytes. None
 
--- this value, if the test is passed
+-- gives this value if `test` is true, and fails otherwise
 abbrev pub giving_if : {A : Type 0} → Bool → A → Reading A
 giving_if test a = λ bytes. if test then Some (a, bytes) else None
 
--- the value, if there is one
+-- gives the value if there is one, and fails otherwise
 abbrev pub giving_some : {A : Type 0} → Option A → Reading A
 giving_some (Some a) = giving a
 giving_some None = refusing
@@ -45,34 +45,34 @@ abbrev pub byte_at : Reading ℕ
 byte_at [] = None
 byte_at (b ∷ bytes) = Some (b, bytes)
 
--- a number of several bytes, the highest first
+-- reads a number of this width, the highest byte first
 abbrev pub wide_number_at : Width → Reading ℕ
 wide_number_at w bytes =
     if nat_lt (length bytes) (byte_len w) then None
     else Some (from_be_bytes w (take (byte_len w) bytes), drop (byte_len w) bytes)
 
--- `count` bytes
+-- reads `count` bytes
 unfoldable pub bytes_at : ℕ → Reading (List ℕ)
 bytes_at count bytes =
     if nat_lt (length bytes) count then None else Some (take count bytes, drop count bytes)
 
 -- ---- tests, repetition, and the end
 
--- a value that passes a test
+-- reads a value, and fails if the test is false for it
 abbrev pub only : {A : Type 0} → (A → Bool) → Reading A → Reading A
 only test read = do
   a ← read
   giving_if (test a) a
 
--- a number below a limit, in one byte
+-- reads a number below `limit` from one byte
 abbrev pub small_at : ℕ → Reading ℕ
 small_at limit = only (λ n. nat_lt n limit) byte_at
 
--- an address, in two bytes
+-- reads an address from two bytes, and fails if it is 4,096 or more
 abbrev pub address_at : Reading ℕ
 address_at = only (λ n. nat_lt n 4096) (wide_number_at w16)
 
--- n values
+-- reads n values, one after another
 unfoldable pub many : {A : Type 0} → ℕ → Reading A → Reading (List A)
 many zero read = giving []
 many (suc n) read = do
@@ -80,17 +80,17 @@ many (suc n) read = do
   others ← many n read
   giving (first ∷ others)
 
--- a count up to a limit, and as many values
+-- reads a count of at most `limit` from one byte, and then that many values
 unfoldable pub counted_at : {A : Type 0} → ℕ → Reading A → Reading (List A)
 counted_at limit read = do
   count ← only (λ n. nat_le n limit) byte_at
   many count read
 
--- the value, if no bytes are left after it
+-- the value that was read, or `None` if bytes are left after it
 abbrev pub whole_value : {A : Type 0} → Read A → Option A
 whole_value (Some x) = elim x.1 [ [] ↦ Some x.0 | (_ ∷ _) ↦ None ]
 whole_value None = None
 
--- the value that all of the bytes spell
+-- the value that all of the bytes together encode, or `None`
 abbrev pub whole : {A : Type 0} → Reading A → List ℕ → Option A
 whole read bytes = whole_value (read bytes)

@@ -1,4 +1,4 @@
--- The lists of a bench that are written item by item.
+-- The lists in a bench's state that are written item by item.
 use Rattle.std.specs.Prelude.{ℕ, List, [], slice_index_or}
 use Rattle.mcs_model.specs.Boards.{chain_bits, key_count}
 use Rattle.mcs_model.specs.BenchState.{BenchState}
@@ -13,7 +13,7 @@ list_in_state IndexRegisters s = s.processor.r
 list_in_state (ChainBits n) s = slice_index_or s.bus.chains n []
 list_in_state Keys s = s.bus.keys
 
--- the number of items of a list
+-- the number of items in a list
 abbrev pub state_list_length : StateList → BenchState → ℕ
 state_list_length (Chips list) s = count_of list
 state_list_length RomPorts s = 16

@@ -1,6 +1,6 @@
--- Nothing to believe: this reading is proved to invert the bytes of `StateBytes` in both versions.
--- It reads the version and the fields of a state in their order. A later test of all fields decides
--- whether they make a valid state.
+-- These definitions need not be trusted: this reading is proved to invert the bytes of `StateBytes`
+-- in both versions. It reads the version and the fields of a state, in order. A later check of all
+-- fields decides whether they make a valid state.
 use Rattle.std.specs.Prelude.{◌≡◌, ℕ, ◌*◌, ◌==◌, ◌||◌, List, [], ◌∷◌, Some, None, length, if◌then◌else◌}
 use Rattle.std.specs.Int.{w16, w32}
 use Rattle.mcs_model.specs.declared.board.BoardParts.{BoardParts}
@@ -15,7 +15,8 @@ use Rattle.mcs_codec.specs.BoardReading.{board_at}
 use Rattle.mcs_codec.specs.declared.versions.Version.{Version}
 use Rattle.mcs_codec.specs.declared.versions.Version.TheVariants.{One, Two}
 
--- the version, by the next byte: a port character is the first of the board, and is left
+-- reads the version from the next byte; a port character is the first byte of the board, and is not
+-- consumed
 unfoldable pub version_at : Reading Version
 version_at [] = None
 version_at (b ∷ bytes) =
@@ -23,7 +24,7 @@ version_at (b ∷ bytes) =
     else if b == 2 then Some (Two, bytes)
     else None
 
--- the board; in version 1 it must be a small one
+-- reads the board, which must be small in version 1
 unfoldable pub board_by : Version → Reading BoardParts
 board_by One = only is_small board_at
 board_by Two = board_at
@@ -34,7 +35,7 @@ versioned_board_at = do
   board ← board_by version
   giving (version, board)
 
--- the bits of each chain
+-- reads the bits of each chain, one byte for each bit
 unfoldable pub chains_at : List ChainPart → Reading (List (List ℕ))
 chains_at [] = giving []
 chains_at (c ∷ chains) = do
@@ -42,7 +43,7 @@ chains_at (c ∷ chains) = do
   others ← chains_at chains
   giving (bits ∷ others)
 
--- the watches; version 1 has none
+-- reads the watches; version 1 has none
 unfoldable pub watches_at : Version → Reading (List ℕ)
 watches_at One = giving []
 watches_at Two = counted_at WATCHES (wide_number_at w16)
@@ -93,7 +94,7 @@ state_at = do
     },
   )
 
--- holds if the lists that have one length in every state have it, as those of a new bench do
+-- holds if each list whose length is the same in every state has that length, as in a new bench
 pub record HasCells (b : BusState) : Type 0 where
   pub rom : length b.rom ≡ 4096
   pub ram : length b.ram ≡ 2048

@@ -1,4 +1,4 @@
-//! The bytes of a board.
+//! The encoding of a board.
 ghost use Rattle.std.specs.Prelude.{◌≡◌, ℕ, ◌+◌, ◌≤◌, ◌<◌, ◌∷◌, ◌++◌, List, [], length, map, take, option_map, Option, Some, None, if◌then◌else◌};
 ghost use Rattle.mcs_codec.specs.BoardBytes.{rom_bytes, board_line_bytes, chain_bytes, keys_bytes, board_bytes};
 ghost use Rattle.mcs_codec.specs.BoardReading.{rom_at, board_line_at, chain_at, keys_at, matrix_at, parts_at, board_at};
@@ -9,7 +9,7 @@ use mcs_model::board::{Board, BoardParts, ChainPart, KeyMatrix, Line};
 use mcs_model::limits::{BANKS, ROMS};
 use mcs_nibble::LineMask;
 
-/// Returns the bytes of the port lines of a ROM.
+/// Returns the characters of a ROM's four port lines, line 3 first.
 fn masks_bytes(mask: [LineMask; 4]) -> [u8; 4]
     ensures { result ≡ rom_bytes (Some mask) }
 {
@@ -120,7 +120,7 @@ impl Decode for ChainPart {
     }
 }
 
-/// Reads a key matrix, or returns none if the bytes spell none.
+/// Reads a key matrix, or returns `None` if the bytes do not encode one.
 #[tactic(auto, unfolding(crate::specs::BoardReading::matrix_at))]
 fn read_matrix(reader: &mut Reader<'_>) -> Option<KeyMatrix>
     ensures { option_map (λ x. (x, reader.new)) result ≡ matrix_at reader.old }
@@ -137,8 +137,8 @@ fn read_matrix(reader: &mut Reader<'_>) -> Option<KeyMatrix>
     })
 }
 
-/// Reads the keys: a byte for whether there are any, and their matrix. It returns none if the bytes
-/// spell no keys.
+/// Reads the keys: a byte that is 1 if there are keys and 0 if not, and then the key matrix. It
+/// returns `None` if the bytes do not encode keys in this way.
 #[tactic(auto, unfolding(crate::specs::BoardReading::keys_at))]
 fn read_keys(reader: &mut Reader<'_>) -> Option<Option<KeyMatrix>>
     ensures { option_map (λ x. (x, reader.new)) result ≡ keys_at reader.old }
@@ -153,8 +153,8 @@ fn read_keys(reader: &mut Reader<'_>) -> Option<Option<KeyMatrix>>
     }
 }
 
-/// Writes the keys at an offset of the buffer and returns the offset after them: a byte for whether
-/// there are any, and their matrix.
+/// Writes the keys to `out` at offset `at` and returns the offset after them. They are a byte that
+/// is 1 if there are keys and 0 if not, and then the key matrix.
 fn put_keys(keys: &Option<KeyMatrix>, out: &mut [u8], at: usize) -> usize
     requires { at + length (keys_bytes keys.now) ≤ length out.old }
     ensures end { result ≡ at + length (keys_bytes keys.now) }
@@ -169,8 +169,8 @@ fn put_keys(keys: &Option<KeyMatrix>, out: &mut [u8], at: usize) -> usize
     }
 }
 
-/// Reads the parts of a board, whatever is wrong with them. It returns none if the bytes spell no
-/// parts.
+/// Reads the parts of a board, even if they do not make a valid board. It returns `None` if the
+/// bytes do not encode parts.
 #[tactic(auto, unfolding(crate::specs::BoardReading::parts_at))]
 fn read_parts(reader: &mut Reader<'_>) -> Option<BoardParts>
     ensures { option_map (λ x. (x, reader.new)) result ≡ parts_at reader.old }
@@ -191,7 +191,7 @@ fn read_parts(reader: &mut Reader<'_>) -> Option<BoardParts>
     })
 }
 
-/// Reads a board at the front of some bytes, or returns none if they spell none.
+/// Reads a valid board from the start of the bytes, or returns `None` if they do not encode one.
 #[tactic(auto, unfolding(crate::specs::BoardReading::board_at))]
 pub fn read_board(reader: &mut Reader<'_>) -> Option<Board>
     ensures { option_map (λ x. (x, reader.new)) result ≡ board_at reader.old }
@@ -203,7 +203,7 @@ pub fn read_board(reader: &mut Reader<'_>) -> Option<Board>
     }
 }
 
-/// Writes the parts of a board at an offset of the buffer and returns the offset after them.
+/// Writes the parts of a board to `out` at offset `at` and returns the offset after them.
 pub fn put_board(parts: &BoardParts, out: &mut [u8], at: usize) -> usize
     requires { at + length (board_bytes parts.now) ≤ length out.old }
     ensures end { result ≡ at + length (board_bytes parts.now) }

@@ -1,4 +1,4 @@
-//! The bytes of a command.
+//! The encoding of a command.
 ghost use Rattle.std.specs.Prelude.{◌≡◌, ℕ, ◌+◌, ◌≤◌, ◌<◌, ◌∷◌, ◌++◌, List, [], length, take, option_map, Option, Some, None, IfOk, OnErr, IfSome, IfNone, if◌then◌else◌};
 ghost use Rattle.mcs_model.specs.declared.command.Command.{Command};
 ghost use Rattle.mcs_codec.specs.Reading.{whole};
@@ -16,14 +16,15 @@ use mcs_model::limits::RECORD_BYTES;
 use mcs_nibble::{Addr, BankNo, Bit};
 use std::alloc::{AllocError, Global};
 
-/// The error of a call that found no memory.
+/// The error that a call returns if memory runs out.
 pub type NoMemory = AllocError;
 
-/// The size of a buffer that a command is written into: the length of the longest record. No
-/// command is longer.
+/// The size of a buffer for an encoded command: the maximum length of a record. No command is
+/// longer.
 pub const COMMAND_BYTES: usize = RECORD_BYTES;
 
-/// Shows that each part of a command is in its range, and that its tag is one byte at least.
+/// Shows that each part of a command is in its range, and that the encoding has at least one byte,
+/// the tag.
 fn command_is_in_range(command: &Command)
     ensures range { IsCommand command.now }
     ensures tag { 1 ≤ length (command_bytes command.now) }
@@ -55,7 +56,7 @@ fn command_is_in_range(command: &Command)
     }
 }
 
-/// Writes a command at an offset of the buffer and returns the offset after it.
+/// Writes a command to `out` at offset `at` and returns the offset after it.
 fn put_command(command: &Command, out: &mut [u8], at: usize) -> usize
     requires { at + length (command_bytes command.now) ≤ length out.old }
     ensures end { result ≡ at + length (command_bytes command.now) }
@@ -96,8 +97,8 @@ fn put_command(command: &Command, out: &mut [u8], at: usize) -> usize
     }
 }
 
-/// Writes a command at the front of these bytes and returns its length: 1 to 4,609. It promises
-/// nothing about the bytes after it.
+/// Writes a command to the start of `into` and returns its length, 1 to 4,609 bytes. It promises
+/// nothing about the bytes of `into` after it.
 pub fn command_bytes(command: &Command, into: &mut [u8]) -> usize
     requires lent { COMMAND_BYTES ≤ length into.old }
     ensures spells { Spells (take result into.new) command.now }
@@ -109,8 +110,8 @@ pub fn command_bytes(command: &Command, into: &mut [u8]) -> usize
     put_command(command, into, 0)
 }
 
-/// Reads what follows a tag if that needs no memory: any command but a load. It returns none if the
-/// bytes spell no such command.
+/// Reads the rest of a command after its tag, for any command that needs no memory: all but a load.
+/// It returns `None` if the bytes do not encode such a command.
 fn read_without_image(tag: u8, reader: &mut Reader<'_>) -> Option<Command>
     ensures { option_map (λ x. (x, reader.new)) result ≡ command_without_image tag reader.old }
 {
@@ -143,8 +144,8 @@ fn read_without_image(tag: u8, reader: &mut Reader<'_>) -> Option<Command>
     }
 }
 
-/// Reads what follows a tag, or returns none if the bytes spell no command. It fails if memory runs
-/// out.
+/// Reads the rest of a command after its tag. It returns `None` if the bytes do not encode a
+/// command, and fails if memory runs out.
 #[tactic(auto, unfolding(crate::specs::CommandReading::command_after_tag))]
 fn read_after_tag(
     alloc: Global,
@@ -165,7 +166,8 @@ fn read_after_tag(
     }
 }
 
-/// Returns the command that all of these bytes are read as, or none. It fails if memory runs out.
+/// Reads a command from all of these bytes. It returns `None` if they do not encode one, and fails
+/// if memory runs out.
 #[tactic(auto, unfolding(crate::specs::CommandReading::command_at))]
 fn read_command(alloc: Global, bytes: &[u8]) -> Result<Option<Command>, NoMemory>
     ensures read { IfOk result (λ found. found ≡ whole command_at bytes.now) }
@@ -187,7 +189,7 @@ fn read_command(alloc: Global, bytes: &[u8]) -> Result<Option<Command>, NoMemory
     }
 }
 
-/// Returns the command that these bytes spell, or none if they spell no command.
+/// Returns the command that these bytes encode, or `None` if they do not encode a command.
 ///
 /// # Errors
 ///
@@ -200,8 +202,8 @@ pub fn command_of(alloc: Global, bytes: &[u8]) -> Result<Option<Command>, NoMemo
     read_command(alloc, bytes)
 }
 
-/// Shows that no bytes spell two commands. (Each command has one spelling, because the definition
-/// gives one.)
+/// Shows that no bytes encode two different commands. (Each command has one encoding, because the
+/// definition gives one.)
 pub fn one_command()
     ensures { (bytes : List ℕ) (c d : Command) → Spells bytes c → Spells bytes d → c ≡ d }
 {}

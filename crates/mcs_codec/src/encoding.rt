@@ -1,4 +1,4 @@
-//! Values that are written and read one after the other.
+//! Traits and functions that write and read values one after another.
 ghost use Rattle.std.specs.Prelude.{◌≡◌, ℕ, ◌+◌, ◌≤◌, ◌<◌, ◌∷◌, ◌++◌, List, [], length, take, option_map, Option, Some, None, if◌then◌else◌};
 ghost use Rattle.std.specs.List.{flat_map};
 ghost use Rattle.mcs_codec.specs.Reading.{small_at, many, counted_at};
@@ -8,28 +8,29 @@ use crate::reader::Reader;
 use arrayvec::ArrayVec;
 use mcs_nibble::{Addr, Bit, Nibble};
 
-/// A value with one spelling.
+/// A value that has one encoding.
 pub trait Encode {
-    /// Its spelling.
+    /// The encoding of the value.
     ghost spelling: { Self → List ℕ };
 
-    /// Writes the value at an offset of the buffer and returns the offset after it.
+    /// Writes the value to `out` at offset `at` and returns the offset after it.
     fn put(&self, out: &mut [u8], at: usize) -> usize
         requires { at + length (spelling self.now) ≤ length out.old }
         ensures end { result ≡ at + length (spelling self.now) }
         ensures front { take result out.new ≡ take at out.old ++ spelling self.now };
 }
 
-/// A value that is read at the front of some bytes.
+/// A value that can be read from the start of a sequence of bytes.
 pub trait Decode: Sized + Drop {
-    /// The value and the bytes after it, if there is one.
+    /// The value at the start of the bytes, and the bytes after it, or `None` if there is no such
+    /// value.
     ghost reading: { List ℕ → Option (Self × List ℕ) };
 
     fn read(reader: &mut Reader<'_>) -> Option<Self>
         ensures { option_map (λ x. (x, reader.new)) result ≡ reading reader.old };
 }
 
-/// Writes bytes at an offset of the buffer and returns the offset after them.
+/// Writes `bytes` to `out` at offset `at` and returns the offset after them.
 pub fn put(out: &mut [u8], at: usize, bytes: &[u8]) -> usize
     requires { at + length bytes.now ≤ length out.old }
     ensures end { result ≡ at + length bytes.now }
@@ -40,7 +41,7 @@ pub fn put(out: &mut [u8], at: usize, bytes: &[u8]) -> usize
     end
 }
 
-/// Writes one value after the other at an offset of the buffer and returns the offset after them.
+/// Writes the values, one after another, to `out` at offset `at` and returns the offset after them.
 pub fn put_all<T: Encode>(items: &[T], out: &mut [u8], at: usize) -> usize
     requires { at + length (flat_map T.spelling items.now) ≤ length out.old }
     ensures end { result ≡ at + length (flat_map T.spelling items.now) }
@@ -53,7 +54,7 @@ pub fn put_all<T: Encode>(items: &[T], out: &mut [u8], at: usize) -> usize
     end
 }
 
-/// Reads a value into each item, or returns none if the bytes do not spell them.
+/// Reads a value into each item, or returns `None` if the bytes do not encode that many values.
 pub fn read_into<T: Decode>(reader: &mut Reader<'_>, items: &mut [T]) -> Option<()>
     ensures { option_map (λ _. (items.new, reader.new)) result
         ≡ many (length items.old) T.reading reader.old }
@@ -64,7 +65,7 @@ pub fn read_into<T: Decode>(reader: &mut Reader<'_>, items: &mut [T]) -> Option<
     Some(())
 }
 
-/// Reads `count` values, or returns none if the bytes do not spell them.
+/// Reads `count` values, or returns `None` if the bytes do not encode that many.
 pub fn read_list<T: Decode + Default, const CAP: usize>(
     reader: &mut Reader<'_>,
     count: usize,
@@ -118,7 +119,8 @@ impl Decode for Addr {
     }
 }
 
-/// Reads a count and as many values, or returns none if the bytes do not spell them.
+/// Reads a count and then that many values. It returns `None` if the count is above `CAP` or the
+/// bytes do not encode the values.
 #[tactic(auto, unfolding(crate::specs::Reading::counted_at))]
 pub fn read_counted<T: Decode + Default, const CAP: usize>(
     reader: &mut Reader<'_>,
@@ -133,7 +135,7 @@ pub fn read_counted<T: Decode + Default, const CAP: usize>(
     }
 }
 
-/// Writes a count and each value at an offset of the buffer and returns the offset after them.
+/// Writes a count, and then each value, to `out` at offset `at` and returns the offset after them.
 pub fn put_counted<T: Encode>(items: &[T], out: &mut [u8], at: usize) -> usize
     requires few { length items.now < 256 }
     requires room { at + length (counted_text T.spelling items.now) ≤ length out.old }

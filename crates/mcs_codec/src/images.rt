@@ -1,4 +1,5 @@
-//! The bytes of an image: marks of its addresses, and its bytes.
+//! The encoding of an image: a bit for each address that marks those with a byte, and then the
+//! bytes.
 ghost use Rattle.std.specs.Prelude.{◌≡◌, ℕ, ◌+◌, ◌*◌, ◌≤◌, ◌<◌, ◌∷◌, ◌++◌, List, [], length, take, map, slice_index, option_map, IfOk};
 ghost use Rattle.mcs_nibble.specs.Tables.{table_of};
 ghost use Rattle.mcs_codec.specs.CommandBytes.{mark, byte_of, mark_bytes, values, image_bytes};
@@ -10,16 +11,16 @@ use mcs_model::image::Image;
 use mcs_nibble::{Addr, Bit};
 use std::alloc::{AllocError, Global};
 
-/// The number of addresses of the ROMs.
+/// The number of ROM addresses.
 const ADDRESSES: usize = 4096;
 
-/// The number of bytes of the marks, a bit for each address.
+/// The number of bytes that the marks occupy, with one bit for each address.
 const MARK_BYTES: usize = 512;
 
-/// A byte of an image, after its address.
+/// An address, and the byte of an image there.
 type AddressedByte = (Addr, u8);
 
-/// Returns 1 for each address at which an image has a byte, and 0 for the others.
+/// Returns 1 for each address at which the image has a byte, and 0 for all others.
 fn marks_of(image: &[AddressedByte]) -> [Bit; ADDRESSES]
     ensures { (at : ℕ) → at < 4096 → slice_index result at ≡ mark image.now at }
 {
@@ -30,7 +31,8 @@ fn marks_of(image: &[AddressedByte]) -> [Bit; ADDRESSES]
     marks
 }
 
-/// Returns the byte of the marks of eight addresses from one on, the first in the lowest bit.
+/// Packs the marks of the eight addresses from `at` on into a byte, the first mark in the lowest
+/// bit.
 fn mark_byte(marks: &[Bit], at: usize) -> u8
     requires { at + 8 ≤ length marks.now }
     ensures { result ≡ byte_of (λ k. slice_index marks.now (at + k)) }
@@ -41,7 +43,7 @@ fn mark_byte(marks: &[Bit], at: usize) -> u8
     low + middle + high
 }
 
-/// Returns the marks of the addresses of an image, eight in a byte.
+/// Returns the marks of an image's addresses, packed eight to a byte.
 fn marks_packed(image: &[AddressedByte]) -> [u8; MARK_BYTES]
     ensures { result ≡ mark_bytes image.now }
 {
@@ -61,7 +63,7 @@ impl Encode for AddressedByte {
     }
 }
 
-/// Writes the bytes by rising address and returns the offset after them.
+/// Writes the bytes of an image, in ascending order of address, and returns the offset after them.
 fn put_values(image: &[AddressedByte], out: &mut [u8], at: usize) -> usize
     requires { at + length (values image.now) ≤ length out.old }
     ensures end { result ≡ at + length (values image.now) }
@@ -70,7 +72,7 @@ fn put_values(image: &[AddressedByte], out: &mut [u8], at: usize) -> usize
     put_all(image, out, at)
 }
 
-/// Writes an image at an offset of the buffer and returns the offset after it.
+/// Writes an image to `out` at offset `at` and returns the offset after it.
 pub fn put_image(image: &Image, out: &mut [u8], at: usize) -> usize
     requires { at + length (image_bytes image.now) ≤ length out.old }
     ensures end { result ≡ at + length (image_bytes image.now) }
@@ -81,7 +83,7 @@ pub fn put_image(image: &Image, out: &mut [u8], at: usize) -> usize
     put_values(addressed, out, at)
 }
 
-/// Returns the bit of an address among marks.
+/// Returns the mark of an address.
 #[tactic(auto, unfolding(crate::specs::CommandReading::mark_bit))]
 fn mark_bit(marks: &[u8], at: u16) -> u8
     requires marks { length marks.now ≡ 512 }
@@ -91,8 +93,8 @@ fn mark_bit(marks: &[u8], at: u16) -> u8
     marks[usize::from(at / 8)] >> (at % 8) & 1
 }
 
-/// Reads the bytes of the addresses that are marked, by rising address. It returns none if there
-/// are too few bytes, and fails if memory runs out.
+/// Reads the bytes of the marked addresses, in ascending order of address. It returns `None` if
+/// there are too few bytes, and fails if memory runs out.
 fn read_addressed(
     alloc: Global,
     reader: &mut Reader<'_>,
@@ -115,8 +117,8 @@ fn read_addressed(
     Ok(Some(image))
 }
 
-/// Reads an image: the marks of its addresses, and its bytes. It returns none if there are too few
-/// bytes, and fails if memory runs out.
+/// Reads an image: the marks of its addresses, and then its bytes. It returns `None` if there are
+/// too few bytes, and fails if memory runs out.
 #[tactic(auto, unfolding(crate::specs::CommandReading::image_at))]
 pub fn read_image(alloc: Global, reader: &mut Reader<'_>) -> Result<Option<Image>, AllocError>
     ensures { IfOk result (λ found. option_map (λ x. (x, reader.new)) found ≡ image_at reader.old) }

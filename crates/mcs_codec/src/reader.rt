@@ -1,4 +1,4 @@
-//! Bytes, read from left to right.
+//! A reader that consumes bytes from left to right.
 ghost use Rattle.std.specs.Prelude.{◌≡◌, ◌==◌, length, option_map, IfSome};
 ghost use Rattle.std.specs.Int.{w16, w32};
 ghost use Rattle.mcs_codec.specs.Reading.{byte_at, wide_number_at, bytes_at};
@@ -7,7 +7,7 @@ ghost use Rattle.mcs_codec.specs.StateReading.{version_at};
 use crate::versions::Version;
 use std::marker::Model;
 
-/// The rest of the bytes. After a `None` it can be anything.
+/// The bytes that are not yet read. After a method returned `None`, they can be anything.
 #[derive(Drop)]
 pub struct Reader<'a> {
     rest: &'a [u8],
@@ -22,21 +22,21 @@ impl<'a> Model for Reader<'a> {
 }
 
 impl<'a> Reader<'a> {
-    /// Makes a reader of all these bytes.
+    /// Creates a reader of all these bytes.
     pub fn new(rest: &'a [u8]) -> Reader<'a>
         ensures { result ≡ rest.now }
     {
         Reader { rest }
     }
 
-    /// Returns true if no byte is left.
+    /// Returns true if no bytes are left.
     pub fn is_empty(&self) -> bool
         ensures { result ≡ (length self.now == 0) }
     {
         self.rest.is_empty()
     }
 
-    /// Reads one byte, or returns none if none is left.
+    /// Reads one byte, or returns `None` if no byte is left.
     pub fn byte(&mut self) -> Option<u8>
         ensures { option_map (λ x. (x, self.new)) result ≡ byte_at self.old }
     {
@@ -45,8 +45,8 @@ impl<'a> Reader<'a> {
         Some(*first)
     }
 
-    /// Reads the version from the next byte. A port character, which version 1 has there, is left.
-    /// It returns none if no byte is left or it names no version.
+    /// Reads the version from the next byte. In version 1 this byte is a port character, which is
+    /// not consumed. It returns `None` if no byte is left or the byte names no version.
     #[tactic(auto, unfolding(crate::specs::StateReading::version_at))]
     pub fn version(&mut self) -> Option<Version>
         ensures { option_map (λ x. (x, self.new)) result ≡ version_at self.old }
@@ -62,7 +62,7 @@ impl<'a> Reader<'a> {
         }
     }
 
-    /// Reads a number of two bytes, the high one first, or returns none if fewer are left.
+    /// Reads a two-byte number, the high byte first, or returns `None` if fewer bytes are left.
     pub fn number(&mut self) -> Option<u16>
         ensures { option_map (λ x. (x, self.new)) result ≡ wide_number_at w16 self.old }
     {
@@ -74,7 +74,7 @@ impl<'a> Reader<'a> {
         Some(u16::from_be_bytes([front[0], front[1]]))
     }
 
-    /// Reads a number of four bytes, the highest first, or returns none if fewer are left.
+    /// Reads a four-byte number, the highest byte first, or returns `None` if fewer bytes are left.
     pub fn long_number(&mut self) -> Option<u32>
         ensures { option_map (λ x. (x, self.new)) result ≡ wide_number_at w32 self.old }
     {
@@ -86,7 +86,7 @@ impl<'a> Reader<'a> {
         Some(u32::from_be_bytes([front[0], front[1], front[2], front[3]]))
     }
 
-    /// Reads `count` bytes, or returns none if fewer are left.
+    /// Reads `count` bytes, or returns `None` if fewer are left.
     #[tactic(auto, unfolding(crate::specs::Reading::bytes_at))]
     pub fn bytes(&mut self, count: usize) -> Option<&'a [u8]>
         ensures read { option_map (λ x. (x.now, self.new)) result ≡ bytes_at count self.old }
@@ -100,7 +100,7 @@ impl<'a> Reader<'a> {
         Some(front)
     }
 
-    /// Reads a byte into each cell, or returns none if fewer are left.
+    /// Fills `cells` with the next bytes, or returns `None` if too few are left.
     #[tactic(auto, unfolding(crate::specs::Reading::bytes_at))]
     pub fn fill(&mut self, cells: &mut [u8]) -> Option<()>
         ensures { option_map (λ _. (cells.new, self.new)) result

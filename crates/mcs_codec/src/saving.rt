@@ -1,4 +1,4 @@
-//! The bytes of a bench's state.
+//! The encoding of a bench's state.
 ghost use Rattle.std.specs.Prelude.{◌≡◌, ℕ, ◌+◌, ◌*◌, ◌≤◌, ◌<◌, ◌++◌, List, [], length, take, slice_index, slice_index_or};
 ghost use Rattle.std.specs.List.{flat_map};
 ghost use Rattle.mcs_model.specs.Boards.{chain_bits, chain_count, key_count};
@@ -13,14 +13,13 @@ use crate::versions::Version;
 use mcs_bench::{Bench, ChipList};
 use mcs_model::limits::SNAPSHOT_BYTES;
 
-/// The size of a buffer that a state is written into: the length of the longest snapshot. No state
-/// is longer.
+/// The size of a buffer for an encoded state: the maximum length of a snapshot. No state is longer.
 pub const STATE_BYTES: usize = SNAPSHOT_BYTES;
 
-/// The lists of a bench that are written item by item.
+/// A list in a bench's state that is written item by item.
 #[derive(Clone, Copy)]
 pub enum StateList {
-    /// A list that the chips hold.
+    /// A list that is stored in the chips.
     Chips(ChipList),
     /// The port latches of the ROMs.
     RomPorts,
@@ -28,11 +27,11 @@ pub enum StateList {
     IndexRegisters,
     /// The bits of a chain, bit 0 first.
     ChainBits(u8),
-    /// The keys, row by row.
+    /// The states of the keys, row by row.
     Keys,
 }
 
-/// Returns the level of the key at an index, counted row by row.
+/// Returns the state of the key at index `i`. Keys are counted row by row.
 fn key_at(bench: &Bench, i: usize) -> u8
     requires { i < key_count bench.now.bus.board }
     ensures { result ≡ slice_index bench.now.bus.keys i }
@@ -47,7 +46,7 @@ fn key_at(bench: &Bench, i: usize) -> u8
 }
 
 impl StateList {
-    /// Returns the number of items of the list.
+    /// Returns the number of items in the list.
     fn count(self, bench: &Bench) -> usize
         ensures { result ≡ state_list_length self bench.now }
     {
@@ -65,7 +64,7 @@ impl StateList {
         }
     }
 
-    /// Returns the byte at an index of the list.
+    /// Returns the byte at index `i` of the list.
     fn byte(self, bench: &Bench, i: usize) -> u8
         requires valid { IsValid bench.now }
         requires place { i < state_list_length self bench.now }
@@ -80,7 +79,7 @@ impl StateList {
         }
     }
 
-    /// Writes the list at an offset of the buffer and returns the offset after it.
+    /// Writes the list to `out` at offset `at` and returns the offset after it.
     fn put(self, bench: &Bench, out: &mut [u8], at: usize) -> usize
         requires valid { IsValid bench.now }
         requires room { at + length (list_in_state self bench.now) ≤ length out.old }
@@ -95,7 +94,8 @@ impl StateList {
     }
 }
 
-/// Writes what the ROMs and the RAM chips hold, and their ports, and returns the offset after them.
+/// Writes the contents of the ROMs and the RAM chips, and their ports, and returns the offset after
+/// them.
 fn put_memory(bench: &Bench, out: &mut [u8], at: usize) -> usize
     requires valid { IsValid bench.now }
     requires room { at + length (memory_bytes bench.now.bus) ≤ length out.old }
@@ -109,8 +109,8 @@ fn put_memory(bench: &Bench, out: &mut [u8], at: usize) -> usize
     StateList::RomPorts.put(bench, out, at)
 }
 
-/// Writes the accumulator, the carry, the index registers, the counter and the return addresses,
-/// and returns the offset after them.
+/// Writes the accumulator, the carry, the index registers, the program counter and the return
+/// addresses, and returns the offset after them.
 fn put_registers(bench: &Bench, out: &mut [u8], at: usize) -> usize
     requires valid { IsValid bench.now }
     requires room { at + length (registers_bytes bench.now.processor) ≤ length out.old }
@@ -124,8 +124,8 @@ fn put_registers(bench: &Bench, out: &mut [u8], at: usize) -> usize
     put_all(&registers.ret, out, at)
 }
 
-/// Writes the command register, the SRC bytes of the ROMs and of the banks, and the pending cycle,
-/// and returns the offset after them.
+/// Writes the command register, the SRC bytes of the ROMs and of the banks, and the pending second
+/// cycle, and returns the offset after them.
 fn put_src_bytes(bench: &Bench, out: &mut [u8], at: usize) -> usize
     requires valid { IsValid bench.now }
     requires room { at + length (src_bytes bench.now.processor bench.now.bus) ≤ length out.old }
@@ -154,8 +154,8 @@ fn put_chains(bench: &Bench, out: &mut [u8], at: usize) -> usize
     end
 }
 
-/// Writes what the chains and the keys hold, TEST, and the breakpoints, and returns the offset
-/// after them.
+/// Writes the bits of the chains, the states of the keys, TEST, and the breakpoints, and returns
+/// the offset after them.
 fn put_wiring(bench: &Bench, out: &mut [u8], at: usize) -> usize
     requires valid { IsValid bench.now }
     requires room { at + length (wiring_bytes bench.now.bus bench.now.breakpoints)
@@ -170,7 +170,7 @@ fn put_wiring(bench: &Bench, out: &mut [u8], at: usize) -> usize
     put_counted(bench.breaks(), out, at)
 }
 
-/// Writes the groups after the board, and the watches, and returns the offset after them.
+/// Writes the groups of fields after the board, and the watches, and returns the offset after them.
 fn put_groups(bench: &Bench, out: &mut [u8], at: usize) -> usize
     requires valid { IsValid bench.now }
     requires room { at + length (after_board bench.now) ≤ length out.old }
@@ -184,7 +184,7 @@ fn put_groups(bench: &Bench, out: &mut [u8], at: usize) -> usize
     put_counted(bench.watches(), out, at)
 }
 
-/// Writes the state of a bench at the front of these bytes and returns its length.
+/// Writes the state of a bench to the start of `into` and returns its length.
 fn put_state(bench: &Bench, into: &mut [u8]) -> usize
     requires valid { IsValid bench.now }
     requires room { length (state_bytes bench.now) ≤ length into.old }
@@ -197,8 +197,8 @@ fn put_state(bench: &Bench, into: &mut [u8]) -> usize
     put_groups(bench, into, at)
 }
 
-/// Writes the state of a bench at the front of these bytes and returns its length: at most 7,632.
-/// It promises nothing about the bytes after it.
+/// Writes the state of a bench to the start of `into` and returns its length, at most 7,632 bytes.
+/// It promises nothing about the bytes of `into` after it.
 pub fn state_bytes(bench: &Bench, into: &mut [u8]) -> usize
     requires lent { STATE_BYTES ≤ length into.old }
     ensures spells { SpellsState (take result into.new) bench.now }

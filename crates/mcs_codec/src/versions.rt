@@ -1,4 +1,4 @@
-//! The two versions of a session's bytes.
+//! The two versions of the encoding of a session.
 ghost use Rattle.std.specs.Prelude.{◌≡◌, List, ℕ, Some, nat_lt};
 ghost use Rattle.std.specs.List.{list_any};
 ghost use Rattle.mcs_model.specs.BenchState.{BenchState};
@@ -9,13 +9,13 @@ ghost use Rattle.mcs_codec.specs.Codec.{SpellsStateBy, has_command, version_numb
 use mcs_model::board::Board;
 use mcs_model::command::{Command, Place};
 
-/// The most chains of a board of version 1.
+/// The maximum number of chains on a board of version 1.
 const VERSION_1_CHAINS: usize = 2;
 
-/// The most chips of a chain of version 1.
+/// The maximum number of chips in a chain of version 1.
 const VERSION_1_CHAIN_CHIPS: u8 = 4;
 
-/// Returns true if a board has a chain that is too long for version 1.
+/// Returns true if a board has a chain with too many chips for version 1.
 fn has_long_chain(board: &Board) -> bool
     ensures { result
         ≡ list_any (λ chain. nat_lt VERSION_1_CHAIN_CHIPS chain.chips) board.now.chains.items }
@@ -27,7 +27,7 @@ fn has_long_chain(board: &Board) -> bool
         .any(|chain| chain.chips > VERSION_1_CHAIN_CHIPS)
 }
 
-/// Returns true if a board is one of version 1: at most two chains of at most four chips.
+/// Returns true if version 1 allows the board: at most two chains, each with at most four chips.
 pub(crate) fn is_small(board: &Board) -> bool
     ensures { result ≡ is_small board.now }
 {
@@ -37,8 +37,8 @@ pub(crate) fn is_small(board: &Board) -> bool
     !has_long_chain(board)
 }
 
-/// Returns true if version 1 has a place. Each place is named here, so that version 1 does not get
-/// a new one unnoticed.
+/// Returns true if version 1 has this kind of [`Place`]. The match lists every kind, so that a new
+/// one is not added to version 1 unnoticed.
 fn is_place_1(place: &Place) -> bool
     ensures { result ≡ is_place_1 place.now }
 {
@@ -54,7 +54,8 @@ fn is_place_1(place: &Place) -> bool
     }
 }
 
-/// Returns true if version 1 has a command. It watches nothing, and has fewer and shorter chains.
+/// Returns true if version 1 has a command. Version 1 has no watches, and its boards have fewer and
+/// shorter chains.
 pub fn in_version_1(command: &Command) -> bool
     ensures { result ≡ in_version_1 command.now }
 {
@@ -74,17 +75,17 @@ pub fn in_version_1(command: &Command) -> bool
     }
 }
 
-/// A version of a session's bytes.
+/// A version of the encoding of a session.
 #[derive(Clone, Copy, Debug, PartialEq, Eq)]
 pub enum Version {
-    /// The version that is read and carried over, and never written.
+    /// The version that is read and converted, but never written.
     One,
     /// The version that is written.
     Two,
 }
 
 impl Version {
-    /// Returns its number.
+    /// Returns the number of the version, 1 or 2.
     pub fn number(self) -> u8
         ensures { result ≡ version_number self }
     {
@@ -105,9 +106,9 @@ impl Version {
     }
 }
 
-/// Shows that no bytes spell two states, nor states of both versions. The fifth byte names the
-/// version of the state that the bytes spell. (Each state has one spelling in each version that has
-/// it, because the definitions give one.)
+/// Shows that no bytes encode two different states, or states of both versions. The fifth byte
+/// names the version of the state that the bytes encode. (Each state has one encoding in each
+/// version that has it, because the definitions give one.)
 pub fn one_state()
     ensures states { (bytes : List ℕ) (v w : Version) (s t : BenchState)
         → SpellsStateBy v bytes s → SpellsStateBy w bytes t → s ≡ t }

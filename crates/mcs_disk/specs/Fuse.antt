@@ -1,4 +1,4 @@
--- The calls that a disk with a fuse fails.
+-- The calls that a `FuseDisk` fails.
 use Rattle.std.specs.Prelude.{◌≡◌, ◌↔◌, ℕ, ◌+◌, ◌≤◌, IsErr, IsOk, Result}
 use Rattle.mcs_disk.specs.Disk.{CountsFault}
 use Rattle.mcs_disk.specs.States.{mem_disk_state}
@@ -7,27 +7,26 @@ use Rattle.mcs_disk.specs.declared.fuse.Fuse.TheVariants.{Whole, AllAfter, OneAf
 use Rattle.mcs_disk.specs.declared.fuse.FuseDisk.{FuseDisk}
 use Rattle.mcs_disk.specs.declared.memory.MemDisk.{MemDisk}
 
--- holds if the call after n more calls fails
+-- holds if the call after the next n calls fails
 abbrev pub Fails : Fuse → ℕ → Type 0
 Fails Whole n = ⊥
 Fails (AllAfter passed) n = passed ≤ n
 Fails (OneAfter passed) n = n ≡ passed
 
--- holds if the disk fails the call after n more calls, and does not pass it on
+-- holds if the disk fails the call after the next n calls, without passing it on
 abbrev pub FailsAfter : FuseDisk → ℕ → Type 0
 FailsAfter disk n = Fails disk.fuse n
 
--- the disk that the calls are passed on to
+-- the wrapped disk, to which calls are passed on
 abbrev pub inner_disk : FuseDisk → MemDisk
 inner_disk disk = disk.disk
 
--- A call on the disk. If the disk fails it, the answer is an error and the call is not passed on.
--- Otherwise the disk in it answers the call, with Ok. In both cases it is one of the calls that
--- were to come.
+-- A call on the disk. If the fuse fails it, the result is an error and the call is not passed on.
+-- Otherwise the wrapped disk answers it, with Ok. In both cases the fuse advances by one call.
 pub record FuseCall {T E : Type 0} (old new : FuseDisk) (result : Result T E) : Type 0 where
   pub fails : FailsAfter old 0 → IsErr result
   pub kept_back : FailsAfter old 0 → inner_disk new ≡ inner_disk old
-  -- the answer of the disk in it: an error arises only if that disk counted a fault
+  -- the wrapped disk's answer: the result is an error only if that disk counted a fault
   pub passed_on : ¬ (FailsAfter old 0)
       → CountsFault (mem_disk_state (inner_disk old)) (mem_disk_state (inner_disk new))
       (IsErr result)

@@ -1,18 +1,18 @@
--- The calls of the code, as calls on a disk.
+-- The `DiskCall` for each `Call` of the code.
 use Rattle.std.specs.Prelude.{ℕ, List, [], ◌∷◌}
 use Rattle.mcs_disk.specs.Calls.{DiskCall, WasRead, Wrote, Failed, Synced}
 use Rattle.mcs_disk.specs.declared.call_record.Call.{Call}
 use Rattle.mcs_disk.specs.declared.call_record.Call.TheVariants.{Read, Write, FailedWrite, Sync}
 
--- a call with the bytes that it wrote, if it wrote; after a failed write, a read gives what it gave
--- before
+-- The `DiskCall` for a `Call` and the bytes that it wrote, if it is a write. After a failed write,
+-- a read returns the same bytes as before.
 abbrev pub call_of : Call → List ℕ → DiskCall
 call_of Read bytes = WasRead
 call_of (Write at) bytes = Wrote at bytes
 call_of (FailedWrite at) bytes = Failed at bytes []
 call_of Sync bytes = Synced
 
--- the calls of a record
+-- the `DiskCall`s for the calls of a record, in the same order
 abbrev pub calls_in : List (Call × List ℕ) → List DiskCall
 calls_in [] = []
 calls_in (note ∷ notes) = call_of note.0 note.1 ∷ calls_in notes

@@ -1,12 +1,11 @@
--- The disks of this crate, as contracts see them.
+-- The state of each kind of disk in this crate, as contracts see it.
 use Rattle.std.specs.Prelude.{◌≡◌, ℕ, List, []}
 use Rattle.mcs_disk.specs.Disk.{DiskState}
 use Rattle.mcs_disk.specs.NotedCalls.{calls_in}
 use Rattle.mcs_disk.specs.declared.fuse.FuseDisk.{FuseDisk}
 use Rattle.mcs_disk.specs.declared.memory.MemDisk.{MemDisk}
 
--- a disk in memory as contracts see it: no premise, no fault, and the calls since it held its first
--- bytes
+-- the state of an in-memory disk: no premise, no faults, and the calls since its initial bytes
 abbrev pub mem_disk_state : MemDisk → DiskState
 mem_disk_state disk = record {
   faults = 0;
@@ -15,11 +14,11 @@ mem_disk_state disk = record {
   calls = calls_in disk.history.notes;
 }
 
--- a disk with a fuse as contracts see it: the calls of the disk in it, and faults of its own
+-- the state of a `FuseDisk`: that of the wrapped disk, with its own fault count
 abbrev pub fuse_disk_state : FuseDisk → DiskState
 fuse_disk_state disk = record (mem_disk_state disk.disk) { faults = disk.faults }
 
--- an honest disk that holds these bytes, and that no call has reached
+-- holds if the disk is honest and holds these bytes, and no call has reached it
 pub record IsFresh (file : List ℕ) (disk : DiskState) : Type 0 where
   pub honest : disk.honest
   pub faults : disk.faults ≡ 0

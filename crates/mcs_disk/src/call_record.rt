@@ -1,18 +1,19 @@
 //! The record of the calls on a disk.
 use crate::record::Record;
 
-/// A call on a disk that has just been answered, without the bytes that it wrote.
+/// A call that a disk has answered. The bytes of a write are not part of it; a [`Record`] stores
+/// them next to the call.
 #[derive(Clone, Copy)]
 pub enum Call {
-    /// A read that was answered Ok.
+    /// A read that returned Ok.
     Read,
-    /// A write from this offset on that was answered Ok.
+    /// A write at this offset that returned Ok.
     Write(usize),
-    /// A write from this offset on that failed.
+    /// A write at this offset that failed.
     FailedWrite(usize),
-    /// A sync that was answered Ok.
+    /// A sync that returned Ok.
     Sync,
 }
 
-/// The bytes that a disk held before any call, and the calls on it since.
+/// The bytes that a disk held before any call, and all calls on it since.
 pub type CallRecord = Record<Call>;

@@ -1,4 +1,4 @@
-//! A disk of a fixed size, honest or not.
+//! The [`Disk`] trait: a byte device of fixed size, which may or may not be honest.
 ghost use Rattle.std.specs.Prelude.{◌≡◌, ◌≤◌, ◌+◌, [], ◌∷◌, length, IsErr, OnOk};
 ghost use Rattle.mcs_disk.specs.Disk.{DiskState, bytes_of, part, put, size_of, CountsFault};
 ghost use Rattle.mcs_disk.specs.CallList.{Makes};
@@ -11,20 +11,21 @@ use thiserror::Error;
 #[error("the device failed")]
 pub struct DiskFault;
 
-/// A device of bytes that can be read and written in ranges, and synced.
+/// A byte device that can read and write ranges, and sync.
 ///
-/// Every disk has its size, a count of its faults and a list of the calls on it. On an honest disk,
-/// a read gives what the list implies. The list also implies what may be found after a power cut:
-/// between two syncs any bytes in a written range, and after a good sync the current bytes.
+/// Every disk has a size, a fault count and a list of the calls on it. On an honest disk, a read
+/// returns the bytes that the list implies. The list also implies which bytes a power cut can
+/// leave. Between two syncs, a cut can leave any bytes in a written range. After a successful sync,
+/// it leaves the current bytes.
 pub trait Disk {
     /// The disk as contracts see it.
     ghost state: { Self → DiskState };
 
-    /// Returns the number of bytes, which no call changes.
+    /// Returns the size in bytes. No call changes it.
     fn size(&self) -> usize
         ensures { result ≡ size_of (state self.now) };
 
-    /// Reads the bytes from `at` on.
+    /// Reads the bytes that start at offset `at`, until `into` is full.
     fn read(&mut self, at: usize, into: &mut [u8]) -> Result<(), DiskFault>
         requires { at + length into.old ≤ size_of (state self.old) }
         ensures call { CountsFault (state self.old) (state self.new) (IsErr result) }
@@ -32,7 +33,7 @@ pub trait Disk {
         ensures honest { (state self.old).honest
             → OnOk result (into.new ≡ part at (length into.old) (bytes_of (state self.old))) };
 
-    /// Writes over the bytes from `at` on. Until a sync, a power cut may leave any bytes in that
+    /// Writes `from` at offset `at`. Until a sync succeeds, a power cut can leave any bytes in that
     /// range.
     fn write(&mut self, at: usize, from: &[u8]) -> Result<(), DiskFault>
         requires { at + length from.now ≤ size_of (state self.old) }
@@ -40,13 +41,13 @@ pub trait Disk {
         ensures noted { Makes (Wrote at from.now ∷ []) (state self.old).calls
             (state self.new).calls result };
 
-    /// Makes stable what was written: after Ok, a power cut leaves the bytes that a read gives.
+    /// Makes all written bytes stable. After Ok, a power cut leaves the bytes that a read returns.
     fn sync(&mut self) -> Result<(), DiskFault>
         ensures call { CountsFault (state self.old) (state self.new) (IsErr result) }
         ensures noted { Makes (Synced ∷ []) (state self.old).calls (state self.new).calls result };
 }
 
-/// Writes `from` over the bytes from `at` on, and leaves the other bytes as they are.
+/// Overwrites the bytes at offset `at` with `from`, and leaves the other bytes unchanged.
 ///
 /// The range `at..at + from.len()` must lie within `bytes`.
 pub fn overwrite(bytes: &mut [u8], at: usize, from: &[u8])

@@ -1,4 +1,4 @@
-//! A disk in memory that fails chosen calls.
+//! An in-memory disk that fails chosen calls.
 ghost use Rattle.std.specs.Prelude.{◌≡◌, ◌≤◌, ◌+◌, ◌↔◌, ℕ, [], ◌∷◌, length, min, IsErr, OnErr, OnOk, IsTrue};
 ghost use Rattle.mcs_disk.specs.Disk.{most_faults, CountsFault, bytes_of, part, size_of};
 ghost use Rattle.mcs_disk.specs.CallList.{Makes};
@@ -6,21 +6,21 @@ ghost use Rattle.mcs_disk.specs.Calls.{WasRead, Wrote, Synced};
 
 use crate::{Disk, DiskFault, MemDisk};
 
-/// The calls to come that fail.
+/// A schedule of the calls that will fail.
 #[derive(Clone, Copy)]
 enum Fuse {
-    /// None.
+    /// No call fails.
     Whole,
-    /// All calls after this many.
+    /// This number of calls pass; every later call fails.
     AllAfter(usize),
-    /// Only the call after this many.
+    /// This number of calls pass; only the call after them fails.
     OneAfter(usize),
 }
 
 impl Fuse {
     ghost use Rattle.mcs_disk.specs.Fuse.{Fails};
 
-    // Returns true if the next call fails, and counts this call.
+    // Returns true if the next call fails, and advances the schedule by this call.
     fn blows(&mut self) -> bool
         ensures now { IsTrue result ↔ Fails self.old 0 }
         ensures later { (n : ℕ) → Fails self.new n ↔ Fails self.old (n + 1) }
@@ -44,10 +44,10 @@ impl Fuse {
     }
 }
 
-/// A disk in memory that fails chosen calls, and does not pass them on.
+/// A wrapper around a [`MemDisk`] that fails chosen calls without passing them on.
 ///
-/// It counts its faults, and is honest like the disk in it. A call that it passes on is answered Ok,
-/// as that disk answers it.
+/// It counts its own faults, and it is honest, as the wrapped disk is. The wrapped disk answers
+/// every call that is passed on, and always with Ok.
 #[derive(Drop)]
 pub struct FuseDisk {
     disk: MemDisk,
@@ -59,7 +59,7 @@ impl FuseDisk {
     ghost use Rattle.mcs_disk.specs.Fuse.{FailsAfter, inner_disk};
     ghost use Rattle.mcs_disk.specs.States.{fuse_disk_state, mem_disk_state};
 
-    /// Makes a disk that passes on the first `calls` calls and fails each later one.
+    /// Wraps a disk: passes on the first `calls` calls and fails every later one.
     pub fn after(disk: MemDisk, calls: usize) -> FuseDisk
         ensures counts { CountsFault (mem_disk_state disk) (fuse_disk_state result) ⊥ }
         ensures calls { (fuse_disk_state result).calls ≡ (mem_disk_state disk).calls }
@@ -73,7 +73,7 @@ impl FuseDisk {
         }
     }
 
-    /// Makes a disk that fails only the call after the first `calls` calls.
+    /// Wraps a disk: fails only the call after the first `calls` calls.
     pub fn once(disk: MemDisk, calls: usize) -> FuseDisk
         ensures counts { CountsFault (mem_disk_state disk) (fuse_disk_state result) ⊥ }
         ensures calls { (fuse_disk_state result).calls ≡ (mem_disk_state disk).calls }
@@ -87,7 +87,7 @@ impl FuseDisk {
         }
     }
 
-    /// Ends the failing: every later call is passed on.
+    /// Disarms the fuse: every later call is passed on.
     pub fn mend(&mut self)
         ensures counts { CountsFault (fuse_disk_state self.old) (fuse_disk_state self.new) ⊥ }
         ensures calls { (fuse_disk_state self.new).calls ≡ (fuse_disk_state self.old).calls }
@@ -97,7 +97,7 @@ impl FuseDisk {
         self.fuse = Fuse::Whole;
     }
 
-    // Counts a fault, returns it, and does nothing else.
+    // Adds one to the saturating fault count and returns the fault. It changes nothing else.
     fn fail(&mut self) -> DiskFault
         ensures inner { self.new.disk ≡ self.old.disk }
         ensures fuse { self.new.fuse ≡ self.old.fuse }

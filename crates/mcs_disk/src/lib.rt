@@ -1,9 +1,9 @@
-//! Disks as the journal sees them: a fixed number of bytes, device faults, and the bytes that a
-//! power cut may leave.
+//! The journal's model of a disk: a fixed number of bytes, device faults, and the bytes that a
+//! power cut can leave.
 //!
-//! [`Disk`] is the trait that the journal is written over. [`MemDisk`] is an honest disk in memory,
-//! and [`FuseDisk`] one that fails chosen calls, for tests. [`Record`] lists the calls on a disk,
-//! for contracts only.
+//! The journal is generic over the trait [`Disk`]. [`MemDisk`] is an honest in-memory disk.
+//! [`FuseDisk`], for tests, is an in-memory disk that fails chosen calls. [`Record`] lists the
+//! calls on a disk, and only contracts can see the list.
 #![tactic(auto)]
 
 mod call_record;

@@ -1,4 +1,4 @@
-//! A disk in memory.
+//! An in-memory disk.
 ghost use Rattle.std.specs.Prelude.{◌≡◌, ◌+◌, ◌≤◌, [], ◌∷◌, length, replicate, IfOk, IsErr, IsOk, OnOk};
 ghost use Rattle.mcs_disk.specs.Disk.{CountsFault, bytes_of, part, size_of};
 ghost use Rattle.mcs_disk.specs.Calls.{bytes_after, WasRead, Wrote, Synced};
@@ -9,10 +9,10 @@ use crate::call_record::{Call, CallRecord};
 use crate::{Disk, DiskFault, overwrite};
 use std::alloc::{AllocError, Global};
 
-/// An honest disk in memory. It answers each call with Ok, and no call takes memory.
+/// An honest in-memory disk. Every call returns Ok, and no call allocates memory.
 ///
-/// The bytes that a power cut would have left at each moment follow from the calls on it, which
-/// only contracts see.
+/// The bytes that a power cut would have left at each moment follow from the calls on the disk.
+/// Only contracts can see these calls.
 #[derive(Drop)]
 pub struct MemDisk {
     pub(crate) bytes: Vec<u8>,
@@ -24,14 +24,14 @@ pub struct MemDisk {
 impl MemDisk {
     ghost use Rattle.mcs_disk.specs.States.{IsFresh, mem_disk_state};
 
-    /// Makes a disk of `size` bytes of 0. It fails if memory runs out.
+    /// Creates a disk of `size` zero bytes. It fails if memory runs out.
     pub fn new(alloc: Global, size: usize) -> Result<MemDisk, AllocError>
         ensures { IfOk result (λ disk. IsFresh (replicate size 0) (mem_disk_state disk)) }
     {
         Ok(MemDisk::with_bytes(vec![in alloc; 0u8; size]?))
     }
 
-    /// Makes a disk that holds these bytes, before any call.
+    /// Creates a disk that holds these bytes and has not been called yet.
     pub fn with_bytes(bytes: Vec<u8>) -> MemDisk
         ensures { IsFresh bytes.items (mem_disk_state result) }
     {
@@ -39,7 +39,7 @@ impl MemDisk {
         MemDisk { bytes, history }
     }
 
-    /// Returns the bytes that it holds.
+    /// Returns the bytes that the disk holds now.
     pub fn bytes(&self) -> &[u8]
         ensures { result.now ≡ bytes_of (mem_disk_state self.now) }
     {

@@ -1,4 +1,4 @@
--- The end of an open file, and the bytes that are found in it then. (Our own choice.)
+-- The end of an open file, and the bytes that are found in it after the end. (Our own choice.)
 use Rattle.std.specs.Prelude.{◌≡◌, ◌⊎◌, ℕ, ◌≤◌, List, [], ◌∷◌, ◌++◌}
 use Rattle.mcs_disk.specs.Calls.{DiskCall, Wrote, Failed, clock_of, images_after}
 use Rattle.mcs_disk.specs.Disk.{DiskState}
@@ -8,19 +8,20 @@ use Rattle.mcs_host.specs.HostDisk.{host_disk}
 use Rattle.mcs_host.specs.SystemFile.{system_state}
 use Rattle.mcs_host.specs.declared.file_disk.FileDisk.{FileDisk}
 
--- a file as a disk, as contracts see it
+-- the state of a file as a disk, as contracts see it
 abbrev pub as_disk : FileDisk → DiskState
 as_disk file = host_disk file.on
 
--- a file as an open file of the host, as contracts see it
+-- the state of a file as an open file of the host, as contracts see it
 abbrev pub as_host_file : FileDisk → HostState
 as_host_file file = system_state file.on.file
 
--- the bytes that the next one to open the file finds, after a close, a kill or a power cut
+-- the bytes that are found when the file is next opened, after a close, a process kill or a power
+-- cut
 abbrev pub found_in : FileDisk → List ℕ
 found_in file = file.on.end.start
 
--- holds if the newest of `calls` is a write, and `cut` is `calls` with that write cut off
+-- holds if the newest of `calls` is a write, and `cut` is `calls` with that write interrupted
 pub record IsCutInWrite (calls cut : List DiskCall) : Type 0 where
   pub at : ℕ
   pub bytes : List ℕ
@@ -28,9 +29,9 @@ pub record IsCutInWrite (calls cut : List DiskCall) : Type 0 where
   pub whole : calls ≡ Wrote at bytes ∷ before
   pub torn : cut ≡ Failed at bytes [] ∷ before
 
--- The file was left at a clock of `time` or later, after some first part of its calls. Lists of
--- calls have the newest first, so that part is the tail of the list. The newest call of it may be a
--- write that was cut off.
+-- Holds if the file was left after an initial part of its calls, with the clock at `time` or later.
+-- Lists of calls are newest first, so this part is the tail of the list. Its newest call can be a
+-- write that was interrupted.
 pub record IsLeftSince (time : ℕ) (file : FileDisk) : Type 0 where
   pub never_made : List DiskCall
   pub made : List DiskCall
@@ -39,14 +40,14 @@ pub record IsLeftSince (time : ℕ) (file : FileDisk) : Type 0 where
       ⊎ IsCutInWrite made (calls_in file.on.end.notes)
   pub late : time ≤ clock_of (calls_in file.on.end.notes)
 
--- the statement of `IsHonest` about a file, spelled out: what is found after the end is an image
--- after the calls by then
+-- holds if the bytes that are found after the end are an image after the calls by then: the
+-- statement of `IsHonest` about a file, spelled out
 abbrev pub IsFoundAfterTheEnd : FileDisk → Type 0
 IsFoundAfterTheEnd file =
     images_after file.on.history.start (calls_in file.on.end.notes) (found_in file)
 
--- Holds if `like` agrees with `file` in everything that any call on it has answered. `like` was
--- left after all of its calls, and `image` is found in it.
+-- Holds if `like` agrees with `file` in everything that any call on it has answered. In addition,
+-- `like` was left after all of its calls, and `image` is found in it.
 pub record IsFoundWith (image : List ℕ) (file like : FileDisk) : Type 0 where
   pub faults : like.on.faults ≡ file.on.faults
   pub bytes : like.on.bytes.items ≡ file.on.bytes.items

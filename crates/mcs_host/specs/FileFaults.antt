@@ -1,4 +1,4 @@
--- The reasons why a file is not opened, by the host's answers. (Our own choice.)
+-- The reasons why a file is not opened, by the errors that the host returns. (Our own choice.)
 use Rattle.std.specs.Prelude.{◌≡◌, ◌≢◌, ◌⊎◌, ℤ, pos, Option, Some, None}
 use Rattle.std.specs.declared.fs.attrs.FileType.{FileType}
 use Rattle.std.specs.declared.io.Error.{Error}
@@ -8,8 +8,7 @@ use Rattle.std.specs.IoError.{error_kind, raw_os_error}
 use Rattle.mcs_host.specs.declared.file_fault.FileFault.{FileFault}
 use Rattle.mcs_host.specs.declared.file_fault.FileFault.TheVariants.{Denied, Device, Folder, FolderUnsynced, NameTooLong, NoMemory, NoSpace, NotAFile, NotThere, TooManyFiles}
 
--- the reason for an error that std has a name for, or none if it is not one that somebody can do
--- something about
+-- the reason for an error by its kind, or `None` for a kind that nobody can act on
 abbrev pub fault_of_kind : ErrorKind → Option FileFault
 fault_of_kind NotFound = Some NotThere
 fault_of_kind NotADirectory = Some NotThere
@@ -23,27 +22,31 @@ fault_of_kind QuotaExceeded = Some NoSpace
 fault_of_kind FileTooLarge = Some NoSpace
 fault_of_kind _ = None
 
--- the reason for any other error, by its number: 23 and 24 are POSIX's ENFILE and EMFILE
+-- holds if `fault` is the reason for any other error, by its number: 23 and 24 are POSIX's ENFILE
+-- and EMFILE
 pub record IsFaultOfNumber (number : Option ℤ) (fault : FileFault) : Type 0 where
   pub full : (number ≡ Some (pos 23)) ⊎ (number ≡ Some (pos 24)) → fault ≡ TooManyFiles
   pub other : number ≢ Some (pos 23) → number ≢ Some (pos 24) → fault ≡ Device
 
--- the reason for an error of the host
+-- holds if `fault` is the reason for this error of the host
 pub record IsHostFault (error : Error) (fault : FileFault) : Type 0 where
   pub named : (f : FileFault) → fault_of_kind (error_kind error) ≡ Some f → fault ≡ f
   pub unnamed : fault_of_kind (error_kind error) ≡ None → IsFaultOfNumber (raw_os_error error) fault
 
--- the reason for an error of a request for the name that a link leads to, which needs memory
+-- holds if `fault` is the reason for an error from a request for the name that a link leads to;
+-- such a request allocates memory
 pub record IsNameFault (error : Error) (fault : FileFault) : Type 0 where
   pub memory : error_kind error ≡ OutOfMemory → fault ≡ NoMemory
   pub other : error_kind error ≢ OutOfMemory → IsHostFault error fault
 
--- the reason for such an error if a file was to be made by the name of a link
+-- holds if `fault` is the reason for an error from such a request (`IsNameFault`) when a file was
+-- to be created under the name of a link
 pub record IsLinkFault (error : Error) (fault : FileFault) : Type 0 where
   pub no_text : error_kind error ≡ InvalidFilename → fault ≡ FolderUnsynced
   pub other : error_kind error ≢ InvalidFilename → IsNameFault error fault
 
--- two kinds of answers for a name: no file has it (`IsAbsent`), or another error (`IsUnanswered`)
+-- Two kinds of errors for a name: no file has the name (`IsAbsent`), or there is another error
+-- (`IsUnanswered`).
 abbrev pub IsAbsent : Error → Type 0
 IsAbsent error = (error_kind error ≡ NotFound) ⊎ (error_kind error ≡ NotADirectory)
 

@@ -1,11 +1,11 @@
--- The calls of the code, as calls on a file of the host.
+-- The `HostCall` for each `Asked` of the code.
 use Rattle.std.specs.Prelude.{ℕ, List, [], ◌∷◌}
 use Rattle.mcs_host.specs.HostCalls as calls
 use Rattle.mcs_host.specs.HostCalls.{HostCall}
 use Rattle.mcs_host.specs.declared.host_record.Asked.{Asked}
 use Rattle.mcs_host.specs.declared.host_record.Asked.TheVariants as asked
 
--- a call with the bytes or the name that go with it, if any do
+-- the `HostCall` for an `Asked`, and its bytes or its name if it has any
 abbrev pub host_call_of : Asked → List ℕ → HostCall
 host_call_of (asked.Lock ok) bytes = calls.Lock ok
 host_call_of (asked.LookUp ok) bytes = calls.LookUp bytes ok
@@ -20,7 +20,7 @@ host_call_of (asked.IsLink ok) bytes = calls.IsLink bytes ok
 host_call_of (asked.RealName ok) bytes = calls.RealName bytes ok
 host_call_of asked.Made bytes = calls.Made
 
--- the calls of a record
+-- the `HostCall`s for the calls of a record, in the same order
 abbrev pub host_calls_in : List (Asked × List ℕ) → List HostCall
 host_calls_in [] = []
 host_calls_in (note ∷ notes) = host_call_of note.0 note.1 ∷ host_calls_in notes

@@ -1,4 +1,4 @@
-//! The choice that the arguments of the command line make.
+//! The task that the command-line arguments select.
 ghost use Rattle.std.specs.Prelude.{◌≡◌, ℕ, List, string_bytes};
 ghost use Rattle.mcs_host.specs.declared.arguments.WordsFault.TheVariants.{NoMemory};
 
@@ -6,7 +6,7 @@ use std::alloc::AllocError;
 use std::marker::Model;
 use thiserror::Error;
 
-/// The name of a session file, as the arguments give it. Contracts see its bytes.
+/// The name of a session file, as given in the arguments. Contracts see its bytes.
 #[derive(Drop)]
 pub struct FileName {
     name: String,
@@ -25,7 +25,7 @@ impl FileName {
         FileName { name }
     }
 
-    /// Returns the name, to open the file by.
+    /// Returns the name with which the file is opened.
     pub fn as_str(&self) -> &str
         ensures { result.now ≡ self.now }
     {
@@ -33,7 +33,7 @@ impl FileName {
     }
 }
 
-/// The task of the program.
+/// The task that the arguments select.
 #[derive(Drop)]
 pub enum Choice {
     /// Begin a new session in this file.
@@ -42,13 +42,13 @@ pub enum Choice {
     Open(FileName),
 }
 
-/// A reason why arguments choose nothing.
+/// The reason why the arguments select no task.
 #[derive(Clone, Copy, Debug, Error)]
 pub enum WordsFault {
-    /// The program does not accept the arguments; it shows its usage.
+    /// The program does not accept the arguments. It prints its usage.
     #[error("the arguments are none of the program's")]
     Usage,
-    /// There was no memory.
+    /// Memory ran out.
     #[error("out of memory")]
     NoMemory,
 }

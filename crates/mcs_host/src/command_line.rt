@@ -1,4 +1,4 @@
-//! The command line: `mcs4 new FILE` and `mcs4 open FILE`, read by clap.
+//! The command line: `mcs4 new FILE` and `mcs4 open FILE`, parsed by clap.
 ghost use Rattle.std.specs.Prelude.{◌≡◌, ◌≢◌, Some, None, true, map, IfOk, IfErr, IsErrOf};
 ghost use Rattle.clap.specs.Words.{kind_of, subcommand_of, subcommand_rows_of};
 ghost use Rattle.mcs_host.specs.CommandLine.{choice_in, takes_arguments, arguments_of_choice, program};
@@ -10,7 +10,7 @@ use std::alloc::Global;
 use std::convert::AsStr;
 
 impl Choice {
-    /// Returns the name of its file.
+    /// Returns the name of the file to create or open.
     pub fn file(&self) -> &str
         ensures { result.now ≡ (arguments_of_choice self.now).1 }
     {
@@ -20,7 +20,8 @@ impl Choice {
     }
 }
 
-// Returns the matches of the arguments by clap's definition.
+// Parses the arguments with clap. If clap's definition accepts them, only lack of memory is an
+// error.
 fn matches<'a, S: AsStr>(alloc: Global, arguments: &'a [S]) -> Result<ArgMatches<'a>, Error>
     ensures ok { IfOk result (λ m. subcommand_rows_of m
         ≡ subcommand_of program (map S.text arguments.entry.now)) }
@@ -37,10 +38,11 @@ fn matches<'a, S: AsStr>(alloc: Global, arguments: &'a [S]) -> Result<ArgMatches
     with_both.try_get_matches_from(arguments)
 }
 
-/// Returns what the arguments choose; the first one is the program's name. The choice is the
-/// subcommand and the FILE that clap's definition of the matches gives. It fails with `Usage` only
-/// if that definition does not accept the arguments or gives no choice, as for a request for help.
-/// It fails with `NoMemory` if memory runs out.
+/// Returns the task that the arguments select. The first argument is the program's name.
+///
+/// The subcommand and the FILE are those that clap's definition of the matches gives. The function
+/// fails with `Usage` only if that definition does not accept the arguments or gives no choice, for
+/// example for a request for help. It fails with `NoMemory` if memory runs out.
 pub fn choice<S: AsStr>(alloc: Global, arguments: &[S]) -> Result<Choice, WordsFault>
     ensures given { IfOk result (λ c.
         choice_in (map S.text arguments.entry.now) ≡ Some (arguments_of_choice c)) }

@@ -1,16 +1,16 @@
-//! The way in which a file of the host is left, which no memory holds and no code can learn.
+//! The end of an open file of the host. It occupies no memory, and no code can read it.
 ghost use Rattle.std.specs.Prelude.{◌≡◌};
 
 use mcs_disk::{Call, Record};
 
-/// The end of an open file, when a close, a kill or a power cut leaves it. It is for contracts
-/// only: no memory holds it, no code can learn it and no proof knows it. Its `start` is what is
-/// found in the file after the end, and its `notes` are the calls by the end. A write that was in
-/// progress at the end is one that failed.
+/// The end of an open file, by a close, a process kill or a power cut. It is for contracts only: it
+/// occupies no memory, no code can read it, and no proof knows its value. Its `start` is the bytes
+/// that are found in the file after the end. Its `notes` are the calls by the end; a write that was
+/// in progress then is noted as failed.
 pub(crate) type Ending = Record<Call>;
 
-/// Names the end to come of a file that holds these bytes. Its clause states nothing about it, so
-/// no caller learns which end it is.
+/// Returns the future end of a file that now holds these bytes. The contract states nothing about
+/// the result, so no caller can know which end it is.
 pub(crate) fn ending(start: &[u8]) -> Ending
     ensures { result.start ≡ result.start }
 {

@@ -1,4 +1,4 @@
-//! A session file of the system, as a disk.
+//! A session file of the host, as a disk.
 ghost use Rattle.std.specs.Prelude.{◌≡◌, ◌<◌, ◌≤◌, ◌+◌, ℕ, List, [], ◌∷◌, IfOk, IsErr, OnOk, IsTrue, is_ok, length, ◌↔◌};
 ghost use Rattle.mcs_disk.specs.Disk.{part, CountsFault, Torn, bytes_of, size_of, images_of};
 ghost use Rattle.mcs_disk.specs.CallList.{Makes};
@@ -13,11 +13,11 @@ use std::alloc::Global;
 use std::fs::File;
 use std::rt::Files;
 
-/// A session file of the host, as a disk: a [`HostDisk`] over a file of the system, which stays
-/// open.
+/// A session file of the host, as a disk: a [`HostDisk`] over a file of the operating system. The
+/// file stays open.
 ///
-/// Of a file of more than [`FILE_SIZE`] bytes it sees only one byte more than these. No session
-/// file has that size.
+/// If the file has more than [`FILE_SIZE`] bytes, the disk has only the first `FILE_SIZE + 1` of
+/// them. No session file has that size.
 #[derive(Drop)]
 pub struct FileDisk {
     on: HostDisk<SystemFile>,
@@ -28,15 +28,19 @@ impl FileDisk {
     ghost use Rattle.mcs_host.specs.FileDisk.{IsUncalled};
     ghost use Rattle.mcs_host.specs.Opening.{IsNamedSession, IsOpening};
 
-    /// Opens a file for reading and writing. If `make` is true, it makes the file if it is not
-    /// there, and fills it with [`FILE_SIZE`] zero bytes if it is empty. When it returns, what the
-    /// file holds is on the device, and so is its name (but see `is_name_stable`).
+    /// Opens a file for reading and writing. If `make` is true, it creates a missing file, and
+    /// fills an empty one with [`FILE_SIZE`] zero bytes. When it returns Ok, the file's contents
+    /// are on the device, and so is its name (but see `is_name_stable`).
     ///
-    /// It fails with `NoMemory` if there is no memory for the bytes, or for the name that a link
-    /// leads to. It fails with `Stream` if standard streams are the file, and with `StreamsUnknown`
-    /// if the host does not say; then it has asked nothing of the file. It fails with
-    /// `FolderUnsynced` if `make` is true, the file is new and its folder cannot be synced. It
-    /// fails with the other errors if the host rejects the file.
+    /// It fails with:
+    ///
+    /// - `NoMemory` if memory runs out for the bytes, or for the name that a link leads to
+    /// - `Stream` if the file is also a standard stream, which is checked before the file is opened
+    /// - `StreamsUnknown` if the host does not say whether it is one, also before the file is
+    ///   opened
+    /// - `FolderUnsynced` if `make` is true, the file was missing, empty or all zeros, and its
+    ///   folder cannot be synced
+    /// - another error if the host rejects the file
     pub fn open_at<R: Files<File = File>>(
         rt: &R,
         alloc: Global,
@@ -53,24 +57,24 @@ impl FileDisk {
         Ok(FileDisk { on })
     }
 
-    /// Returns true if the file's name stays after a power cut too, because its folder was synced.
-    /// It returns false if the folder of an existing file may not be read, or if the host syncs no
-    /// folder.
+    /// Returns true if the file's name survives a power cut, because its folder was synced. For an
+    /// existing file it returns false if the folder may not be read or the host does not sync
+    /// folders. It also returns false if a link leads to a folder whose name is not text.
     pub fn is_name_stable(&self) -> bool
         ensures { result ≡ self.now.on.is_name_stable }
     {
         self.on.is_name_stable()
     }
 
-    /// Returns true if the last call that failed did so for lack of space on the device.
+    /// Returns true if the last failed call failed for lack of space on the device.
     pub fn is_full(&self) -> bool
         ensures { result ≡ self.now.on.is_full }
     {
         self.on.is_full()
     }
 
-    /// Returns true if the file has the size and the name of a session file, so that `open` may
-    /// continue with it.
+    /// Returns true if the file has the size of a session file and begins with the name `MCS4BEN1`.
+    /// `open` can then continue with it.
     pub fn is_named_session(&self) -> bool
         ensures { IsTrue result ↔ IsNamedSession (bytes_of (as_disk self.now)) }
     {
@@ -95,7 +99,7 @@ impl Disk for FileDisk {
             result }
         ensures honest { (as_disk self.old).honest → OnOk result
             (into.new ≡ part at (length into.old) (bytes_of (as_disk self.old))) }
-        // On every file, honest or not.
+        // Holds on every file, honest or not.
         ensures given { OnOk result
             (into.new ≡ part at (length into.old) (bytes_of (as_disk self.old))) }
         ensures asked { AsksToRead at into.new result
@@ -109,7 +113,7 @@ impl Disk for FileDisk {
         ensures call { CountsFault (as_disk self.old) (as_disk self.new) (IsErr result) }
         ensures noted { Makes (Wrote at from.now ∷ []) (as_disk self.old).calls
             (as_disk self.new).calls result }
-        // Also if the write failed: it may have reached any part of the range.
+        // Holds even if the write failed, because it can have reached any part of the range.
         ensures torn { (before image : List ℕ) → images_of (as_disk self.old) before
             → Torn at (length from.now) before image → images_of (as_disk self.new) image }
         ensures asked { as_host_file self.new

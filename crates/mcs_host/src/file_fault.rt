@@ -1,4 +1,4 @@
-//! The reasons why a file was not opened.
+//! The errors of opening a file.
 ghost use Rattle.std.specs.Prelude.{◌≡◌, ◌≢◌, ◌⊎◌, ◌↔◌, IsTrue, MatchResult, false};
 ghost use Rattle.std.specs.IoError.{error_kind};
 ghost use Rattle.std.specs.declared.fs.locks.TryLockError.TheVariants.{WouldBlock};
@@ -11,56 +11,57 @@ use std::fs::TryLockError;
 use std::io::{self, ErrorKind};
 use thiserror::Error;
 
-/// The error number for a program that has as many files open as it may (POSIX's EMFILE).
+/// The error number for a program that has reached its limit of open files (POSIX's EMFILE).
 const PROGRAM_FILES: i32 = 24;
 
-/// The error number for a host that has as many files open as it may (POSIX's ENFILE).
+/// The error number for a host that has reached its limit of open files (POSIX's ENFILE).
 const HOST_FILES: i32 = 23;
 
-/// A reason why a file was not opened. All but `NoMemory` are errors of the host. Those that
-/// somebody can do something about have a name.
+/// The reason why a file was not opened. All except `NoMemory` are errors of the host. Errors that
+/// somebody can act on have named variants.
 #[derive(Clone, Copy, Debug, PartialEq, Eq, Error)]
 pub enum FileFault {
-    /// Another program has the file in use: it holds the lock.
+    /// Another program is using the file: it holds the lock.
     #[error("in use")]
     InUse,
-    /// The host has no lock for this file, as on some network file systems.
+    /// The host cannot lock this file, as on some network file systems.
     #[error("no lock")]
     NoLock,
-    /// There is no file of this name, or no folder for it.
+    /// No file has this name, or its folder does not exist.
     #[error("not there")]
     NotThere,
-    /// It may not be read and written.
+    /// The program is not permitted to read and write the file.
     #[error("no permission")]
     Denied,
-    /// It is a folder.
+    /// The name is that of a folder.
     #[error("a folder")]
     Folder,
-    /// It is not a regular file, but a device, say.
+    /// The file is not a regular file, but for example a device.
     #[error("not a regular file")]
     NotAFile,
-    /// Its name, or a part of it, is too long.
+    /// The file's name, or a part of it, is too long.
     #[error("name too long")]
     NameTooLong,
-    /// There is no space for it on the device.
+    /// The device has no space for the file.
     #[error("no space")]
     NoSpace,
-    /// It was to be made, but its folder cannot be synced: a power cut could lose its name.
+    /// The file was to be created, but its folder cannot be synced. A power cut could lose its
+    /// name.
     #[error("folder not synced")]
     FolderUnsynced,
     /// Too many files are open.
     #[error("too many open files")]
     TooManyFiles,
-    /// These standard streams of the program are this very file.
+    /// These standard streams of the program are the same file.
     #[error("a standard stream")]
     Stream(Streams),
     /// The host does not say whether a standard stream is this file.
     #[error("standard streams unknown")]
     StreamsUnknown,
-    /// The host rejected it for another reason.
+    /// The host rejected the file for another reason.
     #[error("refused")]
     Device,
-    /// There was no memory for the bytes of the file.
+    /// Memory ran out for the file's bytes, or for the name that a link leads to.
     #[error("out of memory")]
     NoMemory,
 }
@@ -76,7 +77,7 @@ impl From<io::Error> for FileFault {
     }
 }
 
-// Returns the reason for an error that std has a name for, if somebody can do something about it.
+// Returns the reason for an error by its kind, or `None` for a kind that nobody can act on.
 fn named_fault(kind: ErrorKind) -> Option<FileFault>
     ensures { result ≡ fault_of_kind kind }
 {
@@ -93,7 +94,7 @@ fn named_fault(kind: ErrorKind) -> Option<FileFault>
     }
 }
 
-// Returns the reason for an error that std has no name for, by its number.
+// Returns the reason for any other error, by its number.
 fn unnamed_fault(number: Option<i32>) -> FileFault
     ensures { IsFaultOfNumber number result }
 {
@@ -103,7 +104,7 @@ fn unnamed_fault(number: Option<i32>) -> FileFault
     }
 }
 
-/// Returns true if the device has no space for what was to be written.
+/// Returns true if the call failed because the device is full or a quota is used up.
 pub(crate) fn is_for_space(answer: &io::Result<()>) -> bool
     ensures { MatchResult answer.now (λ _. result ≡ false) (λ error. IsTrue result
         ↔ (error_kind error ≡ ErrorKind.StorageFull) ⊎ (error_kind error ≡ ErrorKind.QuotaExceeded)) }

@@ -18,10 +18,10 @@ use std::alloc::{AllocError, Global};
 
 /// An open file of the host, as a disk.
 ///
-/// Its bytes are read once, when it is opened, and kept in step with each write from then on. So a
-/// read that gives other bytes is detected, and is a device fault. The premise, `honest`, is what
-/// no call can detect: what is found in the file after a power cut is one of the images of a disk
-/// with these calls.
+/// The file is read once into memory, when it is opened, and each write also updates this copy. So
+/// a read that returns different bytes is detected, and is a device fault. The premise `honest`
+/// states what no call can detect: the bytes that are found in the file after a power cut are one
+/// of the images of a disk with these calls.
 #[derive(Drop)]
 pub struct HostDisk<H: HostFile> {
     file: H,
@@ -41,7 +41,7 @@ impl<H: HostFile> HostDisk<H> {
     ghost use Rattle.mcs_host.specs.FileDisk.{IsUncalled};
     ghost use Rattle.mcs_host.specs.Opening.{IsOpening};
 
-    /// Opens a file of this name: see `FileDisk::open_at`.
+    /// Opens the file of this name. See `FileDisk::open_at`.
     pub fn open_at<N: Host<File = H>>(
         host: &N,
         alloc: Global,
@@ -54,7 +54,7 @@ impl<H: HostFile> HostDisk<H> {
         ensures asked { IfOk result (λ disk. IsOpening make file.now (bytes_of (host_disk disk))
             disk.is_name_stable (H.HostFile.state disk.file)) }
     {
-        // First, so that without memory the host is asked for nothing.
+        // Allocate first, so that no call on the host is made if memory runs out.
         let mut bytes = zeros(alloc, MOST_BYTES)?;
         let (opened, is_name_stable) = open_and_read(host, alloc, file, make, &mut bytes)?;
         let history = CallRecord::new(&bytes);
@@ -70,28 +70,28 @@ impl<H: HostFile> HostDisk<H> {
         })
     }
 
-    /// Returns true if the file's name stays after a power cut too, because its folder was synced.
+    /// Returns true if the file's name survives a power cut, because its folder was synced.
     pub fn is_name_stable(&self) -> bool
         ensures { result ≡ self.now.is_name_stable }
     {
         self.is_name_stable
     }
 
-    /// Returns true if the last call that failed did so for lack of space on the device.
+    /// Returns true if the last failed call failed for lack of space on the device.
     pub fn is_full(&self) -> bool
         ensures { result ≡ self.now.is_full }
     {
         self.is_full
     }
 
-    /// Returns true if the file has the size and the name of a session file.
+    /// Returns true if the file has the size of a session file and begins with the name `MCS4BEN1`.
     pub fn is_named_session(&self) -> bool
         ensures { IsTrue result ↔ IsNamedSession (bytes_of (host_disk self.now)) }
     {
         self.bytes.len() == FILE_SIZE && is_session_name(&self.bytes[0..8])
     }
 
-    // Returns true if the file holds these bytes from `at` on, as far as the writes to it show.
+    // Returns true if `given` equals the bytes at offset `at` in the copy of the file.
     fn holds(&self, at: usize, given: &[u8]) -> bool
         requires { at + length given.now ≤ length self.now.bytes.items }
         ensures { IsTrue result ↔ (given.now ≡ part at (length given.now) self.now.bytes.items) }
@@ -99,8 +99,8 @@ impl<H: HostFile> HostDisk<H> {
         given == &self.bytes[at..at + given.len()]
     }
 
-    // Counts a fault, returns it, and does nothing else. `is_full` is true if its reason is lack of
-    // space.
+    // Adds one to the saturating fault count, stores `is_full` and returns the fault. It changes
+    // nothing else. `is_full` is true if the fault is due to lack of space.
     fn fail(&mut self, is_full: bool) -> DiskFault
         ensures file { self.new.file ≡ self.old.file }
         ensures bytes { self.new.bytes ≡ self.old.bytes }
@@ -114,7 +114,7 @@ impl<H: HostFile> HostDisk<H> {
     }
 }
 
-// Returns this many zero bytes. It fails if memory runs out.
+// Returns `size` zero bytes. It fails if memory runs out.
 #[tactic(auto, using(crate::proofs::ZeroBytes::zeros_of))]
 fn zeros(alloc: Global, size: usize) -> Result<Vec<u8>, AllocError>
     ensures len { IfOk result (λ bytes. vec_len bytes ≡ size) }
@@ -140,7 +140,7 @@ impl<H: HostFile> Disk for HostDisk<H> {
             result }
         ensures honest { (host_disk self.old).honest → OnOk result
             (into.new ≡ part at (length into.old) (bytes_of (host_disk self.old))) }
-        // On every file, honest or not.
+        // Holds on every file, honest or not.
         ensures given { OnOk result
             (into.new ≡ part at (length into.old) (bytes_of (host_disk self.old))) }
         ensures asked { AsksToRead at into.new result
@@ -159,7 +159,7 @@ impl<H: HostFile> Disk for HostDisk<H> {
         ensures call { CountsFault (host_disk self.old) (host_disk self.new) (IsErr result) }
         ensures noted { Makes (Wrote at from.now ∷ []) (host_disk self.old).calls
             (host_disk self.new).calls result }
-        // Also if the write failed: it may have reached any part of the range.
+        // Holds even if the write failed, because it can have reached any part of the range.
         ensures torn { (before image : List ℕ) → images_of (host_disk self.old) before
             → Torn at (length from.now) before image → images_of (host_disk self.new) image }
         ensures asked { H.HostFile.state self.new.file
@@ -175,7 +175,7 @@ impl<H: HostFile> Disk for HostDisk<H> {
         Ok(())
     }
 
-    // The size of the file never changes here, so a sync of its data is enough.
+    // The length of the file never changes here, so a sync of its data is enough.
     fn sync(&mut self) -> Result<(), DiskFault>
         ensures call { CountsFault (host_disk self.old) (host_disk self.new) (IsErr result) }
         ensures noted { Makes (Synced ∷ []) (host_disk self.old).calls (host_disk self.new).calls

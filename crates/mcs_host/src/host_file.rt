@@ -1,5 +1,5 @@
-//! The calls that a session file makes on the host, as a trait. The code over this trait is proved
-//! to make these calls, in this order, and no others.
+//! The calls on the host that a session file needs, as traits. Code that is generic over these
+//! traits is proved to make the calls that its contracts state, in that order, and no others.
 ghost use Rattle.std.specs.Prelude.{◌≡◌, [], ◌∷◌, IfOk, MatchResult, false, is_ok, true};
 ghost use Rattle.std.specs.Path.{path_buf_bytes};
 ghost use Rattle.mcs_host.specs.HostCalls.{HostState, HasCalls, IsLink, Length, Lock, LookUp, Made, ReadAt, RealName, SetLength, SyncAll, SyncData, SyncFolder, WriteAt, asked, is_yes};
@@ -11,79 +11,81 @@ use std::fs::TryLockError;
 use std::io;
 use std::path::PathBuf;
 
-/// An open file of the host. Each method makes one call; contracts see the calls so far, with their
+/// An open file of the host. Each method makes one call. Contracts see all calls so far, with their
 /// answers.
 pub trait HostFile {
     /// The file as contracts see it.
     ghost state: { Self → HostState };
 
-    /// Returns the host's number for it.
+    /// Returns the host's number for the file, its descriptor.
     fn number(&self) -> i32
         ensures { result ≡ (state self.now).number };
 
-    /// Asks for the exclusive lock, without waiting.
+    /// Requests the exclusive lock, without waiting.
     fn try_lock(&mut self) -> Result<(), TryLockError>
         ensures { state self.new ≡ asked (Lock (is_ok result)) (state self.old) };
 
-    /// Returns its length.
+    /// Returns the file's length in bytes.
     fn length(&mut self) -> io::Result<u64>
         ensures { MatchResult result
             (λ n. state self.new ≡ asked (Length n true) (state self.old))
             (λ _. state self.new ≡ asked (Length 0 false) (state self.old)) };
 
-    /// Sets its length.
+    /// Sets the file's length in bytes.
     fn set_length(&mut self, to: u64) -> io::Result<()>
         ensures { state self.new ≡ asked (SetLength to (is_ok result)) (state self.old) };
 
-    /// Reads the bytes from this offset on, all of them.
+    /// Reads the bytes that start at offset `at`, until `into` is full.
     fn read_at(&mut self, at: usize, into: &mut [u8]) -> io::Result<()>
         ensures { state self.new ≡ asked (ReadAt at into.new (is_ok result)) (state self.old) };
 
-    /// Writes all of these bytes from this offset on.
+    /// Writes all of `from` at offset `at`.
     fn write_at(&mut self, at: usize, from: &[u8]) -> io::Result<()>
         ensures { state self.new ≡ asked (WriteAt at from.now (is_ok result)) (state self.old) };
 
-    /// Syncs its bytes.
+    /// Syncs the file's bytes.
     fn sync_data(&mut self) -> io::Result<()>
         ensures { state self.new ≡ asked (SyncData (is_ok result)) (state self.old) };
 
-    /// Syncs its bytes and its length.
+    /// Syncs the file's bytes and its length.
     fn sync_all(&mut self) -> io::Result<()>
         ensures { state self.new ≡ asked (SyncAll (is_ok result)) (state self.old) };
 }
 
-/// The host, which opens files by their names.
+/// The host, which opens files by name.
 pub trait Host {
-    /// An open file of it.
+    /// An open file of this host.
     type File: HostFile + Drop;
 
-    /// Returns the standard streams that are the file of this name, which is regular or not there
-    /// yet. It fails for any other file, and if the host does not say which files the streams are.
+    /// Returns the standard streams that are the file of this name. The file must be regular or
+    /// missing. The call fails for any other file, and if the host does not say which files the
+    /// streams are.
     fn streams_that_are(&self, name: &str) -> Result<Streams, FileFault>;
 
-    /// Checks that a file made by this name can be removed again. If it is the name of a link, the
-    /// folder that the link leads to must have a name without links. It needs memory.
+    /// Checks that a file created under this name can be removed again. If the name is a link, the
+    /// folder that it leads to must have a name without links. The call allocates memory.
     fn can_be_removed(&self, alloc: Global, name: &str) -> io::Result<()>;
 
     /// Opens the file of this name for reading and writing.
     fn open(&self, name: &str) -> io::Result<Self::File>
         ensures { IfOk result (λ file. HasCalls name.now [] (Self.File.state file)) };
 
-    /// Does the same, and makes the file if it is not there.
+    /// Opens the file of this name for reading and writing, and creates it if it is missing.
     fn open_or_make(&self, name: &str) -> io::Result<Self::File>
         ensures { IfOk result (λ file. HasCalls name.now (Made ∷ []) (Self.File.state file)) };
 
-    /// Returns true if this name still stands for the file.
+    /// Returns true if this name still refers to the file.
     fn is_named(&self, file: &mut Self::File, name: &str) -> io::Result<bool>
         ensures { Self.File.state file.new
             ≡ asked (LookUp name.now (is_yes result)) (Self.File.state file.old) };
 
-    /// Returns true if this name of the file is that of a link.
+    /// Returns true if this name of the file is a symbolic link.
     fn is_link(&self, file: &mut Self::File, name: &str) -> io::Result<bool>
         ensures { Self.File.state file.new
             ≡ asked (IsLink name.now (is_yes result)) (Self.File.state file.old) };
 
-    /// Returns the name without links of the file that this name leads to. It needs memory.
+    /// Returns the name, without links, of the file that this name leads to. The call allocates
+    /// memory.
     fn real_name(
         &self,
         alloc: Global,
@@ -96,7 +98,7 @@ pub trait Host {
             (λ _. Self.File.state file.new
             ≡ asked (RealName [] false) (Self.File.state file.old)) };
 
-    /// Syncs the folder of this name, for a file in it.
+    /// Syncs the folder of this name. The call is noted with `file`, which is in that folder.
     fn sync_folder(&self, file: &mut Self::File, folder: &str) -> io::Result<()>
         ensures { Self.File.state file.new
             ≡ asked (SyncFolder folder.now (is_ok result)) (Self.File.state file.old) };

@@ -1,9 +1,9 @@
-//! The host's side of the program: the choice that the command line makes, and a session file as a
-//! disk.
+//! The program's interface to the host: the task that the command line selects, and a session file
+//! as a disk.
 //!
-//! [`choice`] reads the command line. [`StandIns`] replace standard streams that are closed.
-//! [`FileDisk`] is a file of the host with the trait `Disk` of mcs_disk. That it keeps what it was
-//! given over a power cut is a premise on the host, not a theorem.
+//! [`choice`] parses the command line. [`StandIns`] replace closed standard streams. [`FileDisk`]
+//! implements the trait `Disk` of mcs_disk on a file of the host. That the file keeps its bytes
+//! after a power cut is a premise on the host, not a theorem.
 #![tactic(auto)]
 
 mod arguments;

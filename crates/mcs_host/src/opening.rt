@@ -1,4 +1,4 @@
-//! A file of the host, opened and locked, and made and filled on request.
+//! Functions that open and lock a file of the host, and create and fill it on request.
 ghost use Rattle.std.specs.Prelude.{◌≡◌, ◌==◌, ◌↔◌, ◌<◌, ◌≤◌, [], ◌∷◌, IfOk, OnOk, IsTrue, is_ok, true, vec_len};
 ghost use Rattle.std.specs.List.{list_all};
 ghost use Rattle.mcs_host.specs.FileDisk.{IsApart};
@@ -13,18 +13,22 @@ use std::alloc::Global;
 use std::io::{self, ErrorKind};
 use std::path::Path;
 
-/// The most bytes that are read of a longer file. It is one byte more than a session file has, so
-/// that the size shows that it is none.
+/// The maximum number of bytes that are read from a file. It is one more than a session file has,
+/// so that the size of a longer file shows that it is not a session file.
 pub(crate) const MOST_BYTES: usize = FILE_SIZE + 1;
 
-/// The number of standard error, the greatest one of a standard stream.
+/// The descriptor number of standard error, the highest of the three standard streams.
 const STANDARD_ERROR: i32 = 2;
 
-/// Opens a file for reading and writing, locks it, and reads it into `bytes`, which are zeros. It
-/// returns the file, and true if its name stays after a power cut. If `make` is true, it makes the
-/// file if it is not there, and fills it with [`FILE_SIZE`] zero bytes if it is empty. A file that
-/// cannot be filled is empty again, and one that was made for nothing is removed. It does not open
-/// a file that is also a standard stream, nor any file if the host does not say whether it is one.
+/// Opens a file for reading and writing, locks it, and reads it into `bytes`, which must be zeros.
+/// It returns the file, and true if the file's name survives a power cut.
+///
+/// If `make` is true, it creates a missing file, and fills an empty one with [`FILE_SIZE`] zero
+/// bytes. If the fill fails, the file is made empty again. If the call fails after it created the
+/// file, the file is removed if it is empty and not in use by another program.
+///
+/// It does not open a file that is also a standard stream. It opens no file if the host does not
+/// say whether the file is a standard stream.
 pub(crate) fn open_and_read<N: Host>(
     host: &N,
     alloc: Global,
@@ -49,7 +53,7 @@ pub(crate) fn open_and_read<N: Host>(
         Ok(is_name_stable) => Ok((opened, is_name_stable)),
         Err(fault) => {
             if is_made && fault != FileFault::InUse {
-                // the answer is the first error, and not that an empty file could not be removed
+                // return the first error, even if the empty file cannot be removed
                 let _ = remove_empty(host, alloc, &mut opened, file);
             }
             Err(fault)
@@ -57,7 +61,8 @@ pub(crate) fn open_and_read<N: Host>(
     }
 }
 
-// Opens a file, and returns it and true if it was made.
+// Opens a file. It creates the file if it is missing and `make` is true. It returns the file, and
+// true if the file was created.
 fn open_or_make<N: Host>(
     host: &N,
     alloc: Global,
@@ -77,8 +82,8 @@ fn open_or_make<N: Host>(
     }
 }
 
-// Locks a file before anything else is asked of it, fills it if it is to be filled, and reads it.
-// What it holds is on the device by then. It returns true if its name is there too.
+// Locks a file before any other call on it, fills it if necessary, and reads it. When it returns
+// Ok, the file's contents are on the device. The result is true if its name is there too.
 fn lock_and_read<N: Host>(
     host: &N,
     alloc: Global,
@@ -107,15 +112,15 @@ fn lock_and_read<N: Host>(
     bytes.truncate(found.min(MOST_BYTES as u64) as usize);
     let is_name_stable = sync_and_read(host, alloc, opened, file, bytes)?;
     if make && is_blank(bytes) {
-        // It may have holes, for example after an earlier fill that was cut off.
+        // It can have holes, for example after an earlier fill that was interrupted.
         write_whole(host, alloc, opened, file, bytes)?;
     }
     Ok(is_name_stable)
 }
 
-// Locks a file whose name still stands for it: another program may have removed the file before the
-// lock was granted. It rejects a file that has the number of a standard stream, because such a file
-// would get what the program writes to the stream.
+// Locks a file and checks that its name still refers to it. Another program can have removed the
+// file before the lock was granted. A file with the number of a standard stream is rejected,
+// because output to the stream would go into it.
 fn lock<N: Host>(host: &N, opened: &mut N::File, file: &str) -> Result<(), FileFault>
     ensures apart { OnOk result (IsApart (N.File.state opened.new).number) }
     ensures same { OnOk result (IsSame (N.File.state opened.old) (N.File.state opened.new)) }
@@ -132,7 +137,7 @@ fn lock<N: Host>(host: &N, opened: &mut N::File, file: &str) -> Result<(), FileF
     Ok(())
 }
 
-// Fills an empty file with these bytes, which are zeros, and reads it back.
+// Fills an empty file with `bytes`, which are zeros, and reads it back into `bytes`.
 fn fill_and_read<N: Host>(
     host: &N,
     alloc: Global,
@@ -150,8 +155,8 @@ fn fill_and_read<N: Host>(
     Ok(())
 }
 
-// Makes an existing file stable, and then reads as many of its bytes as `bytes` has. It returns
-// true if its name is stable too.
+// Makes an existing file stable, and then reads its first bytes until `bytes` is full. It returns
+// true if the file's name is stable too.
 fn sync_and_read<N: Host>(
     host: &N,
     alloc: Global,
@@ -170,7 +175,7 @@ fn sync_and_read<N: Host>(
     Ok(is_name_stable)
 }
 
-// Returns true if the bytes are those of a blank file.
+// Returns true if the bytes are those of a blank file: `FILE_SIZE` zeros.
 fn is_blank(bytes: &[u8]) -> bool
     ensures { IsTrue result ↔ IsAllZeros bytes.now }
 {
@@ -183,7 +188,8 @@ fn are_zeros(bytes: &[u8]) -> bool
     bytes.iter().all(|byte| *byte == 0)
 }
 
-// Returns the reason why a name was not made stable. The name that a link leads to needs memory.
+// Returns the reason why a file's name was not made stable. The reason can be lack of memory,
+// because the name that a link leads to is allocated.
 fn name_fault(error: io::Error) -> FileFault
     ensures { IsNameFault error result }
 {
@@ -193,8 +199,8 @@ fn name_fault(error: io::Error) -> FileFault
     }
 }
 
-// Returns the reason why no file is made where a link leads. If the name there is not text, its
-// folder could not be synced.
+// Returns the reason why no file can be created at the target of a link. If the target's name is
+// not text, the reason is that its folder could not be synced.
 fn link_fault(error: io::Error) -> FileFault
     ensures { IsLinkFault error result }
 {
@@ -204,7 +210,7 @@ fn link_fault(error: io::Error) -> FileFault
     }
 }
 
-// Writes these bytes, which are zeros, to an empty file. If that fails, the file is empty again.
+// Writes `zeros` to an empty file. If that fails, the file is made empty again.
 fn fill<N: Host>(
     host: &N,
     alloc: Global,
@@ -218,16 +224,16 @@ fn fill<N: Host>(
 {
     let filled = write_whole(host, alloc, opened, file, zeros);
     if filled.is_err() {
-        // the answer is the first error
+        // return the first error
         let _ = opened.set_length(0);
     }
     filled
 }
 
-// Writes all of a file, so that each byte has room on the device, and makes it and its name stable.
-// The file gets its size at once, so that a stop half way leaves a file in which a new session can
-// still begin. A folder that cannot be synced is an error here: a command answered `ok` would be
-// lost with the name of a new file.
+// Writes the whole file, so that each byte has space on the device, and makes the file and its name
+// stable. The length is set first, so that a stop halfway leaves a file in which a new session can
+// still begin. A folder that cannot be synced is an error here. Otherwise a power cut could lose
+// the name of a new file, and with it a command that was answered `ok`.
 fn write_whole<N: Host>(
     host: &N,
     alloc: Global,
@@ -248,7 +254,8 @@ fn write_whole<N: Host>(
     Ok(())
 }
 
-// Makes the name of a file stay after a power cut, in the folder that links lead to.
+// Syncs the folder of a file, so that the file's name survives a power cut. If the name is a link,
+// the folder is that of the file that the link leads to.
 fn sync_folder<N: Host>(host: &N, alloc: Global, opened: &mut N::File, file: &str) -> io::Result<()>
     ensures same { IsSame (N.File.state opened.old) (N.File.state opened.new) }
     ensures asked { FolderCalls file.now (is_ok result)
@@ -261,7 +268,7 @@ fn sync_folder<N: Host>(host: &N, alloc: Global, opened: &mut N::File, file: &st
     host.sync_folder(opened, folder_of(real_path.as_str()))
 }
 
-/// Returns the folder of the file of this name.
+/// Returns the folder that contains the file of this name, or `.` if the name has none.
 pub(crate) fn folder_of(name: &str) -> &str
     ensures { result.now ≡ folder_of name.now }
 {
@@ -271,9 +278,9 @@ pub(crate) fn folder_of(name: &str) -> &str
     }
 }
 
-// Makes the name of a file stay, and returns true if that was done. It returns false if the folder
-// may not be read, if the host syncs no folder, or if a link leads to a folder whose name is not
-// text.
+// Makes a file's name survive a power cut, and returns true if that was done. It returns false if
+// the folder may not be read, if the host does not sync folders, or if a link leads to a folder
+// whose name is not text.
 fn sync_folder_if_it_may_be<N: Host>(
     host: &N,
     alloc: Global,
@@ -295,7 +302,7 @@ fn sync_folder_if_it_may_be<N: Host>(
     }
 }
 
-// Removes a file that is empty; a link to it stays.
+// Removes a file if it is empty. A link to the file stays.
 fn remove_empty<N: Host>(
     host: &N,
     alloc: Global,

@@ -1,6 +1,6 @@
-//! The standard streams of the program. Each is open before a file is opened, and none of them goes
-//! into a session file. std does not say which file is open under a descriptor, so the host is
-//! asked by the names below /proc/self/fd. If it does not answer, the program does not begin.
+//! The standard streams of the program. Each is open before any file is opened, and none of them
+//! goes into a session file. std does not say which file a descriptor refers to, so the host is
+//! asked about the names in /proc/self/fd. If it does not answer, the program does not start.
 ghost use Rattle.std.specs.Prelude.{◌≡◌, ◌≢◌, ◌⊎◌, ◌↔◌, IfErr, IfOk, IsErr, IsErrAnd, IsErrOf, IsNone, IsOk, IsTrue, Err, None, Ok, Some, false};
 ghost use Rattle.std.specs.Fs.{file_type, metadata_len, IsDir, IsFile};
 ghost use Rattle.mcs_host.specs.declared.file_fault.FileFault.TheVariants.{Folder, NotAFile};
@@ -23,14 +23,14 @@ const OUTPUT: &str = "/proc/self/fd/1";
 
 const ERRORS: &str = "/proc/self/fd/2";
 
-/// Some of the standard streams.
+/// A set of standard streams.
 #[derive(Clone, Copy, Debug, PartialEq, Eq)]
 pub struct Streams {
-    /// True if standard input is one of them.
+    /// True if standard input is in the set.
     pub input: bool,
-    /// True if standard output is.
+    /// True if standard output is in the set.
     pub output: bool,
-    /// True if standard error is.
+    /// True if standard error is in the set.
     pub errors: bool,
 }
 
@@ -46,7 +46,7 @@ impl Streams {
         }
     }
 
-    /// Returns true if there is one.
+    /// Returns true if the set is not empty.
     pub fn any(self) -> bool
         ensures { result ≡ false ↔ self ≡ none_of_them }
     {
@@ -54,7 +54,7 @@ impl Streams {
     }
 }
 
-/// A reason why the program cannot begin with its standard streams.
+/// The reason why the program cannot start with its standard streams.
 #[derive(Clone, Copy, Debug, PartialEq, Eq, Error)]
 pub enum StreamsFault {
     /// Standard output or standard error goes into a session file.
@@ -68,18 +68,18 @@ pub enum StreamsFault {
     NoStandIn,
 }
 
-/// The error for standard streams that the program cannot begin with.
+/// The error for standard streams with which the program cannot start.
 #[derive(Clone, Copy, Debug)]
 pub struct RefusedStreams {
-    /// The reason.
+    /// The reason for the error.
     pub fault: StreamsFault,
-    /// The streams that may be session files: the program writes nothing to them.
+    /// The streams that could be session files. The program writes nothing to them.
     pub unusable: Streams,
 }
 
-/// Files in the place of the standard streams that were closed when the program began. While they
-/// exist, no file that is opened gets the number of a stream. A stand-in is at its end for a
-/// reader, and accepts no write.
+/// Files in place of the standard streams that were closed when the program started. While they
+/// exist, no file that is opened gets the number of a standard stream. A read from such a file
+/// returns end of file, and a write to it fails.
 #[derive(Drop)]
 pub struct StandIns {
     input: Option<File>,
@@ -88,8 +88,8 @@ pub struct StandIns {
 }
 
 impl StandIns {
-    /// Opens a stand-in for each standard stream that is closed, and examines all three. It fails
-    /// if one may go into a session file: see [`StreamsFault`].
+    /// Opens a stand-in for each closed standard stream, and checks all three streams. It fails if
+    /// one of them could go into a session file. See [`StreamsFault`].
     pub fn open(rt: &HostRuntime) -> Result<StandIns, RefusedStreams> {
         let opened = StandIns::in_place(rt);
         let input = what_is_found(answers(rt, INPUT), rt.stdin().is_terminal());
@@ -106,8 +106,8 @@ impl StandIns {
         Err(RefusedStreams { fault, unusable })
     }
 
-    // Opens the stand-ins in this order, so that each gets the number of its stream, the lowest one
-    // that is free.
+    // Opens the stand-ins in the order of their numbers. The host assigns the lowest free number,
+    // so each stand-in gets the number of its stream.
     fn in_place(rt: &HostRuntime) -> io::Result<StandIns> {
         Ok(StandIns {
             input: stand_in(rt, &rt.stdin())?,
@@ -117,8 +117,8 @@ impl StandIns {
     }
 }
 
-// Returns a file in the place of a stream if the stream is closed: if its descriptor cannot be
-// duplicated.
+// Returns a stand-in for a closed stream, and `None` for an open one. A stream is closed if its
+// descriptor cannot be duplicated.
 fn stand_in<S: AsFd>(rt: &HostRuntime, stream: &S) -> io::Result<Option<File>> {
     match stream.as_fd().try_clone_to_owned() {
         Ok(_open) => Ok(None),
@@ -129,15 +129,16 @@ fn stand_in<S: AsFd>(rt: &HostRuntime, stream: &S) -> io::Result<Option<File>> {
 /// The host's answer about a standard stream.
 #[derive(Clone, Copy, Debug, PartialEq, Eq)]
 enum Found {
-    /// It is a session file, or a file of that size that may not be read.
+    /// The stream is a session file, or a file of that size that cannot be read.
     Session,
-    /// It is something else.
+    /// The stream is something else.
     Other,
-    /// The host does not say.
+    /// The host does not say what the stream is.
     Unknown,
 }
 
-// Returns what a stream is, by the answer whether it is a session file. A terminal is none.
+// Classifies a stream, given the answer to the question whether it is a session file. Without an
+// answer, a terminal counts as `Other`.
 fn what_is_found(answer: io::Result<bool>, is_terminal: bool) -> Found
     ensures session { IfOk answer (λ yes. IsTrue yes → result ≡ Found.Session) }
     ensures other { IfOk answer (λ yes. yes ≡ false → result ≡ Found.Other) }
@@ -151,7 +152,7 @@ fn what_is_found(answer: io::Result<bool>, is_terminal: bool) -> Found
     }
 }
 
-// Returns the reason why the program does not begin with these streams, or none if it does.
+// Returns the reason why the program cannot start with these streams, or `None` if it can.
 fn refused(input: Found, output: Found, errors: Found) -> Option<StreamsFault>
     ensures input { IsNone result → input ≢ Found.Unknown }
     ensures output { IsNone result → output ≡ Found.Other }
@@ -171,7 +172,7 @@ fn refused(input: Found, output: Found, errors: Found) -> Option<StreamsFault>
     }
 }
 
-// Returns the streams that the program writes nothing to.
+// Returns the streams to which the program must write nothing.
 fn unusable(output: Found, errors: Found) -> Streams
     ensures output { result.output ≡ false ↔ output ≡ Found.Other }
     ensures errors { result.errors ≡ false ↔ errors ≡ Found.Other }
@@ -192,14 +193,14 @@ fn may_be_session(stream: Found) -> bool
     }
 }
 
-// Checks that the host says which file a stream is, and returns false. (For input it does not
-// matter whether that is a session file.)
+// Checks that the host says which file a stream is, and returns false. (For standard input, it does
+// not matter whether that file is a session file.)
 fn answers<R: Files>(rt: &R, stream: &str) -> io::Result<bool> {
     fs::metadata(rt, stream)?;
     Ok(false)
 }
 
-// Returns true if a stream is any session file, or a file of that size that may not be read.
+// Returns true if a stream is any session file, or a file of that size that cannot be read.
 fn is_session<R: Files<File = File>>(rt: &R, stream: &str) -> io::Result<bool> {
     if !has_session_size(&fs::metadata(rt, stream)?) {
         return Ok(false);
@@ -207,7 +208,7 @@ fn is_session<R: Files<File = File>>(rt: &R, stream: &str) -> io::Result<bool> {
     Ok(has_session_name(rt, stream).unwrap_or(true))
 }
 
-// Returns true if it is a regular file of a session's size.
+// Returns true if the file is regular and has the size of a session file.
 fn has_session_size(file: &Metadata) -> bool
     ensures file { IsTrue result → IsFile (file_type file.now) }
     ensures size { IsTrue result → metadata_len file.now ≡ FILE_SIZE }
@@ -222,14 +223,15 @@ fn has_session_name<R: Files<File = File>>(rt: &R, stream: &str) -> io::Result<b
     Ok(is_session_name(&found))
 }
 
-/// Returns true if these are the bytes that a session file begins with.
+/// Returns true if these bytes are the name that a session file begins with.
 pub(crate) fn is_session_name(found: &[u8]) -> bool
     ensures { IsTrue result ↔ (found.now ≡ NAME) }
 {
     found == b"MCS4BEN1".as_slice()
 }
 
-/// Returns the standard streams that are the file of this name, which is regular or not there yet.
+/// Returns the standard streams that are the file of this name. The file must be regular or
+/// missing.
 pub(crate) fn streams_that_are<R: Files>(rt: &R, file: &str) -> Result<Streams, FileFault> {
     match regular_file(fs::metadata(rt, file))? {
         Some(named) => streams_on(rt, &named),
@@ -237,8 +239,8 @@ pub(crate) fn streams_that_are<R: Files>(rt: &R, file: &str) -> Result<Streams, 
     }
 }
 
-// Returns the regular file of a name, by the host's answer for the name, or none if no file has it.
-// It fails for a folder or another kind of file, and for any other answer.
+// Returns the regular file that the host found for a name, or `None` if no file has that name. It
+// fails for a folder, for another kind of file, and for any other error of the host.
 fn regular_file(answer: io::Result<Metadata>) -> Result<Option<Metadata>, FileFault>
     ensures file { IfOk answer (λ named. IsFile (file_type named) → result ≡ Ok (Some named)) }
     ensures folder { IfOk answer (λ named. IsDir (file_type named) → result ≡ Err Folder) }
@@ -265,7 +267,7 @@ fn streams_on<R: Files>(rt: &R, named: &Metadata) -> Result<Streams, FileFault> 
     })
 }
 
-// Returns true if the stream that the host gave this answer for is that file. No answer is an
+// Returns true if the stream that the host answered for is the file `named`. A missing answer is an
 // error, not false.
 fn is_stream(answer: io::Result<Metadata>, named: &Metadata) -> Result<bool, FileFault>
     ensures answered { IsOk answer → IsOk result }
@@ -277,7 +279,7 @@ fn is_stream(answer: io::Result<Metadata>, named: &Metadata) -> Result<bool, Fil
     }
 }
 
-/// Returns true if both are of one file.
+/// Returns true if both describe the same file.
 pub(crate) fn is_same_file(one: &Metadata, other: &Metadata) -> bool {
     one.dev() == other.dev() && one.ino() == other.ino()
 }

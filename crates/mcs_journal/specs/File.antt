@@ -1,17 +1,17 @@
 -- The contents of a session file: a snapshot and the records after it. (Our own choice;
--- docs/FORMAT.md describes the layout, and src/format.rt has its sizes as constants.)
+-- docs/FORMAT.md describes the layout, and src/format.rt defines its sizes as constants.)
 use Rattle.std.specs.Prelude.{◌≡◌, ◌≢◌, ◌⊎◌, ◌==◌, Bool, nat_le, ℕ, ◌+◌, ◌/◌, ◌%◌, ◌≤◌, List, [], ◌∷◌, ◌++◌, length, slice_index, if◌then◌else◌}
 use Rattle.mcs_disk.specs.Disk.{DiskState, bytes_of, part, size_of}
 use Rattle.mcs_journal.specs.declared.format.TheConstants.{AREA_SIZE, FILE_SIZE, FIRST_SLOT, LOG_SIZE, MOST_RECORD, MOST_SNAPSHOT, NAME, SECOND_SLOT, ZEROS}
 use Rattle.mcs_journal.specs.declared.slot.Slot.{Slot}
 use Rattle.mcs_journal.specs.declared.slot.Slot.TheVariants.{A, B}
 
--- the offset of each slot
+-- the offset of a slot in the file
 abbrev pub start_of : Slot → ℕ
 start_of A = FIRST_SLOT
 start_of B = SECOND_SLOT
 
--- the slot that a selector names: the first if it is even, the second if it is odd
+-- the slot that a selector names: the first if the selector is even, the second if it is odd
 abbrev pub slot_named : ℕ → Slot
 slot_named selector = if selector % 2 == 0 then A else B
 
@@ -19,23 +19,23 @@ slot_named selector = if selector % 2 == 0 then A else B
 abbrev pub slot_of : List ℕ → Slot
 slot_of file = slot_named (slice_index file 8)
 
--- the offset of that slot
+-- the offset of the slot that a file's selector names
 abbrev pub slot_at : List ℕ → ℕ
 slot_at file = start_of (slot_of file)
 
--- A number in two bytes and in four, the highest first. If it is below 2^16 or 2^32, these are the
--- bytes of `to_be_bytes` of std.
+-- A number in two and in four bytes, big-endian. If it is below 2^16 or 2^32, these are the bytes
+-- that std's `to_be_bytes` returns.
 abbrev pub be16 : ℕ → List ℕ
 be16 n = n / 256 ∷ n % 256 ∷ []
 
 abbrev pub be32 : ℕ → List ℕ
 be32 n = n / 16777216 ∷ n / 65536 % 256 ∷ n / 256 % 256 ∷ n % 256 ∷ []
 
--- a record in a log: a commit byte of 1, its length, its bytes
+-- the frame of a record: a commit byte of 1, the record's length in two bytes, and the record
 abbrev pub frame_of : List ℕ → List ℕ
 frame_of payload = 1 ∷ (be16 (length payload) ++ payload)
 
--- records in a log, one after another
+-- the frames of some records, one after another
 abbrev pub frames_of : List (List ℕ) → List ℕ
 frames_of [] = []
 frames_of (r ∷ rs) = frame_of r ++ frames_of rs
@@ -47,8 +47,8 @@ abbrev pub AreRecords : List (List ℕ) → Type 0
 AreRecords [] = Unit {0}
 AreRecords (r ∷ rs) = IsRecord r × AreRecords rs
 
--- holds if a log holds these records: it spells them, then has a commit byte that is not 1, and
--- then anything
+-- holds if a log holds these records: it has their frames, then a commit byte that is not 1, and
+-- then any bytes
 pub record IsLog (records : List (List ℕ)) (log : List ℕ) : Type 0 where
   pub commit_byte : ℕ
   pub rest : List ℕ
@@ -56,8 +56,8 @@ pub record IsLog (records : List (List ℕ)) (log : List ℕ) : Type 0 where
   pub closed : commit_byte ≢ 1
   pub records_ok : AreRecords records
 
--- Holds if a file holds a snapshot and records: it begins with the name, the selector and seven
--- zeros. In the slot that the selector names it has the snapshot after its length, and the log of
+-- Holds if a file holds this snapshot and these records. It begins with the name, the selector and
+-- seven zeros. The slot that the selector names has the snapshot, after its length, and the log of
 -- the records.
 pub record Holds (file : List ℕ) (snap : List ℕ) (records : List (List ℕ)) : Type 0 where
   pub size : length file ≡ FILE_SIZE
@@ -68,29 +68,29 @@ pub record Holds (file : List ℕ) (snap : List ℕ) (records : List (List ℕ))
   pub snap_bytes : part (slot_at file + 4) (length snap) file ≡ snap
   pub log : IsLog records (part (slot_at file + AREA_SIZE) LOG_SIZE file)
 
--- holds if a file holds at most one snapshot and list of records
+-- holds if each file holds at most one snapshot with one list of records
 abbrev pub ContentsAreUnique : Type 0
 ContentsAreUnique =
     (file snap other : List ℕ) (records more : List (List ℕ))
     → Holds file snap records → Holds file other more → (snap ≡ other) × (records ≡ more)
 
--- Holds if a record of this size has room after `used` bytes of frames: its commit byte, its
--- length, its bytes, and one more commit byte after it.
+-- Holds if a log has room for a record of `size` bytes after `used` bytes of frames. The room
+-- includes the commit byte and the length before the record, and one more commit byte after it.
 abbrev pub HasRoom : ℕ → ℕ → Type 0
 HasRoom used size = used + 3 + size + 1 ≤ LOG_SIZE
 
--- true if it has
+-- true if there is room as `HasRoom` states
 abbrev pub has_room : ℕ → ℕ → Bool
 has_room used size = nat_le (used + 3 + size + 1) LOG_SIZE
 
--- holds if a disk is not a session file: its size or its name differs
+-- holds if a disk is not a session file: its size or its name is wrong
 abbrev pub IsNoSession : DiskState → Type 0
 IsNoSession disk = (size_of disk ≢ FILE_SIZE) ⊎ (part 0 8 (bytes_of disk) ≢ NAME)
 
 abbrev pub sixteen_zeros : List ℕ
 sixteen_zeros = 0 ∷ 0 ∷ 0 ∷ 0 ∷ 0 ∷ 0 ∷ 0 ∷ 0 ∷ 0 ∷ 0 ∷ 0 ∷ 0 ∷ 0 ∷ 0 ∷ 0 ∷ 0 ∷ []
 
--- Holds if a session may be made on the disk: it has the size of a session file, and its first 16
--- bytes are 0.
+-- Holds if a session can be created on the disk: it has the size of a session file, and its first
+-- 16 bytes are 0.
 abbrev pub IsBlank : DiskState → Type 0
 IsBlank disk = (size_of disk ≡ FILE_SIZE) × (part 0 16 (bytes_of disk) ≡ sixteen_zeros)

@@ -1,4 +1,4 @@
--- A store as contracts see it, and the invariant of its fields. (Our own choice.)
+-- The view of a store that contracts see, and the invariant of its fields. (Our own choice.)
 use Rattle.std.specs.Prelude.{◌≡◌, ℕ, ◌+◌, ◌≤◌, Bool, List, length, IsTrue}
 use Rattle.mcs_disk.specs.CallList.{unsynced}
 use Rattle.mcs_disk.specs.Disk.{DiskState, bytes_of, size_of}
@@ -9,15 +9,16 @@ use Rattle.mcs_journal.specs.declared.slot.Slot.{Slot}
 
 pub record StoreView (D : Type 0) : Type 0 where
   pub disk : D
-  -- no call on it has answered a device fault
+  -- true if no call on the store has returned a device fault
   pub live : Bool
-  -- the slot that holds its snapshot and its log
+  -- the slot that holds the snapshot and the log
   pub slot : Slot
-  -- the number of bytes that the frames of its records occupy in its log
+  -- the number of bytes that the frames of the records occupy in the log
   pub used : ℕ
 
--- The invariant of an open store on an honest disk. Whatever a power cut leaves has its contents,
--- in this slot, and `used` is the number of bytes that their frames occupy in the log.
+-- The invariant of an open store on an honest disk. The disk is durable, its selector names this
+-- slot, and it holds a snapshot and records. `used` is the number of bytes that the frames of the
+-- records occupy.
 pub record IsIntactStore (disk : DiskState) (slot : Slot) (used : ℕ) : Type 0 where
   pub durable : IsDurable disk
   pub active : slot_of (bytes_of disk) ≡ slot
@@ -27,8 +28,8 @@ pub record IsIntactStore (disk : DiskState) (slot : Slot) (used : ℕ) : Type 0 
   pub count : used ≡ length (frames_of records)
 
 -- The invariant of a store. Its disk has the size of a session file, and the log has room for one
--- more commit byte. The buffer has room for a snapshot area and a commit byte. An open store has
--- synced each write on its disk, and on an honest disk it is intact.
+-- more commit byte. The buffer has the size of a snapshot area and a commit byte. If the store is
+-- open, all writes on its disk are synced, and the store is intact if the disk is honest.
 pub record IsStore (disk : DiskState) (live : Bool) (slot : Slot) (used : ℕ) (buffer : List ℕ)
     : Type 0 where
   pub disk_size : size_of disk ≡ FILE_SIZE

@@ -1,4 +1,4 @@
--- The answers of `create` and `open`, by what the disk holds. (Our own choice.)
+-- The results of `create` and `open`, by the contents of the disk. (Our own choice.)
 use Rattle.std.specs.Prelude.{◌≡◌, ◌+◌, ℕ, List, []}
 use Rattle.mcs_disk.specs.Disk.{DiskState, bytes_of, time_of, IsLater}
 use Rattle.mcs_disk.specs.Stretches.{AddsNoImage}
@@ -7,7 +7,7 @@ use Rattle.mcs_journal.specs.File.{Holds, IsBlank, IsNoSession}
 use Rattle.mcs_journal.specs.declared.fault.StoreFault.{StoreFault}
 use Rattle.mcs_journal.specs.declared.fault.StoreFault.TheVariants as store_fault
 
--- holds if the disk holds no contents: no snapshot with its records
+-- holds if the disk does not hold a snapshot with its records
 abbrev pub HoldsNone : DiskState → Type 0
 HoldsNone disk = (snap : List ℕ) (records : List (List ℕ)) → Holds (bytes_of disk) snap records → ⊥
 
@@ -27,7 +27,7 @@ IsOpenFault store_fault.Device = Unit {0}
 IsOpenFault store_fault.NoMemory = Unit {0}
 IsOpenFault store_fault.NotBlank = ⊥
 
--- the statement about the disk that an error of `open` makes
+-- the property of the disk that an error of `open` guarantees
 abbrev pub RefusesOpen : StoreFault → DiskState → Type 0
 RefusesOpen store_fault.NotASession disk = IsNoSession disk
 RefusesOpen store_fault.Damaged disk = ¬ (IsNoSession disk) × HoldsNone disk
@@ -35,13 +35,14 @@ RefusesOpen store_fault.Device disk = Unit {0}
 RefusesOpen store_fault.NoMemory disk = Unit {0}
 RefusesOpen store_fault.NotBlank disk = ⊥
 
--- holds if the disk held these contents and was not written, and every image holds them
+-- holds if the disk held this snapshot and these records, no call wrote to it, and every image of
+-- it holds them
 pub record Opens (old new : DiskState) (snap : List ℕ) (records : List (List ℕ)) : Type 0 where
   pub holds : Holds (bytes_of old) snap records
   pub rests : AddsNoImage old new
   pub durable : IsDurable new
 
--- the statement that an error of `create` makes about the disk, and about what the call did there
+-- the property of the disk, before and after the call, that an error of `create` guarantees
 abbrev pub RefusesCreate : StoreFault → DiskState → DiskState → Type 0
 RefusesCreate store_fault.NotBlank old new = ¬ (IsBlank old) × AddsNoImage old new
 RefusesCreate store_fault.Device old new = IsLater old new
@@ -49,8 +50,8 @@ RefusesCreate store_fault.NoMemory old new = Unit {0}
 RefusesCreate store_fault.NotASession old new = ⊥
 RefusesCreate store_fault.Damaged old new = ⊥
 
--- holds if the disk was blank, and now, five ticks later, every image holds this snapshot and no
--- records
+-- holds if the disk was blank, and now, five ticks later, every image of it holds this snapshot and
+-- no records
 pub record Creates (old new : DiskState) (snap : List ℕ) : Type 0 where
   pub blank : IsBlank old
   pub holds : Holds (bytes_of new) snap []

@@ -1,9 +1,9 @@
-//! The snapshot and the records, as [`open`](crate::Store::open) returns them.
+//! The snapshot and the records that [`open`](crate::Store::open) returns.
 ghost use Rattle.std.specs.Prelude.{◌≡◌, ◌<◌, ◌↔◌, [], length, slice_get, Some, IsTrue};
 
 use std::marker::Model;
 
-/// Bytes that were read from a disk. Contracts see the list of them.
+/// Bytes that were read from a disk. Contracts see them as a list.
 #[derive(Drop)]
 pub struct Bytes {
     pub(crate) bytes: Vec<u8>,
@@ -18,7 +18,7 @@ impl Model for Bytes {
 }
 
 impl Bytes {
-    /// Returns all of them, in order.
+    /// Returns all the bytes, in order.
     pub fn bytes(&self) -> &[u8]
         ensures { result.now ≡ self.now }
     {
@@ -26,7 +26,7 @@ impl Bytes {
     }
 }
 
-/// The records of a log, in order. Contracts see the list of their bytes.
+/// The records of a log, in order. Contracts see them as a list of byte lists.
 #[derive(Drop)]
 pub struct Records {
     pub(crate) records: Vec<Bytes>,
@@ -48,14 +48,14 @@ impl Records {
         self.records.len()
     }
 
-    /// Returns true if there is no record.
+    /// Returns true if there are no records.
     pub fn is_empty(&self) -> bool
         ensures { IsTrue result ↔ (self.now ≡ []) }
     {
         self.records.is_empty()
     }
 
-    /// Returns the bytes of a record, counted from 0.
+    /// Returns the bytes of record `i`, counted from 0.
     pub fn get(&self, i: usize) -> &[u8]
         requires { i < length self.now }
         ensures { slice_get self.now i ≡ Some result.now }

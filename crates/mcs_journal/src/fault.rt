@@ -1,29 +1,30 @@
-//! The reasons why a store cannot be made or opened.
+//! The errors of creating and opening a store.
 ghost use Rattle.std.specs.Prelude.{◌≡◌};
 
 use mcs_disk::DiskFault;
 use std::alloc::{AllocError, AllocFailed};
 use thiserror::Error;
 
-/// A reason why [`create`](crate::Store::create) or [`open`](crate::Store::open) rejects a disk.
-/// Clauses of both state which of these each can return (`IsCreateFault`, `IsOpenFault`).
+/// An error of [`create`](crate::Store::create) or [`open`](crate::Store::open). The contracts
+/// state which errors each of them can return (`IsCreateFault`, `IsOpenFault`).
 #[derive(Clone, Copy, Debug, PartialEq, Eq, Error)]
 pub enum StoreFault {
-    /// Of `open`: the size or the name is not that of a session file (50).
+    /// Returned by `open`: the size or the name is not that of a session file (refusal 50).
     #[error("not a session file")]
     NotASession,
-    /// Of `open`: size and name are right, but the bytes hold no contents, that is no snapshot with
-    /// its records (51).
+    /// Returned by `open`: the size and the name are right, but the bytes do not hold a snapshot
+    /// with its records (refusal 51).
     #[error("damaged")]
     Damaged,
-    /// Of both: a call on the disk failed (53).
+    /// Returned by both: a call on the disk failed (refusal 53).
     #[error("the device failed")]
     Device,
-    /// Of `create`: the size is not that of a session file, or one of the first 16 bytes is not 0
-    /// (55).
+    /// Returned by `create`: the size is not that of a session file, or one of the first 16 bytes
+    /// is not 0 (refusal 55).
     #[error("not blank")]
     NotBlank,
-    /// Of both: there was no memory for a buffer, the snapshot or a record (90).
+    /// Returned by both: there was not enough memory for a buffer, the snapshot or a record
+    /// (refusal 90).
     #[error("out of memory")]
     NoMemory,
 }

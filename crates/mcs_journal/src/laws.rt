@@ -1,5 +1,5 @@
-//! Laws of the file format, and of what a power cut leaves of it. The contract of each function is
-//! the law; the function does nothing.
+//! Laws about the file format, and about its contents after a power cut. The contract of each
+//! function states a law; its body does nothing.
 ghost use Rattle.std.specs.Prelude.{◌⊎◌, ◌≡◌, ◌∷◌, [], ℕ, List, codes};
 ghost use Rattle.mcs_disk.specs.Disk.{bytes_of, time_of};
 ghost use Rattle.mcs_disk.specs.Stretches.{Either, LeavesOnly};
@@ -9,10 +9,14 @@ ghost use Rattle.mcs_journal.specs.File.{Holds, ContentsAreUnique};
 
 use mcs_disk::Disk;
 
-/// Shows the layout of a session file, in bytes. Its sizes are those of the file, its header, a
-/// snapshot area, a log, and an area with the first commit byte. Its limits are those of a snapshot
-/// and of a record. Its offsets are those of the selector, the zeros, both slots, a snapshot and a
-/// record's bytes. It also has the commit bytes, the name and the zeros of the header.
+/// Shows the values, in bytes, that define the layout of a session file:
+///
+/// - the sizes of the file, its header, a snapshot area, a log, and an area with the first commit
+///   byte
+/// - the limits of a snapshot and of a record
+/// - the offsets of the selector, the zeros, both slots, a snapshot in its area and a record in its
+///   frame
+/// - the commit bytes, the name and the zeros of the header
 pub fn layout_is()
     ensures sizes { FILE_SIZE ∷ HEADER_SIZE ∷ AREA_SIZE ∷ LOG_SIZE ∷ BUFFER_SIZE ∷ []
         ≡ 163_856 ∷ 16 ∷ 16_384 ∷ 65_536 ∷ 16_385 ∷ [] }
@@ -25,15 +29,15 @@ pub fn layout_is()
     ensures zeros { ZEROS ≡ 0 ∷ 0 ∷ 0 ∷ 0 ∷ 0 ∷ 0 ∷ 0 ∷ [] }
 {}
 
-/// Shows that any file holds at most one snapshot and list of records. So the bytes determine what
-/// [`open`](crate::Store::open) answers.
+/// Shows that any file holds at most one snapshot with one list of records. So the bytes determine
+/// what [`open`](crate::Store::open) returns.
 pub fn contents_are_unique()
     ensures { ContentsAreUnique }
 {}
 
-/// Shows what a power cut since the start of a stretch leaves, if each image of the stretch holds
-/// one of two contents. [`append`](crate::Store::append) and [`replace`](crate::Store::replace)
-/// promise such a stretch. The disk that is left holds one of the two.
+/// Shows that a power cut since the start of a stretch leaves one of two contents, if each image of
+/// the stretch holds one of the two. [`append`](crate::Store::append) and
+/// [`replace`](crate::Store::replace) promise such a stretch.
 pub fn cut_leaves_old_or_new_contents<D: Disk, E: Disk>()
     ensures { (snap other : List ℕ) (records more : List (List ℕ)) (old new : D) (found : E)
         → LeavesOnly (D.state old) (D.state new)
@@ -42,8 +46,9 @@ pub fn cut_leaves_old_or_new_contents<D: Disk, E: Disk>()
         → Holds (bytes_of (E.state found)) snap records ⊎ Holds (bytes_of (E.state found)) other more }
 {}
 
-/// Shows that a power cut from now on leaves a disk with the same contents, if the disk is durable.
-/// [`append`](crate::Store::append) and [`replace`](crate::Store::replace) leave it so with Ok.
+/// Shows that a power cut from now on leaves the same contents, if the disk is durable.
+/// [`append`](crate::Store::append) and [`replace`](crate::Store::replace) leave the disk durable
+/// if they return Ok.
 pub fn cut_leaves_durable_contents<D: Disk, E: Disk>()
     ensures { (snap : List ℕ) (records : List (List ℕ)) (disk : D) (found : E)
         → IsDurable (D.state disk) → Holds (bytes_of (D.state disk)) snap records

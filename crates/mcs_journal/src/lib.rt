@@ -1,4 +1,5 @@
-//! The journal of a session: a file of two slots, each a snapshot and a log of records after it.
+//! The journal of a session: a file with two slots, each of which has a snapshot and a log of the
+//! records after it.
 //!
 //! A [`Store`] keeps a snapshot and its records on a disk. A power cut at any moment leaves the
 //! contents before a call or those after it.

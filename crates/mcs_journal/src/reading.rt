@@ -1,4 +1,4 @@
-//! Functions that read the contents of a disk: its snapshot and records. Nothing here writes.
+//! Functions that read a disk's contents: the snapshot and the records. None of them writes.
 ghost use Rattle.std.specs.Prelude.{◌≡◌, ◌≢◌, ◌≤◌, ◌<◌, ◌+◌, ◌*◌, ◌^◌, List, [], ◌∷◌, ◌++◌, ℕ, length, slice_index, IfOk, IfSome, IfNone, OnOk, OnErr, IsErr, IsErrOf};
 ghost use Rattle.mcs_disk.specs.Disk.{part, bytes_of, size_of, time_of};
 ghost use Rattle.mcs_disk.specs.Changes.{ReadsOnly};
@@ -20,7 +20,7 @@ use crate::slot::Slot;
 use mcs_disk::{Disk, DiskFault};
 use std::alloc::Global;
 
-/// Reads the bytes from `at` on. It adds no image to the disk.
+/// Reads the bytes that start at offset `at`, until `into` is full. It adds no image to the disk.
 pub fn read_at<D: Disk>(disk: &mut D, at: usize, into: &mut [u8]) -> Result<(), DiskFault>
     requires { at + length into.old ≤ size_of (D.state disk.old) }
     ensures reads { ReadsOnly (D.state disk.old) (D.state disk.new) (IsErr result) }
@@ -33,9 +33,9 @@ pub fn read_at<D: Disk>(disk: &mut D, at: usize, into: &mut [u8]) -> Result<(), 
     disk.read(at, into)
 }
 
-/// Reads the record at `at`, with `room` bytes of the log left. It returns none if the commit byte
-/// is not 1. It fails if no record with room follows a commit byte of 1, if the device fails, or if
-/// memory runs out.
+/// Reads the record whose commit byte is at offset `at`, with `room` bytes of the log left. It
+/// returns `None` if the commit byte is not 1. It fails if no record that fits follows a commit
+/// byte of 1, if the device fails, or if memory runs out.
 pub fn read_record<D: Disk>(
     alloc: Global,
     disk: &mut D,
@@ -82,15 +82,15 @@ pub fn read_record<D: Disk>(
     Ok(Some(Bytes { bytes }))
 }
 
-/// The records of a log, and how many bytes they occupy.
+/// The records of a log, and the number of bytes that they occupy in it.
 #[derive(Drop)]
 pub struct Log {
     pub records: Vec<Bytes>,
     pub used: usize,
 }
 
-/// Reads the log at `at`, up to the first commit byte that is not 1. It fails if the log is
-/// damaged, if the device fails, or if memory runs out.
+/// Reads the log that starts at offset `at`, up to the first commit byte that is not 1. It fails if
+/// the log is damaged, if the device fails, or if memory runs out.
 pub fn read_log<D: Disk>(alloc: Global, disk: &mut D, at: usize) -> Result<Log, StoreFault>
     requires inside { at + LOG_SIZE ≤ size_of (D.state disk.old) }
     requires fits { size_of (D.state disk.old) < 2 ^ 64 }
@@ -148,8 +148,8 @@ pub fn read_header<D: Disk>(disk: &mut D) -> Result<Slot, StoreFault>
     Ok(Slot::named(header[SELECTOR_OFFSET]))
 }
 
-/// Reads the snapshot of the slot that starts at `start`. It fails if its length is not one of a
-/// snapshot, if the device fails, or if memory runs out.
+/// Reads the snapshot of the slot that starts at offset `start`. It fails if the length is above
+/// the limit of a snapshot, if the device fails, or if memory runs out.
 pub fn read_snapshot<D: Disk>(
     alloc: Global,
     disk: &mut D,
@@ -180,7 +180,7 @@ pub fn read_snapshot<D: Disk>(
     Ok(Bytes { bytes })
 }
 
-/// The contents that a disk was found to hold.
+/// The contents that were found on a disk, and their slot.
 #[derive(Drop)]
 pub struct Found {
     pub slot: Slot,
@@ -188,9 +188,9 @@ pub struct Found {
     pub log: Log,
 }
 
-/// Syncs, and reads the contents that the disk holds.
+/// Syncs the disk, and reads the contents that it holds.
 ///
-/// Without the sync, a power cut after the answer could lose what was read.
+/// Without the sync, a power cut after the call could lose what it read.
 pub fn read_contents<D: Disk>(alloc: Global, disk: &mut D) -> Result<Found, StoreFault>
     requires size { size_of (D.state disk.old) ≡ FILE_SIZE }
     ensures reads { ReadsOnly (D.state disk.old) (D.state disk.new)

@@ -3,12 +3,12 @@ ghost use Rattle.std.specs.Prelude.{◌≡◌};
 
 use crate::format::{FIRST_SLOT, SECOND_SLOT};
 
-/// A slot: a snapshot area and a log.
+/// A slot of a session file: a snapshot area and a log.
 #[derive(Clone, Copy)]
 pub enum Slot {
     /// The first slot of the file.
     A,
-    /// The second.
+    /// The second slot of the file.
     B,
 }
 
@@ -16,7 +16,8 @@ impl Slot {
     ghost use Rattle.mcs_journal.specs.File.{slot_named, start_of};
     ghost use Rattle.mcs_journal.specs.Writing.{other_slot, selector_of};
 
-    /// Returns the slot that a selector names: the first if it is even, the second if it is odd.
+    /// Returns the slot that a selector names: the first if the selector is even, the second if it
+    /// is odd.
     pub fn named(selector: u8) -> Slot
         ensures { result ≡ slot_named selector }
     {
@@ -33,7 +34,7 @@ impl Slot {
         }
     }
 
-    /// Returns the selector that is written to name the slot.
+    /// Returns the selector value that is written to name this slot.
     pub fn selector(self) -> u8
         ensures { result ≡ selector_of self }
     {

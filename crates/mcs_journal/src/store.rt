@@ -23,8 +23,8 @@ use std::marker::Model;
 
 /// A snapshot and the records after it, on a disk.
 ///
-/// Once a call on it has answered a device fault, it is closed. The disk then holds the contents
-/// before that call or those after it; opening it again shows which.
+/// A call that returns a device fault closes the store. The disk then holds the contents before
+/// that call or those after it. Opening the disk again shows which.
 #[derive(Drop)]
 pub struct Store<D: Disk + Drop> {
     disk: D,
@@ -44,22 +44,22 @@ impl<D: Disk + Drop> Model for Store<D> {
     ghost invariant = { λ s. IsStore (D.state s.disk) s.live s.slot s.used s.buffer.items };
 }
 
-/// The contents that a disk holds, and the store that continues from there.
+/// The contents that were read from a disk, and the store that continues from them.
 #[derive(Drop)]
 pub struct Opened<D: Disk + Drop> {
     pub store: Store<D>,
-    /// The snapshot, of at most 16,380 bytes.
+    /// The snapshot, at most 16,380 bytes long.
     pub snap: Bytes,
-    /// The records after it, the oldest first.
+    /// The records after the snapshot, oldest first.
     pub records: Records,
 }
 
 impl<D: Disk + Drop> Store<D> {
-    /// Makes a store of `snap` and no records, on a disk of [`FILE_SIZE`](crate::FILE_SIZE) bytes
-    /// whose first 16 are 0.
+    /// Creates a store with the snapshot `snap` and no records, on a disk of
+    /// [`FILE_SIZE`](crate::FILE_SIZE) bytes whose first 16 bytes are 0.
     ///
-    /// An error returns the disk; with `NotBlank` nothing was written. A power cut during the call
-    /// may leave anything.
+    /// An error returns the disk; with `NotBlank`, nothing was written. A power cut during the call
+    /// can leave anything.
     pub fn create(alloc: Global, disk: D, snap: &[u8]) -> Result<Store<D>, (StoreFault, D)>
         requires short { length snap.now ≤ MOST_SNAPSHOT }
 
@@ -117,7 +117,8 @@ impl<D: Disk + Drop> Store<D> {
         }
     }
 
-    /// Opens the contents that the disk holds. It writes nothing, and an error returns the disk.
+    /// Opens the store on a disk, and reads its contents. It writes nothing, and an error returns
+    /// the disk.
     pub fn open(alloc: Global, disk: D) -> Result<Opened<D>, (StoreFault, D)>
         // on any disk
         ensures live { IfOk result (λ opened. IsTrue opened.store.live) }
@@ -178,7 +179,7 @@ impl<D: Disk + Drop> Store<D> {
         }
     }
 
-    /// Returns true if no call on it has answered a device fault.
+    /// Returns true if no call on the store has returned a device fault.
     pub fn is_open(&self) -> bool
         ensures is { result ≡ self.now.live }
         ensures synced { IsTrue self.now.live → unsynced (D.state self.now.disk).calls ≡ 0 }
@@ -188,7 +189,7 @@ impl<D: Disk + Drop> Store<D> {
         self.live
     }
 
-    /// Returns true if a record of `len` bytes fits after the records of its log.
+    /// Returns true if a record of `len` bytes fits after the records of the log.
     pub fn has_room(&self, len: usize) -> bool
         requires { len ≤ MOST_RECORD }
         ensures room { IsTrue result ↔ HasRoom self.now.used len }
@@ -200,7 +201,7 @@ impl<D: Disk + Drop> Store<D> {
         self.used + FRAME_HEAD + len + 1 <= LOG_SIZE
     }
 
-    /// Adds a record of 1 to 8,192 bytes after the others. A device fault closes the store.
+    /// Appends a record of 1 to 8,192 bytes to the log. A device fault closes the store.
     pub fn append(&mut self, payload: &[u8]) -> Result<(), DiskFault>
         requires live { IsTrue self.old.live }
         requires good { IsRecord payload.now }
@@ -236,8 +237,8 @@ impl<D: Disk + Drop> Store<D> {
         }
     }
 
-    /// Replaces all that it holds with a snapshot of at most 16,380 bytes and no records. A device
-    /// fault closes the store.
+    /// Replaces the snapshot and all records with a new snapshot of at most 16,380 bytes and no
+    /// records. A device fault closes the store.
     pub fn replace(&mut self, snap: &[u8]) -> Result<(), DiskFault>
         requires live { IsTrue self.old.live }
         requires short { length snap.now ≤ MOST_SNAPSHOT }
@@ -280,7 +281,7 @@ impl<D: Disk + Drop> Store<D> {
         &self.disk
     }
 
-    /// Returns the disk, with what it holds, and ends the store.
+    /// Ends the store and returns its disk, with the contents unchanged.
     pub fn into_disk(self) -> D
         ensures { result ≡ self.disk }
     {

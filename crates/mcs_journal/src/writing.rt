@@ -1,6 +1,6 @@
-//! The writes of a store. Each change has two parts: bytes that nothing reads yet, and the byte
-//! that puts them in force. Each part is a write and a sync, so the byte never reaches the disk
-//! before the bytes that it puts in force.
+//! The writes of a store. Each change first writes bytes that nothing reads yet, and then the byte
+//! that puts them in force (for a new store, the header). A sync follows each of the two writes. So
+//! the second write never reaches the disk before the bytes that it puts in force.
 ghost use Rattle.std.specs.Prelude.{◌≡◌, ◌⊎◌, ◌≤◌, ◌+◌, List, [], ◌∷◌, ◌++◌, ℕ, length, take, slice_index, OnOk, IfErr, IsErr, IsErrOf};
 ghost use Rattle.mcs_disk.specs.Disk.{CountsFault, bytes_of, size_of, time_of, IsLater};
 ghost use Rattle.mcs_disk.specs.Changes.{Changes, ReadsOnly};
@@ -21,7 +21,7 @@ use crate::reading::read_at;
 use crate::slot::Slot;
 use mcs_disk::{Disk, DiskFault};
 
-/// Writes bytes from `at` on, and syncs. It fails if the device fails.
+/// Writes `from` at offset `at`, and syncs. It fails if the device fails.
 pub fn commit<D: Disk>(disk: &mut D, at: usize, from: &[u8]) -> Result<(), DiskFault>
     requires { at + length from.now ≤ size_of (D.state disk.old) }
     ensures call { CountsFault (D.state disk.old) (D.state disk.new) (IsErr result) }
@@ -34,7 +34,8 @@ pub fn commit<D: Disk>(disk: &mut D, at: usize, from: &[u8]) -> Result<(), DiskF
     disk.sync()
 }
 
-/// Encodes what follows a record's commit byte: its length, its bytes, and a commit byte of 0.
+/// Encodes the bytes that follow a record's commit byte: the record's length, the record, and a
+/// commit byte of 0.
 pub fn encode_record(buffer: &mut [u8], payload: &[u8])
     requires room { length payload.now + 3 ≤ length buffer.old }
     requires short { length payload.now ≤ MOST_RECORD }
@@ -48,7 +49,8 @@ pub fn encode_record(buffer: &mut [u8], payload: &[u8])
     buffer[2 + n] = NOT_COMMITTED;
 }
 
-/// Writes a record after the commit byte at `commit_at`, and then sets this byte to 1.
+/// Writes a record after the commit byte at offset `commit_at`, and then sets that commit byte to
+/// 1.
 pub fn add_record<D: Disk>(
     disk: &mut D,
     buffer: &mut [u8],
@@ -76,7 +78,7 @@ pub fn add_record<D: Disk>(
     commit(disk, commit_at, &[COMMITTED])
 }
 
-/// Encodes a snapshot area, and a commit byte of 0 after it.
+/// Encodes a snapshot area and, after it, a commit byte of 0.
 pub fn encode_snapshot(buffer: &mut [u8], snap: &[u8])
     requires room { length buffer.old ≡ BUFFER_SIZE }
     requires short { length snap.now ≤ MOST_SNAPSHOT }
@@ -91,8 +93,8 @@ pub fn encode_snapshot(buffer: &mut [u8], snap: &[u8])
     buffer[AREA_SIZE] = NOT_COMMITTED;
 }
 
-/// Writes a snapshot and no records into the slot that the selector does not name, and then names
-/// this slot.
+/// Writes a snapshot and no records into the slot that the selector does not name, and then sets
+/// the selector to that slot.
 pub fn replace_contents<D: Disk>(
     disk: &mut D,
     buffer: &mut [u8],
@@ -119,8 +121,8 @@ pub fn replace_contents<D: Disk>(
     commit(disk, SELECTOR_OFFSET, &[other.selector()])
 }
 
-/// Checks that the first 16 bytes of a disk are 0. It fails with `NotBlank` if they are not, or if
-/// the device fails.
+/// Checks that the first 16 bytes of a disk are 0. It fails with `NotBlank` if they are not, and
+/// with `Device` if the device fails.
 pub fn check_blank<D: Disk>(disk: &mut D) -> Result<(), StoreFault>
     requires size { size_of (D.state disk.old) ≡ FILE_SIZE }
     ensures reads { ReadsOnly (D.state disk.old) (D.state disk.new)
@@ -145,8 +147,8 @@ pub fn check_blank<D: Disk>(disk: &mut D) -> Result<(), StoreFault>
     Ok(())
 }
 
-/// Writes the first contents into the first slot: the snapshot and no records. Then it writes the
-/// header that names the slot.
+/// Writes the snapshot and no records into the first slot, and then the header that names this
+/// slot.
 pub fn write_first<D: Disk>(disk: &mut D, buffer: &mut [u8], snap: &[u8]) -> Result<(), DiskFault>
     requires size { size_of (D.state disk.old) ≡ FILE_SIZE }
     requires room { length buffer.old ≡ BUFFER_SIZE }

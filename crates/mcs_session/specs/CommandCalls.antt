@@ -1,4 +1,4 @@
--- The answers of `apply` and `settle` of a session, and their effect on the disk.
+-- The results of a session's `apply` and `settle`, and their effect on the disk.
 use Rattle.std.specs.Prelude.{◌≡◌, ◌+◌, min, Bool, true, false, ℕ, List, None, Some, Result, Ok, Err}
 use Rattle.mcs_disk.specs.Disk.{DiskState, most_faults, bytes_of, time_of}
 use Rattle.mcs_disk.specs.Stretches.{Either, LeavesOnly}
@@ -13,8 +13,8 @@ use Rattle.mcs_session.specs.StandsFor.{DiskStandsFor, HoldsState, StandsFor}
 
 -- ---- `apply`
 
--- Holds if the command leads from this state to that answer and state. The first argument is true
--- for an open session, and false for a closed one.
+-- Holds if the command leads from the state `s` to this result and the state `new`. The first
+-- argument is true for an open session, and false for a closed one.
 abbrev pub AppliesCommand : Bool → BenchState → Command → Result Reply SessionFault → BenchState
     → Type 0
 AppliesCommand true s c (Ok r) new = (refusal s c ≡ None) × (r ≡ reply s c) × (new ≡ after s c)
@@ -23,7 +23,8 @@ AppliesCommand true s c (Err Device) new = (refusal s c ≡ None) × (new ≡ s)
 AppliesCommand false s c (Err Closed) new = new ≡ s
 AppliesCommand live s c result new = ⊥
 
--- Holds if a device fault, and no other answer, closed the session and raised the count of faults.
+-- Holds if a device fault closed the session and raised the fault count, and any other result left
+-- both unchanged.
 abbrev pub ClosesAtDeviceFault : {T : Type 0} → Bool → ℕ → Result T SessionFault → Bool → ℕ → Type 0
 ClosesAtDeviceFault live faults (Ok r) new_live new_faults =
     (new_live ≡ live) × (new_faults ≡ faults)
@@ -32,14 +33,14 @@ ClosesAtDeviceFault live faults (Err Device) new_live new_faults =
 ClosesAtDeviceFault live faults (Err fault) new_live new_faults =
     (new_live ≡ live) × (new_faults ≡ faults)
 
--- holds if at every moment of this stretch a power cut leaves the one state or the other
+-- holds if a power cut at any moment of this stretch leaves a file that represents `s` or `other`
 abbrev pub LeavesEitherState : DiskState → DiskState → BenchState → BenchState → Type 0
 LeavesEitherState old new s other =
     LeavesOnly old new (Either (λ file. StandsFor file s) (λ file. StandsFor file other))
 
--- Until the command is acknowledged, a power cut leaves the state before it or after it. From then
--- on it leaves the state after. The record of the command was added to the log, in the ticks that
--- this needs.
+-- Until the command is acknowledged, a power cut leaves the state before it or the state after it.
+-- From then on, a power cut leaves the state after it. The command's record was added to the log,
+-- in the number of ticks that this takes (`ticks_of`).
 pub record AcknowledgesCommand (old new : DiskState) (s : BenchState) (c : Command) : Type 0 where
   pub leaves : LeavesEitherState old new s (after s c)
   pub log : List Command
@@ -48,7 +49,7 @@ pub record AcknowledgesCommand (old new : DiskState) (s : BenchState) (c : Comma
   pub holds : LogHolds (bytes_of new) (log_after log c)
   pub stands : DiskStandsFor new (after s c)
 
--- the effect of the command on an honest disk
+-- the effect of a command on an honest disk, by its result
 abbrev pub RecordsOrFails : Result Reply SessionFault → DiskState → DiskState → BenchState
     → Command → Type 0
 RecordsOrFails (Ok r) old new s c = AcknowledgesCommand old new s c
@@ -57,19 +58,19 @@ RecordsOrFails (Err fault) old new s c = new.calls ≡ old.calls
 
 -- ---- `settle`
 
--- holds if an open session settled or met a device fault, or if a closed one rejected the call
+-- holds if an open session returned Ok or a device fault, or if a closed session returned `Closed`
 abbrev pub MayAnswerSettle : {T : Type 0} → Bool → Result T SessionFault → Type 0
 MayAnswerSettle true (Ok x) = Unit {0}
 MayAnswerSettle true (Err Device) = Unit {0}
 MayAnswerSettle false (Err Closed) = Unit {0}
 MayAnswerSettle live result = ⊥
 
--- holds if at every moment of this stretch a power cut leaves this state
+-- holds if a power cut at any moment of this stretch leaves a file that represents this state
 abbrev pub KeepsState : DiskState → DiskState → BenchState → Type 0
 KeepsState old new s = LeavesOnly old new (λ file. StandsFor file s)
 
--- The bytes of the disk stood for this state. Now, four ticks later, the disk holds a snapshot of
--- it and no records. At every moment between, a power cut leaves this state.
+-- The bytes of the disk represented this state. Now, four ticks later, the disk holds a snapshot of
+-- the state and no records. A power cut at any moment in between leaves this state.
 pub record SettlesSession (old new : DiskState) (s : BenchState) : Type 0 where
   pub stood : StandsFor (bytes_of old) s
   pub holds : HoldsState (bytes_of new) s
@@ -77,7 +78,7 @@ pub record SettlesSession (old new : DiskState) (s : BenchState) : Type 0 where
   pub ticks : time_of new ≡ time_of old + 4
   pub stands : DiskStandsFor new s
 
--- the effect of settling on an honest disk
+-- the effect of `settle` on an honest disk, by its result
 abbrev pub SettlesOrFails : {T : Type 0} → Result T SessionFault → DiskState → DiskState
     → BenchState → Type 0
 SettlesOrFails (Ok x) old new s = SettlesSession old new s

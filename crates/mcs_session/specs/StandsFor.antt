@@ -1,7 +1,8 @@
--- The state that a session file stands for. For a file of version 1, the definitions of version 1
--- state it, and it is carried over (`StandsForLifted` in Version1). Some definitions here have a
--- version as an argument. In version 1 the snapshot is read as carried over, and the records are
--- commands that version 1 has. From there on, they are rejected and done as in version 2.
+-- The state that a session file represents. For a file of version 1, the definitions of version 1
+-- determine the state, and it is converted to version 2 (`StandsForLifted` in Version1). Some
+-- definitions here have a version as an argument. In version 1, the state of the snapshot is
+-- converted first, and the records are commands that version 1 has. From there on, the commands are
+-- rejected and executed as in version 2.
 use Rattle.std.specs.Prelude.{◌≡◌, ◌⊎◌, ◌≤◌, ℕ, List, [], ◌∷◌, None}
 use Rattle.mcs_codec.specs.Codec.{SpellsBy, SpellsState, SpellsStateBy}
 use Rattle.mcs_codec.specs.declared.versions.Version.{Version}
@@ -16,7 +17,7 @@ use Rattle.mcs_model.specs.BenchState.{BenchState}
 use Rattle.mcs_model.specs.Command.{refusal, after}
 use Rattle.mcs_model.specs.Fold.{fold}
 
--- holds if these records spell these commands, accepted in turn from this state
+-- holds if these records encode these commands, and each is accepted in turn from this state on
 abbrev pub ReplaysCommands : Version → BenchState → List (List ℕ) → List Command → Type 0
 ReplaysCommands version s [] [] = Unit {0}
 ReplaysCommands version s [] (c ∷ cs) = ⊥
@@ -24,7 +25,7 @@ ReplaysCommands version s (r ∷ rs) [] = ⊥
 ReplaysCommands version s (r ∷ rs) (c ∷ cs) =
     SpellsBy version r c × (refusal s c ≡ None) × ReplaysCommands version (after s c) rs cs
 
--- holds if a snapshot and the records after it stand for this state
+-- holds if a snapshot and the records after it represent this state
 pub record RecordsStandFor
     (version : Version) (snap : List ℕ) (records : List (List ℕ)) (s : BenchState) : Type 0 where
   pub start : BenchState
@@ -34,15 +35,14 @@ pub record RecordsStandFor
   pub bounded : log_cycles commands ≤ REPLAY_CYCLES
   pub state : s ≡ fold start commands
 
--- holds if a file of version 2 stands for this state: the one that its snapshot and its records
--- stand for
+-- holds if a file of version 2 represents this state: its snapshot and its records do
 pub record StandsFor (file : List ℕ) (s : BenchState) : Type 0 where
   pub snap : List ℕ
   pub records : List (List ℕ)
   pub holds : Holds file snap records
   pub stand : RecordsStandFor Two snap records s
 
--- holds if a file of either version stands for this state
+-- holds if a file of either version represents this state
 abbrev pub StandsByEither : List ℕ → BenchState → Type 0
 StandsByEither file s = StandsFor file s ⊎ StandsForLifted file s
 
@@ -52,17 +52,17 @@ pub record HoldsState (file : List ℕ) (s : BenchState) : Type 0 where
   pub spells : SpellsState snap s
   pub holds : Holds file snap []
 
--- holds if whatever a power cut now leaves stands for this state
+-- holds if each image that a power cut now can leave represents this state
 abbrev pub DiskStandsFor : DiskState → BenchState → Type 0
 DiskStandsFor disk s = (image : List ℕ) → images_of disk image → StandsFor image s
 
--- holds if whatever a power cut now leaves stands in version 1 for a state that is carried over to
--- this one
+-- holds if each image that a power cut now can leave represents, in version 1, a state that is
+-- converted to this one
 abbrev pub DiskStandsForLifted : DiskState → BenchState → Type 0
 DiskStandsForLifted disk s = (image : List ℕ) → images_of disk image → StandsForLifted image s
 
--- Holds if whatever a power cut at some moment since this time left stands for this state, in
--- either version.
+-- Holds if each image that a power cut at some moment since `time` can leave represents this state,
+-- in either version.
 abbrev pub DiskStandsSince : ℕ → DiskState → BenchState → Type 0
 DiskStandsSince time disk s =
     (image : List ℕ) → images_since time disk image → StandsByEither image s

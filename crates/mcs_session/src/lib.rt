@@ -1,4 +1,4 @@
-//! A bench whose commands are recorded on a disk, each before it is answered.
+//! A bench that records each accepted command on a disk before the command is answered.
 #![tactic(auto)]
 
 pub mod fault;

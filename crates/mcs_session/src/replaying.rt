@@ -1,4 +1,4 @@
-//! The state that a snapshot and the records after it stand for.
+//! The state that a snapshot and the records after it represent.
 ghost use Rattle.std.specs.Prelude.{◌≡◌, IfOk, IfSome, IfNone};
 ghost use Rattle.mcs_model.specs.BenchState.{BenchState};
 ghost use Rattle.mcs_session.specs.Invariant.{IsReplayed};
@@ -12,7 +12,7 @@ use mcs_model::command::Command;
 use mcs_model::limits::REPLAY_CYCLES;
 use std::alloc::{AllocError, Global};
 
-/// A bench as the commands of a log left it, and the instruction cycles that the log counts.
+/// A bench after the commands of a log, and the number of instruction cycles that they count for.
 #[derive(Drop)]
 pub struct Replayed {
     pub bench: Bench,
@@ -21,7 +21,7 @@ pub struct Replayed {
     pub version: Version,
 }
 
-/// Returns the instruction cycles that a command counts for in the log.
+/// Returns the number of instruction cycles that a command counts for in the log.
 pub(crate) fn replay_cycles(command: &Command) -> u32
     ensures { result ≡ replay_cycles command.now }
 {
@@ -32,8 +32,9 @@ pub(crate) fn replay_cycles(command: &Command) -> u32
     }
 }
 
-/// Returns the bench that a snapshot and the records after it stand for, or none if they stand for
-/// no state. All are of the version that the snapshot names. It fails if memory runs out.
+/// Returns the bench that a snapshot and the records after it represent, or `None` if they
+/// represent no state. All of them have the version that the snapshot names. It fails if memory
+/// runs out.
 pub(crate) fn replay(
     alloc: Global,
     snap: &[u8],

@@ -1,4 +1,4 @@
-//! A bench whose commands are recorded on a disk.
+//! A bench that records its commands on a disk.
 ghost use Rattle.std.specs.Prelude.{◌≡◌, ◌≢◌, ◌⊎◌, ◌↔◌, IsTrue, true, false, IsErrAnd, IfOk, IfErr};
 ghost use Rattle.mcs_disk.specs.Disk.{bytes_of, size_of, CountsFault};
 ghost use Rattle.mcs_disk.specs.CallList.{OneUnsynced, unsynced};
@@ -24,8 +24,8 @@ use std::marker::Model;
 
 /// A bench on a disk. Each accepted command is recorded there before it is answered.
 ///
-/// Once a command was answered with a device fault, the session is closed. The disk then stands for
-/// the state before that command or for the state after it; opening it again shows which.
+/// A command that is answered with a device fault closes the session. The disk then represents the
+/// state before that command or the state after it. Opening the disk again shows which.
 #[derive(Drop)]
 pub struct Session<D: Disk + Drop> {
     log: CommandLog<D>,
@@ -46,11 +46,11 @@ impl<D: Disk + Drop> Model for Session<D> {
 }
 
 impl<D: Disk + Drop> Session<D> {
-    /// Makes the session of a new bench on a blank disk.
+    /// Creates a session with a new bench on a blank disk.
     ///
-    /// It fails if memory runs out (90). It fails if the disk is not blank (55); then nothing is
-    /// written. It fails if a call on the disk failed (53); then nothing is promised about its
-    /// contents. An error returns the disk.
+    /// It fails if memory runs out (90). It fails if the disk is not blank (55); nothing is written
+    /// then. It fails if a call on the disk fails (53); nothing is promised about the disk's
+    /// contents then. An error returns the disk.
     pub fn create(alloc: Global, disk: D) -> Result<Session<D>, (StoreFault, D)>
         // on any disk
         ensures open { IfOk result (λ s. IsTrue s.live) }
@@ -100,12 +100,12 @@ impl<D: Disk + Drop> Session<D> {
     }
 
     /// Opens the session that a disk holds. It writes nothing to a file of version 2. In a file of
-    /// version 1 a snapshot of version 2 replaces the contents, once all memory is there. The file
-    /// stands for the same state at every moment.
+    /// version 1, a snapshot of version 2 replaces the contents, but only after all memory was
+    /// allocated. The file represents the same state at every moment.
     ///
-    /// It fails if memory runs out (90), or if size or name is not that of a session file (50). It
-    /// fails if the bytes stand for no state for another reason (51), and if a call on the disk
-    /// failed (53). An error returns the disk.
+    /// It fails if memory runs out (90), or if the size or the name is not that of a session file
+    /// (50). It fails if the bytes represent no state for another reason (51), or if a call on the
+    /// disk fails (53). An error returns the disk.
     pub fn open(alloc: Global, disk: D) -> Result<Session<D>, (StoreFault, D)>
         // on any disk
         ensures open { IfOk result (λ s. IsTrue s.live) }
@@ -154,14 +154,14 @@ impl<D: Disk + Drop> Session<D> {
         }
     }
 
-    /// Returns true if no command was answered with a device fault.
+    /// Returns true if no call on the session has returned a device fault.
     pub fn is_open(&self) -> bool
         ensures { result ≡ self.now.live }
     {
         self.log.store.is_open()
     }
 
-    /// Returns the bench, as all the commands that were answered `Ok` left it.
+    /// Returns the bench, in the state after all the commands that were answered `Ok`.
     pub fn bench(&self) -> &Bench
         ensures is { result.now ≡ self.now.state }
         ensures stands { IsTrue self.now.live → (D.state self.now.disk).honest
@@ -177,14 +177,14 @@ impl<D: Disk + Drop> Session<D> {
         self.log.store.disk()
     }
 
-    /// Does a command and records it. With `Ok` it is acknowledged: from then on no power cut loses
-    /// it.
+    /// Records a command and executes it. `Ok` acknowledges the command: from then on, no power cut
+    /// loses it.
     ///
-    /// Its record may have no room in the log, by its bytes or by the cycles that the log counts.
-    /// Then the state before the command first replaces the snapshot and all records.
+    /// The log may have no room for the command, for its record or for its cycles. In this case a
+    /// snapshot of the state before the command first replaces the old snapshot and all records.
     ///
-    /// It fails on a closed session (54), if the bench rejects the command (41 to 47), and if a
-    /// call on the disk failed (53). Each error but the last leaves the disk untouched.
+    /// It fails on a closed session (54), if the bench rejects the command (41 to 47), or if a call
+    /// on the disk fails (53). Each of these errors except the last leaves the disk untouched.
     pub fn apply(&mut self, command: &Command) -> Result<Reply, SessionFault>
         // on any disk
         ensures applied { AppliesCommand self.old.live self.old.state command.now result
@@ -213,10 +213,11 @@ impl<D: Disk + Drop> Session<D> {
         }
     }
 
-    /// Replaces all that the disk holds with a snapshot of the bench, so that opening it has no
-    /// command to repeat. The state stays, and at every moment the disk stands for it.
+    /// Replaces the contents of the disk with a snapshot of the bench, so that a later `open` has
+    /// no commands to replay. The state does not change, and the disk represents it at every
+    /// moment.
     ///
-    /// It fails on a closed session (54), and if a call on the disk failed (53).
+    /// It fails on a closed session (54), or if a call on the disk fails (53).
     pub fn settle(&mut self) -> Result<(), SessionFault>
         // on any disk
         ensures state { self.new.state ≡ self.old.state }
@@ -243,8 +244,8 @@ impl<D: Disk + Drop> Session<D> {
         }
     }
 
-    /// Returns the disk, and ends the session. The disk of an open session stands for the state of
-    /// its bench.
+    /// Ends the session and returns its disk. If the session was open, the disk represents the
+    /// state of its bench.
     pub fn into_disk(self) -> D
         ensures is { result ≡ self.disk }
         ensures stands { IsTrue self.live → (D.state result).honest
@@ -261,8 +262,8 @@ impl<D: Disk + Drop> Session<D> {
     }
 }
 
-/// Returns the session of a store whose log was replayed. If the log is of version 1, a snapshot of
-/// the bench replaces all that the disk holds. It fails if the device fails.
+/// Starts a session on a store whose log was replayed. If the log has version 1, a snapshot of the
+/// bench replaces the contents of the disk. It fails if the device fails.
 fn begin<D: Disk + Drop>(
     store: Store<D>,
     buffers: (Vec<u8>, Vec<u8>),
