@@ -133,7 +133,7 @@ impl<const ROMS: usize, const BANKS: usize, const CHAINS: usize, const MAX: usiz
         if n >= self.chain_count() {
             return;
         }
-        // The chain sockets fit in memory, which bounds the size of one. `set_bit` requires that bound.
+        // The chain sockets fit in memory, which bounds the size of one. The proof of the call to `set_bit` needs it.
         let chains = self.chains.as_slice();
         let _sockets = chains.len();
         let index = usize::from(i);
