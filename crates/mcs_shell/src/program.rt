@@ -321,8 +321,8 @@ fn run_given_arguments(rt: &HostRuntime) -> Ended<FileDisk>
     }
 }
 
-/// Runs the bench with the command-line arguments, standard input and standard output. Runs only if each standard stream
-/// is available and none goes into a session file. Returns the session as its shell left it.
+/// Runs the bench with the command-line arguments, standard input and standard output. It runs only if each standard
+/// stream is available and none goes into a session file. Returns the session as its shell left it.
 pub fn run_program(rt: &HostRuntime) -> Ended<FileDisk>
     ensures served { IfSome result.session (λ after.
         ServedBySomeArguments as_disk (exit_status result.status) after) }
