@@ -12,8 +12,8 @@ use Rattle.mcs_lines.specs.LineRequests.{request_of}
 use Rattle.mcs_lines.specs.Words.{is_plain_byte}
 use Rattle.mcs_model.specs.TextLines.{is_line_feed, lines, text_of}
 
--- an input: the request of a line outside a text (except a line that begins a text), a text, or a text
--- with an error that does not depend on the meaning of its lines
+-- an input: the request of a line outside a text, a text, or a text with an error. A line that begins a
+-- text is not an input of its own. The error does not depend on the meaning of the text's lines.
 pub data Input : Type 0 where
   Line : Request → Input
   Text : TextKind → List ℕ → Input

@@ -8,7 +8,7 @@ use Rattle.mcs_shell.specs.RefusalNumbers.{store_fault_number}
 use Rattle.mcs_shell.specs.Shell.{exit_status_of}
 use Rattle.mcs_shell.specs.declared.ends.ShellEnd.{ShellEnd}
 
--- Holds if the input was served on the session of the file, the number is the exit status for the
+-- Holds if the input was served on the session of the file. The number is the exit status for the
 -- shell's end, and the answers are the first `count` bytes of the buffer.
 pub record ReportsAnswers (file input : List ℕ) (number count : ℕ) (buffer buffer' after : List ℕ)
     : Type 0 where
