@@ -1,7 +1,8 @@
-//! Finds a certificate. Nothing is proved about the result; `has_all` checks it.  A search begins with the entry for
-//! the machine's present state. It follows each entry and joins each resulting entry into the stored one with the same
-//! address, return addresses and exact registers. The search ends when no entry grows, or at an entry whose machines
-//! may meet the conditions.
+//! Finds a certificate. Nothing is proved about the result; `has_all` checks it.
+//!
+//! A search begins with the entry for the machine's present state. It follows each entry and joins each resulting entry
+//! into the stored one with the same address, return addresses and exact registers. The search ends when no entry
+//! grows, or at an entry whose machines may meet the conditions.
 ghost use Rattle.std.specs.Prelude.{◌≡◌};
 
 use crate::entries::{Entry, has};

@@ -1,7 +1,8 @@
-//! The states that a program can reach for all inputs, as sets of values for each location.  A certificate lists the
-//! nibbles that each register may hold, for each address and each stack of return addresses that a program can reach.
-//! `has_all` checks each entry once and trusts nothing in the certificate. If it returns true, an entry covers the
-//! machine at every moment, for all levels of its keys and its TEST pin.
+//! The states that a program can reach for all inputs, as sets of values for each location.
+//!
+//! A certificate lists the nibbles that each register may hold, for each address and each stack of return addresses
+//! that a program can reach. `has_all` checks each entry once and trusts nothing in the certificate. If it returns
+//! true, an entry covers the machine at every moment, for all levels of its keys and its TEST pin.
 #![tactic(auto)]
 
 mod entries;

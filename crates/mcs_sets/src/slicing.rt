@@ -1,8 +1,10 @@
 //! Determines the exact registers at each address. An entry has a single value of an exact register. Other values of
-//! that register have entries of their own.  A register is exact at an address if it is relevant there: its value may
-//! reach an instruction that needs it to be exact. The relevant registers form a backward slice of the program. The
-//! counter of a loop is also relevant if the loop changes a register that is relevant at its first instruction. Nothing
-//! is proved about a slice, and only the choice of certificate depends on it.
+//! that register have entries of their own.
+//!
+//! A register is exact at an address if it is relevant there: its value may reach an instruction that needs it to be
+//! exact. The relevant registers form a backward slice of the program. The counter of a loop is also relevant if the
+//! loop changes a register that is relevant at its first instruction. Nothing is proved about a slice, and only the
+//! choice of certificate depends on it.
 use crate::precision::{ACC, CARRY, Level, needed, pair, register};
 use mcs_board::BenchRig;
 use mcs_cpu4004::Cpu;

@@ -98,9 +98,10 @@ pub fn put_in_front(buffer: &mut [u8], answers: &[u8]) -> usize
 }
 
 /// Continues the session in the bytes of a file, and serves the input lines. Writes the answers to the front of a
-/// buffer, and replaces the bytes of the file with those of the session's disk.  The call does all of that or nothing.
-/// It fails if the bytes do not hold a session (50, 51), if memory runs out (90), or if the answers do not fit. The
-/// file and the buffer are then unchanged.
+/// buffer, and replaces the bytes of the file with those of the session's disk.
+///
+/// The call does all of that or nothing. It fails if the bytes do not hold a session (50, 51), if memory runs out (90),
+/// or if the answers do not fit. The file and the buffer are then unchanged.
 pub fn serve(
     alloc: Global,
     file: &mut [u8],
@@ -128,7 +129,9 @@ pub fn serve(
 }
 
 /// Serves input as [`serve`] does, and then replaces the records of the file with a snapshot, as [`settle`] does.
-/// Opening the file then replays no commands.  The call does all of that or nothing.
+/// Opening the file then replays no commands.
+///
+/// The call does all of that or nothing.
 pub fn serve_and_settle(
     alloc: Global,
     file: &mut [u8],
