@@ -1,5 +1,5 @@
-//! Proves of a board and a program that conditions are never met, whatever the inputs are: a question from standard input,
-//! the answer to standard output.
+//! Proves, for all inputs, that a program on a board never meets given conditions. Reads a question from standard input
+//! and writes the answer to standard output.
 #![tactic(auto)]
 
 use mcs_prove::{Answer, answer_to};
@@ -7,10 +7,10 @@ use std::io;
 use std::io::Read;
 use std::process::ExitCode;
 
-/// The exit status without memory, or if the answer cannot be written.
+/// The exit status if memory runs out or the answer cannot be written.
 const FAILED: u8 = 3;
 
-/// Reads the question; what cannot be read, as bytes that are no text, is none.
+/// Reads the question. Returns an empty text if standard input cannot be read or is not valid text.
 fn question(rt: &HostRuntime) -> String {
     let mut text = String::new(rt.alloc());
     match rt.reader().read_to_string(&mut text) {

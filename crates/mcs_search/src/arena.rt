@@ -1,4 +1,4 @@
-//! All keys that were found, in blocks.
+//! An arena for the keys that a search finds, stored in blocks.
 ghost use Rattle.std.specs.Prelude.{◌≡◌, ◌<◌, ◌*◌, ◌+◌, [], ◌∷◌, ◌++◌, length, OnOk, OnErr, slice_index_or};
 ghost use Rattle.mcs_search.specs.Keys.{Stored};
 
@@ -7,8 +7,8 @@ use std::alloc::{AllocError, Global};
 use std::marker::Model;
 use std::mem;
 
-/// Keys of one width, each with its parent, in blocks. A growing arena never copies a full block, so it needs no memory
-/// beyond that of its keys.
+/// Keys of one width, each with its parent, stored in blocks. A growing arena never copies a full block. It needs no
+/// memory beyond that of its keys.
 #[derive(Drop)]
 pub(crate) struct Arena {
     full: Vec<KeyBlock>,
@@ -30,7 +30,7 @@ impl Model for Arena {
 }
 
 impl Arena {
-    /// Returns an arena without keys.
+    /// Creates an arena without keys.
     pub(crate) fn new(alloc: Global, width: usize) -> Arena
         ensures { result ≡ record { width = width; keys = [] } }
     {
@@ -71,7 +71,7 @@ impl Arena {
         }
     }
 
-    /// Adds a key behind the others. On an error the arena stays as it is.
+    /// Appends a key. On an error the arena is unchanged.
     pub(crate) fn push(&mut self, key: &[u8], parent: Parent) -> Result<(), AllocError>
         requires width { length key.now ≡ self.old.width }
         requires few { length self.old.keys < 4294967295 }
@@ -79,7 +79,7 @@ impl Arena {
         ensures width { self.new.width ≡ self.old.width }
         ensures err { OnErr result (self.new ≡ self.old) }
     {
-        // Room for the block that this key may fill.
+        // Reserves space for the block that this key may fill.
         self.full.reserve(1)?;
         self.last.push(key, parent)?;
         self.len += 1;

@@ -8,14 +8,15 @@ use std::marker::Model;
 /// The number of keys in a full block.
 pub(crate) const BLOCK: usize = 65_536;
 
-/// The state from which a state was found first, by its index, and the choice that led to it.
+/// The origin of a state: the index of the state from which it was first found, and the choice that led from there to
+/// it.
 #[derive(Clone, Copy)]
 pub(crate) struct Parent {
     pub(crate) state: u32,
     pub(crate) choice: u8,
 }
 
-/// Keys of one width, one after the other in one list of bytes, each with its parent.
+/// Keys of one width, stored back to back in one byte vector, each with its parent.
 #[derive(Drop)]
 pub(crate) struct KeyBlock {
     width: usize,
@@ -36,7 +37,7 @@ impl Model for KeyBlock {
 }
 
 impl KeyBlock {
-    /// Returns a block without keys.
+    /// Creates a block without keys.
     pub(crate) fn new(alloc: Global, width: usize) -> KeyBlock
         ensures { result ≡ record { width = width; keys = [] } }
     {
@@ -70,7 +71,7 @@ impl KeyBlock {
         self.parents.get(i).copied()
     }
 
-    /// Adds a key behind the others. On an error the block stays as it is.
+    /// Appends a key. On an error the block is unchanged.
     pub(crate) fn push(&mut self, key: &[u8], parent: Parent) -> Result<(), AllocError>
         requires width { length key.now ≡ self.old.width }
         requires few { length self.old.keys < BLOCK }
@@ -78,7 +79,7 @@ impl KeyBlock {
         ensures width { self.new.width ≡ self.old.width }
         ensures err { OnErr result (self.new ≡ self.old) }
     {
-        // An earlier call may have failed behind this push.
+        // An earlier call may have failed after it had pushed a parent.
         self.parents.truncate(self.len);
         self.parents.push(parent)?;
         self.bytes.extend_from_slice(key)?;

@@ -1,4 +1,4 @@
-//! One state of a search: its choices, and the choices that led to it.
+//! Follows the choices of one state, and replays the choices that led to it.
 ghost use Rattle.std.specs.Prelude.{◌≡◌, ◌<◌, ◌≤◌, length, IfOk, IsTrue};
 ghost use Rattle.std.specs.List.{All};
 ghost use Rattle.mcs_search.specs.Rules.{Rules, Breaks};
@@ -13,17 +13,17 @@ use std::alloc::{AllocError, Global};
 /// The result of following the choices of a state.
 #[derive(Clone, Copy)]
 pub(crate) enum Followed {
-    /// All next states are among those that were visited.
+    /// All next states are in the set of visited states.
     All,
-    /// The property fails on the way of this choice.
+    /// The property fails while this choice is followed.
     Broken(u8),
-    /// There is no room for a next state.
+    /// A next state would exceed the limit on states.
     TooMany,
     /// The system gave up.
     GaveUp,
 }
 
-/// Follows these choices of a state, the one at the index `at`, and adds the next states.
+/// Follows the given choices of the state at index `at`, and adds the next states to `visited`.
 pub(crate) fn follow<S: System>(
     system: &mut S,
     visited: &mut Visited,
@@ -66,8 +66,8 @@ pub(crate) fn follow<S: System>(
     Ok(Followed::All)
 }
 
-/// Returns the choices that led to the state at an index, and one more. They are read from parents, about which nothing
-/// is proved, so they must be tried.
+/// Returns the choices that led to the state at an index, followed by the choice `last`. They are read from the stored
+/// parents. Nothing is proved about parents, so the caller must replay the choices.
 pub(crate) fn choices_to(
     alloc: Global,
     visited: &Visited,
@@ -91,7 +91,7 @@ pub(crate) fn choices_to(
     Ok(choices)
 }
 
-/// Returns whether these choices, tried one after the other, lead to a failure of the property.
+/// Returns whether these choices, followed one after another, lead to a failure of the property.
 pub(crate) fn breaks<S: System>(
     system: &mut S,
     key: &mut [u8],

@@ -1,4 +1,4 @@
-//! A breadth-first search through all states that a system can reach. It knows no machine.
+//! A breadth-first search through all states that a system can reach. The search is independent of any machine.
 #![tactic(auto)]
 
 mod arena;

@@ -1,4 +1,4 @@
-//! The search, whole and in slices.
+//! The search, in one call or in slices.
 ghost use Rattle.std.specs.Prelude.{◌≡◌, ◌<◌, ◌≤◌, [], ◌∷◌, length, IfOk, IfSome, slice_index_or};
 ghost use Rattle.mcs_search.specs.Rules.{Rules};
 ghost use Rattle.mcs_search.specs.Verdicts.{IsProved, IsUnderWay, Progress, start_of};
@@ -10,25 +10,25 @@ use crate::visited::Visited;
 use std::alloc::{AllocError, Global};
 use std::marker::Model;
 
-/// The number of states that a search may visit at most.
+/// The maximum number of states that a search may visit.
 pub const MOST: usize = 4_000_000_000;
 
 /// The result of a search.
 #[derive(Drop)]
 pub enum Verdict {
-    /// The property holds for all choices. There are this many states.
+    /// The property holds for all choices. The field is the number of states.
     Holds(usize),
     /// The property fails after these choices.
     Broken(Vec<u8>),
     /// There are more states than the search may visit.
     TooMany,
-    /// Memory was refused. This many states were found.
+    /// An allocation failed. The field is the number of states found so far.
     NoMemory(usize),
-    /// The system gave up.
+    /// The system gave up, or a failure of the property could not be replayed from the start.
     GaveUp,
 }
 
-/// A breadth-first search under way.
+/// A breadth-first search in progress.
 #[derive(Drop)]
 pub struct Search {
     visited: Visited,
@@ -53,7 +53,7 @@ impl Model for Search {
 }
 
 impl Search {
-    /// Begins a search of at most `most` states.
+    /// Begins a search from the key `start`, of at most `most` states.
     pub fn begin(alloc: Global, start: &[u8], most: usize) -> Result<Search, AllocError>
         requires { most ≤ MOST }
         ensures { IfOk result (λ search.
@@ -78,21 +78,21 @@ impl Search {
         })
     }
 
-    /// Returns the number of states that were found.
+    /// Returns the number of states found so far.
     pub fn states(&self) -> usize
         ensures { result ≡ length self.now.keys }
     {
         self.visited.len()
     }
 
-    /// Returns the number of states whose choices were followed. The others are the frontier.
+    /// Returns the number of states whose choices were followed. All other states are the frontier.
     pub fn followed(&self) -> usize
         ensures { result ≡ self.now.followed }
     {
         self.followed
     }
 
-    /// Returns the key of a state, by its index in the order in which states were found.
+    /// Returns the key of the state at index `i`. States are indexed in the order in which they were found.
     pub fn key(&self, i: usize) -> &[u8]
         requires { i < length self.now.keys }
         ensures { result.now ≡ slice_index_or self.now.keys i [] }
@@ -100,7 +100,8 @@ impl Search {
         self.visited.key(i)
     }
 
-    /// Returns the verdict on a choice that broke the property.
+    /// Returns the verdict after a choice broke the property. It is `Broken`, with all choices from the start, if a
+    /// replay breaks the property again, and otherwise `GaveUp`.
     fn counterexample<S: System>(
         &mut self,
         system: &mut S,
@@ -120,8 +121,8 @@ impl Search {
         }
     }
 
-    /// Follows the choices of the next state. Returns a verdict if there is none, or at the first
-    /// choice that ends the search.
+    /// Follows the choices of the next state in the frontier. Returns a verdict if the frontier is empty, if the limit
+    /// on states is exceeded, or if a choice ends the search.
     fn follow_next<S: System>(&mut self, system: &mut S) -> Result<Option<Verdict>, AllocError>
         requires under_way { IsUnderWay (S.rules (S.setting system.old)) self.old }
         ensures setting { S.setting system.new ≡ S.setting system.old }
@@ -158,8 +159,8 @@ impl Search {
         }
     }
 
-    /// Follows the choices of at most `steps` states. Returns `None` if the search has not ended. It continues with the
-    /// next call, also after an error.
+    /// Follows the choices of at most `steps` states. Returns `None` if the search has not ended. The next call resumes
+    /// the search, even after an error.
     pub fn go_on<S: System>(
         &mut self,
         system: &mut S,
@@ -182,8 +183,8 @@ impl Search {
     }
 }
 
-/// Searches through all states that a system can reach from one, at most `most`. It fails if memory
-/// for the first state is refused.
+/// Searches all states that a system can reach from `start`, up to `most` states. It fails only if memory for the first
+/// state cannot be allocated.
 pub fn search_all<S: System>(
     alloc: Global,
     system: &mut S,
@@ -196,7 +197,7 @@ pub fn search_all<S: System>(
     ensures proved { IfOk result (IsProved (S.rules (S.setting system.old)) start.now) }
 {
     let mut search = Search::begin(alloc, start, most)?;
-    // Each step follows one of at most `most` states, and the last one finds none left.
+    // Each step follows one state, and there are at most `most` states. One more step finds the frontier empty.
     match search.go_on(system, most + 1) {
         Ok(Some(verdict)) => Ok(verdict),
         Ok(None) => Ok(Verdict::TooMany),

@@ -1,4 +1,4 @@
-//! The states that were found, with a table that finds a state by its key.
+//! The states that a search found, with a hash table that looks up a state by its key.
 ghost use Rattle.std.specs.Prelude.{◌≡◌, ◌≢◌, ◌<◌, ◌≤◌, ◌+◌, ℕ, List, [], ◌∷◌, ◌++◌, length, vec_len, IfOk, OnOk, MatchOption, slice_index_or};
 ghost use Rattle.std.specs.List.{Contains};
 ghost use Rattle.mcs_search.specs.Keys.{Stored, Adds};
@@ -10,7 +10,7 @@ use std::alloc::{AllocError, Global};
 use std::hash::{FoldHasher, Hasher};
 use std::marker::Model;
 
-/// The number of slots of the first table.
+/// The number of slots in the first hash table.
 const FIRST_SLOTS: usize = 1_024;
 
 /// The result of adding a key.
@@ -20,7 +20,7 @@ pub(crate) enum Added {
     New,
     /// The key was already present.
     Known,
-    /// The key was new, and there was no room for it.
+    /// The key was new, but the limit on keys was reached, so it was not added.
     Full,
 }
 
@@ -31,7 +31,7 @@ fn hash(key: &[u8]) -> usize {
     hasher.finish() as usize
 }
 
-/// Returns the first slot of a key in a table with `count` slots, a power of two.
+/// Returns the first slot to probe for a key in a table with `count` slots. `count` is a power of two.
 fn first_slot(count: usize, key: &[u8]) -> usize
     requires { 0 < count }
     ensures { result < count }
@@ -39,7 +39,7 @@ fn first_slot(count: usize, key: &[u8]) -> usize
     hash(key) & (count - 1)
 }
 
-/// Returns the slot after a slot. After the last one comes the first.
+/// Returns the slot after `at`. The first slot follows the last.
 fn slot_behind(count: usize, at: usize) -> usize
     requires { at < count }
     ensures { result < count }
@@ -47,8 +47,8 @@ fn slot_behind(count: usize, at: usize) -> usize
     if at + 1 < count { at + 1 } else { 0 }
 }
 
-/// Returns `None` if the arena has the key, and a slot for it otherwise. A slot has the index of a
-/// key plus 1, or 0.
+/// Looks up a key. Returns `None` if the arena has the key, and otherwise a slot for it. A slot holds the index of a
+/// key plus 1, or 0 if it is free.
 fn slot_for(slots: &[u32], arena: &Arena, key: &[u8]) -> Option<usize>
     requires { 0 < length slots.now }
     ensures { MatchOption result (Contains arena.now.keys key.now) (λ at. at < length slots.now) }
@@ -68,7 +68,7 @@ fn slot_for(slots: &[u32], arena: &Arena, key: &[u8]) -> Option<usize>
     Some(at)
 }
 
-/// Returns a free slot for a key that has none.
+/// Returns a free slot for a key that is not in the table.
 fn free_slot(slots: &[u32], key: &[u8]) -> usize
     requires { 0 < length slots.now }
     ensures { result < length slots.now }
@@ -84,7 +84,7 @@ fn free_slot(slots: &[u32], key: &[u8]) -> usize
     at
 }
 
-/// Enters all keys of an arena into an empty table.
+/// Inserts all keys of an arena into an empty table.
 fn enter_all(slots: &mut [u32], arena: &Arena)
     requires room { 0 < length slots.old }
     requires few { length arena.now.keys < 4294967295 }
@@ -95,10 +95,10 @@ fn enter_all(slots: &mut [u32], arena: &Arena)
     }
 }
 
-/// Keys of one width, each with its parent, and a table over them.
+/// Keys of one width, each with its parent, and a hash table over them.
 ///
-/// Nothing is proved about the table, and nothing needs to be: a key counts as known only after its bytes were compared
-/// with those of a key in the arena. A key that the table misses is stored twice.
+/// Nothing is proved about the table, and nothing needs to be. A key counts as known only if its bytes equal those of a
+/// key in the arena. A key that the table misses is stored twice.
 #[derive(Drop)]
 pub(crate) struct Visited {
     arena: Arena,
@@ -118,7 +118,7 @@ impl Model for Visited {
 }
 
 impl Visited {
-    /// Returns a set without keys.
+    /// Creates a set without keys.
     pub(crate) fn new(alloc: Global, width: usize) -> Result<Visited, AllocError>
         ensures { IfOk result (λ visited. visited ≡ record { width = width; keys = [] }) }
     {
@@ -151,8 +151,8 @@ impl Visited {
         self.arena.parent(i)
     }
 
-    /// Makes a table of four slots a key if less than half of this one is free. The old table is freed first, because
-    /// the arena has everything that is in it.
+    /// Rebuilds the table with at least four slots per key if the keys fill half of it or more. Frees the old table
+    /// first, because the arena has all its keys.
     fn make_room(&mut self) -> Result<(), AllocError>
         requires few { length self.old.keys < 4294967295 }
         ensures { self.new ≡ self.old }
@@ -169,7 +169,7 @@ impl Visited {
         Ok(())
     }
 
-    /// Adds a key unless it is present, or `most` keys are. On an error no key is lost.
+    /// Adds a key unless it is present or the set already has `most` keys. On an error no key is lost.
     pub(crate) fn add(
         &mut self,
         key: &[u8],

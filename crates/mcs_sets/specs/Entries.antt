@@ -1,26 +1,26 @@
--- What a certificate says. An entry stands for many machines: for all those at its address, inside of
--- its calls, that hold in each place a number of its set. (Our own choice.)
+-- The meaning of a certificate. An entry covers many machines: all those at its address, with its open
+-- calls, whose value at each location is in the entry's set for that location. (Our own choice.)
 use Rattle.std.specs.Prelude.{◌≡◌, ◌<◌, ◌-◌, ◌/◌, ◌%◌, ◌^◌, ◌&&◌, ◌==◌, ℕ, List, length, Bool, true, nat_lt, slice_index, if◌then◌else◌}
 use Rattle.std.specs.List.{Contains}
 use Rattle.mcs_model.specs.declared.regs.Regs.{Regs}
 use Rattle.mcs_drive.specs.Tracked.{Tracked}
 use Rattle.mcs_sets.specs.declared.entries.Entry.{Entry}
 
--- whether a set of nibbles has a number: bit n of the set says it
+-- true if a set of nibbles contains the number n: bit n of the set is 1
 abbrev pub has : ℕ → ℕ → Bool
 has set n = nat_lt n 16 && (set / 2 ^ n % 2 == 1)
 
--- a set has all of another one
+-- holds if a set is a subset of another one
 abbrev pub IsWithin : ℕ → ℕ → Type 0
 IsWithin part whole = (n : ℕ) → has part n ≡ true → has whole n ≡ true
 
--- what the accumulator may hold with this carry
+-- the values that the accumulator may hold with this carry
 abbrev pub accs_of : Entry → ℕ → ℕ
 accs_of e carry = if carry == 0 then e.clear else if carry == 1 then e.set else 0
 
--- what a machine holds in place k: in register k; as the number of the bank, in place 16; as the upper
--- nibble of the SRC byte that the ROMs keep, in place 17, and of the one that each bank keeps, from place
--- 18 on
+-- the value that a machine holds at location k. Locations 0 to 15 are the index registers, 16 is the
+-- bank number, and 17 is the upper nibble of the SRC byte that the ROMs store. Locations 18 to 25 are
+-- the upper nibbles of the SRC bytes that the banks store.
 abbrev pub held : Tracked → ℕ → ℕ
 held s k =
     if k == 16 then s.0.dcl
@@ -28,7 +28,7 @@ held s k =
     else if k == 17 then s.1.rom_src / 16
     else slice_index s.1.ram_src (k - 18) / 16
 
--- a machine is one of those that an entry stands for
+-- holds if an entry covers a machine
 pub record IsIn (e : Entry) (s : Tracked) : Type 0 where
   pub at : s.0.pc ≡ e.at
   pub calls : s.2.calls ≡ e.calls
@@ -39,11 +39,11 @@ pub record IsIn (e : Entry) (s : Tracked) : Type 0 where
   pub registers : length s.0.r ≡ 16
   pub banks : length s.1.ram_src ≡ 8
 
--- a machine is one of those of a certificate
+-- holds if some entry of a certificate covers a machine
 abbrev pub IsAmong : List Entry → Tracked → Type 0
 IsAmong entries s = (e : Entry) × Contains entries e × IsIn e s
 
--- a processor is at the address of an entry in which no call is open
+-- holds if a processor is at the address of an entry, and the entry has no open calls
 pub record IsPlaced (e : Entry) (s : Regs) : Type 0 where
   pub at : s.pc ≡ e.at
   pub calls : e.calls ≡ 0

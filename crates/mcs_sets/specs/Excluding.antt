@@ -1,5 +1,5 @@
--- What a certificate shows of conditions: of those that are never met all at once, each entry excludes
--- one.
+-- The conditions that a certificate excludes. From each list of conditions that must never all be met,
+-- every entry excludes at least one.
 use Rattle.std.specs.Prelude.{◌≡◌, ◌+◌, ◌/◌, ◌<◌, ℕ, List, Bool, true, false, slice_index}
 use Rattle.std.specs.List.{Contains}
 use Rattle.mcs_model.specs.declared.board.BoardParts.{BoardParts}
@@ -14,39 +14,41 @@ use Rattle.mcs_sets.specs.declared.entries.Entry.{Entry}
 use Rattle.mcs_sets.specs.Entries.{has, IsIn}
 use Rattle.mcs_sets.specs.Following.{IsOf, StaysAmong}
 
--- a property holds for each machine of an entry, on this board and with this ROM
+-- holds if every machine that an entry covers, with this board and ROM, has a property
 abbrev pub HoldsIn : BoardParts → List ℕ → (Tracked → Bool) → Entry → Type 0
 HoldsIn board rom p e = (s : Tracked) → IsOf board rom s.1 → IsIn e s → p s ≡ true
 
--- none of them meets a condition
+-- holds if no machine that an entry covers, with this board and ROM, meets a condition
 abbrev pub Excludes : BoardParts → List ℕ → Condition → Entry → Type 0
 Excludes board rom c e = (s : Tracked) → IsOf board rom s.1 → IsIn e s → is_met s c ≡ false
 
--- none of them meets all of these conditions
+-- holds if no machine that an entry covers, with this board and ROM, meets all of these conditions
 abbrev pub ExcludesAll : BoardParts → List ℕ → List Condition → Entry → Type 0
 ExcludesAll board rom cs e = (s : Tracked) → IsOf board rom s.1 → IsIn e s → are_met s cs ≡ false
 
--- the theorem: what holds in each entry of a certificate holds for all inputs
+-- the theorem: a property that holds in each entry of a certificate holds for all inputs, if the machine
+-- stays in the certificate
 abbrev pub EntriesSuffice : Type 0
 EntriesSuffice =
     (p : Tracked → Bool) (entries : List Entry) (s : Tracked) →
     ((e : Entry) → Contains entries e → HoldsIn s.1.board s.1.rom p e) →
     IsOf s.1.board s.1.rom s.1 → StaysAmong entries s → Holds no_stopwatch p s
 
--- each number of a set has a property
+-- holds if each number in a set has a property
 abbrev pub AllIn : ℕ → (ℕ → Type 0) → Type 0
 AllIn set p = (n : ℕ) → has set n ≡ true → p n
 
--- each chip of a bank is there that a SRC byte selects whose upper nibble is in a set
+-- holds if the board has each chip of a bank that a SRC byte selects if its upper nibble is in the set
 abbrev pub HasChips : BoardParts → ℕ → ℕ → Type 0
 HasChips board bank set = AllIn set (λ n. n / 4 < slice_index board.banks bank)
 
--- a bank is one, and each chip of it is there that may be selected
+-- holds if a bank number is below 8 and the board has each chip of the bank that the entry may select
 pub record HasBank (board : BoardParts) (e : Entry) (bank : ℕ) : Type 0 where
   pub few : bank < 8
   pub chips : HasChips board bank (slice_index e.sets (18 + bank))
 
--- whether an instruction reads a second word, or FIN a byte of the page of the next address
+-- true if an instruction reads a second word, or is FIN, which reads a byte on the page of the next
+-- address
 abbrev pub reads_next : Op → Bool
 reads_next (Jcn c b) = true
 reads_next (Fim k b) = true
@@ -56,6 +58,6 @@ reads_next (Jms h b) = true
 reads_next (Isz r b) = true
 reads_next _ = false
 
--- none of the machines makes a mistake that is asked for, by this instruction
+-- holds if no machine that an entry covers makes a mistake that `asked` includes when it executes `op`
 abbrev pub MakesNone : BoardParts → Entry → Op → Mistakes → Type 0
 MakesNone board e op asked = (s : Tracked) → s.1.board ≡ board → IsIn e s → makes asked op s ≡ false

@@ -1,5 +1,5 @@
--- What is shown of a certificate: each of its machines is after one cycle one of those of the certificate.
--- So it has all that can be reached.
+-- Closure of a certificate: each machine that it covers is, after one cycle, again a machine that it
+-- covers. The certificate therefore covers every machine that can be reached.
 use Rattle.std.specs.Prelude.{◌≡◌, ◌<◌, ℕ, List, All}
 use Rattle.std.specs.List.{Contains}
 use Rattle.mcs_model.specs.declared.board.BoardParts.{BoardParts}
@@ -9,7 +9,7 @@ use Rattle.mcs_drive.specs.Tracked.{Tracked, cycled, driven, no_stopwatch}
 use Rattle.mcs_sets.specs.declared.entries.Entry.{Entry}
 use Rattle.mcs_sets.specs.Entries.{IsIn, IsAmong}
 
--- a bus of this board, with this ROM, whose RAM holds nibbles
+-- holds if a bus has this board and this ROM, its RAM holds nibbles, and its TEST level is 0 or 1
 pub record IsOf (parts : BoardParts) (program : List ℕ) (m : BusState) : Type 0 where
   pub board : m.board ≡ parts
   pub rom : m.rom ≡ program
@@ -17,17 +17,18 @@ pub record IsOf (parts : BoardParts) (program : List ℕ) (m : BusState) : Type 
   pub status : All (λ n. n < 16) m.status
   pub test : m.test < 2
 
--- each machine of an entry stays in the certificate for one cycle
+-- holds if each machine that an entry covers stays in the certificate for one cycle
 abbrev pub Follows : BoardParts → List ℕ → List Entry → Entry → Type 0
 Follows board rom entries e =
     (s : Tracked) → IsOf board rom s.1 → IsIn e s → Contains entries e → IsAmong entries (cycled no_stopwatch s)
 
--- the theorem: whatever the inputs do, at every moment the machine is one of those of the certificate
+-- holds if the certificate covers the machine at every moment, for all inputs
 abbrev pub StaysAmong : List Entry → Tracked → Type 0
 StaysAmong entries s =
     (f : ℕ → Levels) → ((k : ℕ) → FitBoard s.1.board (f k)) → (k : ℕ) → IsAmong entries (driven no_stopwatch f k s)
 
--- the induction: from one cycle of each entry to all moments
+-- the induction: if each entry stays in the certificate for one cycle, the machine stays in it at every
+-- moment
 abbrev pub StepsSuffice : Type 0
 StepsSuffice =
     (board : BoardParts) (rom : List ℕ) (entries : List Entry) (s : Tracked) →

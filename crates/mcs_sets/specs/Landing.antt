@@ -1,6 +1,6 @@
--- Where one choice of what is held leads, by the instruction table. The registers of a processor are
--- made of what the instruction takes, all else being whatever it may; then the instruction is done, by
--- Effect of mcs_model.
+-- The effect of an instruction on one choice of values, by the instruction table. A stand-in processor
+-- gets the values that the instruction uses; its other registers are arbitrary. It then executes the
+-- instruction, as Effect of mcs_model defines it.
 use Rattle.std.specs.Prelude.{◌≡◌, ◌<◌, ◌+◌, ◌-◌, ◌*◌, ◌%◌, ◌==◌, ℕ, List, length, true, replicate, Option, Some, nat_lt, slice_index, slice_set, if◌then◌else◌}
 use Rattle.mcs_model.specs.declared.op.Op.{Op}
 use Rattle.mcs_model.specs.declared.op.Op.TheVariants.{Jcn, Fim, Src, Fin, Jin, Jms, Inc, Isz, Add, Sub, Ld, Xch, Bbl, Sbm, Rdm, Rdr, Adm, Rd0, Rd1, Rd2, Rd3}
@@ -16,7 +16,7 @@ use Rattle.mcs_sets.specs.declared.landing.Choice.{Choice}
 use Rattle.mcs_sets.specs.declared.landing.Landing.{Landing}
 use Rattle.mcs_sets.specs.Entries.{has, accs_of, held}
 
--- ---- what an instruction takes, besides accumulator, carry and bank: up to two numbers
+-- ---- the operand values of an instruction, besides accumulator, carry and bank: at most two
 
 abbrev pub first_of : Op → Regs → BusState → ℕ
 first_of (Src k) s m = register_of s (2 * k)
@@ -44,7 +44,7 @@ second_of (Fin k) s m = register_of s 1
 second_of (Jin k) s m = register_of s (2 * k + 1)
 second_of _ s m = 0
 
--- which numbers these may be: RAM and ports may hold any nibble
+-- the set of possible values of the first operand; a value from RAM or a port may be any nibble
 abbrev pub first_set : Op → Entry → ℕ
 first_set (Src k) e = slice_index e.sets (2 * k)
 first_set (Fin k) e = slice_index e.sets 0
@@ -65,19 +65,20 @@ first_set Rd2 e = 65535
 first_set Rd3 e = 65535
 first_set _ e = 1
 
+-- the set of possible values of the second operand; for TEST, its two levels
 abbrev pub second_set : Op → Entry → ℕ
 second_set (Jcn c b) e = 3
 second_set (Fin k) e = slice_index e.sets 1
 second_set (Jin k) e = slice_index e.sets (2 * k + 1)
 second_set _ e = 1
 
--- ---- the instruction on them
+-- ---- the instruction with these operand values
 
--- the instruction at an address of a ROM
+-- the instruction at an address, given all ROM bytes
 abbrev pub op_at : List ℕ → ℕ → Option Op
 op_at rom at = instruction_of (slice_index rom at) (slice_index rom ((at + 1) % 4096))
 
--- index registers that hold them
+-- index registers that hold both operand values at the indexes from which the instruction reads them
 abbrev pub stand_ins : Op → ℕ → ℕ → List ℕ
 stand_ins (Fin k) first second = slice_set (replicate 16 first) 1 second
 stand_ins (Jin k) first second = slice_set (replicate 16 first) (2 * k + 1) second
@@ -86,7 +87,8 @@ stand_ins _ first second = replicate 16 first
 abbrev pub before : Op → ℕ → List ℕ → Choice → Regs
 before op at ret c = record { acc = c.acc; cy = c.cy; r = stand_ins op c.first c.second; pc = at; ret = ret; dcl = c.bank; owed = 0 }
 
--- the registers t after the instruction, if it reads x of RAM or of a port
+-- the registers t after an instruction, corrected if it reads x from RAM or a port; s are those before
+-- it
 abbrev pub with_read : Op → ℕ → Regs → Regs → Regs
 with_read Sbm x s t = with_sum t (s.acc + (15 - x) + (1 - s.cy))
 with_read Rdm x s t = with_acc t x
@@ -98,7 +100,7 @@ with_read Rd2 x s t = with_acc t x
 with_read Rd3 x s t = with_acc t x
 with_read _ x s t = t
 
--- ---- what it changes, besides accumulator, carry, bank and addresses: up to two places
+-- ---- the locations that an instruction changes, besides accumulator, carry, bank and addresses
 
 abbrev pub first_written : Op → ℕ
 first_written (Fim k b) = 2 * k
@@ -119,7 +121,7 @@ abbrev pub value_written : Op → ℕ → Regs → ℕ → ℕ
 value_written (Src k) first t place = first
 value_written _ first t place = if nat_lt place 16 then slice_index t.r place else 0
 
--- ---- the whole
+-- ---- the landing
 
 abbrev pub after : Op → ℕ → List ℕ → BusState → Choice → Regs
 after op at ret m c =
@@ -139,9 +141,9 @@ landing op at ret calls m c =
       second_value = value_written op c.first t low;
     }
 
--- ---- for which machines it is right
+-- ---- the machines that a landing describes
 
--- the operands of an instruction are registers and pairs that there are
+-- holds if the register and pair operands of an instruction are in range
 abbrev pub IsValidOp : Op → Type 0
 IsValidOp (Fim k b) = k < 8
 IsValidOp (Src k) = k < 8
@@ -155,13 +157,13 @@ IsValidOp (Ld r) = r < 16
 IsValidOp (Xch r) = r < 16
 IsValidOp _ = Unit {0}
 
--- an instruction calls or returns where it can
+-- holds if the number of open calls allows an instruction: JMS needs fewer than three, BBL at least one
 abbrev pub FitsCalls : Op → ℕ → Type 0
 FitsCalls (Jms h b) calls = calls < 3
 FitsCalls (Bbl d) calls = 0 < calls
 FitsCalls _ calls = Unit {0}
 
--- the machine after an instruction
+-- a machine after an instruction
 abbrev pub done : Op → Tracked → Tracked
 done op s = (
   registers_after op (after_words op s.0) s.1,
@@ -169,13 +171,13 @@ done op s = (
   record { calls = calls_after (Some op) s.2.calls; elapsed = elapsed_after no_stopwatch s },
 )
 
--- what a machine chooses
+-- the choice that consists of a machine's own values
 abbrev pub choice_of : Op → Tracked → Choice
 choice_of op s = record { acc = s.0.acc; cy = s.0.cy; bank = s.0.dcl; first = first_of op s.0 s.1; second = second_of op s.0 s.1 }
 
--- ---- what it means
+-- ---- the meaning of a landing
 
--- what place k holds after it, if it held v
+-- the value at location k after a landing, if it was v before
 abbrev pub put : Landing → ℕ → ℕ → ℕ
 put o k v =
     if k == 16 then o.regs.dcl
@@ -183,7 +185,7 @@ put o k v =
     else if k == o.second then o.second_value
     else v
 
--- from s it leads to t
+-- holds if a landing leads from machine s to machine t
 pub record Lands (s t : Tracked) (o : Landing) : Type 0 where
   pub pc : t.0.pc ≡ o.regs.pc
   pub calls : t.2.calls ≡ o.calls
@@ -194,7 +196,7 @@ pub record Lands (s t : Tracked) (o : Landing) : Type 0 where
   pub registers : length t.0.r ≡ 16
   pub banks : length t.1.ram_src ≡ 8
 
--- an entry takes all that lands so from another one
+-- holds if the target entry covers every machine that a landing reaches from the source entry
 pub record Takes (source target : Entry) (o : Landing) : Type 0 where
   pub at : target.at ≡ o.regs.pc
   pub calls : target.calls ≡ o.calls
@@ -205,7 +207,7 @@ pub record Takes (source target : Entry) (o : Landing) : Type 0 where
 
 -- ---- the laws
 
--- what is known of a machine, and of the bus on which its stand-in is run
+-- the premises about a machine, and about the bus on which its stand-in processor runs
 pub record Fits (op : Op) (s : Tracked) (m : BusState) (rets : List ℕ) : Type 0 where
   pub valid : IsValidOp op
   pub calls : FitsCalls op s.2.calls
@@ -218,7 +220,8 @@ pub record Fits (op : Op) (s : Tracked) (m : BusState) (rets : List ℕ) : Type 
   pub ret : (k : ℕ) → k < 3 → k < s.2.calls → slice_index s.0.ret k ≡ slice_index rets k
   pub nibbles : (k : ℕ) → k < 16 → slice_index s.0.r k < 16
 
--- one step: where the choice of a machine leads, there it is after the instruction
+-- one step: the landing of a machine's own choice leads from the machine to the machine after the
+-- instruction
 abbrev pub ChoicesLand : Type 0
 ChoicesLand =
     (op : Op) (s : Tracked) (m : BusState) (rets : List ℕ) → Fits op s m rets →

@@ -1,4 +1,4 @@
--- What is looked at of each choice that an entry allows.
+-- The checks on each choice that an entry allows.
 use Rattle.std.specs.Prelude.{◌≡◌, ◌<◌, ◌/◌, ◌%◌, ℕ, List, Some, true, slice_index}
 use Rattle.std.specs.List.{Contains}
 use Rattle.mcs_model.specs.declared.board.BoardParts.{BoardParts}
@@ -11,32 +11,34 @@ use Rattle.mcs_sets.specs.Entries.{has, accs_of}
 use Rattle.mcs_sets.specs.Following.{Follows}
 use Rattle.mcs_sets.specs.Landing.{op_at, first_set, second_set, put, landing, FitsCalls, IsValidOp, Takes}
 
--- place k of what lands so from an entry is one of its numbers in another one
+-- holds if the target entry covers location k of every machine that a landing reaches from the source
+-- entry
 abbrev pub TakesPlace : Entry → Entry → Landing → ℕ → Type 0
 TakesPlace source target o k = (v : ℕ) → has (slice_index source.sets k) v ≡ true → has (slice_index target.sets k) (put o k v) ≡ true
 
--- the return addresses of the open calls are the same
+-- holds if two stacks have the same return addresses for the open calls
 abbrev pub AgreeInCalls : List ℕ → List ℕ → ℕ → Type 0
 AgreeInCalls a b calls = (k : ℕ) → k < 3 → k < calls → slice_index a k ≡ slice_index b k
 
--- some entry takes what lands so
+-- holds if some entry covers every machine that a landing reaches from the source entry
 pub record IsTaken (entries : List Entry) (source : Entry) (o : Landing) : Type 0 where
   pub target : Entry
   pub there : Contains entries target
   pub takes : Takes source target o
 
--- a choice with the accumulator and the carry in one number
+-- a choice whose accumulator and carry are given by one number: accumulator + 16 * carry
 abbrev pub choice_at : ℕ → ℕ → ℕ → ℕ → Choice
 choice_at flags bank first second = record { acc = flags % 16; cy = flags / 16 % 2; bank = bank; first = first; second = second }
 
--- an entry allows a choice
+-- holds if an entry allows all values of a choice
 pub record Allows (e : Entry) (op : Op) (c : Choice) : Type 0 where
   pub acc : has (accs_of e c.cy) c.acc ≡ true
   pub bank : has (slice_index e.sets 16) c.bank ≡ true
   pub first : has (first_set op e) c.first ≡ true
   pub second : has (second_set op e) c.second ≡ true
 
--- an instruction, done on a bus with this ROM and this board, leads from a choice to an entry that takes it
+-- holds if the certificate covers the landing of a choice, computed on a bus with this ROM and this
+-- board
 pub record IsTakenBy (rom : List ℕ) (board : BoardParts) (entries : List Entry) (e : Entry) (op : Op) (c : Choice) : Type 0 where
   pub bus : BusState
   pub same_rom : bus.rom ≡ rom
@@ -44,13 +46,14 @@ pub record IsTakenBy (rom : List ℕ) (board : BoardParts) (entries : List Entry
   pub few : c.bank < 8
   pub taken : IsTaken entries e (landing op e.at e.ret e.calls bus c)
 
--- all choices that an entry allows are taken
+-- holds if the certificate covers the landings of all choices that an entry allows
 abbrev pub AllTaken : List ℕ → BoardParts → List Entry → Entry → Op → Type 0
 AllTaken rom board entries e op =
     (flags bank first second : ℕ) → flags < 32 → bank < 16 → first < 16 → second < 16 →
     Allows e op (choice_at flags bank first second) → IsTakenBy rom board entries e op (choice_at flags bank first second)
 
--- then its machines stay in the certificate for one cycle
+-- if the certificate covers the landings of all choices of an entry, then the machines of that entry
+-- stay in the certificate for one cycle
 abbrev pub EntriesStay : Type 0
 EntriesStay =
     (board : BoardParts) (rom : List ℕ) (entries : List Entry) (op : Op) (e : Entry) →

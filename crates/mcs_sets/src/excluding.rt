@@ -1,4 +1,4 @@
-//! Which conditions an entry excludes: none of its machines meets them.
+//! Determines the conditions that an entry excludes. An entry excludes a condition if none of its machines meets it.
 ghost use Rattle.std.specs.Prelude.{◌≡◌, ◌<◌, ◌/◌, ◌%◌, ◌+◌, IsTrue, false, true, slice_index, map};
 ghost use Rattle.mcs_model.specs.Command.{lacks_rom};
 ghost use Rattle.mcs_check.specs.declared.conditions.Condition.TheVariants.{Mistaken};
@@ -27,7 +27,7 @@ fn uses_ram(op: &Op) -> bool
     }
 }
 
-/// Returns whether an instruction reads a second word, or FIN a byte of the page of the next address.
+/// Returns whether an instruction reads a second word, or is FIN, which reads a byte on the page of the next address.
 fn reads_next(op: &Op) -> bool
     ensures { result ≡ reads_next op.now }
 {
@@ -58,7 +58,7 @@ fn is_wrr(op: &Op) -> bool
     }
 }
 
-/// Returns whether a board lacks the ROM of an address.
+/// Returns whether a board has no ROM at an address.
 fn lacks_rom(board: &Board, at: Addr) -> bool
     ensures { result ≡ lacks_rom board.now at }
 {
@@ -86,14 +86,15 @@ fn has_output(board: &Board, chip: u8) -> bool
             && board.is_input(chip, 3))
 }
 
-/// Returns whether the chip of a bank that a SRC byte with an upper nibble of a set selects is there.
+/// Returns whether a board has the chip of a bank that a SRC byte with upper nibble `n` selects. Returns true if `n` is
+/// not in the set.
 fn has_chip(board: &Board, bank: u8, set: u16, n: u8) -> bool
     ensures { IsTrue result → has set n ≡ true → n / 4 < slice_index board.now.banks bank }
 {
     !has(set, n) || n / 4 < board.bank_chips(bank)
 }
 
-/// Returns whether each chip of a bank is there that these upper nibbles of a SRC byte select.
+/// Returns whether a board has each chip of a bank that a SRC byte selects if its upper nibble is in the set.
 fn has_chips(board: &Board, bank: u8, set: u16) -> bool
     ensures { IsTrue result → HasChips board.now bank set }
 {
@@ -105,7 +106,8 @@ fn has_chips(board: &Board, bank: u8, set: u16) -> bool
     true
 }
 
-/// Returns whether a bank is one, and each of its chips is there that may be selected, if an entry may have this bank.
+/// Returns whether a bank number is below 8 and the board has each chip of that bank that the entry may select. Returns
+/// true if the entry does not allow the bank.
 fn has_bank(board: &Board, entry: &Entry, bank: u8) -> bool
     ensures few { IsTrue result → has (slice_index entry.now.sets 16) bank ≡ true → bank < 8 }
     ensures chips { IsTrue result → has (slice_index entry.now.sets 16) bank ≡ true →
@@ -115,7 +117,7 @@ fn has_bank(board: &Board, entry: &Entry, bank: u8) -> bool
         || (bank < 8 && has_chips(board, bank, entry.sets[usize::from(18 + bank)]))
 }
 
-/// Returns whether each RAM chip is there that may be selected.
+/// Returns whether a board has each RAM chip that an entry may select.
 fn has_ram(board: &Board, entry: &Entry) -> bool
     ensures { IsTrue result → AllIn (slice_index entry.now.sets 16) (HasBank board.now entry.now) }
 {
@@ -127,7 +129,7 @@ fn has_ram(board: &Board, entry: &Entry) -> bool
     true
 }
 
-/// Returns whether a ROM has an input line, if it is one of a set.
+/// Returns whether ROM `n` has an input line. Returns true if `n` is not in the set.
 fn input_is_there(board: &Board, set: u16, n: u8) -> bool
     ensures { IsTrue result → has set n ≡ true → has_input board.now n ≡ true }
 {
@@ -146,7 +148,7 @@ fn has_inputs(board: &Board, set: u16) -> bool
     true
 }
 
-/// Returns whether a ROM has an output line, if it is one of a set.
+/// Returns whether ROM `n` has an output line. Returns true if `n` is not in the set.
 fn output_is_there(board: &Board, set: u16, n: u8) -> bool
     ensures { IsTrue result → has set n ≡ true → has_output board.now n ≡ true }
 {
@@ -165,7 +167,7 @@ fn has_outputs(board: &Board, set: u16) -> bool
     true
 }
 
-/// Returns whether the ROM of each word that an instruction reads is there.
+/// Returns whether a board has the ROM of each word that an instruction reads.
 fn has_words(board: &Board, at: Addr, op: &Op) -> bool
     ensures here { IsTrue result → lacks_rom board.now at ≡ false }
     ensures next { IsTrue result → reads_next op.now ≡ true → lacks_rom board.now ((at + 1) % 4096) ≡ false }
@@ -173,7 +175,7 @@ fn has_words(board: &Board, at: Addr, op: &Op) -> bool
     !lacks_rom(board, at) && (!reads_next(op) || !lacks_rom(board, at.plus(1)))
 }
 
-/// Returns whether no machine of an entry makes the mistake with RAM, if it is asked for.
+/// Returns true only if no machine of an entry uses an absent RAM chip, or `asked` does not include that mistake.
 fn keeps_ram(board: &Board, entry: &Entry, op: &Op, asked: &Mistakes) -> bool
     ensures { IsTrue result → asked.now.absent_ram ≡ true → uses_ram op.now ≡ true →
         AllIn (slice_index entry.now.sets 16) (HasBank board.now entry.now) }
@@ -181,7 +183,7 @@ fn keeps_ram(board: &Board, entry: &Entry, op: &Op, asked: &Mistakes) -> bool
     !asked.absent_ram || !uses_ram(op) || has_ram(board, entry)
 }
 
-/// Returns whether no machine of an entry makes the mistake with ROM, if it is asked for.
+/// Returns true only if no machine of an entry reads from an absent ROM, or `asked` does not include that mistake.
 fn keeps_rom(board: &Board, entry: &Entry, op: &Op, asked: &Mistakes) -> bool
     ensures here { IsTrue result → asked.now.absent_rom ≡ true → lacks_rom board.now entry.now.at ≡ false }
     ensures next { IsTrue result → asked.now.absent_rom ≡ true → reads_next op.now ≡ true →
@@ -190,7 +192,8 @@ fn keeps_rom(board: &Board, entry: &Entry, op: &Op, asked: &Mistakes) -> bool
     !asked.absent_rom || has_words(board, entry.at, op)
 }
 
-/// Returns whether no machine of an entry makes the mistake with input lines, if it is asked for.
+/// Returns true only if no machine of an entry reads a port without input lines, or `asked` does not include that
+/// mistake.
 fn keeps_inputs(board: &Board, entry: &Entry, op: &Op, asked: &Mistakes) -> bool
     ensures { IsTrue result → asked.now.no_inputs ≡ true → is_rdr op.now ≡ true →
         AllIn (slice_index entry.now.sets 17) (λ n. has_input board.now n ≡ true) }
@@ -198,7 +201,8 @@ fn keeps_inputs(board: &Board, entry: &Entry, op: &Op, asked: &Mistakes) -> bool
     !asked.no_inputs || !is_rdr(op) || has_inputs(board, entry.sets[17])
 }
 
-/// Returns whether no machine of an entry makes the mistake with output lines, if it is asked for.
+/// Returns true only if no machine of an entry writes to a port without output lines, or `asked` does not include that
+/// mistake.
 fn keeps_outputs(board: &Board, entry: &Entry, op: &Op, asked: &Mistakes) -> bool
     ensures { IsTrue result → asked.now.no_outputs ≡ true → is_wrr op.now ≡ true →
         AllIn (slice_index entry.now.sets 17) (λ n. has_output board.now n ≡ true) }
@@ -206,7 +210,7 @@ fn keeps_outputs(board: &Board, entry: &Entry, op: &Op, asked: &Mistakes) -> boo
     !asked.no_outputs || !is_wrr(op) || has_outputs(board, entry.sets[17])
 }
 
-/// Returns whether no machine of an entry makes one of these mistakes by its instruction.
+/// Returns true only if no machine of an entry makes a mistake that `asked` includes when it executes `op`.
 fn makes_none(board: &Board, entry: &Entry, op: &Op, asked: &Mistakes) -> bool
     ensures { IsTrue result → MakesNone board.now entry.now op.now asked.now }
 {
@@ -225,7 +229,7 @@ fn makes_none(board: &Board, entry: &Entry, op: &Op, asked: &Mistakes) -> bool
     keeps_outputs(board, entry, op, asked)
 }
 
-/// Returns whether no machine of an entry makes one of these mistakes.
+/// Returns true only if no machine of an entry makes a mistake that `asked` includes.
 fn excludes_mistakes(rig: &BenchRig, entry: &Entry, asked: &Mistakes) -> bool
     ensures { IsTrue result → Excludes rig.now.board rig.now.rom (Mistaken asked.now) entry.now }
 {
@@ -235,7 +239,8 @@ fn excludes_mistakes(rig: &BenchRig, entry: &Entry, asked: &Mistakes) -> bool
     }
 }
 
-/// Returns whether it is known that no machine of an entry meets a condition. No comparison is evaluated.
+/// Returns true only if no machine of an entry meets a condition. Comparisons are not evaluated: for them it returns
+/// false.
 fn excludes(rig: &BenchRig, entry: &Entry, condition: &Condition) -> bool
     ensures { IsTrue result → Excludes rig.now.board rig.now.rom condition.now entry.now }
 {
@@ -245,7 +250,7 @@ fn excludes(rig: &BenchRig, entry: &Entry, condition: &Condition) -> bool
     }
 }
 
-/// Returns whether no machine of an entry meets all of these conditions.
+/// Returns true only if no machine of an entry meets all of these conditions.
 fn excludes_all(rig: &BenchRig, entry: &Entry, conditions: &[Condition]) -> bool
     ensures { IsTrue result → ExcludesAll rig.now.board rig.now.rom conditions.now entry.now }
 {
@@ -257,7 +262,7 @@ fn excludes_all(rig: &BenchRig, entry: &Entry, conditions: &[Condition]) -> bool
     false
 }
 
-/// Returns whether each machine of an entry keeps to these: it never meets all conditions of one of them.
+/// Returns true only if no machine of an entry meets all conditions of a list in `nevers`.
 pub(crate) fn keeps(rig: &BenchRig, entry: &Entry, nevers: &[Vec<Condition>]) -> bool
     ensures { IsTrue result → HoldsIn rig.now.board rig.now.rom (keeps_to (map (λ n. n.items) nevers.now)) entry.now }
 {
@@ -277,7 +282,8 @@ fn is_decidable(condition: &Condition) -> bool {
     }
 }
 
-/// Returns whether a certificate can show that a machine keeps to these.
+/// Returns whether each list in `nevers` has a condition that sets of values can decide. Otherwise no certificate can
+/// prove the property.
 pub(crate) fn can_keep(nevers: &[Vec<Condition>]) -> bool {
     for i in 0..nevers.len() {
         if !nevers[i].iter().any(|condition| is_decidable(condition)) {

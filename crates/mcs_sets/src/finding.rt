@@ -1,7 +1,8 @@
-//! Finds a certificate. Of what is found nothing is proved: `has_all` checks it.
+//! Finds a certificate. Nothing is proved about the result; `has_all` checks it.
 //!
-//! A search begins with the entry of the machine as it is. It follows each entry, and adds what lands to the entry that has the
-//! same address, return addresses and exact registers, until no entry grows. It ends at an entry that may meet a condition.
+//! A search begins with the entry for the machine's present state. It follows each entry and joins each resulting entry
+//! into the stored one with the same address, return addresses and exact registers. The search ends when no entry
+//! grows, or at an entry whose machines may meet the conditions.
 ghost use Rattle.std.specs.Prelude.{◌≡◌};
 
 use crate::entries::{Entry, has};
@@ -16,17 +17,17 @@ use mcs_nibble::{Addr, Bit, Nibble};
 use std::alloc::{AllocError, Global};
 use std::collections::HashMap;
 
-/// How often an entry can grow, and once more: it has 28 sets of 16 numbers.
+/// One more than the number of times that an entry can grow. An entry has 28 sets of at most 16 numbers.
 const MOST_VISITS: usize = 449;
 
-/// A certificate: its entries, and the links that they name.
+/// A certificate: its entries, and the links that they refer to.
 #[derive(Drop)]
 pub(crate) struct Certificate {
     pub(crate) entries: Vec<Entry>,
     pub(crate) links: Vec<usize>,
 }
 
-/// What machines of one entry have in common. An exact register is four bits of `exact`.
+/// The values that all machines of an entry share. Each exact register takes four bits of `exact`.
 #[derive(Clone, Copy, PartialEq, Eq, Hash)]
 struct Key {
     at: u16,
@@ -35,7 +36,8 @@ struct Key {
     exact: u64,
 }
 
-/// Returns what the machines of an entry have in common. An exact register has one value there.
+/// Returns the key of an entry: the values that all its machines share. Each exact register has a single value in the
+/// entry.
 fn key_of(entry: &Entry, exact: u16) -> Key {
     let mut values = 0u64;
     for r in 0..16u8 {
@@ -52,14 +54,14 @@ fn key_of(entry: &Entry, exact: u16) -> Key {
     }
 }
 
-/// What stops a search.
+/// The reason why a search stops without a certificate.
 #[derive(Clone, Copy, Debug)]
 pub(crate) enum Stop {
-    /// There are more entries than the search may make.
+    /// The search needs more entries than it may create.
     TooMany,
-    /// Memory was refused. It had room for this many entries.
+    /// An allocation failed. The field is the number of entries that fit into memory.
     NoMemory(usize),
-    /// Some machine of an entry may meet a condition.
+    /// A machine of an entry may meet the conditions that must never be met.
     Unkept,
 }
 
@@ -74,7 +76,7 @@ impl From<AllocError> for Stop {
     }
 }
 
-/// Returns where a choice leads; none if there is no instruction at the entry.
+/// Returns the landing of a choice, or `None` if its bank is above 7 or there is no instruction at the entry's address.
 fn landing_of(rig: &mut BenchRig, entry: &Entry, choice: &Choice) -> Option<Landing> {
     if choice.bank >= 8 {
         return None;
@@ -89,12 +91,12 @@ fn landing_of(rig: &mut BenchRig, entry: &Entry, choice: &Choice) -> Option<Land
 #[derive(Drop)]
 struct Finder {
     entries: Vec<Entry>,
-    /// For each entry whether it grew since it was followed.
+    /// For each entry, true if it is new or grew since it was last followed.
     waits: Vec<bool>,
     index: HashMap<Key, usize>,
-    /// The entries that follow the one that was followed last.
+    /// The successors of the entry that was followed last.
     followers: Vec<usize>,
-    /// Which registers are exact at each address, register r as bit r.
+    /// The exact registers at each address. Register r is bit r.
     exact: Vec<u16>,
     most: usize,
 }
@@ -111,7 +113,7 @@ impl Finder {
         }
     }
 
-    /// Returns which registers are exact at an address, register r as bit r.
+    /// Returns the exact registers at an address. Register r is bit r.
     fn exact_at(&self, at: Addr) -> u16 {
         let i = usize::from(at.get());
         if i < self.exact.len() {
@@ -130,7 +132,7 @@ impl Finder {
         Ok(i)
     }
 
-    /// Adds an entry, unless there are too many. Returns its index.
+    /// Adds an entry and returns its index. Fails if the limit on entries is reached.
     fn add(&mut self, key: Key, entry: &Entry) -> Result<usize, Stop> {
         if self.entries.len() >= self.most {
             return Err(Stop::TooMany);
@@ -138,7 +140,8 @@ impl Finder {
         Ok(self.push(key, entry)?)
     }
 
-    /// Adds what an entry stands for to the entry that has the same key. Returns its index.
+    /// Joins an entry into the stored entry with the same key, or stores it if there is none. Returns the index of the
+    /// stored entry.
     fn visit(&mut self, arrived: &Entry) -> Result<usize, Stop> {
         let key = key_of(arrived, self.exact_at(arrived.at));
         let Some(i) = self.index.get(&key).copied() else {
@@ -150,7 +153,7 @@ impl Finder {
         Ok(i)
     }
 
-    /// Notes that an entry follows.
+    /// Records the entry at index `i` as a successor.
     fn note(&mut self, i: usize) -> Result<(), AllocError> {
         if !self.followers.contains(&i) {
             self.followers.push(i)?;
@@ -173,7 +176,7 @@ impl Finder {
         Ok(())
     }
 
-    /// Follows the choices of an entry that have this accumulator, carry and bank, and are in a sample of it.
+    /// Follows the choices of an entry that have this accumulator, carry and bank.
     fn follow_numbers(
         &mut self,
         rig: &mut BenchRig,
@@ -199,7 +202,7 @@ impl Finder {
         Ok(())
     }
 
-    /// Follows all choices of an entry.
+    /// Follows all choices in a sample of an entry.
     fn follow_all(&mut self, rig: &mut BenchRig, source: &Entry, op: &Op) -> Result<(), Stop> {
         let sample = sample(source, op);
         for flags in 0..32u8 {
@@ -214,12 +217,13 @@ impl Finder {
         Ok(())
     }
 
-    /// Returns whether the machines of entry `i` keep to these.
+    /// Returns true only if no machine of entry `i` meets all conditions of a list in `nevers`, or there is no entry
+    /// `i`.
     fn keeps_at(&self, rig: &BenchRig, nevers: &[Vec<Condition>], i: usize) -> bool {
         i >= self.entries.len() || keeps(rig, &self.entries[i], nevers)
     }
 
-    /// Follows entry `i`.
+    /// Follows entry `i`: records its successors and joins into them the entries that its choices lead to.
     fn follow(&mut self, rig: &mut BenchRig, i: usize) -> Result<(), Stop> {
         self.followers.clear();
         if i >= self.entries.len() {
@@ -232,7 +236,7 @@ impl Finder {
         self.follow_all(rig, &source, &op)
     }
 
-    /// Follows each entry that grew, one after the other. Returns whether there was one.
+    /// Follows each entry that is new or grew since it was last followed. Returns whether there was one.
     fn sweep(&mut self, rig: &mut BenchRig, nevers: &[Vec<Condition>]) -> Result<bool, Stop> {
         let mut found = false;
         for i in 0..self.most {
@@ -261,7 +265,7 @@ impl Finder {
         Err(Stop::TooMany)
     }
 
-    /// Returns the links of all entries, and notes in each entry which are its own.
+    /// Returns the links of all entries, and sets each entry's range of links.
     fn link(&mut self, alloc: Global, rig: &mut BenchRig) -> Result<Vec<usize>, Stop> {
         let mut links = Vec::new(alloc);
         for i in 0..self.entries.len() {
@@ -290,8 +294,9 @@ impl Finder {
     }
 }
 
-/// Finds a certificate of at most `most` entries that has the machines of an entry in which each exact register has one value,
-/// and whose machines keep to these. `exact` is which registers are exact at each address, register r as bit r.
+/// Finds a certificate of at most `most` entries that covers the machines of the entry `begin`. Its machines never meet
+/// all conditions of a list in `nevers`. `exact` has the exact registers at each address, with register r as bit r.
+/// Each exact register must have a single value in `begin`.
 pub(crate) fn find(
     alloc: Global,
     rig: &mut BenchRig,

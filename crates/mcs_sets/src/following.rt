@@ -1,4 +1,4 @@
-//! Whether the machines of an entry stay in the certificate.
+//! Checks that the machines of an entry stay in the certificate for one cycle.
 ghost use Rattle.std.specs.Prelude.{◌≡◌, ◌<◌, ℕ, IsTrue, Some};
 ghost use Rattle.mcs_sets.specs.Landing.{Takes, op_at};
 ghost use Rattle.mcs_sets.specs.Taking.{AgreeInCalls, Allows, IsTaken, IsTakenBy, TakesPlace, choice_at};
@@ -9,7 +9,7 @@ use mcs_board::BenchRig;
 use mcs_model::op::Op;
 use mcs_nibble::{Addr, Bit, Nibble};
 
-/// Returns whether an entry takes in a place what lands so from another one.
+/// Returns whether `target` covers one location of every machine that this landing reaches from `source`.
 fn takes_place(source: &Entry, target: &Entry, landing: &Landing, place: u8) -> bool
     requires { place < 26 }
     ensures { IsTrue result → TakesPlace source.now target.now landing.now place }
@@ -27,7 +27,7 @@ fn takes_place(source: &Entry, target: &Entry, landing: &Landing, place: u8) -> 
     is_within(source.sets[k], target.sets[k])
 }
 
-/// Returns whether it does in all places.
+/// Returns whether `target` covers all locations of every machine that this landing reaches from `source`.
 fn takes_places(source: &Entry, target: &Entry, landing: &Landing) -> bool
     ensures { IsTrue result → (k : ℕ) → k < 26 → TakesPlace source.now target.now landing.now k }
 {
@@ -39,7 +39,7 @@ fn takes_places(source: &Entry, target: &Entry, landing: &Landing) -> bool
     true
 }
 
-/// Returns whether the return addresses of the open calls are the same.
+/// Returns whether two stacks have the same return addresses for the open calls.
 fn agree_in_calls(a: &[Addr; 3], b: &[Addr; 3], calls: u8) -> bool
     ensures { IsTrue result → AgreeInCalls a.now b.now calls }
 {
@@ -48,7 +48,7 @@ fn agree_in_calls(a: &[Addr; 3], b: &[Addr; 3], calls: u8) -> bool
         && (calls < 3 || a[2].get() == b[2].get())
 }
 
-/// Returns whether an entry takes all that lands so from another one.
+/// Returns whether `target` covers every machine that this landing reaches from `source`.
 fn takes(source: &Entry, target: &Entry, landing: &Landing) -> bool
     ensures { IsTrue result → Takes source.now target.now landing.now }
 {
@@ -60,7 +60,7 @@ fn takes(source: &Entry, target: &Entry, landing: &Landing) -> bool
         && takes_places(source, target, landing)
 }
 
-/// Returns whether one of these entries does, of those that the links of the source name.
+/// Returns whether an entry that a link of `source` names covers every machine that this landing reaches from `source`.
 fn is_taken(entries: &[Entry], links: &[usize], source: &Entry, landing: &Landing) -> bool
     ensures { IsTrue result → IsTaken entries.now source.now landing.now }
 {
@@ -76,7 +76,8 @@ fn is_taken(entries: &[Entry], links: &[usize], source: &Entry, landing: &Landin
     false
 }
 
-/// Returns whether one choice stays in the certificate, if the entry allows it.
+/// Returns whether the certificate covers the landing of one choice. A choice with an operand value that the entry does
+/// not allow counts as covered.
 fn stays(
     rig: &mut BenchRig,
     entries: &[Entry],
@@ -102,7 +103,8 @@ fn stays(
     is_taken(entries, links, entry, &landing)
 }
 
-/// Returns whether all choices do that have this accumulator, this carry and this bank.
+/// Returns whether the certificate covers the landings of all allowed choices with this bank, accumulator and carry.
+/// `flags` is the accumulator plus 16 times the carry.
 fn stay_with_bank(
     rig: &mut BenchRig,
     entries: &[Entry],
@@ -140,7 +142,8 @@ fn stay_with_bank(
     true
 }
 
-/// Returns whether all choices do that have this accumulator and this carry.
+/// Returns whether the certificate covers the landings of all allowed choices with this accumulator and carry. `flags`
+/// is the accumulator plus 16 times the carry.
 fn stay_with_flags(
     rig: &mut BenchRig,
     entries: &[Entry],
@@ -167,7 +170,7 @@ fn stay_with_flags(
     true
 }
 
-/// Returns whether all choices do that an entry allows.
+/// Returns whether the certificate covers the landings of all choices that an entry allows.
 pub(crate) fn all_stay(
     rig: &mut BenchRig,
     entries: &[Entry],

@@ -1,4 +1,4 @@
-//! Where an instruction leads.
+//! The effect of an instruction on one choice of values.
 ghost use Rattle.std.specs.Prelude.{◌≡◌, ◌<◌, Some};
 ghost use Rattle.mcs_drive.specs.Tracked.{calls_after};
 ghost use Rattle.mcs_model.specs.Effect.{after_words, registers_after};
@@ -11,8 +11,8 @@ use mcs_model::op::Op;
 use mcs_model::regs::Regs;
 use mcs_nibble::{Bit, Nibble};
 
-/// Where one choice of what is held leads: the registers but for the index registers, how many calls are open, and up to two
-/// places with what they hold then. Place 26 is none.
+/// The effect of an instruction on one choice of values: the registers except the index registers, the number of open
+/// calls, and up to two changed locations with their new values. Location 26 stands for no location.
 #[derive(Clone, Copy)]
 pub(crate) struct Landing {
     pub(crate) regs: Regs,
@@ -26,7 +26,7 @@ pub(crate) struct Landing {
 /// The set of all nibbles.
 const ANY: u16 = 65535;
 
-/// Returns which numbers an instruction may take first.
+/// Returns the set of possible values of an instruction's first operand.
 pub(crate) fn first_set(op: &Op, entry: &Entry) -> u16
     ensures { result ≡ first_set op.now entry.now }
 {
@@ -40,7 +40,7 @@ pub(crate) fn first_set(op: &Op, entry: &Entry) -> u16
     }
 }
 
-/// Returns which numbers an instruction may take next: of TEST, its levels.
+/// Returns the set of possible values of an instruction's second operand. For a JCN these are the levels of TEST.
 pub(crate) fn second_set(op: &Op, entry: &Entry) -> u16
     ensures { result ≡ second_set op.now entry.now }
 {
@@ -52,7 +52,7 @@ pub(crate) fn second_set(op: &Op, entry: &Entry) -> u16
     }
 }
 
-/// Returns index registers that hold both numbers where the instruction takes them.
+/// Returns index registers that hold both operand values at the indexes from which the instruction reads them.
 pub(crate) fn stand_ins(op: &Op, first: Nibble, second: Nibble) -> [Nibble; 16]
     ensures { result ≡ stand_ins op.now first second }
 {
@@ -65,7 +65,8 @@ pub(crate) fn stand_ins(op: &Op, first: Nibble, second: Nibble) -> [Nibble; 16]
     r
 }
 
-/// Returns the registers after an instruction that reads this nibble of RAM or of a port.
+/// Returns the registers after an instruction, if it reads the nibble `n` from RAM or a port. Other instructions leave
+/// `after` unchanged.
 pub(crate) fn with_read(op: &Op, n: Nibble, before: &Regs, after: Regs) -> Regs
     ensures { result ≡ with_read op.now n before.now after }
 {
@@ -79,7 +80,7 @@ pub(crate) fn with_read(op: &Op, n: Nibble, before: &Regs, after: Regs) -> Regs
     regs
 }
 
-/// Returns the first place that an instruction changes.
+/// Returns the first location that an instruction changes, or 26 if there is none.
 pub(crate) fn first_written(op: &Op) -> u8
     ensures { result ≡ first_written op.now }
 {
@@ -91,7 +92,7 @@ pub(crate) fn first_written(op: &Op) -> u8
     }
 }
 
-/// Returns the second place that an instruction changes, if the bank has `chips` chips.
+/// Returns the second location that an instruction changes, or 26 if there is none. The bank has `chips` chips.
 pub(crate) fn second_written(op: &Op, chips: u8, bank: u8) -> u8
     requires { bank < 8 }
     ensures { result ≡ second_written op.now chips bank }
@@ -103,7 +104,7 @@ pub(crate) fn second_written(op: &Op, chips: u8, bank: u8) -> u8
     }
 }
 
-/// Returns what an instruction that took this number leaves in a place.
+/// Returns the value that an instruction with this first operand value leaves at a location.
 pub(crate) fn value_written(op: &Op, first: Nibble, after: &Regs, place: u8) -> u8
     ensures { result ≡ value_written op.now first after.now place }
 {
@@ -130,7 +131,8 @@ pub(crate) fn calls_after(op: &Op, calls: u8) -> u8
     }
 }
 
-/// What is chosen of what an entry allows: accumulator, carry and bank, and the two numbers that an instruction takes.
+/// One choice of the values that an entry allows: accumulator, carry, bank, and the two operand values of an
+/// instruction.
 #[derive(Clone, Copy)]
 pub(crate) struct Choice {
     pub(crate) acc: Nibble,
@@ -157,7 +159,7 @@ fn processor(regs: &Regs) -> Cpu
     cpu
 }
 
-/// Returns the registers before an instruction, whose index registers hold what it takes.
+/// Returns the registers before an instruction, with its operand values in the index registers.
 fn before(op: &Op, entry: &Entry, choice: &Choice) -> Regs
     ensures { result ≡ before op.now entry.now.at entry.now.ret choice.now }
 {
@@ -172,7 +174,7 @@ fn before(op: &Op, entry: &Entry, choice: &Choice) -> Regs
     }
 }
 
-/// Runs the instruction at the counter for one cycle, with TEST at a level, and returns the registers after it.
+/// Runs the instruction at the program counter for one cycle, with TEST at a level, and returns the registers after it.
 fn run(rig: &mut BenchRig, op: &Op, regs: &Regs, level: Bit) -> Regs
     requires bank { regs.now.dcl < 8 }
     requires free { regs.now.owed ≡ 0 }
@@ -187,7 +189,7 @@ fn run(rig: &mut BenchRig, op: &Op, regs: &Regs, level: Bit) -> Regs
     cpu.regs()
 }
 
-/// Returns where an instruction leads.
+/// Returns the landing of a choice: the effect of the instruction on it.
 pub(crate) fn land(rig: &mut BenchRig, op: &Op, entry: &Entry, choice: &Choice) -> Landing
     requires bank { choice.now.bank < 8 }
     requires there { op_at rig.old.rom entry.now.at ≡ Some op.now }

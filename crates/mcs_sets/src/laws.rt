@@ -1,25 +1,28 @@
-//! Laws of the definitions, each as the contract of a function that does nothing.
+//! Laws of the definitions. Each law is the contract of a function with an empty body.
 ghost use Rattle.mcs_sets.specs.Excluding.{EntriesSuffice};
 ghost use Rattle.mcs_sets.specs.Following.{StepsSuffice};
 ghost use Rattle.mcs_sets.specs.Landing.{ChoicesLand};
 ghost use Rattle.mcs_sets.specs.Taking.{EntriesStay};
 
-/// A certificate that has each of its machines after one cycle has all that can be reached, whatever the inputs do.
+/// Proves that a certificate that is closed under one cycle covers every machine that can be reached from a machine in
+/// it, for all inputs.
 pub fn steps_suffice()
     ensures { StepsSuffice }
 {}
 
-/// Where the choice of a machine leads, there it is after the instruction.
+/// Proves that the landing of a machine's choice describes the machine after the instruction.
 pub fn choices_land()
     ensures { ChoicesLand }
 {}
 
-/// If all choices of an entry are taken, its machines stay in the certificate for one cycle.
+/// Proves that the machines of an entry stay in the certificate for one cycle if the certificate covers the landings of
+/// all choices of the entry.
 pub fn entries_stay()
     ensures { EntriesStay }
 {}
 
-/// What holds in each entry of a certificate that has all that can be reached holds for all inputs.
+/// Proves that a property that holds in each entry holds for all inputs, if the certificate covers all machines that
+/// can be reached.
 pub fn entries_suffice()
     ensures { EntriesSuffice }
 {}

@@ -1,8 +1,8 @@
-//! The states that a program can reach for all inputs, as sets of values for each place.
+//! The states that a program can reach for all inputs, as sets of values for each location.
 //!
-//! A certificate lists, for each address and stack of return addresses that a program can reach, the nibbles that each register
-//! may hold. `has_all` checks each entry once and trusts nothing in the certificate. If it returns true, the machine is at every
-//! moment in one of the entries, whatever its keys and its TEST pin do.
+//! A certificate lists the nibbles that each register may hold, for each address and each stack of return addresses
+//! that a program can reach. `has_all` checks each entry once and trusts nothing in the certificate. If it returns
+//! true, an entry covers the machine at every moment, for all levels of its keys and its TEST pin.
 #![tactic(auto)]
 
 mod entries;

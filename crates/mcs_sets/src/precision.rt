@@ -1,19 +1,19 @@
-//! Levels of precision: which instructions need registers that are exact.
+//! Levels of precision. A register is exact if each entry has a single value for it.
 use mcs_model::op::Op;
 use mcs_nibble::{PairNo, RegNo};
 
-/// Which instructions need exact registers. Each level has those of the levels before it.
+/// A level of precision: the instructions that need exact registers. Each level includes those of the levels before it.
 #[derive(Clone, Copy, Debug, PartialEq, Eq)]
 pub(crate) enum Level {
-    /// None.
+    /// No instruction.
     None,
-    /// FIN and JIN, which take a pair as an address.
+    /// FIN and JIN, which use a register pair as an address.
     Jumps,
-    /// DCL, which takes the accumulator as a bank.
+    /// DCL, which uses the accumulator as a bank number.
     Banks,
-    /// SRC, which takes the first register of a pair as a chip.
+    /// SRC, which uses the first register of a pair as a chip number.
     Sends,
-    /// SRC, of which the whole pair is exact. A register that is exact at one address is exact at all.
+    /// SRC, with its whole register pair exact. A register that is exact at one address is exact at all addresses.
     Everywhere,
 }
 
@@ -26,23 +26,23 @@ pub(crate) const LEVELS: [Level; 5] = [
     Level::Everywhere,
 ];
 
-/// The accumulator in a set of registers, in which register r is bit r.
+/// The bit of the accumulator in a set of registers. Register r is bit r.
 pub(crate) const ACC: u32 = 1 << 16;
 
-/// The carry in a set of registers.
+/// The bit of the carry in a set of registers.
 pub(crate) const CARRY: u32 = 1 << 17;
 
-/// Returns the set of one register.
+/// Returns the set that contains one register.
 pub(crate) fn register(r: RegNo) -> u32 {
     1 << r.get()
 }
 
-/// Returns the set of the registers of a pair.
+/// Returns the set that contains both registers of a pair.
 pub(crate) fn pair(k: PairNo) -> u32 {
     3 << (2 * k.get())
 }
 
-/// Returns the registers that an instruction needs to be exact.
+/// Returns the registers that must be exact at an instruction, at the given level of precision.
 pub(crate) fn needed(level: Level, op: &Op) -> u32 {
     match (op, level) {
         (_, Level::None) => 0,

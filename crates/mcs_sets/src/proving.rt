@@ -1,4 +1,4 @@
-//! Whether conditions are never met by a machine, whatever its keys and its TEST pin do, by sets of values.
+//! Proves with sets of values that a machine never meets given conditions, for all levels of its keys and its TEST pin.
 ghost use Rattle.std.specs.Prelude.{◌≡◌, ◌<◌, IsTrue, ℕ, length, map, slice_index_or};
 ghost use Rattle.mcs_drive.specs.Tracked.{no_stopwatch, without_calls};
 ghost use Rattle.mcs_check.specs.Conditions.{keeps_to};
@@ -17,10 +17,10 @@ use mcs_check::{Condition, Outcome};
 use mcs_cpu4004::Cpu;
 use std::alloc::Global;
 
-/// The bytes that an entry takes, at most: itself, its links, and its part of the index.
+/// The maximum number of bytes that an entry needs, with its links and its share of the index.
 const ENTRY_BYTES: usize = 256;
 
-/// Returns whether each machine of entry `i` keeps to these.
+/// Returns true only if no machine of entry `i` meets all conditions of a list in `nevers`.
 fn keeps_at(rig: &BenchRig, entries: &[Entry], nevers: &[Vec<Condition>], i: usize) -> bool
     requires { i < length entries.now }
     ensures { IsTrue result → (d : Entry) →
@@ -29,7 +29,7 @@ fn keeps_at(rig: &BenchRig, entries: &[Entry], nevers: &[Vec<Condition>], i: usi
     keeps(rig, &entries[i], nevers)
 }
 
-/// Returns whether each machine of each entry keeps to these.
+/// Returns true only if no machine of any entry meets all conditions of a list in `nevers`.
 fn all_keep(rig: &BenchRig, entries: &[Entry], nevers: &[Vec<Condition>]) -> bool
     ensures { IsTrue result → (k : ℕ) (d : Entry) → k < length entries.now →
         HoldsIn rig.now.board rig.now.rom (keeps_to (map (λ n. n.items) nevers.now)) (slice_index_or entries.now k d) }
@@ -42,7 +42,7 @@ fn all_keep(rig: &BenchRig, entries: &[Entry], nevers: &[Vec<Condition>]) -> boo
     true
 }
 
-/// Returns the outcome of a certificate for a machine in which no call is open.
+/// Checks a certificate for a machine without open calls, and returns the outcome.
 fn outcome_of(
     cpu: &Cpu,
     rig: &mut BenchRig,
@@ -62,8 +62,9 @@ fn outcome_of(
     Outcome::Holds(entries.len())
 }
 
-/// Searches at one level for a certificate whose machines keep to these, on a rig `own` with the board and the program of
-/// `rig`. `tried` is which registers were exact at the level before. If they are the same here, nothing is searched.
+/// Searches at one level of precision for a certificate whose machines never meet all conditions of a list in `nevers`.
+/// The search runs on the rig `own`, which has the board and the program of `rig`. `tried` has the exact registers of
+/// the level before. If this level has the same, returns `None` without a search.
 fn find_at(
     alloc: Global,
     cpu: &Cpu,
@@ -85,7 +86,7 @@ fn find_at(
     Ok(Some(found))
 }
 
-/// Searches for a certificate whose machines keep to these, level by level.
+/// Searches, level by level, for a certificate whose machines never meet all conditions of a list in `nevers`.
 fn find_kept(
     alloc: Global,
     cpu: &Cpu,
@@ -108,9 +109,9 @@ fn find_kept(
     Err(last)
 }
 
-/// Looks for a certificate that shows that a machine in which no call is open keeps to these, whatever its inputs do: it never
-/// meets all conditions of one of them. A certificate has at most `most` entries, in about `memory` bytes. The search runs on
-/// a rig of its own, with the board and the program of the machine's.
+/// Tries to prove, with a certificate, that a machine without open calls never meets all conditions of a list in
+/// `nevers`, for all inputs. The certificate has at most `most` entries and takes about `memory` bytes. The search runs
+/// on the rig `own`, which has the board and the program of `rig`.
 pub fn check_by_sets(
     alloc: Global,
     cpu: &Cpu,

@@ -1,15 +1,15 @@
-//! Samples: the choices that are representative of an entry, and where they lead.
+//! Samples: representative choices of an entry, and the entries that they lead to.
 use crate::entries::Entry;
 use crate::landing::Landing;
 use mcs_model::op::Op;
 use mcs_nibble::Addr;
 
-/// Returns the set of one number; of a number above 15 the empty set.
+/// Returns the set that contains only `n`, or the empty set if `n` is above 15.
 pub(crate) fn only(n: u8) -> u16 {
     if n < 16 { 1 << n } else { 0 }
 }
 
-/// Returns a set of one number of a set that has one.
+/// Returns the set that contains only the smallest number of a set, or the empty set if the set is empty.
 fn one_of(set: u16) -> u16 {
     if set == 0 {
         return 0;
@@ -17,7 +17,8 @@ fn one_of(set: u16) -> u16 {
     only(set.trailing_zeros() as u8)
 }
 
-/// Returns whether an instruction leaves accumulator and carry as they are, and does not look at them.
+/// Returns whether an instruction leaves the accumulator and the carry unchanged, and no location of an entry depends
+/// on them.
 fn keeps_flags(op: &Op) -> bool {
     match op {
         Op::Nop | Op::Fim(_, _) | Op::Src(_) | Op::Fin(_) | Op::Jin(_) | Op::Jun(_, _) => true,
@@ -27,7 +28,7 @@ fn keeps_flags(op: &Op) -> bool {
     }
 }
 
-/// Returns whether an instruction replaces the accumulator, and looks neither at it nor at the carry.
+/// Returns whether an instruction replaces the accumulator by a value that depends neither on it nor on the carry.
 fn replaces_acc(op: &Op) -> bool {
     match op {
         Op::Rdm | Op::Rdr | Op::Rd0 | Op::Rd1 | Op::Rd2 | Op::Rd3 => true,
@@ -36,7 +37,7 @@ fn replaces_acc(op: &Op) -> bool {
     }
 }
 
-/// Returns whether an instruction looks at the number of the bank.
+/// Returns whether a location of an entry depends on the bank number after an instruction.
 fn uses_bank(op: &Op) -> bool {
     match op {
         Op::Src(_) => true,
@@ -52,7 +53,8 @@ fn selects_bank(op: &Op) -> bool {
     }
 }
 
-/// Returns an entry with one value for each place of another one at which an instruction does not look.
+/// Returns a copy of an entry. Its accumulator, carry and bank are reduced to a single value if the instruction's
+/// effect on an entry does not depend on them.
 pub(crate) fn sample(source: &Entry, op: &Op) -> Entry {
     let mut entry = *source;
     if keeps_flags(op) {
@@ -82,7 +84,8 @@ fn open_returns(ret: &[Addr; 3], calls: u8) -> [Addr; 3] {
     ]
 }
 
-/// Returns an entry for all that lands from another one as this choice of a sample does.
+/// Returns an entry for all machines that `source` leads to by the choices that a sampled choice represents. `landing`
+/// is the landing of the sampled choice.
 pub(crate) fn arrival(source: &Entry, op: &Op, landing: &Landing) -> Entry {
     let regs = &landing.regs;
     let acc = only(regs.acc.get());
@@ -112,7 +115,7 @@ pub(crate) fn arrival(source: &Entry, op: &Op, landing: &Landing) -> Entry {
     entry
 }
 
-/// Adds all that an entry stands for to another one. Returns whether that is more than before.
+/// Adds all values of `more` to `entry`. Returns whether `entry` grew.
 pub(crate) fn join(entry: &mut Entry, more: &Entry) -> bool {
     let mut added = (more.clear & !entry.clear) | (more.set & !entry.set);
     entry.clear |= more.clear;

@@ -1,4 +1,4 @@
-//! Whether a certificate has all that a machine can do.
+//! Checks that a certificate covers everything that a machine can reach.
 ghost use Rattle.std.specs.Prelude.{◌≡◌, ◌<◌, ℕ, IsTrue, length, slice_index, slice_index_or, true};
 ghost use Rattle.mcs_drive.specs.Tracked.{without_calls};
 ghost use Rattle.mcs_sets.specs.declared.entries.Entry.{Entry};
@@ -14,7 +14,7 @@ use mcs_cpu4004::Cpu;
 use mcs_model::op::Op;
 use mcs_nibble::Addr;
 
-/// Returns whether an instruction calls and returns where it can.
+/// Returns whether the number of open calls allows an instruction: JMS needs fewer than three, and BBL at least one.
 pub(crate) fn fits_calls(op: &Op, calls: u8) -> bool
     ensures { IsTrue result → FitsCalls op.now calls }
 {
@@ -25,7 +25,7 @@ pub(crate) fn fits_calls(op: &Op, calls: u8) -> bool
     }
 }
 
-/// A law: the operands of an instruction are registers and pairs that there are.
+/// Proves that the register and pair operands of an instruction are in range.
 fn op_is_valid(op: &Op)
     ensures { IsValidOp op.now }
 {
@@ -55,7 +55,7 @@ fn follows(rig: &mut BenchRig, entries: &[Entry], links: &[usize], entry: &Entry
     }
 }
 
-/// Returns what a machine holds in a place.
+/// Returns the value that a machine holds at a location.
 fn held(cpu: &Cpu, rig: &BenchRig, place: u8) -> u8
     requires { place < 26 }
     ensures { result ≡ held (without_calls (cpu.now, rig.now)) place }
@@ -72,7 +72,7 @@ fn held(cpu: &Cpu, rig: &BenchRig, place: u8) -> u8
     }
 }
 
-/// Returns the entry of a machine in which no call is open, which stands for it alone.
+/// Returns the entry for one machine without open calls. It has a single value for each location.
 pub(crate) fn entry_of(cpu: &Cpu, rig: &BenchRig) -> Entry {
     let regs = cpu.regs();
     let acc = only(regs.acc.get());
@@ -92,7 +92,7 @@ pub(crate) fn entry_of(cpu: &Cpu, rig: &BenchRig) -> Entry {
     }
 }
 
-/// Returns whether an entry has what a machine holds in a place.
+/// Returns whether an entry allows the value that a machine holds at a location.
 fn allows(entry: &Entry, cpu: &Cpu, rig: &BenchRig, place: u8) -> bool
     requires { place < 26 }
     ensures { IsTrue result → has (slice_index entry.now.sets place) (held (without_calls (cpu.now, rig.now)) place) ≡ true }
@@ -100,7 +100,7 @@ fn allows(entry: &Entry, cpu: &Cpu, rig: &BenchRig, place: u8) -> bool
     has(entry.sets[usize::from(place)], held(cpu, rig, place))
 }
 
-/// Returns whether an entry has what a machine holds in all places.
+/// Returns whether an entry allows the values that a machine holds at all locations.
 fn holds_allowed(entry: &Entry, cpu: &Cpu, rig: &BenchRig) -> bool
     ensures { IsTrue result → (k : ℕ) → k < 26 → has (slice_index entry.now.sets k) (held (without_calls (cpu.now, rig.now)) k) ≡ true }
 {
@@ -112,7 +112,7 @@ fn holds_allowed(entry: &Entry, cpu: &Cpu, rig: &BenchRig) -> bool
     true
 }
 
-/// A law: a machine has sixteen registers, eight banks and a carry.
+/// Proves that a machine has 16 registers, 8 banks and a carry of 0 or 1.
 fn machine_is_sized(cpu: &Cpu, rig: &BenchRig)
     ensures registers { length cpu.now.r ≡ 16 }
     ensures banks { length rig.now.ram_src ≡ 8 }
@@ -123,14 +123,14 @@ fn machine_is_sized(cpu: &Cpu, rig: &BenchRig)
     let _carry = regs.cy.get();
 }
 
-/// Returns whether a processor is at the address of an entry in which no call is open.
+/// Returns whether a processor is at the address of an entry, and the entry has no open calls.
 fn is_placed(entry: &Entry, cpu: &Cpu) -> bool
     ensures { IsTrue result → IsPlaced entry.now cpu.now }
 {
     cpu.regs().pc.get() == entry.at.get() && entry.calls == 0
 }
 
-/// Returns whether an entry has what a processor holds in its accumulator, with its carry.
+/// Returns whether an entry allows a processor's accumulator, given its carry.
 fn allows_flags(entry: &Entry, cpu: &Cpu) -> bool
     ensures { result ≡ has (accs_of entry.now cpu.now.cy) cpu.now.acc }
 {
@@ -138,7 +138,7 @@ fn allows_flags(entry: &Entry, cpu: &Cpu) -> bool
     has(entry.accs(regs.cy.get()), regs.acc.get())
 }
 
-/// Returns whether a machine in which no call is open is one of those of an entry.
+/// Returns whether an entry covers a machine without open calls.
 fn is_in(entry: &Entry, cpu: &Cpu, rig: &BenchRig) -> bool
     ensures { IsTrue result → IsIn entry.now (without_calls (cpu.now, rig.now)) }
 {
@@ -152,21 +152,21 @@ fn is_in(entry: &Entry, cpu: &Cpu, rig: &BenchRig) -> bool
     holds_allowed(entry, cpu, rig)
 }
 
-/// Returns whether a machine in which no call is open is one of those of the first entry.
+/// Returns whether the first entry covers a machine without open calls.
 fn begins(cpu: &Cpu, rig: &BenchRig, entries: &[Entry]) -> bool
     ensures { IsTrue result → IsAmong entries.now (without_calls (cpu.now, rig.now)) }
 {
     !entries.is_empty() && is_in(&entries[0], cpu, rig)
 }
 
-/// A law: the RAM of a rig holds nibbles.
+/// Proves that each value in a rig's RAM is a nibble, and that its TEST level is 0 or 1.
 pub(crate) fn rig_is_known(rig: &BenchRig)
     ensures { IsOf rig.now.board rig.now.rom rig.now }
 {
     rig.show_state_is_valid();
 }
 
-/// Returns whether entry `i` is right, as `follows` says.
+/// Returns whether the machines of entry `i` stay in the certificate for one cycle.
 fn follows_at(rig: &mut BenchRig, entries: &[Entry], links: &[usize], i: usize) -> bool
     requires { i < length entries.now }
     ensures follows { IsTrue result → (d : Entry) →
@@ -177,8 +177,8 @@ fn follows_at(rig: &mut BenchRig, entries: &[Entry], links: &[usize], i: usize) 
     follows(rig, entries, links, &entries[i])
 }
 
-/// Returns whether a certificate has all that a machine can do in which no call is open: whatever the inputs do, at every moment
-/// it is one of those of the certificate. Its first entry has the machine as it is.
+/// Returns whether a certificate covers a machine without open calls at every moment, for all inputs. The first entry
+/// must cover the machine in its present state.
 pub fn has_all(cpu: &Cpu, rig: &mut BenchRig, entries: &[Entry], links: &[usize]) -> bool
     ensures { IsTrue result → StaysAmong entries.now (without_calls (cpu.now, rig.old)) }
 {

@@ -1,8 +1,10 @@
-//! Which registers are exact at which address: an entry has one value of such a register, and other values have other entries.
+//! Determines the exact registers at each address. An entry has a single value of an exact register. Other values of
+//! that register have entries of their own.
 //!
-//! They are those that are relevant there: their values may reach an instruction that needs them to be exact. That is a
-//! backward slice of the program. The counter of a loop is relevant too, if the loop changes a register that is relevant where
-//! it begins. Nothing is proved of a slice, and nothing depends on it but which certificate is found.
+//! A register is exact at an address if it is relevant there: its value may reach an instruction that needs it to be
+//! exact. The relevant registers form a backward slice of the program. The counter of a loop is also relevant if the
+//! loop changes a register that is relevant at its first instruction. Nothing is proved about a slice, and only the
+//! choice of certificate depends on it.
 use crate::precision::{ACC, CARRY, Level, needed, pair, register};
 use mcs_board::BenchRig;
 use mcs_cpu4004::Cpu;
@@ -10,16 +12,16 @@ use mcs_model::op::Op;
 use mcs_nibble::{Addr, PairNo};
 use std::alloc::{AllocError, Global};
 
-/// The number of addresses.
+/// The number of ROM addresses.
 const ADDRESSES: u16 = 4096;
 
-/// The most passes over all addresses.
+/// The maximum number of passes over all addresses.
 const MOST_PASSES: u16 = 1000;
 
-/// The most passes over a loop.
+/// The maximum number of passes over a loop.
 const MOST_LOOP_PASSES: u16 = 8;
 
-/// The members of a set that are registers, and not accumulator or carry.
+/// The mask of the index registers in a set, without accumulator and carry.
 const REGISTERS: u32 = 65535;
 
 /// Returns whether an instruction has two words.
@@ -35,7 +37,7 @@ fn next(op: &Op, at: Addr) -> Addr {
     at.plus(if is_long(op) { 2 } else { 1 })
 }
 
-/// Returns whether the next instruction may follow in the same routine.
+/// Returns whether execution may continue at the next instruction in the same routine.
 fn falls_through(op: &Op) -> bool {
     match op {
         Op::Jun(_, _) | Op::Jin(_) | Op::Bbl(_) => false,
@@ -43,7 +45,7 @@ fn falls_through(op: &Op) -> bool {
     }
 }
 
-/// Returns where an instruction may jump in the same routine, if its words give the address.
+/// Returns the address to which an instruction may jump in the same routine, if its words contain that address.
 fn jump_target(op: &Op, at: Addr) -> Option<Addr> {
     match op {
         Op::Jcn(_, word) | Op::Isz(_, word) => Some(Addr::on_page(at.plus(2).page(), *word)),
@@ -52,7 +54,7 @@ fn jump_target(op: &Op, at: Addr) -> Option<Addr> {
     }
 }
 
-/// Returns the routine that an instruction calls.
+/// Returns the address of the routine that an instruction calls.
 fn callee(op: &Op) -> Option<Addr> {
     match op {
         Op::Jms(page, word) => Some(Addr::on_page(*page, *word)),
@@ -60,7 +62,7 @@ fn callee(op: &Op) -> Option<Addr> {
     }
 }
 
-/// Returns the page on which an instruction may jump to any address.
+/// Returns the first address of the page to whose addresses an instruction may jump, if it is a JIN.
 fn jump_page(op: &Op, at: Addr) -> Option<Addr> {
     match op {
         Op::Jin(_) => Some(Addr::on_page(at.plus(1).page(), 0)),
@@ -73,14 +75,14 @@ fn op_at(rig: &BenchRig, at: Addr) -> Option<Op> {
     mcs_board::instruction(&Cpu::new(), rig, at)
 }
 
-/// A set for each address.
+/// A table with a set, as a bit mask, for each address.
 #[derive(Drop)]
 struct Table {
     sets: Vec<u32>,
 }
 
 impl Table {
-    /// Returns the empty set for each address.
+    /// Creates a table in which all sets are empty.
     fn new(alloc: Global) -> Result<Table, AllocError> {
         let mut sets = Vec::new(alloc);
         for _ in 0..ADDRESSES {
@@ -102,7 +104,7 @@ impl Table {
         if i < self.sets.len() { self.sets[i] } else { 0 }
     }
 
-    /// Adds members to the set of an address. Returns whether it is larger than before.
+    /// Adds members to the set of an address. Returns whether the set grew.
     fn add(&mut self, at: Addr, more: u32) -> bool {
         let i = usize::from(at.get());
         if i >= self.sets.len() {
@@ -113,7 +115,7 @@ impl Table {
         more & !before != 0
     }
 
-    /// Returns the union of the sets of the addresses that may follow in the same routine.
+    /// Returns the union of the sets of an instruction's successors in the same routine.
     fn successors(&self, op: &Op, at: Addr) -> u32 {
         let mut all = 0;
         if falls_through(op) {
@@ -130,7 +132,7 @@ impl Table {
         all
     }
 
-    /// Adds members to the sets of the addresses that may follow in the same routine. Returns whether one is larger than before.
+    /// Adds members to the sets of an instruction's successors in the same routine. Returns whether any set grew.
     fn add_to_successors(&mut self, op: &Op, at: Addr, more: u32) -> bool {
         let mut grew = false;
         if falls_through(op) {
@@ -148,7 +150,7 @@ impl Table {
     }
 }
 
-/// Returns the registers that an instruction writes, except accumulator and carry.
+/// Returns the index registers that an instruction writes.
 fn written_by(op: &Op) -> u32 {
     match op {
         Op::Fim(k, _) | Op::Fin(k) => pair(*k),
@@ -157,7 +159,7 @@ fn written_by(op: &Op) -> u32 {
     }
 }
 
-/// Returns a set with members replaced by others, if it has one of them.
+/// Returns `set` with the members of `old` replaced by those of `new`, if `set` has a member of `old`.
 fn replaced(set: u32, old: u32, new: u32) -> u32 {
     if set & old != 0 {
         (set & !old) | new
@@ -166,7 +168,7 @@ fn replaced(set: u32, old: u32, new: u32) -> u32 {
     }
 }
 
-/// Returns the registers that are relevant before an instruction, if these are after it.
+/// Returns the registers that are relevant before an instruction, given those that are relevant after it.
 fn before(op: &Op, after: u32) -> u32 {
     let flags = ACC | CARRY;
     match op {
@@ -186,18 +188,18 @@ fn before(op: &Op, after: u32) -> u32 {
     }
 }
 
-/// What is known of each address of a program.
+/// The known facts about each address of a program.
 #[derive(Drop)]
 struct Slice {
-    /// Whether it may be reached: 1 if it may.
+    /// 1 if the address may be reached, and otherwise 0.
     reached: Table,
-    /// Which registers may be written from there until its routine returns.
+    /// The registers that may be written from the address on, until its routine returns.
     written: Table,
-    /// Which registers are written in the loop that an ISZ there closes.
+    /// The registers that are written in the loop that an ISZ at the address closes.
     looped: Table,
-    /// Which registers are relevant when its routine returns.
+    /// The registers that are relevant when the routine of the address returns.
     returned: Table,
-    /// Which registers are relevant there.
+    /// The registers that are relevant at the address.
     relevant: Table,
 }
 
@@ -212,7 +214,7 @@ impl Slice {
         })
     }
 
-    /// Returns the instruction at an address that may be reached.
+    /// Returns the instruction at an address, or `None` if the address is not known to be reached.
     fn op_reached(&self, rig: &BenchRig, at: Addr) -> Option<Op> {
         if self.reached.get(at) == 0 {
             return None;
@@ -220,7 +222,8 @@ impl Slice {
         op_at(rig, at)
     }
 
-    /// Notes for each address that follows one that may be reached that it may be, too. Returns whether there is a new one.
+    /// Marks the successors and the callee of each reached address as reached. Returns whether an address was newly
+    /// marked.
     fn reach_once(&mut self, rig: &BenchRig) -> bool {
         let mut grew = false;
         for n in 0..ADDRESSES {
@@ -235,7 +238,7 @@ impl Slice {
         grew
     }
 
-    /// Notes which addresses may be reached.
+    /// Marks all addresses that may be reached from `begin`.
     fn reach(&mut self, rig: &BenchRig, begin: Addr) {
         self.reached.add(begin, 1);
         for _ in 0..MOST_PASSES {
@@ -245,7 +248,7 @@ impl Slice {
         }
     }
 
-    /// Returns the registers that an instruction writes, and the routine that it calls.
+    /// Returns the registers that an instruction writes or, for a call, those that the routine may write.
     fn written_at(&self, op: &Op) -> u32 {
         match callee(op) {
             Some(routine) => self.written.get(routine),
@@ -253,7 +256,8 @@ impl Slice {
         }
     }
 
-    /// Adds to each address what may be written from there on. Returns whether that is more than before.
+    /// Makes one pass that adds, for each address, the registers that may be written from there on. Returns whether a
+    /// set grew.
     fn note_written_once(&mut self, rig: &BenchRig) -> bool {
         let mut grew = false;
         for n in 0..ADDRESSES {
@@ -267,7 +271,7 @@ impl Slice {
         grew
     }
 
-    /// Notes which registers may be written from each address on.
+    /// Computes the registers that may be written from each address on.
     fn note_written(&mut self, rig: &BenchRig) {
         for _ in 0..MOST_PASSES {
             if !self.note_written_once(rig) {
@@ -276,7 +280,8 @@ impl Slice {
         }
     }
 
-    /// Adds to the body of a loop each address that leads into it. Returns whether there is a new one.
+    /// Adds to the body of a loop each address between `head` and `last` that leads into the body. Returns whether the
+    /// body grew.
     fn add_to_body(&self, rig: &BenchRig, body: &mut Table, head: Addr, last: Addr) -> bool {
         let mut grew = false;
         for n in 0..ADDRESSES {
@@ -305,7 +310,8 @@ impl Slice {
         all
     }
 
-    /// Returns the registers that are written in the loop from `head` to an instruction that jumps back to it.
+    /// Returns the registers that are written in the loop from `head` to `last`, an instruction that jumps back to
+    /// `head`.
     fn written_in_loop(&self, rig: &BenchRig, body: &mut Table, head: Addr, last: Addr) -> u32 {
         body.clear();
         body.add(last, 1);
@@ -317,7 +323,8 @@ impl Slice {
         self.written_in(rig, body, head, last)
     }
 
-    /// Notes of each ISZ that jumps back which registers its loop writes. `body` is room for the addresses of one loop.
+    /// Computes, for each ISZ that jumps back, the registers that its loop writes. `body` is scratch space for one
+    /// loop.
     fn note_loops(&mut self, rig: &BenchRig, body: &mut Table) {
         for n in 0..ADDRESSES {
             let at = Addr::ZERO.plus(n);
@@ -331,7 +338,8 @@ impl Slice {
         }
     }
 
-    /// Returns the counter of a loop as a set, if the loop writes a register that is relevant where it begins.
+    /// Returns the set with the loop counter of an ISZ, if its loop writes a register that is relevant at the head of
+    /// the loop. Otherwise returns the empty set.
     fn counter(&self, op: &Op, at: Addr) -> u32 {
         match op {
             Op::Isz(r, word) => {
@@ -357,7 +365,7 @@ impl Slice {
         }
     }
 
-    /// Adds to each address what is relevant there. Returns whether that is more than before.
+    /// Makes one pass that adds, for each address, the registers that are relevant there. Returns whether a set grew.
     fn note_relevant_once(&mut self, rig: &BenchRig, level: Level) -> bool {
         let mut grew = false;
         for n in 0..ADDRESSES {
@@ -371,7 +379,8 @@ impl Slice {
         grew
     }
 
-    /// Adds to each address what is relevant when its routine returns. Returns whether that is more than before.
+    /// Makes one pass that adds, for each address, the registers that are relevant when its routine returns. Returns
+    /// whether a set grew.
     fn note_returned_once(&mut self, rig: &BenchRig) -> bool {
         let mut grew = false;
         for n in 0..ADDRESSES {
@@ -388,7 +397,7 @@ impl Slice {
         grew
     }
 
-    /// Notes which registers are relevant.
+    /// Computes the registers that are relevant at each address.
     fn note_relevant(&mut self, rig: &BenchRig, level: Level) {
         for _ in 0..MOST_PASSES {
             let grew = self.note_relevant_once(rig, level);
@@ -399,7 +408,7 @@ impl Slice {
     }
 }
 
-/// Returns the registers that are relevant at some address.
+/// Returns the registers that are relevant at one address or more.
 fn relevant_somewhere(slice: &Slice) -> u32 {
     let mut all = 0;
     for n in 0..ADDRESSES {
@@ -408,7 +417,7 @@ fn relevant_somewhere(slice: &Slice) -> u32 {
     all
 }
 
-/// Returns which registers are exact at each address, register r as bit r, of a program that begins at an address.
+/// Returns the exact registers at each address, for a program that begins at `begin`. Register r is bit r.
 pub(crate) fn exact_registers(
     alloc: Global,
     rig: &BenchRig,

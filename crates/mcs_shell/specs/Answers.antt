@@ -10,10 +10,10 @@ use Rattle.mcs_shell.specs.Serving.{LeavesSession}
 use Rattle.mcs_shell.specs.Transcript.{IsPossibleOutcome, acknowledged_commands, answer, is_device_fault, reached_commands}
 use Rattle.mcs_shell.specs.declared.ends.Outcome.{Outcome}
 
--- Holds if these bytes are the answer to some input with some possible outcome in a session
--- `before`, and that input leaves the session as it is now. If the session was open on an honest
--- disk, `ok` is of a command that is recorded, and no call happened since (`clock` of
--- `KeepsAllCommands`). `RanShell` says that the input was read and met.
+-- Holds if these bytes answer some input, with a possible outcome in a session `before`, and that
+-- input left the session as it is now. If the session was open on an honest disk, an `ok` answers a
+-- command that is recorded, and the disk was not called since (`clock` of `KeepsAllCommands`).
+-- `RanShell` states that the input was read and met.
 pub record AnswersJustNow {D : Type 0} (state_of : D → DiskState) (now : SessionView D)
     (bytes : List ℕ) : Type 0 where
   pub before : SessionView D
@@ -26,9 +26,9 @@ pub record AnswersJustNow {D : Type 0} (state_of : D → DiskState) (now : Sessi
       (acknowledged_commands before.state input outcome)
       (reached_commands before.state input outcome)
 
--- Holds if the shell may write these bytes now. They are the first line of the session, or an
--- answer to what the session has just met. On an honest disk, whatever a power cut leaves of an
--- open session stands for its state, with the command that is answered.
+-- Holds if the shell may write these bytes now. They are the session's first line, or the answer to
+-- the input that the session has just met. If the session is open and its disk is honest, whatever a
+-- power cut leaves represents the session's state, including the command that is answered.
 pub record MayAnswer {D : Type 0} (state_of : D → DiskState) (session : SessionView D)
     (bytes : List ℕ) : Type 0 where
   pub says : (bytes ≡ session_text session.state) ⊎ AnswersJustNow state_of session bytes

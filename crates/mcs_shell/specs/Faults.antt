@@ -1,5 +1,5 @@
--- The counts of failures of a reader and a writer, by how a shell ended; and a run without any
--- fault.
+-- The number of failures of a reader and of a writer for each end of a shell, and runs without any
+-- failure.
 use Rattle.std.specs.Prelude.{◌≡◌, ◌≢◌, ◌⊎◌, ◌+◌, ◌<◌, ◌++◌, ℕ, min, Option, Some, None, MatchResult, Result}
 use Rattle.std.specs.Io.KnownBytes.{Appends}
 use Rattle.std.specs.Option.{option_map}
@@ -11,7 +11,7 @@ use Rattle.mcs_shell.specs.Shell.{ShellRun, inputs_read}
 use Rattle.mcs_shell.specs.ShellState.{KnownBytes}
 use Rattle.mcs_shell.specs.Transcript.{answer, in_turn, inputs_in}
 
--- the count of calls that have failed, if it is known; it stays at its greatest value
+-- the number of calls that have failed, if it is known; it saturates at its maximum
 abbrev pub KnownFaults : Type 0
 KnownFaults = Option ℕ
 
@@ -19,35 +19,36 @@ KnownFaults = Option ℕ
 abbrev pub one_more : KnownFaults → KnownFaults
 one_more faults = option_map (λ n. min (n + 1) most_faults) faults
 
--- Holds if the count rises by one when a call failed, and stays when it did not.
+-- Holds if the count rises by one when a call failed (unless it is at its maximum), and otherwise is
+-- unchanged.
 abbrev pub CountsKnownFault : {T E : Type 0} → KnownFaults → KnownFaults → Result T E → Type 0
 CountsKnownFault old new result = MatchResult result (λ x. new ≡ old) (λ e. new ≡ one_more old)
 
--- the reader's count of failures after a shell ended so
+-- the reader's number of failures after a shell has ended in the given way
 abbrev pub faults_read : ShellEnd → KnownFaults → KnownFaults
 faults_read ReadFault faults = one_more faults
 faults_read end faults = faults
 
--- the writer's count of failures after a shell ended so, or while it continues
+-- the writer's number of failures after a shell has ended in the given way, or while it continues
 abbrev pub faults_written : Option ShellEnd → KnownFaults → KnownFaults
 faults_written (Some WriteFault) faults = one_more faults
 faults_written halted faults = faults
 
--- Holds if the failures match the end of a shell. The reader failed once if the shell ended by a
--- read. The writer failed once if it ended by a write. Otherwise neither failed.
+-- Holds if the failures match the end of a shell. The reader failed once if a failed read ended the
+-- shell. The writer failed once if a failed write ended it. Otherwise neither failed.
 pub record EndsByItsFault (end : ShellEnd) (read read' written written' : KnownFaults) : Type 0 where
   pub reader : read' ≡ faults_read end read
   pub writer : written' ≡ faults_written (Some end) written
 
--- the view of a reader and a writer in contracts: what the reader has left, what the writer has
--- got, and how often each has failed
+-- the view of a reader and a writer in contracts: the bytes that the reader has left, the bytes that the
+-- writer has received, and the number of failures of each
 pub record StreamsView : Type 0 where
   pub left : KnownBytes
   pub read_faults : KnownFaults
   pub got : KnownBytes
   pub write_faults : KnownFaults
 
--- that view, by the members of the traits
+-- the view of a reader and a writer, from the ghost members of their traits
 abbrev pub streams_view : {R W : Type 0} → (R → KnownBytes) → (R → KnownFaults) → (W → KnownBytes)
     → (W → KnownFaults) → R → W → StreamsView
 streams_view remaining read_faults contents write_faults reader writer = record {
@@ -59,13 +60,13 @@ streams_view remaining read_faults contents write_faults reader writer = record 
 
 -- ---- a run without a fault
 
--- Holds if it is known that no call has failed from the first count to the second.
+-- Holds if it is known that no call failed between the first count and the second.
 abbrev pub HasNotFailed : KnownFaults → KnownFaults → Type 0
 HasNotFailed None new = ⊥
 HasNotFailed (Some n) new = (new ≡ Some n) × (n < most_faults)
 
--- A run without a failed call of the reader, of the writer or of the disk, whose shell had memory
--- to begin. (The four counts are its streams', which a `ShellRun` does not have.)
+-- Holds if no call of the reader, the writer or the disk failed in a run, and its shell had memory
+-- to begin. (The four counts belong to the streams of the run, which are not part of a `ShellRun`.)
 pub record RanWithoutFault {D : Type 0} {state_of : D → DiskState} (run : ShellRun state_of) : Type 0 where
   pub read : KnownFaults
   pub read' : KnownFaults
@@ -78,8 +79,8 @@ pub record RanWithoutFault {D : Type 0} {state_of : D → DiskState} (run : Shel
       (Some (state_of run.after.disk).faults)
   pub memory : run.end ≢ NoMemory
 
--- Holds if a run serves all its input. It reached the end of its input or the limit of it. It met
--- all inputs that it had read, and wrote each answer whole.
+-- Holds if a run serves all its input. It reached the end of its input or the input limit. It met
+-- all inputs that it had read, and wrote each answer completely.
 pub record ServesAll {D : Type 0} {state_of : D → DiskState} (run : ShellRun state_of) : Type 0 where
   pub end : (run.end ≡ End) ⊎ (run.end ≡ InputLimit)
   pub all_met : inputs_read run.ran.read ≡ inputs_in run.ran.served.met

@@ -21,11 +21,11 @@ use Rattle.mcs_shell.specs.Transcript.{ArePossibleExchanges, Exchange, answer, a
 
 -- ---- the answers of a run
 
--- The answers of a run, in turn. The bytes that the run read spell inputs, and the run met the
--- first of these inputs. It met all of them unless a write or the device failed, or the shell had
--- no memory to begin. The run wrote the first line of a session and then the answers to the inputs
--- that it met. Each answer is by the state after the commands that were answered `ok` before it.
--- Only a failed write or lack of memory to begin cuts these bytes off at their end.
+-- The answers of a run, in order. The bytes that the run read form inputs, and the run met a prefix
+-- of these inputs. It met all of them unless a write or the device failed, or the shell had no
+-- memory to begin. The run wrote the session's first line, followed by the answers to the inputs
+-- that it met. Each answer follows from the state after the commands that were answered `ok` before
+-- it. Only a failed write, or lack of memory to begin, can truncate these bytes.
 pub record AnswersInTurn
     (end : ShellEnd) {reader reader' : KnownBytes} (read : ReadInput reader reader')
     (a b : ShellState) (met : List Exchange) : Type 0 where
@@ -44,14 +44,14 @@ pub record AnswersInTurn
 abbrev pub done_in : {D : Type 0} {state_of : D → DiskState} → ShellRun state_of → List Command
 done_in run = in_turn acknowledged_commands run.before.state run.ran.served.met
 
--- the commands that a run answered `ok`, and then the one that it answered `no 53`, if it did
+-- the commands that a run answered `ok`, followed by the one that it answered `no 53`, if there is one
 abbrev pub reached_in : {D : Type 0} {state_of : D → DiskState} → ShellRun state_of → List Command
 reached_in run = in_turn reached_commands run.before.state run.ran.served.met
 
--- The answers and the acknowledgements of a run. The answers are those of the inputs that the run
--- met, in turn. Each command that the run answered `ok` has its moment. `reached_in` are these
--- commands, and then at most the one that the run answered `no 53`. (`state_of` is what contracts
--- see of its disk.)
+-- The answers and the acknowledgements of a run. The run wrote the answers to the inputs that it
+-- met, in order. Each command that it answered `ok` has a moment of acknowledgement. `reached_in`
+-- has these commands, followed by the one that was answered `no 53`, if there is one. (`state_of`
+-- gives the view of its disk in contracts.)
 pub record AnswersAndAcknowledges
     {D : Type 0} {state_of : D → DiskState} (run : ShellRun state_of) : Type 0 where
   pub answers : AnswersInTurn run.end run.ran.read
@@ -64,11 +64,11 @@ pub record AnswersAndAcknowledges
 
 -- ---- the state found again
 
--- The results of power cuts. A power cut at some moment since `time`, in a run or at its end, left
--- a disk (`found_of` is what contracts see of one). When opened, this disk gives the bench as it
--- is after a prefix of some commands. These are the commands answered `ok` and the one answered
--- `no 53`. The prefix holds each command that had its moment by that time. Only lack of memory and
--- a device fault prevent the opening.
+-- The state after power cuts. A power cut at some moment since `time`, in a run or at its end, left
+-- a disk (`found_of` gives its view in contracts). A session opened on this disk has the bench after
+-- a prefix of `reached_in`: the commands answered `ok`, followed by the one answered `no 53`. The
+-- prefix includes each command that had its moment by that time. Only lack of memory or a device
+-- fault can prevent the opening.
 pub record SurvivesPowerCuts
     {D E : Type 0} {state_of : D → DiskState} (found_of : E → DiskState) (run : ShellRun state_of)
     (moments : List ℕ) : Type 0 where
@@ -83,8 +83,8 @@ pub record SurvivesPowerCuts
       → RefusesSession fault (found_of found)
       → (fault ≡ store_fault.Device) ⊎ (fault ≡ store_fault.NoMemory)
 
--- The answers and acknowledgements of a run, and what of it survives. The premise of the law is
--- that the session is open and its disk honest (`IsOpenOnHonestDisk`).
+-- The answers and acknowledgements of a run, and the commands that survive power cuts. The law that
+-- proves it has the premise that the session is open and its disk is honest (`IsOpenOnHonestDisk`).
 pub record AnswersAndSurvives
     {D E : Type 0} (state_of : D → DiskState) (found_of : E → DiskState)
     (run : ShellRun state_of) : Type 0 where

@@ -1,4 +1,4 @@
--- The headline over any number of runs. Sessions are opened on a disk, served by shells, stopped
+-- The headline for any number of runs. Sessions are opened on a disk, served by shells, stopped
 -- at any moment, and opened again.
 use Rattle.std.specs.Prelude.{◌≡◌, ◌⊎◌, ◌≤◌, ℕ, List, [], ◌∷◌, ◌++◌, length}
 use Rattle.mcs_disk.specs.Disk.{DiskState, time_of}
@@ -14,14 +14,14 @@ use Rattle.mcs_shell.specs.Shell.{ShellRun}
 
 -- ---- the sittings
 
--- The result of a disk that was found. Either a session was opened on it and a shell ran, or the
--- opening was refused with a number and left the disk so.
+-- A sitting: the use of a disk from one stop to the next. Either a session was opened on the disk and
+-- a shell ran, or the opening was refused. A refusal has its number and the disk that it left.
 pub data Sitting {D : Type 0} (state_of : D → DiskState) : Type 0 where
   Served : ShellRun state_of → Sitting state_of
   Refused : ℕ → D → Sitting state_of
 
--- Holds if the sitting is a result of this disk: the session of the run was opened on it, or
--- refused there.
+-- Holds if a sitting began on this disk: the session of its run was opened on the disk, or the
+-- opening was refused there.
 abbrev pub CameOf : {D : Type 0} {state_of : D → DiskState} → D → Sitting state_of → Type 0
 CameOf {state_of = state_of} disk (Served run) = IsOpenedOn state_of disk run.before
 CameOf {state_of = state_of} disk (Refused number left) =
@@ -32,16 +32,16 @@ abbrev pub disk_left : {D : Type 0} {state_of : D → DiskState} → Sitting sta
 disk_left (Served run) = run.after.disk
 disk_left (Refused number left) = left
 
--- a sitting, the clock at or after which it was stopped, and the disk that was found then
+-- a sitting, a clock value at or after which it was stopped, and the disk that was found after the stop
 pub record StoppedSitting {D : Type 0} (state_of : D → DiskState) : Type 0 where
   pub sitting : Sitting state_of
   pub time : ℕ
   pub found : D
 
--- Holds if these sittings followed one another from this disk on, and `last` is found at the end.
--- Each sitting is on the disk that was found after the stop before. Each was stopped at any moment
--- since its opening began. (`IsFound time left found`: the disk `left` is as it is after all the
--- calls of a sitting. A stop at a clock of that time or later has left the disk `found` of it.)
+-- Holds if these sittings followed one another, the first on this disk, and `last` is the disk found
+-- at the end. Each later sitting is on the disk that was found after the previous stop. Each sitting
+-- was stopped at any moment since its opening began. (`IsFound time left found`: `left` is the disk
+-- after all calls of a sitting, and a stop at clock `time` or later left the disk `found`.)
 abbrev pub IsHistory : {D : Type 0} {state_of : D → DiskState} → (ℕ → D → D → Type 0) → D
     → List (StoppedSitting state_of) → D → Type 0
 IsHistory IsFound disk [] last = last ≡ disk
@@ -49,12 +49,13 @@ IsHistory {state_of = state_of} IsFound disk (x ∷ xs) last =
     CameOf disk x.sitting × (time_of (state_of disk) ≤ x.time)
     × IsFound x.time (disk_left x.sitting) x.found × IsHistory IsFound x.found xs last
 
--- Holds if a power cut at some moment since that time may leave `found` of the disk `left`.
+-- Holds if a power cut at some moment since `time` may leave the disk `found`, where `left` is the
+-- disk after all calls.
 abbrev pub IsFoundByCut : {D : Type 0} → (D → DiskState) → ℕ → D → D → Type 0
 IsFoundByCut state_of time left found = IsLeftByCut time (state_of left) (state_of found)
 
--- A history. A shell ran on a session, however that session began. The run was stopped at any
--- moment, and a history of the disk that was found followed.
+-- A history. A shell ran on a session, regardless of how that session began. The run was stopped at
+-- any moment, and more sittings followed on the disk that was found.
 pub record History
     {D : Type 0} (state_of : D → DiskState) (IsFound : ℕ → D → D → Type 0) : Type 0 where
   pub first : ShellRun state_of
@@ -75,10 +76,10 @@ sittings_of history =
 
 -- ---- the kept commands
 
--- The kept commands of a run that began in the state s and answered the inputs that it met. The
--- run was stopped at that time or later. The kept commands are a prefix of those that it answered
--- `ok` and then the one that it answered `no 53`. The prefix holds each command that had its
--- moment by that time.
+-- Holds if `kept` are the commands kept from a run that began in state s and was stopped at `time` or
+-- later. The run answered the inputs that it met. The kept commands are a prefix of `reached_in`: the
+-- commands answered `ok`, followed by the one answered `no 53`. The prefix includes each command that
+-- had its moment by that time.
 pub record KeepsOfRun
     {D : Type 0} (state_of : D → DiskState) (run : ShellRun state_of) (time : ℕ) (s : BenchState)
     (kept : List Command) : Type 0 where
@@ -88,16 +89,16 @@ pub record KeepsOfRun
   pub parts : reached_in run ≡ kept ++ lost
   pub holds : acknowledged_by time answered.acknowledged.moments ≤ length kept
 
--- The kept commands of a sitting that began in the state s. There are none if the opening was
--- refused. Only a device fault and lack of memory refuse it.
+-- Holds if `kept` are the commands kept from a sitting that began in state s. There are none if the
+-- opening was refused. The reason is then a device fault (53) or lack of memory (90).
 abbrev pub KeepsOf : {D : Type 0} (state_of : D → DiskState) → Sitting state_of → ℕ → BenchState
     → List Command → Type 0
 KeepsOf state_of (Served run) time s kept = KeepsOfRun state_of run time s kept
 KeepsOf state_of (Refused number left) time s kept =
     (kept ≡ []) × ((number ≡ 53) ⊎ (number ≡ 90))
 
--- The kept commands of each sitting in turn. The state after those of one sitting is the state in
--- which the next begins.
+-- Holds if `kept` are the commands kept from each sitting, in order. Each sitting begins in the state
+-- after the commands kept from the sittings before it.
 abbrev pub KeepsOfEach : {D : Type 0} (state_of : D → DiskState)
     → List (StoppedSitting state_of) → BenchState → List Command → Type 0
 KeepsOfEach state_of [] s kept = kept ≡ []
@@ -105,8 +106,8 @@ KeepsOfEach state_of (x ∷ xs) s kept =
     (first : List Command) × (rest : List Command) × (kept ≡ first ++ rest)
     × KeepsOf state_of x.sitting x.time s first × KeepsOfEach state_of xs (fold s first) rest
 
--- The survival of a history. A session opened at the end is in the state after the commands that
--- are kept of all runs, in their order. Only a device fault and lack of memory refuse the opening.
+-- Holds if the kept commands survive a history. A session opened at the end has the state after the
+-- commands kept from all runs, in order. Only a device fault or lack of memory can prevent the opening.
 pub record SurvivesHistory
     {D : Type 0} {state_of : D → DiskState} {IsFound : ℕ → D → D → Type 0}
     (history : History state_of IsFound) : Type 0 where

@@ -1,4 +1,4 @@
--- The headline down to a file of the host: what the program finds in the file after a stop.
+-- The headline for a file of the host: the contents that the program finds in the file after a stop.
 use Rattle.std.specs.Prelude.{◌≡◌, ◌⊎◌, ◌≤◌, ℕ}
 use Rattle.mcs_disk.specs.Disk.{bytes_of, time_of}
 use Rattle.mcs_host.specs.Ending.{IsLeftSince, as_disk, found_in}
@@ -11,19 +11,19 @@ use Rattle.mcs_shell.specs.Headline.{AnswersAndAcknowledges, reached_in}
 use Rattle.mcs_shell.specs.Program.{IsOpenedOn, IsOpenRefused}
 use Rattle.mcs_shell.specs.Shell.{ShellRun}
 
--- A file found again. It was left at a clock of that time or later, by a close, a kill or a power
--- cut. Then it was opened with what is found in it, and is honest from then on.
+-- Holds if a file was found again. A close, a kill or a power cut left it at clock `time` or later. It
+-- was then opened with the bytes found in it, and its disk is honest from then on.
 pub record IsFoundAgain (time : ℕ) (file again : FileDisk) : Type 0 where
   pub left : IsLeftSince time file
   pub opened : IsUncalled (as_disk again)
   pub bytes : bytes_of (as_disk again) ≡ found_in file
   pub honest : (as_disk again).honest
 
--- The answers and acknowledgements of a run over a file of the host, and what of it survives. The
--- file may be left in any way, at any moment since the run began. The program's `open` then begins
--- a session on the file as it is found. Its bench is the one after a prefix of the commands
--- answered `ok` and the one answered `no 53`. The prefix holds each command that had its moment by
--- that time. The program refuses the file only for a device fault and for lack of memory.
+-- The answers and acknowledgements of a run on a file of the host, and the commands that survive. The
+-- file may be left in any way, at any moment since the run began. The program's `open` then begins a
+-- session on the file as it is found. Its bench is the one after a prefix of `reached_in`: the
+-- commands answered `ok`, followed by the one answered `no 53`. The prefix includes each command that
+-- had its moment by that time. The program refuses the file only for a device fault or lack of memory.
 pub record SurvivesInFile (run : ShellRun as_disk) : Type 0 where
   pub answered : AnswersAndAcknowledges run
   pub reopened : (time : ℕ) (again : FileDisk) (session : SessionView FileDisk)

@@ -1,4 +1,4 @@
--- The inputs that bytes spell: lines first, and then lines in groups. (Our own choice.)
+-- The inputs that bytes form: bytes form lines, and lines form inputs. (Our own choice.)
 use Rattle.std.specs.Prelude.{◌||◌, Bool, true, false, not, ℕ, List, [], ◌∷◌, ◌++◌, length, codes, nat_lt, nat_le, if◌then◌else◌, Option, Some, None}
 use Rattle.std.specs.List.{before_first, list_all, list_any, slice_split}
 use Rattle.std.specs.Str.{bytes_eq}
@@ -12,8 +12,8 @@ use Rattle.mcs_lines.specs.LineRequests.{request_of}
 use Rattle.mcs_lines.specs.Words.{is_plain_byte}
 use Rattle.mcs_model.specs.TextLines.{is_line_feed, lines, text_of}
 
--- the request of a line outside a text (but no line that begins a text), a text, or a text that is
--- refused whatever its lines say
+-- an input: the request of a line outside a text, a text, or a text with an error. A line that begins a
+-- text is not an input of its own. The error does not depend on the meaning of the text's lines.
 pub data Input : Type 0 where
   Line : Request → Input
   Text : TextKind → List ℕ → Input
@@ -25,15 +25,16 @@ pub data Input : Type 0 where
 abbrev pub is_dot_line : List ℕ → Bool
 is_dot_line line = bytes_eq line (codes ".")
 
--- true if a text may have this line, or this byte
+-- true if a line is short enough for a text
 abbrev pub is_short : List ℕ → Bool
 is_short line = nat_le (length line) LINE_BYTES
 
+-- true if a text may contain this byte
 abbrev pub is_text_byte : ℕ → Bool
 is_text_byte b = is_line_feed b || is_plain_byte b
 
--- The reason why a text that has an end is refused whatever its lines say, if any. It is too long,
--- else a line of it is, else it has a bad byte.
+-- The error in a complete text that does not depend on the meaning of its lines, if there is one. The
+-- checks are, in order: the text is too long, a line is too long, a byte is not allowed.
 unfoldable pub text_fault_of : List ℕ → Option TextFault
 text_fault_of text =
     if nat_lt TEXT_BYTES (length text) then Some TextTooLong
@@ -55,17 +56,17 @@ abbrev pub text_begun : Request → Option TextKind
 text_begun (Begin kind) = Some kind
 text_begun request = None
 
--- The input of a text, by the lines after the one that began it. The text is the lines before the
--- first dot line, each followed by a line feed. Without a dot line the text is refused (no end) if
--- input ended (`whole`). Otherwise it is no input yet.
+-- The input of a text, given the lines after the one that began it. The text consists of the lines
+-- before the first dot line, each followed by a line feed. Without a dot line, the text is refused
+-- (NoEnd) if input ended (`whole`). Otherwise it does not form an input yet.
 abbrev pub text_input : Bool → TextKind → List (List ℕ) → List Input
 text_input whole kind ls =
     if list_any is_dot_line ls
     then judged_text kind (text_of (before_first is_dot_line ls)) ∷ []
     else if whole then BadText NoEnd ∷ [] else []
 
--- The inputs that lines spell. `in_text`: the lines up to the first dot line belong to a text,
--- whose input `text_input` gave. `whole`: input ended after the lines.
+-- The inputs that lines form. `in_text`: the lines up to the first dot line belong to a text, and
+-- `text_input` has already given its input. `whole`: input ended after the lines.
 unfoldable pub inputs_of_lines : Bool → Bool → List (List ℕ) → List Input
 inputs_of_lines whole in_text [] = []
 inputs_of_lines whole true (l ∷ ls) = inputs_of_lines whole (not (is_dot_line l)) ls
@@ -75,6 +76,6 @@ inputs_of_lines whole false (l ∷ ls) =
       | Some kind ↦ text_input whole kind ls ++ inputs_of_lines whole true ls
     ]
 
--- the inputs that the bytes spell; `ended`: input ended there, else it was cut
+-- the inputs that the bytes form; `ended`: true if input ended there, false if it was cut off there
 unfoldable pub inputs : List ℕ → Bool → List Input
 inputs bytes ended = inputs_of_lines ended false (lines bytes ended)

@@ -1,4 +1,4 @@
--- Bytes without a line feed. It is cited by clauses of private functions alone.
+-- Bytes without a line feed. Only contracts of private functions use this definition.
 use Rattle.std.specs.Prelude.{ℕ, List}
 use Rattle.mcs_model.specs.Cutting.{HasNone}
 use Rattle.mcs_model.specs.TextLines.{is_line_feed}

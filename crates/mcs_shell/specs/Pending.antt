@@ -1,5 +1,5 @@
--- The unfinished input of a reader of pieces, and the inputs that result from it. It is cited by
--- clauses of private functions alone.
+-- The unfinished input of a reader that receives chunks, and the inputs that result from it. Only
+-- contracts of private functions use these definitions.
 use Rattle.std.specs.Prelude.{Bool, ℕ, List, [], ◌∷◌, ◌++◌, if◌then◌else◌, Some, None}
 use Rattle.mcs_lines.specs.declared.requests.TextKind.{TextKind}
 use Rattle.mcs_lines.specs.LineRequests.{request_of}
@@ -7,12 +7,12 @@ use Rattle.mcs_model.specs.TextLines.{as_line, lines}
 use Rattle.mcs_shell.specs.declared.texts.TextFault.TheVariants.{NoEnd}
 use Rattle.mcs_shell.specs.Inputs.{BadText, Input, Line, is_dot_line, judged_text, text_begun}
 
--- the position of a line: outside a text, or in one, after these bytes of it
+-- the position of a line: outside a text, or inside one after the given bytes of it
 pub data Mode : Type 0 where
   Commands : Mode
   InText : TextKind → List ℕ → Mode
 
--- the inputs of lines, the first of which is at that position
+-- the inputs that lines form if the first line is at the given position
 unfoldable pub inputs_from : Bool → Mode → List (List ℕ) → List Input
 inputs_from whole Commands [] = []
 inputs_from whole (InText kind text) [] = if whole then BadText NoEnd ∷ [] else []
@@ -25,7 +25,7 @@ inputs_from whole (InText kind text) (l ∷ ls) =
     if is_dot_line l then judged_text kind text ∷ inputs_from whole Commands ls
     else inputs_from whole (InText kind (text ++ as_line l)) ls
 
--- the mode, and the line so far
+-- unfinished input: the position of the unfinished line, and its bytes so far
 pub record Pending : Type 0 where
   pub mode : Mode
   pub line : List ℕ
@@ -34,6 +34,6 @@ pub record Pending : Type 0 where
 abbrev pub nothing_pending : Pending
 nothing_pending = record { mode = Commands; line = [] }
 
--- the inputs that the unfinished input and these bytes spell
+-- the inputs that the unfinished input and the bytes after it form
 abbrev pub inputs_after : Pending → List ℕ → Bool → List Input
 inputs_after p bytes whole = inputs_from whole p.mode (lines (p.line ++ bytes) whole)

@@ -13,13 +13,13 @@ use Rattle.mcs_session.specs.declared.fault.SessionFault.TheVariants as session_
 use Rattle.mcs_shell.specs.declared.faults.BeginFault.{BeginFault}
 use Rattle.mcs_shell.specs.declared.faults.BeginFault.TheVariants as begin_fault
 
--- the numbers of refusals to record a command
+-- the refusal number for a command that was not recorded
 abbrev pub session_fault_number : SessionFault → ℕ
 session_fault_number (session_fault.Refused f) = bench_fault_number f
 session_fault_number session_fault.Device = DEVICE
 session_fault_number session_fault.Closed = CLOSED
 
--- the numbers of refusals to make and to open a session
+-- the refusal number for a session that was not created or not opened
 abbrev pub store_fault_number : StoreFault → ℕ
 store_fault_number store_fault.NotASession = NOT_A_SESSION
 store_fault_number store_fault.Damaged = DAMAGED
@@ -27,8 +27,8 @@ store_fault_number store_fault.Device = DEVICE
 store_fault_number store_fault.NotBlank = NOT_BLANK
 store_fault_number store_fault.NoMemory = NO_MEMORY
 
--- the numbers of refusals to open a file: whatever the host has against it, there is no device to
--- work on
+-- the refusal number for a file that was not opened: DEVICE for every reason of the host, because there
+-- is no device to work on
 abbrev pub file_fault_number : FileFault → ℕ
 file_fault_number file_fault.InUse = DEVICE
 file_fault_number file_fault.NoLock = DEVICE
@@ -45,13 +45,13 @@ file_fault_number file_fault.StreamsUnknown = DEVICE
 file_fault_number file_fault.Device = DEVICE
 file_fault_number file_fault.NoMemory = NO_MEMORY
 
--- the number that reports that no session was begun
+-- the refusal number for a session that did not begin
 abbrev pub begin_fault_number : BeginFault → ℕ
 begin_fault_number (begin_fault.File f) = file_fault_number f
 begin_fault_number (begin_fault.Create f) = store_fault_number f
 begin_fault_number (begin_fault.Open f) = store_fault_number f
 
--- the standard streams that are the file of a session that was not begun
+-- the standard streams that are the file of a session that did not begin
 abbrev pub streams_of : BeginFault → Streams
 streams_of (begin_fault.File (file_fault.Stream streams)) = streams
 streams_of fault = none_of_them

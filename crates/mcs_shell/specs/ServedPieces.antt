@@ -1,5 +1,5 @@
--- An input alone, and inputs that arrive in pieces. It is cited by clauses of private functions
--- alone.
+-- A single input, and inputs that arrive in chunks. Only contracts of private functions use these
+-- definitions.
 use Rattle.std.specs.Prelude.{◌≡◌, Bool, ℕ, List, ◌++◌, Option, None}
 use Rattle.mcs_session.specs.declared.fault.SessionFault.{SessionFault}
 use Rattle.mcs_session.specs.declared.fault.SessionFault.TheVariants as session_fault
@@ -16,8 +16,8 @@ use Rattle.mcs_shell.specs.Serving.{LeavesSession, ServesExchanges}
 use Rattle.mcs_shell.specs.ShellState.{ShellState}
 use Rattle.mcs_shell.specs.Transcript.{IsPossibleOutcome, Exchange, acknowledged_commands, answer, halt_after, inputs_in, is_device_fault, reached_commands}
 
--- the invariant that each input of a run hands on to the next: the premise of the run, and that
--- the disk stands for the state
+-- the invariant that each input of a run preserves: the premise of the run holds, and the disk
+-- represents the state
 pub record IsIntact (a : SessionState) : Type 0 where
   pub honest : IsOpenOnHonestDisk a
   pub stands : DiskStandsFor a.disk a.state
@@ -28,7 +28,7 @@ outcome_of (session_fault.Refused fault) = Plain
 outcome_of session_fault.Device = Device
 outcome_of session_fault.Closed = Closed
 
--- an input that had this outcome in the session a: its answer is this, and it left the session b
+-- holds if an input in session a had this outcome and this answer, and left session b
 pub record AnsweredInput
     (a : SessionState) (i : Input) (o : Outcome) (response : List ℕ)
     (b : SessionState) : Type 0 where
@@ -38,15 +38,15 @@ pub record AnsweredInput
       (acknowledged_commands a.state i o)
       (reached_commands a.state i o)
 
--- The service of these bytes, which were read after what was unfinished in `p`. The first of the
--- inputs that they spell were met. All were met if nothing halted the shell, and `q` is what is
--- unfinished then.
+-- Holds if these bytes, read after the unfinished input `p`, were served. A prefix of the inputs that
+-- they form was met. If nothing halted the shell, all of them were met, and `q` is the unfinished
+-- input afterwards.
 pub record ServesBytes
     (a b : ShellState) (p q : Pending) (bytes : List ℕ) (halted : Option ShellEnd) : Type 0 where
   pub met : List Exchange
   pub serves : ServesExchanges IsIntact a met b
   pub halts : halt_after met ≡ halted
-  -- however the bytes continue
+  -- the inputs that were not met, for any bytes that follow
   pub not_met : List ℕ → Bool → List Input
   pub spelled : (more : List ℕ) (whole : Bool)
       → inputs_after p (bytes ++ more) whole ≡ inputs_in met ++ not_met more whole

@@ -1,4 +1,4 @@
--- The reads, the writes and the effects of a shell, by how it ended.
+-- The reads, writes and effects of a shell, for each way in which it can end.
 use Rattle.std.specs.Prelude.{◌≡◌, ◌⊎◌, ◌<◌, ◌≤◌, Bool, true, false, ℕ, List, [], ◌++◌, length, Option, Some, None}
 use Rattle.std.specs.Io.KnownBytes.{Consumes, IsAtEnd}
 use Rattle.mcs_shell.specs.declared.ends.ShellEnd.{ShellEnd}
@@ -13,8 +13,8 @@ use Rattle.mcs_answers.specs.AnswerTexts.{session_text}
 use Rattle.mcs_session.specs.KeptCommands.{IsOpenOnHonestDisk}
 use Rattle.mcs_shell.specs.Serving.{ServesInputs, WroteBytes}
 
--- Holds if all inputs spelled by the bytes read, except for at most the last 4,096 bytes, were
--- answered, and perhaps more inputs. (A numeral, so that a shell with a larger chunk is refused.)
+-- Holds if the shell answered at least all inputs formed by the bytes read, except for at most the
+-- last 4,096 bytes. (The number is a literal, so a shell with a larger chunk does not pass the proof.)
 pub record ReadsLittleAhead (bytes : List ℕ) (answered : List Input) : Type 0 where
   pub before : List ℕ
   pub ahead : List ℕ
@@ -28,29 +28,29 @@ pub record ReadInput (reader reader' : KnownBytes) : Type 0 where
   pub bytes : List ℕ
   pub consumed : Consumes reader reader' bytes
   pub within : length bytes ≤ INPUT_BYTES
-  -- true if input ended after these bytes; then the limit was not reached, and the reader has
-  -- nothing left
+  -- true if input ended after these bytes; the limit was then not reached, and the reader has nothing
+  -- left
   pub ended : Bool
   pub input_ended : ended ≡ true → (length bytes < INPUT_BYTES) × IsAtEnd reader'
 
--- the inputs that the bytes read spell
+-- the inputs that the bytes read form
 abbrev pub inputs_read : {reader reader' : KnownBytes} → ReadInput reader reader' → List Input
 inputs_read read = inputs read.bytes read.ended
 
--- The start of a run: a first line was written, or only its first bytes, or none.
+-- The start of a run: the first line was written, or only a proper prefix of it, possibly nothing.
 pub record Began (first_line : List ℕ) (out : KnownBytes) : Type 0 where
-  -- true if the first line was written whole; and what the writer had got then
+  -- true if the first line was written completely; and the bytes that the writer had received then
   pub whole : Bool
   pub started : KnownBytes
   pub wrote : WroteBytes whole out started first_line
 
--- Holds if the first line was not written whole, and nothing was read or done.
+-- Holds if the first line was not written completely, and nothing was read or done.
 abbrev pub IsNotBegun : Bool → List ℕ → List Exchange → Type 0
 IsNotBegun begun bytes met = (begun ≡ false) × (bytes ≡ []) × (met ≡ [])
 
--- Holds if a run matches its end. The next arguments are true if the first line was written whole,
--- and the bytes that were read. Then follow true if input ended after these bytes, the inputs that
--- were met, and the end that halted the run, if any.
+-- Holds if a run matches its end. `begun`: the first line was written completely. `bytes`: the bytes
+-- that were read. `ended`: input ended after these bytes. `met`: the exchanges of the run. `halted`:
+-- the end that halted the run, if any.
 abbrev pub EndsBy : ShellEnd → Bool → List ℕ → Bool → List Exchange → Option ShellEnd → Type 0
 EndsBy End begun bytes ended met halted = (begun ≡ true) × (ended ≡ true) × (halted ≡ None)
 EndsBy ReadFault begun bytes ended met halted =
@@ -63,8 +63,8 @@ EndsBy DeviceFault begun bytes ended met halted =
     (begun ≡ true) × (halted ≡ Some DeviceFault)
 EndsBy NoMemory begun bytes ended met halted = IsNotBegun begun bytes met
 
--- A run of the shell from a to b: the bytes read, the first line begun, and the inputs served
--- among those that were read.
+-- A run of the shell from state a to state b: the bytes read, the first line written, and the inputs
+-- served among those that were read.
 pub record RanShellGiven
     (Given : Premise) (first_line : List ℕ) (end : ShellEnd) (reader reader' : KnownBytes)
     (a b : ShellState) : Type 0 where
@@ -77,13 +77,13 @@ pub record RanShellGiven
   pub unwritten : end ≡ NoMemory → b.out ≡ a.out
 
 -- A run whose first line is that of the session. The claims of `kept` about its disk have the
--- premise that the session is open and its disk honest.
+-- premise that the session is open and its disk is honest.
 abbrev pub RanShell : ShellEnd → KnownBytes → KnownBytes → ShellState → ShellState → Type 0
 RanShell end reader reader' a b =
     RanShellGiven IsOpenOnHonestDisk (session_text a.session.state) end reader reader' a b
 
--- A run of the shell: its end, what the reader had left, what the writer held, and the session,
--- before and after. (`state_of` is what contracts see of the session's disk.)
+-- A run of the shell: its end, and the remaining input, the output and the session, each before and
+-- after the run. (`state_of` gives the view of the session's disk in contracts.)
 pub record ShellRun {D : Type 0} (state_of : D → DiskState) : Type 0 where
   pub end : ShellEnd
   pub reader : KnownBytes
@@ -95,14 +95,14 @@ pub record ShellRun {D : Type 0} (state_of : D → DiskState) : Type 0 where
   pub ran : RanShell end reader reader'
       (shell_state state_of before out) (shell_state state_of after out')
 
--- a read that gave these n bytes, none only at the end
+-- holds if a read returned these n bytes; it returns no bytes only at the end of input
 pub record ReadBytes (n most : ℕ) (old new : KnownBytes) (bytes : List ℕ) : Type 0 where
   pub within : n ≤ most
   pub count : length bytes ≡ n
   pub consumed : Consumes old new bytes
   pub at_end : n ≡ 0 → IsAtEnd new
 
--- the exit status of an end
+-- the exit status for the end of a shell
 abbrev pub exit_status_of : ShellEnd → ℕ
 exit_status_of End = 0
 exit_status_of ReadFault = 1

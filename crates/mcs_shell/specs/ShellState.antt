@@ -1,9 +1,9 @@
--- A session with what its shell has written.
+-- A session, and the bytes that its shell has written.
 use Rattle.std.specs.Prelude.{ℕ, List, Option}
 use Rattle.mcs_disk.specs.Disk.{DiskState}
 use Rattle.mcs_session.specs.SessionState.{SessionState, SessionView, session_state}
 
--- the bytes that a reader has left or a writer has got, if it makes them known
+-- the bytes that a reader has left or a writer has received, if it makes them known
 abbrev pub KnownBytes : Type 0
 KnownBytes = Option (List ℕ)
 
@@ -17,6 +17,6 @@ pub record ShellState : Type 1 where
 abbrev pub shell_state : {D : Type 0} → (D → DiskState) → SessionView D → KnownBytes → ShellState
 shell_state state_of s out = record { session = session_state state_of s; out = out }
 
--- the same session, after its shell has written this
+-- the same session, with `out` as the bytes that its shell has written
 abbrev pub with_written : ShellState → KnownBytes → ShellState
 with_written a out = record { session = a.session; out = out }

@@ -1,4 +1,4 @@
--- The meaning of a text, and the answer to a text that spells nothing.
+-- The meaning of a text, and the answer to a text without a meaning.
 use Rattle.std.specs.Prelude.{ℕ, List, Result, Ok, Err}
 use Rattle.std.specs.Result.{result_map_both}
 use Rattle.mcs_model.specs.declared.board.BoardParts.{BoardParts}
@@ -23,28 +23,28 @@ use Rattle.mcs_lines.specs.declared.requests.TextKind.TheVariants.{Wire, Asm, Ma
 use Rattle.mcs_asm.specs.Errors.{errors_of_text, errors_text}
 use Rattle.mcs_answers.specs.AnswerTexts.{no_line_text, no_text}
 
--- the command to replace the board with this one
+-- the command that replaces the board with the one that a text describes, or the error in the text
 abbrev pub wire_command : Result BoardParts WiringFault → Result Command TextRefusal
 wire_command (Ok board) = Ok (command.Wire board)
 wire_command (Err fault) = Err (Wiring fault)
 
--- the command to load the bytes of a program
+-- the command that loads the bytes of a program, or the error in the program's text
 abbrev pub load_command : Result (List (ℕ × ℕ)) (ℕ × SourceFault) → Result Command TextRefusal
 load_command (Ok pairs) = Ok (command.Load (by_address pairs))
 load_command (Err at) = Err (Program (at.0) (at.1))
 
--- the meaning of a text: a command to do, or lines (bytes, with line feeds), which are answered
--- while nothing is done
+-- the meaning of a text: a command to execute, or lines (bytes, with line feeds) to return as the
+-- answer, with no other effect
 pub data TextMeaning : Type 0 where
   Does : Command → TextMeaning
   Reports : List ℕ → TextMeaning
 
--- the map of a program, or the reason why the text is none
+-- the map of a program, or the error in the program's text
 abbrev pub program_map : Result Survey (ℕ × SourceFault) → Result TextMeaning TextRefusal
 program_map (Ok survey) = Ok (Reports (survey_text survey))
 program_map (Err at) = Err (Program (at.0) (at.1))
 
--- the meaning of a text, or the reason why it spells nothing
+-- the meaning of a text, or the error that leaves it without a meaning
 unfoldable pub meaning_of_text : TextKind → List ℕ → Result TextMeaning TextRefusal
 meaning_of_text Wire text = result_map_both Does (λ why. why) (wire_command (board_of_text text))
 meaning_of_text Asm text = result_map_both Does (λ why. why) (load_command (assembly_of_text text))
@@ -57,7 +57,7 @@ abbrev pub meaning_view : code.TextMeaning → TextMeaning
 meaning_view (spelled.Does c) = Does c
 meaning_view (spelled.Reports lines) = Reports lines.items
 
--- the answer to a text that spells nothing
+-- the answer to a text without a meaning
 abbrev pub text_refusal : TextRefusal → List ℕ
 text_refusal (Wiring fault) = no_text (wiring_fault_number fault)
 text_refusal (Program line fault) = no_line_text (source_fault_number fault) line

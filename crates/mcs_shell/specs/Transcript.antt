@@ -23,28 +23,27 @@ use Rattle.mcs_shell.specs.Spelling.{TextMeaning, Does, Reports, meaning_of_text
 
 -- ---- one input
 
--- the command that a text asks for, if any
+-- the command that a text requests, if any
 abbrev pub text_command : Result TextMeaning TextRefusal → Option Command
 text_command (Ok (Does c)) = Some c
 text_command r = None
 
--- the command that an input asks for, if any
+-- the command that an input requests, if any
 abbrev pub asked_command : Input → Option Command
 asked_command (Line (Change c)) = Some c
 asked_command (Text kind text) = text_command (meaning_of_text kind text)
 asked_command i = None
 
--- that command as a list: empty if there is none or the state refuses it
+-- a requested command as a list; the list is empty if there is no command or the state refuses it
 abbrev pub accepted_commands : BenchState → Option Command → List Command
 accepted_commands s (Some c) = elim (refusal s c) [ None ↦ c ∷ [] | Some fault ↦ [] ]
 accepted_commands s None = []
 
--- holds if no text of this kind asks for a command
+-- holds if no text of this kind requests a command
 abbrev pub AsksForNoCommand : TextKind → Type 0
 AsksForNoCommand kind = (text : List ℕ) → asked_command (Text kind text) ≡ None
 
--- true if an input takes memory, which may be refused: a text, `list`, `board`, `count` and
--- `trace`
+-- true if an input needs an allocation, which can fail: a text, `list`, `board`, `count` or `trace`
 abbrev pub takes_memory : Input → Bool
 takes_memory (Text kind text) = true
 takes_memory (Line (Listing at lines)) = true
@@ -53,29 +52,30 @@ takes_memory (Line (Count n)) = true
 takes_memory (Line (Trace n probes)) = true
 takes_memory i = false
 
--- Holds if the outcome is possible for the input. `Plain`: the state gave the answer; to a command
--- only if the session is open. `Device`: the command was accepted, and the device failed as it was
--- recorded. `Closed`: the command met a closed session. `NoMemory`: memory for the input was
--- refused.
+-- Holds if the outcome is possible for the input. `Plain`: the answer comes from the state; for a
+-- command, only if the session is open. `Device`: the command was accepted, and the device failed
+-- while it was recorded. `Closed`: the input is a command, and the session is closed. `NoMemory`: an
+-- allocation for the input failed.
 unfoldable pub IsPossibleOutcome : Bool → BenchState → Input → Outcome → Type 0
 IsPossibleOutcome live s i Plain = (asked_command i ≡ None) ⊎ (live ≡ true)
 IsPossibleOutcome live s i Device = (accepted_commands s (asked_command i) ≢ []) × (live ≡ true)
 IsPossibleOutcome live s i Closed = (asked_command i ≢ None) × (live ≡ false)
 IsPossibleOutcome live s i NoMemory = takes_memory i ≡ true
 
--- the command that was answered `ok`, even if that answer was not written whole, as a list: empty
--- if there is none
+-- the command that was answered `ok`, even if that answer was not written completely, as a list that is
+-- empty if there is none
 unfoldable pub acknowledged_commands : BenchState → Input → Outcome → List Command
 acknowledged_commands s i Plain = accepted_commands s (asked_command i)
 acknowledged_commands s i o = []
 
--- the command that may have reached the disk, which was answered `ok` or `no 53`, as a list
+-- the command that may have reached the disk and was answered `ok` or `no 53`, as a list that is empty
+-- if there is none
 unfoldable pub reached_commands : BenchState → Input → Outcome → List Command
 reached_commands s i Plain = accepted_commands s (asked_command i)
 reached_commands s i Device = accepted_commands s (asked_command i)
 reached_commands s i o = []
 
--- the answer that the state gives to a command
+-- the answer to a command, from the state before it
 abbrev pub change_answer : BenchState → Command → List ℕ
 change_answer s c =
     elim (refusal s c) [
@@ -83,14 +83,14 @@ change_answer s c =
       | Some fault ↦ no_text (bench_fault_number fault)
     ]
 
--- the answer that the state gives to a text: to the command that it spells, the lines that it
--- produces, or the reason why it spells nothing
+-- the answer to a text, from the state before it: the answer to its command, the lines that it produces,
+-- or the error that leaves it without a meaning
 abbrev pub meaning_answer : BenchState → Result TextMeaning TextRefusal → List ℕ
 meaning_answer s (Ok (Does c)) = change_answer s c
 meaning_answer s (Ok (Reports lines)) = lines
 meaning_answer s (Err why) = text_refusal why
 
--- the answer that the state gives to an input
+-- the answer to an input, from the state before it
 abbrev pub plain_answer : BenchState → Input → List ℕ
 plain_answer s (Line Nothing) = []
 plain_answer s (Line (Begin kind)) = []
@@ -104,22 +104,22 @@ plain_answer s (Line (Change c)) = change_answer s c
 plain_answer s (Text kind text) = meaning_answer s (meaning_of_text kind text)
 plain_answer s (BadText fault) = no_text (text_fault_number fault)
 
--- the answer to an input
+-- the answer to an input with the given outcome
 unfoldable pub answer : BenchState → Input → Outcome → List ℕ
 answer s i Plain = plain_answer s i
 answer s i Device = no_text DEVICE
 answer s i Closed = no_text CLOSED
 answer s i NoMemory = no_text NO_MEMORY
 
--- ---- inputs in turn
+-- ---- inputs in order
 
--- an input that was met, its outcome, and true if its answer was written whole
+-- an input that was met, its outcome, and true if its answer was written completely
 pub record Exchange : Type 0 where
   pub input : Input
   pub outcome : Outcome
   pub whole : Bool
 
--- the exchanges whose answers were written whole
+-- the exchanges whose answers were written completely
 abbrev pub answered_exchanges : List Exchange → List Exchange
 answered_exchanges met = filter (λ (x : Exchange). x.whole) met
 
@@ -127,22 +127,22 @@ answered_exchanges met = filter (λ (x : Exchange). x.whole) met
 abbrev pub inputs_in : List Exchange → List Input
 inputs_in met = map (λ (x : Exchange). x.input) met
 
--- The result of each input by the state that it meets, in turn. `in_turn answer` are the answers.
--- `in_turn acknowledged_commands` are the commands answered `ok`. `in_turn reached_commands` are
--- the commands that may have reached the disk.
+-- The results of the inputs, in order, each from the state that its input meets. `in_turn answer`
+-- gives the answers. `in_turn acknowledged_commands` gives the commands answered `ok`. `in_turn
+-- reached_commands` gives the commands that may have reached the disk.
 abbrev pub in_turn : {A : Type 0} → (BenchState → Input → Outcome → List A) → BenchState
     → List Exchange → List A
 in_turn f s [] = []
 in_turn f s (x ∷ rest) =
     f s x.input x.outcome ++ in_turn f (fold s (acknowledged_commands s x.input x.outcome)) rest
 
--- the end that an answer makes, if it makes one; `false`: the answer was not written whole
+-- the end of the shell that an answer causes, if any; `false`: the answer was not written completely
 abbrev pub halt_of : Bool → Outcome → Option ShellEnd
 halt_of false o = Some WriteFault
 halt_of true Device = Some DeviceFault
 halt_of true o = None
 
--- the end that one of these exchanges made, if one did
+-- the end of the shell that one of these exchanges caused, if any
 abbrev pub halt_after : List Exchange → Option ShellEnd
 halt_after [] = None
 halt_after (x ∷ rest) = option_or (halt_of x.whole x.outcome) (halt_after rest)
@@ -152,8 +152,8 @@ abbrev pub is_device_fault : Outcome → Bool
 is_device_fault Device = true
 is_device_fault o = false
 
--- Holds if each outcome is possible for its input in its turn, and only the last may halt the
--- shell.
+-- Holds if each outcome is possible for its input, in the state that the input meets, and only the
+-- last exchange may halt the shell.
 abbrev pub ArePossibleExchanges : Bool → BenchState → List Exchange → Type 0
 ArePossibleExchanges live s [] = Unit {0}
 ArePossibleExchanges live s (x ∷ rest) =

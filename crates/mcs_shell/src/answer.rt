@@ -28,7 +28,7 @@ use mcs_session::session::Session;
 use std::alloc::{AllocError, Global};
 use std::marker::Model;
 
-/// The answer to one input: a short text, and a long one after it if the answer takes memory.
+/// The answer to one input: a short text, followed by a long one if the answer needs allocated memory.
 #[derive(Drop)]
 pub struct Answer {
     short: ArrayVec<u8, ANSWER_BYTES>,
@@ -65,14 +65,14 @@ impl Answer {
         put_number(&mut self.short, word, u64::from(n));
     }
 
-    /// Sets the answer to a refusal, by its number.
+    /// Sets the answer to `no` and the number of a refusal.
     pub(crate) fn set_refusal(&mut self, number: u8)
         ensures { self.new ≡ no_text number }
     {
         self.set_number(b"no ", u32::from(number));
     }
 
-    /// Sets the answer to the reason why a text spells nothing.
+    /// Sets the answer to the refusal of a text: the number of its error and, for a program, the line of the error.
     pub(crate) fn set_text_refusal(&mut self, refusal: TextRefusal)
         ensures { self.new ≡ text_refusal refusal }
     {
@@ -86,7 +86,7 @@ impl Answer {
         }
     }
 
-    /// Sets the answer to an accepted command, by its reply and the bench after it.
+    /// Sets the answer to an accepted command, from its reply and the bench after it.
     pub(crate) fn set_reply(&mut self, reply: &Reply, bench: &Bench)
         ensures { self.new ≡ ok_text reply.now bench.now }
     {
@@ -104,8 +104,7 @@ impl Answer {
         put_query(&mut self.short, query, bench);
     }
 
-    /// Sets the answer to a listing of the ROM. It fails if memory is refused; then nothing is
-    /// said of the answer.
+    /// Sets the answer to a listing of the ROM. Fails if memory runs out; the answer is then unspecified.
     pub(crate) fn set_listing(
         &mut self,
         alloc: Global,
@@ -120,8 +119,7 @@ impl Answer {
         Ok(())
     }
 
-    /// Sets the answer to the wiring of the board. It fails if memory is refused; then nothing is
-    /// said of the answer.
+    /// Sets the answer to the wiring of the board. Fails if memory runs out; the answer is then unspecified.
     pub(crate) fn set_board(&mut self, alloc: Global, bench: &Bench) -> Result<(), AllocError>
         ensures { OnOk result (self.new ≡ board_answer bench.now) }
     {
@@ -130,8 +128,8 @@ impl Answer {
         Ok(())
     }
 
-    /// Sets the answer to how often a run of at most `n` cycles would begin at each address. It
-    /// fails if memory is refused; then nothing is said of the answer.
+    /// Sets the answer to the number of times that a run of at most `n` cycles would begin an instruction at each
+    /// address. Fails if memory runs out; the answer is then unspecified.
     pub(crate) fn set_count(
         &mut self,
         alloc: Global,
@@ -145,8 +143,8 @@ impl Answer {
         Ok(())
     }
 
-    /// Sets the answer to the changes that a run of at most `n` cycles would make at places. It
-    /// fails if memory is refused; then nothing is said of the answer.
+    /// Sets the answer to the changes that a run of at most `n` cycles would make at the probed locations. Fails if
+    /// memory runs out; the answer is then unspecified.
     pub(crate) fn set_trace(
         &mut self,
         alloc: Global,
@@ -162,7 +160,7 @@ impl Answer {
         Ok(())
     }
 
-    /// Sets the answer to lines, each with its line feed.
+    /// Sets the answer to the given lines, each of which ends with a line feed.
     pub(crate) fn set_lines(&mut self, lines: Vec<u8>)
         ensures { self.new ≡ lines.items }
     {
@@ -170,8 +168,8 @@ impl Answer {
         self.long = Some(lines);
     }
 
-    /// Writes the whole answer, once this session has done what it acknowledges. On an `Err` the
-    /// writer has got less, the first bytes.
+    /// Writes the whole answer. The session must already have done what the answer acknowledges. On an `Err` the writer
+    /// received only a proper prefix of the answer, possibly nothing.
     pub(crate) fn send<W: AnswerSink, D: Disk + Drop>(
         &self,
         session: &Session<D>,

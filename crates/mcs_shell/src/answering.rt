@@ -1,4 +1,4 @@
-//! The effect of an input and its answer.
+//! The effect of an input, and the answer to it.
 ghost use Rattle.std.specs.Prelude.{◌≡◌, [], OnErr, OnOk};
 ghost use Rattle.mcs_answers.specs.AnswerTexts.{no_text};
 ghost use Rattle.mcs_lines.specs.declared.requests.Request.TheVariants.{Change};
@@ -30,7 +30,7 @@ fn outcome_of(fault: SessionFault) -> Outcome
     }
 }
 
-/// Does a command, and sets its answer.
+/// Executes a command and sets its answer.
 fn answer_change<D: Disk + Drop>(
     command: &Command,
     session: &mut Session<D>,
@@ -51,8 +51,8 @@ fn answer_change<D: Disk + Drop>(
     }
 }
 
-/// Returns the outcome of a request whose answer takes memory. If memory was refused, the answer
-/// reports that instead.
+/// Returns the outcome of a request whose answer needs memory. If an allocation failed, sets the answer to that
+/// refusal.
 fn unless_refused(put: Result<(), AllocError>, answer: &mut Answer) -> Outcome
     ensures put { OnOk put ((result ≡ Outcome.Plain) × (answer.new ≡ answer.old)) }
     ensures refused { OnErr put ((result ≡ Outcome.NoMemory) × (answer.new ≡ no_text NO_MEMORY)) }
@@ -66,8 +66,8 @@ fn unless_refused(put: Result<(), AllocError>, answer: &mut Answer) -> Outcome
     }
 }
 
-/// Does the request of a line outside a text, and sets its answer, which is empty before. A line
-/// that begins a text has no answer of its own.
+/// Executes the request of a line outside a text and sets its answer, which must be empty before. A line that begins a
+/// text has no answer of its own.
 pub(crate) fn answer_request<D: Disk + Drop>(
     alloc: Global,
     request: &Request,
@@ -109,7 +109,7 @@ pub(crate) fn answer_request<D: Disk + Drop>(
     }
 }
 
-/// Judges a text that has an end, does what it spells, and sets its answer.
+/// Parses a complete text, executes its command, if it has one, and sets the answer.
 pub(crate) fn answer_text<D: Disk + Drop>(
     alloc: Global,
     kind: TextKind,

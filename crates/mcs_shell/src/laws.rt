@@ -1,4 +1,4 @@
-//! Laws of inputs, as the contracts of functions that do nothing.
+//! Laws about inputs. Each law is the contract of a function with an empty body.
 ghost use Rattle.std.specs.Prelude.{◌≡◌, ◌↔◌, ◌∷◌, ◌++◌, [], ℕ, Bool, List, Err, codes, false, true};
 ghost use Rattle.std.specs.List.{flat_map, list_any};
 ghost use Rattle.mcs_model.specs.TextLines.{as_line};
@@ -12,10 +12,9 @@ ghost use Rattle.mcs_shell.specs.Inputs.{BadText, inputs_of_lines, is_dot_line, 
 ghost use Rattle.mcs_shell.specs.Spelling.{meaning_of_text};
 ghost use Rattle.mcs_shell.specs.Transcript.{AsksForNoCommand};
 
-/// Proves that a text ends at a dot. A line that begins a text, lines of which none is a dot, and
-/// a dot are one input. Its text is those lines, each followed by a line feed. The lines after the
-/// dot are judged as if nothing had been before them. Without a dot the text is refused if input
-/// ended.
+/// Proves that a text ends at a line with a single dot. The line that begins the text, the lines up to the first dot,
+/// and the dot form one input. The text consists of the lines in between, each followed by a line feed. The lines after
+/// the dot are parsed as if nothing preceded them. If input ends without a dot, the text is refused.
 pub fn a_text_ends_at_a_dot()
     ensures ended { (whole : Bool) (kind : TextKind) (line : List ℕ) (text rest : List (List ℕ))
         → request_of line ≡ Begin kind → list_any is_dot_line text ≡ false
@@ -27,20 +26,20 @@ pub fn a_text_ends_at_a_dot()
         → inputs_of_lines true false (line ∷ text) ≡ BadText NoEnd ∷ [] }
 {}
 
-/// Proves that a map asks for no command, and that it is refused if the program would be, for the
-/// same reason.
+/// Proves that a map requests no command, and that it is refused for a reason if and only if the program would be
+/// refused for the same reason.
 pub fn a_map_only_reports()
     ensures asks { AsksForNoCommand Map }
     ensures refused { (text : List ℕ) (why : TextRefusal)
         → (meaning_of_text Map text ≡ Err why) ↔ (meaning_of_text Asm text ≡ Err why) }
 {}
 
-/// Proves that the errors of a program are only reported, and ask for no command.
+/// Proves that the report of a program's errors requests no command.
 pub fn errors_are_only_reported()
     ensures { AsksForNoCommand Errors }
 {}
 
-/// Proves that the report on a board asks for no command.
+/// Proves that the report of a board's first error requests no command.
 pub fn a_board_report_only_reports()
     ensures { AsksForNoCommand Wiring }
 {}

@@ -1,5 +1,5 @@
-//! The shell of the bench, and the program over it: lines in, answers out, each command recorded
-//! before it is answered.
+//! The shell of the bench, and the program that runs it. The shell reads lines and writes answers. It records each
+//! command before it answers it.
 #![tactic(auto)]
 
 mod answer;

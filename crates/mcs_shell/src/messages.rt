@@ -1,25 +1,23 @@
-//! The lines of standard error, for people: a line if a session is refused or ends by a fault, and
-//! the usage. A line that could not be written there is not reported elsewhere. Standard output
-//! and the exit status are the same without these lines.
+//! Messages for people, on standard error: the usage, and a line if a session is refused or ends because of an error. A
+//! message that cannot be written is lost. Standard output and the exit status do not depend on these messages.
 use crate::ends::ShellEnd;
 use crate::faults::BeginFault;
 use mcs_host::{Choice, FileDisk, FileFault, RefusedStreams, StreamsFault};
 use mcs_journal::StoreFault;
 use std::path::Path;
 
-/// The reason why a session was refused, and what was found in its file.
+/// The reason why a session was refused, and facts about its file.
 #[derive(Clone, Copy)]
 pub struct Refusal {
-    /// The reason.
+    /// The reason for the refusal.
     pub fault: BeginFault,
-    /// True if the device has no space.
+    /// True if the device has no space left.
     pub is_full: bool,
-    /// True if the file has the size and the name of a session file.
+    /// True if the file has the size of a session file and starts with the name of its format.
     pub is_named_session: bool,
 }
 
-/// Prints the usage, the place of the manual, and the versions of the program and of its session
-/// files.
+/// Prints the usage, the location of the manual, and the versions of the program and of its session files.
 pub fn print_usage(rt: &HostRuntime) {
     let _ = eprintln!(rt; "usage: mcs4 new FILE or mcs4 open FILE");
     let _ = eprintln!(rt; "manual: docs/MANUAL.md in the folder that mcs4 was built in");
@@ -47,7 +45,7 @@ pub fn print_streams(rt: &HostRuntime, refused: RefusedStreams) {
     let _ = eprintln!(rt; "mcs4: {words}");
 }
 
-/// Prints a line on a file that was opened and whose name may not stay; nothing on any other.
+/// Prints a warning if a file was opened but a power cut may undo its name. Otherwise prints nothing.
 pub fn print_opening(rt: &HostRuntime, file: &str, opened: &Result<FileDisk, FileFault>) {
     if let Ok(disk) = opened {
         if !disk.is_name_stable() {
@@ -58,8 +56,8 @@ pub fn print_opening(rt: &HostRuntime, file: &str, opened: &Result<FileDisk, Fil
     }
 }
 
-/// Prints what is wrong with the file of a refused session, and what to do, unless standard error is
-/// that file; nothing if no session was refused.
+/// Prints what is wrong with the file of a refused session, and what to do. Prints nothing if no session was refused or
+/// if standard error is that file.
 pub fn print_no_session(rt: &HostRuntime, choice: &Choice, refused: Option<Refusal>) {
     let Some(refusal) = refused else {
         return;
@@ -68,8 +66,7 @@ pub fn print_no_session(rt: &HostRuntime, choice: &Choice, refused: Option<Refus
         return;
     }
     let file = choice.file();
-    // If standard error takes nothing, the number that standard output got is all that is
-    // reported.
+    // If standard error cannot be written, the refusal number on standard output is the only report.
     let _ = match (choice, refusal.fault) {
         (Choice::Open(_), BeginFault::File(FileFault::NotThere)) if has_folder(rt, file) => {
             eprintln!(rt; "mcs4: {file}: no such file; begin a session with: mcs4 new {file}")
@@ -84,7 +81,7 @@ pub fn print_no_session(rt: &HostRuntime, choice: &Choice, refused: Option<Refus
     };
 }
 
-// Returns the words for a session that was not begun.
+// Returns the message for a session that did not begin.
 fn begin_words(fault: BeginFault, is_full: bool) -> &'static str {
     match fault {
         BeginFault::File(fault) => file_words(fault),
@@ -93,7 +90,7 @@ fn begin_words(fault: BeginFault, is_full: bool) -> &'static str {
     }
 }
 
-// Returns the words for a file that was not opened.
+// Returns the message for a file that was not opened.
 fn file_words(fault: FileFault) -> &'static str {
     match fault {
         FileFault::InUse => "in use by another program; wait until that has ended",
@@ -119,7 +116,7 @@ fn file_words(fault: FileFault) -> &'static str {
     }
 }
 
-// Returns the words for a session that was not made.
+// Returns the message for a session that was not created.
 fn create_words(fault: StoreFault, is_full: bool) -> &'static str {
     match fault {
         StoreFault::Device if is_full => {
@@ -130,7 +127,7 @@ fn create_words(fault: StoreFault, is_full: bool) -> &'static str {
     }
 }
 
-// Returns the words for a session that was not opened.
+// Returns the message for a session that was not opened.
 fn open_words(fault: StoreFault, is_full: bool) -> &'static str {
     match fault {
         StoreFault::NotASession => "not a session file; begin a session in another file",
@@ -141,7 +138,7 @@ fn open_words(fault: StoreFault, is_full: bool) -> &'static str {
     }
 }
 
-// Returns the words for a device that failed.
+// Returns the message for a device that failed.
 fn device_words(is_full: bool) -> &'static str {
     if is_full {
         "no space left on the device; make room, then open it again"
@@ -150,7 +147,7 @@ fn device_words(is_full: bool) -> &'static str {
     }
 }
 
-// Returns true if the folder of the file of this name is there, as far as that can be found out.
+// Returns true if the folder of a file exists, as far as the host can tell.
 fn has_folder(rt: &HostRuntime, file: &str) -> bool {
     match Path::new(file).parent() {
         Some(folder) => folder.as_str().is_empty() || folder.is_dir(rt),
@@ -158,8 +155,8 @@ fn has_folder(rt: &HostRuntime, file: &str) -> bool {
     }
 }
 
-/// Prints why a session ended, unless its input reached its end. It takes the end of its shell,
-/// and true if its device is full.
+/// Prints why a session ended, unless it reached the end of its input. `ended` has the end of its shell, and true if
+/// its device is full.
 pub fn print_end(rt: &HostRuntime, file: &str, ended: Option<(ShellEnd, bool)>) {
     let Some((end, is_full)) = ended else {
         return;

@@ -1,4 +1,4 @@
-//! The program: its arguments, its file, its session, its shell, its exit status.
+//! The program: its arguments, file, session, shell and exit status.
 ghost use Rattle.std.specs.Prelude.{◌≡◌, ◌⊎◌, IfOk, IfErr, IfSome, IfNone, IsErrAnd, IsSomeAnd, OnErr, None, true, map};
 ghost use Rattle.std.specs.Process.{exit_status};
 ghost use Rattle.mcs_host.specs.CommandLine.{choice_in, takes_arguments};
@@ -31,14 +31,14 @@ use std::env;
 use std::io::ErrorKind;
 use std::process::ExitCode;
 
-/// The exit status if the arguments are none of the program's.
+/// The exit status if the arguments are invalid.
 const WRONG_ARGUMENTS: u8 = 2;
 
 /// The exit status if the session is refused.
 const REFUSED: u8 = 3;
 
-/// Returns the arguments of the command line, the program's name first. Arguments that are no text
-/// are none of the program's.
+/// Returns the command-line arguments, with the program's name first. Arguments that are not valid text are a usage
+/// error.
 fn given_arguments(rt: &HostRuntime) -> Result<Vec<String>, WordsFault> {
     match env::args(rt) {
         Ok(arguments) => Ok(arguments.collect(rt.alloc())?),
@@ -47,7 +47,7 @@ fn given_arguments(rt: &HostRuntime) -> Result<Vec<String>, WordsFault> {
     }
 }
 
-/// Answers why there is no session. The status is the same if standard output does not take it.
+/// Prints `no` and the number of the refusal. The exit status is the same if standard output cannot be written.
 pub fn refuse(rt: &HostRuntime, number: u8) -> ExitCode
     ensures { exit_status result ≡ 3 }
 {
@@ -55,7 +55,8 @@ pub fn refuse(rt: &HostRuntime, number: u8) -> ExitCode
     ExitCode::from(REFUSED)
 }
 
-/// Answers why there is no session, on standard output if that may be written.
+/// Prints `no` and the number of the refusal, unless standard output is unusable. The exit status is the same in both
+/// cases.
 fn refuse_beside(rt: &HostRuntime, number: u8, unusable: Streams) -> ExitCode
     ensures { exit_status result ≡ 3 }
 {
@@ -66,7 +67,7 @@ fn refuse_beside(rt: &HostRuntime, number: u8, unusable: Streams) -> ExitCode
     }
 }
 
-/// Refuses all arguments if standard streams may be session files: these get nothing.
+/// Refuses to run because standard streams may be session files. Nothing is written to those streams.
 pub fn refuse_streams(rt: &HostRuntime, refused: RefusedStreams) -> ExitCode
     ensures { exit_status result ≡ 3 }
 {
@@ -75,8 +76,8 @@ pub fn refuse_streams(rt: &HostRuntime, refused: RefusedStreams) -> ExitCode
     status
 }
 
-/// Reports that the arguments choose nothing, or that there was no memory to read them. The status
-/// is the same if nobody takes the words.
+/// Reports that the arguments are invalid, or that there was no memory to read them. The exit status is the same if the
+/// message cannot be written.
 pub fn refuse_arguments(rt: &HostRuntime, fault: WordsFault) -> ExitCode
     ensures usage { fault ≡ WordsFault.Usage → exit_status result ≡ 2 }
     ensures no_memory { fault ≡ WordsFault.NoMemory → exit_status result ≡ 3 }
@@ -97,14 +98,14 @@ pub fn refuse_arguments(rt: &HostRuntime, fault: WordsFault) -> ExitCode
 /// The failure to begin a session.
 #[derive(Drop)]
 pub struct NotBegun<D: Disk + Drop> {
-    /// The reason.
+    /// The reason why no session began.
     pub fault: BeginFault,
-    /// The disk that was opened for the session, as the refusal left it; `None` if none was.
+    /// The disk that was opened for the session, as the refusal left it, or `None` if no disk was opened.
     pub disk: Option<D>,
 }
 
-/// Begins the session that a choice asks for, on the disk that opening its file gave; or returns
-/// the reason why there is none.
+/// Begins the session that a choice requests, on the disk that was opened for its file. Otherwise returns the reason
+/// why no session began.
 pub fn session_on<D: Disk + Drop>(
     alloc: Global,
     choice: &Choice,
@@ -145,7 +146,7 @@ pub fn session_on<D: Disk + Drop>(
     }
 }
 
-/// Makes or opens the session in a file, or returns the reason why there is none.
+/// Creates or opens the session in the chosen file. Otherwise returns the reason why no session began.
 pub fn session_in(
     rt: &HostRuntime,
     choice: &Choice,
@@ -165,7 +166,7 @@ pub fn session_in(
     session_on(alloc, choice, opened)
 }
 
-/// Serves the session over a reader and a writer, and returns the shell's end and its exit status.
+/// Serves a session with a reader and a writer, and returns the end of the shell and its exit status.
 pub fn serve<R: InputSource, W: AnswerSink, D: Disk + Drop>(
     rt: &HostRuntime,
     reader: &mut R,
@@ -185,18 +186,18 @@ pub fn serve<R: InputSource, W: AnswerSink, D: Disk + Drop>(
     }
 }
 
-/// The end of the program.
+/// The result of the program.
 #[derive(Drop)]
 pub struct Ended<D: Disk + Drop> {
     /// The exit status.
     pub status: ExitCode,
-    /// The session that was served, as its shell left it.
+    /// The session that was served, as its shell left it, or `None` if there was no session.
     pub session: Option<Session<D>>,
-    /// The end of the session's shell.
+    /// The end of the session's shell, or `None` if no shell ran.
     pub end: Option<ShellEnd>,
 }
 
-/// Serves the session that a choice began over a reader and a writer, or answers why there is none.
+/// Serves a session with a reader and a writer. If no session began, prints the number of the refusal.
 pub fn serve_begun<R: InputSource, W: AnswerSink, D: Disk + Drop>(
     rt: &HostRuntime,
     reader: &mut R,
@@ -233,7 +234,7 @@ pub fn serve_begun<R: InputSource, W: AnswerSink, D: Disk + Drop>(
     }
 }
 
-/// Returns the facts about a refused session that are reported to people.
+/// Returns the facts about a refused session that its message needs, or `None` if the session began.
 fn refusal_of(begun: &Result<Session<FileDisk>, NotBegun<FileDisk>>) -> Option<Refusal> {
     match begun {
         Ok(_) => None,
@@ -251,7 +252,7 @@ fn refusal_of(begun: &Result<Session<FileDisk>, NotBegun<FileDisk>>) -> Option<R
     }
 }
 
-/// Returns the end of a shell that was run, and true if its device is full.
+/// Returns the end of the shell, and true if the session's device is full, or `None` if no shell ran.
 fn end_of(ended: &Ended<FileDisk>) -> Option<(ShellEnd, bool)> {
     match (ended.end, &ended.session) {
         (Some(end), Some(session)) => Some((end, session.disk().is_full())),
@@ -259,9 +260,8 @@ fn end_of(ended: &Ended<FileDisk>) -> Option<(ShellEnd, bool)> {
     }
 }
 
-/// Runs the bench by these arguments, the program's name first, over a reader and a writer:
-/// session, shell, exit status. Without a session the status is 2 or 3, and nothing was read or
-/// answered.
+/// Runs the bench with the given arguments, the program's name first, and with a reader and a writer. Without a session
+/// the exit status is 2 or 3, and nothing is read from the reader or written to the writer.
 pub fn run_arguments<S: AsStr, R: InputSource, W: AnswerSink>(
     rt: &HostRuntime,
     arguments: &[S],
@@ -301,7 +301,7 @@ pub fn run_arguments<S: AsStr, R: InputSource, W: AnswerSink>(
     ended
 }
 
-/// Runs the bench by the arguments of the command line, over standard input and standard output.
+/// Runs the bench with the command-line arguments, standard input and standard output.
 fn run_given_arguments(rt: &HostRuntime) -> Ended<FileDisk>
     ensures served { IfSome result.session (λ after.
         ServedBySomeArguments as_disk (exit_status result.status) after) }
@@ -321,16 +321,15 @@ fn run_given_arguments(rt: &HostRuntime) -> Ended<FileDisk>
     }
 }
 
-/// Runs the bench by the arguments of the command line, over standard input and standard output.
-/// It does so if each of the standard streams can be had and none goes into a session file. It
-/// returns the session, so that nothing was done to it since its shell ended.
+/// Runs the bench with the command-line arguments, standard input and standard output. It runs only if each standard
+/// stream is available and none goes into a session file. Returns the session as its shell left it.
 pub fn run_program(rt: &HostRuntime) -> Ended<FileDisk>
     ensures served { IfSome result.session (λ after.
         ServedBySomeArguments as_disk (exit_status result.status) after) }
     ensures unserved { IfNone result.session
         ((exit_status result.status ≡ 2) ⊎ (exit_status result.status ≡ 3)) }
 {
-    // The stand-ins stay to the end of all that is read, written and opened here.
+    // The stand-ins stay open until everything below has been read, written and opened.
     let _stand_ins = match StandIns::open(rt) {
         Ok(stand_ins) => stand_ins,
         Err(refused) => {

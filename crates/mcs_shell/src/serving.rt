@@ -1,4 +1,4 @@
-//! Lines, in the pieces in which they arrive.
+//! Serves lines, in the chunks in which they arrive.
 ghost use Rattle.std.specs.Prelude.{◌≡◌, ◌∷◌, ◌++◌, Bool, [], MatchOption, OnOk, length};
 ghost use Rattle.std.specs.Result.{result_err};
 ghost use Rattle.mcs_shell.specs.declared.texts.TextFault.TheVariants.{NoEnd};
@@ -24,7 +24,8 @@ use mcs_model::text_lines::without_return;
 use mcs_session::session::Session;
 use std::alloc::Global;
 
-/// Writes the answer to an input that had this outcome, which left the session so.
+/// Writes the answer to an input that had this outcome. `session` is the session after the input. Returns the end of
+/// the shell if the write or the device failed.
 fn deliver<W: AnswerSink, D: Disk + Drop>(
     outcome: Outcome,
     answer: &Answer,
@@ -46,7 +47,7 @@ fn deliver<W: AnswerSink, D: Disk + Drop>(
     }
 }
 
-/// Serves a line outside a text: does its request, and then writes the answer.
+/// Serves a line outside a text: executes its request, and then writes the answer.
 fn serve_request<W: AnswerSink, D: Disk + Drop>(
     alloc: Global,
     request: Request,
@@ -65,7 +66,7 @@ fn serve_request<W: AnswerSink, D: Disk + Drop>(
     deliver(outcome, &answer, writer, session)
 }
 
-/// Serves a text that has an end.
+/// Serves a complete text: executes its command, if it has one, and then writes the answer.
 fn serve_text<W: AnswerSink, D: Disk + Drop>(
     alloc: Global,
     kind: TextKind,
@@ -85,7 +86,7 @@ fn serve_text<W: AnswerSink, D: Disk + Drop>(
     deliver(outcome, &answer, writer, session)
 }
 
-/// Refuses a text inside which input ended.
+/// Refuses the open text because input ended inside it.
 pub(crate) fn serve_no_end<W: AnswerSink, D: Disk + Drop>(
     writer: &mut W,
     session: &mut Session<D>,
@@ -101,7 +102,7 @@ pub(crate) fn serve_no_end<W: AnswerSink, D: Disk + Drop>(
     deliver(Outcome::Plain, &answer, writer, session)
 }
 
-/// Ends the unfinished line, as a line feed after it does.
+/// Ends the unfinished line, as a line feed would, and serves the input that it completes, if any.
 pub(crate) fn end_line<W: AnswerSink, D: Disk + Drop>(
     alloc: Global,
     unfinished: &mut Unfinished,
@@ -147,8 +148,7 @@ pub(crate) fn end_line<W: AnswerSink, D: Disk + Drop>(
     }
 }
 
-/// Returns the bytes before the first line feed, and those after it; or `None` if there is no line
-/// feed.
+/// Returns the bytes before and after the first line feed, or `None` if there is no line feed.
 fn split_line(bytes: &[u8]) -> Option<(&[u8], &[u8])>
     ensures { MatchOption result (HasNoFeed bytes.now) (λ p.
         HasNoFeed p.0.now × (bytes.now ≡ p.0.now ++ 10 ∷ p.1.now)) }
@@ -161,7 +161,7 @@ fn split_line(bytes: &[u8]) -> Option<(&[u8], &[u8])>
     None
 }
 
-/// Serves the bytes of a chunk, after what is unfinished.
+/// Serves the bytes of a chunk, which continue the unfinished line and text.
 pub(crate) fn serve_chunk<W: AnswerSink, D: Disk + Drop>(
     alloc: Global,
     chunk: &[u8],

@@ -1,4 +1,4 @@
-//! The shell: it reads lines, does what they ask for, and writes the answers.
+//! The shell, which reads lines, executes their requests, and writes the answers.
 ghost use Rattle.std.specs.Prelude.{◌≡◌, ◌<◌, ◌≤◌, [], true, take, length, IfOk, OnErr};
 ghost use Rattle.std.specs.Result.{result_err};
 ghost use Rattle.std.specs.Io.KnownBytes.{Keeps};
@@ -21,10 +21,10 @@ use mcs_model::limits::INPUT_BYTES;
 use mcs_session::session::Session;
 use std::alloc::Global;
 
-/// The most bytes that one read asks for.
+/// The maximum number of bytes that one read requests.
 const CHUNK_BYTES: usize = 4_096;
 
-/// Reads at most `most` bytes to the front of the buffer; none only if input has ended.
+/// Reads at most `most` bytes into the front of the buffer. Returns 0 only if input has ended.
 fn read_some<R: InputSource>(
     reader: &mut R,
     buffer: &mut [u8],
@@ -40,7 +40,7 @@ fn read_some<R: InputSource>(
     reader.read_some(&mut buffer[..most])
 }
 
-/// Refuses the open text if input has ended after a whole line.
+/// Refuses the open text, if there is one, because input ended. The last line must be complete.
 fn finish_text<W: AnswerSink, D: Disk + Drop>(
     unfinished: &Unfinished,
     writer: &mut W,
@@ -58,7 +58,7 @@ fn finish_text<W: AnswerSink, D: Disk + Drop>(
     }
 }
 
-/// Serves the unfinished input once input has ended.
+/// Serves the unfinished line and text after input has ended.
 fn finish<W: AnswerSink, D: Disk + Drop>(
     alloc: Global,
     unfinished: &mut Unfinished,
@@ -80,7 +80,7 @@ fn finish<W: AnswerSink, D: Disk + Drop>(
     }
 }
 
-/// Reads and serves until an end.
+/// Reads and serves chunks of input until the shell ends, and returns the reason.
 fn run_loop<R: InputSource, W: AnswerSink, D: Disk + Drop>(
     alloc: Global,
     buffer: &mut [u8],
@@ -123,12 +123,11 @@ fn run_loop<R: InputSource, W: AnswerSink, D: Disk + Drop>(
     ShellEnd::InputLimit
 }
 
-/// Serves the lines of a reader on a session, until input ends, something fails, or the limit of
-/// input is reached.
+/// Serves the lines of a reader on a session, until input ends, a call fails, or the input limit is reached.
 ///
-/// The shell answers each command after it was recorded. The machine may stop at any moment. The
-/// contents of the disk then open to the state after some first commands of those that were
-/// accepted. Each acknowledged command is among them.
+/// The shell records each command before it answers it. The machine may stop at any moment. A session opened on the
+/// disk's contents then has the state after a prefix of the accepted commands. The prefix includes each acknowledged
+/// command.
 pub fn run_shell<R: InputSource, W: AnswerSink, D: Disk + Drop>(
     alloc: Global,
     reader: &mut R,

@@ -11,20 +11,20 @@ use mcs_disk::Disk;
 use mcs_session::session::Session;
 use std::io::{Read, Write};
 
-/// The failure of a read.
+/// The error of a failed read.
 #[derive(Clone, Copy)]
 pub struct ReadFailed;
 
-/// The input of a shell. Each `Read` is one, with an unknown count of failures.
+/// The input of a shell. Every `Read` implements it, with an unknown number of failures.
 pub trait InputSource {
-    /// The bytes that it will give from here on, if they are known.
+    /// The bytes that the source has left to return, if they are known.
     ghost remaining: { Self → Option (List ℕ) };
 
-    /// The count of reads that have failed, if it is known.
+    /// The number of reads that have failed, if it is known.
     ghost faults: { Self → Option ℕ };
 
-    /// Reads bytes to the front of the buffer; none only if input has ended. On an `Err` the bytes
-    /// that are left stay the same.
+    /// Reads bytes into the front of the buffer. Returns 0 only if input has ended. On an `Err` the remaining bytes of
+    /// the source are unchanged.
     fn read_some(&mut self, buffer: &mut [u8]) -> Result<usize, ReadFailed>
         requires { 0 < length buffer.old }
         ensures ok { IfOk result (λ n. ReadBytes n (length buffer.old)
@@ -46,16 +46,16 @@ impl<R: Read> InputSource for R {
     }
 }
 
-/// The sink of a shell's answers. Each `Write` is one, with an unknown count of failures.
+/// The sink of a shell's answers. Every `Write` implements it, with an unknown number of failures.
 pub trait AnswerSink {
-    /// The bytes that it has got, if they are known.
+    /// The bytes that the sink has received, if they are known.
     ghost contents: { Self → Option (List ℕ) };
 
-    /// The count of answers that it has not taken whole, if it is known.
+    /// The number of answers that the sink did not accept completely, if it is known.
     ghost faults: { Self → Option ℕ };
 
-    /// Takes an answer in two stretches of bytes, once this session has done what it acknowledges
-    /// and its disk stands for that. On an `Err` it has got less, the first bytes.
+    /// Accepts an answer in two byte slices. The session must have done what the answer acknowledges, and its disk must
+    /// represent the result. On an `Err` the sink received only a proper prefix of the answer, possibly nothing.
     fn write_answer<D: Disk + Drop>(
         &mut self,
         session: &Session<D>,

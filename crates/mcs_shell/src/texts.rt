@@ -1,5 +1,4 @@
-//! Texts: their ends, the reasons to refuse them whatever their lines say, and the meanings of the
-//! others.
+//! Texts: their ends, their errors that do not depend on the meaning of a line, and the meanings of all other texts.
 ghost use Rattle.std.specs.Prelude.{◌≡◌, None, IfOk};
 ghost use Rattle.std.specs.List.{list_all, slice_split};
 ghost use Rattle.std.specs.Result.{result_map_both};
@@ -24,19 +23,19 @@ use std::alloc::{AllocError, Global};
 use std::str;
 use thiserror::Error;
 
-/// The reason why a text is refused, whatever its lines say.
+/// An error in a text that does not depend on the meaning of its lines.
 #[derive(Clone, Copy, Debug, Error)]
 pub enum TextFault {
-    /// Input ended inside it.
+    /// Input ended inside the text.
     #[error("the input ended inside the text")]
     NoEnd,
-    /// It has too many bytes.
+    /// The text has too many bytes.
     #[error("the text has too many bytes")]
     TextTooLong,
-    /// One of its lines has too many bytes.
+    /// A line of the text has too many bytes.
     #[error("a line of the text has too many bytes")]
     LineTooLong,
-    /// It has a byte that is neither a tab nor a printing character of ASCII.
+    /// A byte of the text is neither a line feed, nor a tab, nor a printable ASCII character.
     #[error("a byte of the text is neither a tab nor a printing character of ASCII")]
     NotAscii,
 }
@@ -84,7 +83,7 @@ fn has_text_bytes(text: &[u8]) -> bool
     text.iter().all(|b| *b == b'\n' || is_plain_byte(*b))
 }
 
-/// Returns the reason why a text that has an end is refused whatever its lines say, if any.
+/// Returns the error in a complete text that does not depend on the meaning of its lines, if there is one.
 #[tactic(auto, unfolding(crate::specs::Inputs::text_fault_of))]
 pub fn text_fault(text: &[u8]) -> Option<TextFault>
     ensures { result ≡ text_fault_of text.now }
@@ -100,7 +99,7 @@ pub fn text_fault(text: &[u8]) -> Option<TextFault>
     }
 }
 
-/// Returns the bytes of a text that is not refused, as text.
+/// Converts the bytes of a text to a string. The text must have no `TextFault`.
 pub fn as_text(text: &[u8]) -> &str
     requires { text_fault_of text.now ≡ None }
     ensures { result.now ≡ text.now }
@@ -111,13 +110,13 @@ pub fn as_text(text: &[u8]) -> &str
     }
 }
 
-/// The reason why a text spells nothing.
+/// The error that leaves a text without a meaning.
 #[derive(Clone, Copy, Debug, Error)]
 pub enum TextRefusal {
-    /// It has no board.
+    /// The text does not describe a board.
     #[error("{0}")]
     Wiring(WiringFault),
-    /// It is no program: the number of the line that has an error, from 1, and the error.
+    /// The text is not a program. The fields are the number of the line with the error, from 1, and the error.
     #[error("line {0}: {1}")]
     Program(usize, SourceFault),
 }
@@ -125,14 +124,14 @@ pub enum TextRefusal {
 /// The meaning of a text.
 #[derive(Drop)]
 pub enum TextMeaning {
-    /// A command, which is done.
+    /// A command to execute.
     Does(Command),
-    /// Lines, each with its line feed, which are the answer while nothing is done.
+    /// Lines, each with its line feed, to return as the answer. Nothing else is done.
     Reports(Vec<u8>),
 }
 
-/// Returns the command to put the board of a text in place, or the reason why the text has none.
-/// It fails if memory is refused.
+/// Returns the command that replaces the board with the one that a text describes, or the error in the text. Fails if
+/// memory runs out.
 fn read_board(alloc: Global, text: &str) -> Result<Result<Command, TextRefusal>, AllocError>
     ensures { IfOk result (λ spelled. spelled ≡ wire_command (board_of_text text.now)) }
 {
@@ -143,8 +142,7 @@ fn read_board(alloc: Global, text: &str) -> Result<Result<Command, TextRefusal>,
     }
 }
 
-/// Returns the command to load the bytes of a program, or the reason why the text is none. It
-/// fails if memory is refused.
+/// Returns the command that loads the bytes of a program, or the error in the program's text. Fails if memory runs out.
 fn read_program(alloc: Global, text: &str) -> Result<Result<Command, TextRefusal>, AllocError>
     ensures { IfOk result (λ spelled. spelled ≡ load_command (assembly_of_text text.now)) }
 {
@@ -157,8 +155,7 @@ fn read_program(alloc: Global, text: &str) -> Result<Result<Command, TextRefusal
     }
 }
 
-/// Returns the map of a program, or the reason why the text is none. It fails if memory is
-/// refused.
+/// Returns the map of a program, or the error in the program's text. Fails if memory runs out.
 fn read_map(alloc: Global, text: &str) -> Result<Result<Vec<u8>, TextRefusal>, AllocError>
     ensures { IfOk result (λ meant.
         result_map_both (λ lines. Reports lines.items) (λ why. why) meant
@@ -173,14 +170,14 @@ fn read_map(alloc: Global, text: &str) -> Result<Result<Vec<u8>, TextRefusal>, A
     }
 }
 
-/// Returns the answer that reports the first error of a board text. It fails if memory is refused.
+/// Returns the answer that reports the first error in a board's text. Fails if memory runs out.
 fn read_wiring(alloc: Global, text: &str) -> Result<Vec<u8>, AllocError>
     ensures { IfOk result (λ lines. lines.items ≡ wiring_text text.now) }
 {
     Ok(wiring_text(alloc, text)?.into_bytes())
 }
 
-/// Returns the answer that reports the errors of a program. It fails if memory is refused.
+/// Returns the answer that reports the errors in a program's text. Fails if memory runs out.
 fn read_errors(alloc: Global, text: &str) -> Result<Vec<u8>, AllocError>
     ensures { IfOk result (λ lines. lines.items ≡ errors_text (errors_of_text text.now)) }
 {
@@ -188,8 +185,7 @@ fn read_errors(alloc: Global, text: &str) -> Result<Vec<u8>, AllocError>
     errors_text(alloc, &errors)
 }
 
-/// Returns the meaning of a text, or the reason why it spells nothing. It fails if memory is
-/// refused.
+/// Returns the meaning of a text, or the error that leaves it without a meaning. Fails if memory runs out.
 #[tactic(auto, unfolding(crate::specs::Spelling::meaning_of_text))]
 pub fn read_text(
     alloc: Global,

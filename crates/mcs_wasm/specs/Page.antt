@@ -22,19 +22,19 @@ pub record HasBytes (file : List ℕ) (disk : DiskState) : Type 0 where
   pub honest : disk.honest
   pub bytes : bytes_of disk ≡ file
 
--- holds if these are the bytes of a file with the session of a new bench
+-- holds if these bytes are a file that holds the session of a new bench
 abbrev pub IsNewFile : List ℕ → Type 0
 IsNewFile file = StandsFor file new_bench_state
 
--- The session of a file continues: a disk that has its bytes was opened.
+-- Holds if a session continues that of a file: `open` began it on a disk that has the file's bytes.
 pub record ResumesSession (file : List ℕ) (session : SessionView MemDisk) : Type 0 where
   pub disk : MemDisk
   pub held : IsFresh file (mem_disk_state disk)
   pub begun : OpenBegins (mem_disk_state disk) (mem_disk_state session.disk) session.live
       session.state
 
--- The session that the bytes of a file hold continued. The shell read this input, wrote these
--- answers, and left the session so.
+-- Holds if the session of a file continued, and its shell read this input, wrote these answers, and
+-- left the session `left`.
 pub record RunsOnFile (file input : List ℕ) (end : ShellEnd) (answers : List ℕ)
     (left : SessionView MemDisk) : Type 0 where
   pub session : SessionView MemDisk
@@ -43,19 +43,20 @@ pub record RunsOnFile (file input : List ℕ) (end : ShellEnd) (answers : List �
   pub ran : RanShell end (Some input) rest (shell_state mem_disk_state session (Some []))
       (shell_state mem_disk_state left (Some answers))
 
--- the same, and `after` are the bytes that the session's disk has then
+-- Holds if a shell ran on the session of a file, as in RunsOnFile, and `after` are the bytes of the
+-- session's disk afterwards.
 pub record ServesFile (file input : List ℕ) (end : ShellEnd) (answers after : List ℕ) : Type 0 where
   pub left : SessionView MemDisk
   pub went : RunsOnFile file input end answers left
   pub kept : HasBytes after (mem_disk_state left.disk)
 
--- holds if all of the input was served, or as much of it as a shell reads
+-- holds if all of the input was served, or as much of it as the input limit allows
 abbrev pub IsServedWhole : ShellEnd → Type 0
 IsServedWhole End = Unit {0}
 IsServedWhole InputLimit = Unit {0}
 IsServedWhole end = ⊥
 
--- All of the input was served, with these answers, and left the session so. The session is open.
+-- Holds if all of the input was served, with these answers, and left the session `left`, which is open.
 pub record ServesAllInput (file input : List ℕ) (end : ShellEnd) (answers : List ℕ)
     (left : SessionView MemDisk) : Type 0 where
   pub whole : IsServedWhole end
@@ -63,7 +64,7 @@ pub record ServesAllInput (file input : List ℕ) (end : ShellEnd) (answers : Li
   pub is_open : IsTrue left.live
   pub size : size_of (mem_disk_state left.disk) ≡ length file
 
--- the input was served, and the answers are the first `count` bytes of the buffer
+-- holds if the input was served, and the answers are the first `count` bytes of the buffer
 pub record AnswersInBuffer (file input : List ℕ) (end : ShellEnd) (count : ℕ)
     (buffer buffer' after : List ℕ) : Type 0 where
   pub whole : IsServedWhole end
@@ -71,8 +72,8 @@ pub record AnswersInBuffer (file input : List ℕ) (end : ShellEnd) (count : ℕ
   pub served : ServesFile file input end (take count buffer') after
   pub rest : drop count buffer' ≡ drop count buffer
 
--- The reasons why a file cannot be opened: the kind of its bytes, or lack of memory. A disk in
--- memory has no other fault.
+-- Holds if this is a possible reason why a file cannot be opened: the content of its bytes, or lack of
+-- memory. An in-memory disk has no other fault.
 abbrev pub IsFileRefused : StoreFault → List ℕ → Type 0
 IsFileRefused store_fault.NoMemory file = Unit {0}
 IsFileRefused store_fault.Device file = ⊥
@@ -80,7 +81,8 @@ IsFileRefused store_fault.NotBlank file = ⊥
 IsFileRefused fault file = (disk : MemDisk) × IsFresh file (mem_disk_state disk)
     × RefusesSession fault (mem_disk_state disk)
 
--- This input was served whole. Its answers have `count` bytes, more than the buffer has room for.
+-- Holds if this input was served completely, and its answers have `count` bytes, more than fit into the
+-- buffer.
 pub record LacksBufferRoom (file input : List ℕ) (count room : ℕ) : Type 0 where
   pub end : ShellEnd
   pub whole : IsServedWhole end
@@ -90,24 +92,26 @@ pub record LacksBufferRoom (file input : List ℕ) (count room : ℕ) : Type 0 w
   pub counted : length answers ≡ count
   pub short : room < count
 
--- the reason why input was not served
+-- holds if this is a possible reason why the input was not served
 abbrev pub IsWhyNotServed : ServeFault → List ℕ → List ℕ → ℕ → Type 0
 IsWhyNotServed (Refused fault) file input room = IsFileRefused fault file
 IsWhyNotServed (NoRoom count) file input room = LacksBufferRoom file input count room
 
--- The disk of a session stood for its state. These bytes hold a snapshot of that state and no
--- records.
+-- Holds if the disk of a session represented its state, and these bytes hold a snapshot of that state
+-- and no records.
 pub record SettlesTo (session : SessionView MemDisk) (file : List ℕ) : Type 0 where
   pub stood : StandsFor (bytes_of (mem_disk_state session.disk)) session.state
   pub holds : HoldsState file session.state
 
--- The file stood for a state. Now it holds a snapshot of that state and no records.
+-- Holds if the old bytes of a file represented a state, and the new bytes hold a snapshot of that state
+-- and no records.
 pub record StandsForSameState (old new : List ℕ) : Type 0 where
   pub state : BenchState
   pub before : StandsByEither old state
   pub after : HoldsState new state
 
--- The input was served, which gave some file. Then a snapshot replaced the records of that file.
+-- Holds if the input was served, which produced some file, and a snapshot then replaced the records of
+-- that file.
 pub record AnswersAndSettles (file input : List ℕ) (end : ShellEnd) (count : ℕ)
     (buffer buffer' after : List ℕ) : Type 0 where
   pub between : List ℕ
@@ -115,7 +119,7 @@ pub record AnswersAndSettles (file input : List ℕ) (end : ShellEnd) (count : �
   pub settled : StandsForSameState between after
   pub same : settled.state ≡ answers.served.left.state
 
--- the input would be served so, with no statement about the file that this would give
+-- holds if serving the input would give these answers; the file that this would produce is not specified
 pub record WouldAnswer (file input : List ℕ) (end : ShellEnd) (count : ℕ)
     (buffer buffer' : List ℕ) : Type 0 where
   pub after : List ℕ

@@ -1,4 +1,4 @@
-//! Sessions on disks in memory, from the bytes of a file and back.
+//! Sessions on in-memory disks, which are filled from the bytes of a file and written back to them.
 ghost use Rattle.std.specs.Prelude.{◌≡◌, length, IfErr, IfOk, IsTrue};
 ghost use Rattle.mcs_disk.specs.Disk.{bytes_of, size_of};
 ghost use Rattle.mcs_disk.specs.States.{IsFresh, mem_disk_state};
@@ -9,7 +9,7 @@ use mcs_journal::StoreFault;
 use mcs_session::session::Session;
 use std::alloc::{AllocError, Global};
 
-/// Makes a disk that holds a copy of these bytes. It fails if memory runs out.
+/// Creates a disk that holds a copy of these bytes. Fails if memory runs out.
 fn disk_of(alloc: Global, file: &[u8]) -> Result<MemDisk, AllocError>
     ensures { IfOk result (λ disk. IsFresh file.now (mem_disk_state disk)) }
 {
@@ -19,8 +19,8 @@ fn disk_of(alloc: Global, file: &[u8]) -> Result<MemDisk, AllocError>
     Ok(MemDisk::with_bytes(bytes))
 }
 
-/// Opens the session that the bytes of a file hold, on a copy of them. It fails if they hold no
-/// session or if memory runs out.
+/// Opens the session in the bytes of a file, on a copy of these bytes. Fails if the bytes do not hold a session or if
+/// memory runs out.
 pub(crate) fn resume(alloc: Global, file: &[u8]) -> Result<Session<MemDisk>, StoreFault>
     ensures resumed { IfOk result (λ session. ResumesSession file.now session) }
     ensures refused { IfErr result (λ fault. IsFileRefused fault file.now) }
@@ -32,7 +32,7 @@ pub(crate) fn resume(alloc: Global, file: &[u8]) -> Result<Session<MemDisk>, Sto
         Ok(session) => Ok(session),
         Err((StoreFault::NotASession, _)) => Err(StoreFault::NotASession),
         Err((StoreFault::Damaged, _)) => Err(StoreFault::Damaged),
-        // a disk in memory has no fault, and `open` never fails with `NotBlank`
+        // an in-memory disk has no device faults, and `open` never fails with `NotBlank`
         Err((StoreFault::Device | StoreFault::NotBlank | StoreFault::NoMemory, _)) => Err(
             StoreFault::NoMemory,
         ),
@@ -47,8 +47,8 @@ pub(crate) fn write_back(disk: &MemDisk, file: &mut [u8])
     file.copy_from_slice(disk.bytes());
 }
 
-/// Replaces the records of an open session with a snapshot, and the bytes of a file with those of
-/// its disk. On a disk that has no fault it cannot fail.
+/// Replaces the records of an open session with a snapshot, and the bytes of a file with those of the session's disk.
+/// It cannot fail, because an in-memory disk has no device faults.
 pub(crate) fn settle_into(mut session: Session<MemDisk>, file: &mut [u8])
     requires open { IsTrue session.live }
     requires size { length file.old ≡ size_of (mem_disk_state session.disk) }

@@ -2,13 +2,13 @@
 use mcs_journal::StoreFault;
 use thiserror::Error;
 
-/// A reason why input is not served. Nothing was done then.
+/// A reason why input is not served. In each of these cases, nothing was done.
 #[derive(Clone, Copy, Debug, PartialEq, Eq, Error)]
 pub enum ServeFault {
-    /// The bytes hold no session (50, 51), or there was no memory (90).
+    /// The bytes do not hold a session (50, 51), or memory ran out (90).
     #[error("{0}")]
     Refused(StoreFault),
-    /// The answers have this many bytes, and the buffer has fewer.
+    /// The answers do not fit into the buffer. The field is the number of their bytes.
     #[error("the answers take {0} bytes, and the buffer has fewer")]
     NoRoom(usize),
 }

@@ -1,5 +1,5 @@
-//! The bench without a host, for a page in a browser: it reads a session file's bytes and lines,
-//! and returns answers and the file's bytes.
+//! The bench without a host, for a page in a browser. It takes the bytes of a session file and input lines, and returns
+//! answers and the new bytes of the file.
 #![tactic(auto)]
 
 mod disks;

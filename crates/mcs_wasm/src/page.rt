@@ -16,10 +16,9 @@ use std::alloc::{AllocError, Global};
 /// The result of input that was served.
 #[derive(Clone, Copy, Debug, PartialEq, Eq)]
 pub struct ServedInput {
-    /// The end of the shell: its input was served to its end, or to the limit of what a shell
-    /// reads.
+    /// The end of the shell: all input was served, or as much as the input limit allows.
     pub end: ShellEnd,
-    /// The number of bytes of the answers.
+    /// The number of bytes in the answers.
     pub count: usize,
 }
 
@@ -31,7 +30,7 @@ struct Answered {
     output: Vec<u8>,
 }
 
-/// Makes the file of a new session. If memory runs out, it fails and the bytes stay.
+/// Writes the file of a new session. Fails if memory runs out, and then leaves the bytes unchanged.
 pub fn begin(alloc: Global, file: &mut [u8]) -> Result<(), AllocError>
     requires size { length file.old ≡ FILE_SIZE }
     ensures made { OnOk result (IsNewFile file.new) }
@@ -45,7 +44,7 @@ pub fn begin(alloc: Global, file: &mut [u8]) -> Result<(), AllocError>
     Ok(())
 }
 
-/// Returns true if the shell served all of its input, or as much as it reads.
+/// Returns true if the shell served all of its input, or as much as the input limit allows.
 fn is_whole(end: ShellEnd) -> bool
     ensures { IsTrue result ↔ IsServedWhole end }
 {
@@ -57,9 +56,8 @@ fn is_whole(end: ShellEnd) -> bool
     }
 }
 
-/// Continues the session that the bytes of a file hold, on a copy of them, and serves the lines of
-/// an input on it. It fails if the bytes hold no session, if memory runs out, or if the answers
-/// have more than `room` bytes.
+/// Continues the session in the bytes of a file, on a copy of these bytes, and serves the input lines. Fails if the
+/// bytes do not hold a session, if memory runs out, or if the answers have more than `room` bytes.
 fn serve_on(alloc: Global, file: &[u8], input: &[u8], room: usize) -> Result<Answered, ServeFault>
     ensures served { IfOk result (λ a.
         ServesAllInput file.now input.now a.end a.output.items a.session) }
@@ -73,8 +71,7 @@ fn serve_on(alloc: Global, file: &[u8], input: &[u8], room: usize) -> Result<Ans
     let mut reader = input;
     let mut output = Vec::new(alloc);
     let end = run_shell(alloc, &mut reader, &mut output, &mut session);
-    // Every other end means that memory ran out: over a slice, a vector and bytes in memory nothing
-    // else fails.
+    // Every other end means that memory ran out. Nothing else can fail with a slice, a vector and bytes in memory.
     if !is_whole(end) {
         return Err(ServeFault::Refused(StoreFault::NoMemory));
     }
@@ -88,7 +85,7 @@ fn serve_on(alloc: Global, file: &[u8], input: &[u8], room: usize) -> Result<Ans
     })
 }
 
-/// Writes answers to the front of a buffer, and returns the number of their bytes.
+/// Copies answers to the front of a buffer, and returns the number of their bytes.
 pub fn put_in_front(buffer: &mut [u8], answers: &[u8]) -> usize
     requires room { length answers.now ≤ length buffer.old }
     ensures count { result ≡ length answers.now }
@@ -100,12 +97,11 @@ pub fn put_in_front(buffer: &mut [u8], answers: &[u8]) -> usize
     count
 }
 
-/// Continues the session that the bytes of a file hold, and serves the lines of an input on it. It
-/// writes the answers to the front of a buffer, and replaces the bytes of the file with those that
-/// the session's disk has then.
+/// Continues the session in the bytes of a file, and serves the input lines. Writes the answers to the front of a
+/// buffer, and replaces the bytes of the file with those of the session's disk.
 ///
-/// It does all of that or nothing. If the bytes hold no session (50, 51), memory runs out (90), or
-/// the answers have no room, it fails, and the file and the buffer stay as they were.
+/// The call does all of that or nothing. It fails if the bytes do not hold a session (50, 51), if memory runs out (90),
+/// or if the answers do not fit. The file and the buffer are then unchanged.
 pub fn serve(
     alloc: Global,
     file: &mut [u8],
@@ -132,10 +128,10 @@ pub fn serve(
     Ok(ServedInput { end, count })
 }
 
-/// Serves input as [`serve`] does, and then replaces the records of the file with a snapshot, as
-/// [`settle`] does: opening it has no command to repeat.
+/// Serves input as [`serve`] does, and then replaces the records of the file with a snapshot, as [`settle`] does.
+/// Opening the file then replays no commands.
 ///
-/// It does all of that or nothing.
+/// The call does all of that or nothing.
 pub fn serve_and_settle(
     alloc: Global,
     file: &mut [u8],
@@ -161,7 +157,7 @@ pub fn serve_and_settle(
     Ok(ServedInput { end, count })
 }
 
-/// Answers an input as [`serve`] would, and leaves the file as it is.
+/// Answers input as [`serve`] would, but leaves the file unchanged.
 pub fn ask(
     alloc: Global,
     file: &[u8],
@@ -186,9 +182,9 @@ pub fn ask(
     Ok(ServedInput { end, count })
 }
 
-/// Replaces the records of a session's file with a snapshot. The file then stands for the same
-/// state, and opening it has no command to repeat. If the bytes hold no session (50, 51) or memory
-/// runs out (90), it fails and they stay.
+/// Replaces the records of a session's file with a snapshot. The file then represents the same state, and opening it
+/// replays no commands. Fails if the bytes do not hold a session (50, 51) or if memory runs out (90), and then leaves
+/// them unchanged.
 pub fn settle(alloc: Global, file: &mut [u8]) -> Result<(), StoreFault>
     ensures settled { OnOk result (StandsForSameState file.old file.new) }
     ensures refused { IfErr result (λ fault. IsFileRefused fault file.old) }

@@ -1,5 +1,5 @@
-//! The calls that a page in a browser makes: the bench over the bytes of a session file that the
-//! page keeps, and the prover.
+//! The functions that a page in a browser calls: the bench, on the bytes of a session file that the page keeps, and the
+//! prover.
 #![tactic(auto)]
 
 ghost use Rattle.std.specs.Prelude.{◌≡◌, length, true, false};
@@ -22,10 +22,10 @@ use std::str;
 #[derive(Clone, Copy)]
 #[repr(C)]
 pub struct CallResult {
-    /// If input was served, the exit status of the shell's end. Otherwise the number of the
-    /// refusal, or 0 if the answers have no room.
+    /// The exit status for the shell's end, if input was served. Otherwise the number of the refusal, or 0 if the
+    /// answers do not fit into the buffer.
     pub number: u32,
-    /// The number of bytes of the answers, also if they have no room.
+    /// The number of bytes in the answers, even if they do not fit into the buffer.
     pub count: usize,
 }
 
@@ -42,7 +42,7 @@ fn report_served(served: ServedInput, report: &mut CallResult) -> bool
     true
 }
 
-/// Writes why input was not served, and returns false.
+/// Writes the reason why input was not served, and returns false.
 fn report_why(why: ServeFault, report: &mut CallResult) -> bool
     ensures is { result ≡ false }
     ensures number { report.new.number ≡ reported_number why }
@@ -58,7 +58,7 @@ fn report_why(why: ServeFault, report: &mut CallResult) -> bool
     false
 }
 
-/// Returns the number of bytes of a session file.
+/// Returns the number of bytes in a session file.
 #[unsafe(no_mangle)]
 pub extern "C" fn bench_file_size() -> usize
     ensures { result ≡ FILE_SIZE }
@@ -66,7 +66,7 @@ pub extern "C" fn bench_file_size() -> usize
     mcs_journal::FILE_SIZE
 }
 
-/// Makes the file of a new session. If it returns false, memory ran out, and the bytes stay.
+/// Writes the file of a new session. Returns false if memory ran out; the bytes are then unchanged.
 #[unsafe(no_mangle)]
 pub extern "C" fn bench_begin(alloc: Global, file: &mut [u8]) -> bool
     requires size { length file.old ≡ FILE_SIZE }
@@ -76,9 +76,9 @@ pub extern "C" fn bench_begin(alloc: Global, file: &mut [u8]) -> bool
     begin(alloc, file).is_ok()
 }
 
-/// Continues the session that the bytes of a file hold, and serves the lines of an input on it. It
-/// writes the answers to the front of a buffer, and replaces the bytes of the file with those that
-/// its disk has then. If it returns false, nothing was done, and the call result has the reason.
+/// Continues the session in the bytes of a file, and serves the input lines. Writes the answers to the front of a
+/// buffer, and replaces the bytes of the file with those of the session's disk. If it returns false, nothing was done,
+/// and `report` has the reason.
 #[unsafe(no_mangle)]
 pub extern "C" fn bench_serve(
     alloc: Global,
@@ -99,8 +99,8 @@ pub extern "C" fn bench_serve(
     }
 }
 
-/// Serves as `bench_serve` does, and then replaces the records of the file with a snapshot. If it
-/// returns false, nothing was done, and the call result has the reason.
+/// Serves input as `bench_serve` does, and then replaces the records of the file with a snapshot. If it returns false,
+/// nothing was done, and `report` has the reason.
 #[unsafe(no_mangle)]
 pub extern "C" fn bench_serve_and_settle(
     alloc: Global,
@@ -121,8 +121,8 @@ pub extern "C" fn bench_serve_and_settle(
     }
 }
 
-/// Answers as `bench_serve` would, and leaves the file as it is. If it returns false, nothing was
-/// done, and the call result has the reason.
+/// Answers input as `bench_serve` would, but leaves the file unchanged. If it returns false, nothing was done, and
+/// `report` has the reason.
 #[unsafe(no_mangle)]
 pub extern "C" fn bench_ask(
     alloc: Global,
@@ -143,8 +143,8 @@ pub extern "C" fn bench_ask(
     }
 }
 
-/// Replaces the records of a session's file with a snapshot. If it returns false, the bytes hold no
-/// session or memory ran out, and they stay.
+/// Replaces the records of a session's file with a snapshot. Returns false if the bytes do not hold a session or memory
+/// ran out; the bytes are then unchanged.
 #[unsafe(no_mangle)]
 pub extern "C" fn bench_settle(alloc: Global, file: &mut [u8]) -> bool
     ensures settled { result ≡ true → StandsForSameState file.old file.new }
@@ -153,10 +153,9 @@ pub extern "C" fn bench_settle(alloc: Global, file: &mut [u8]) -> bool
     settle(alloc, file).is_ok()
 }
 
-/// Answers a question to the prover as the program mcs4_prove does. The line of the answer is at
-/// the front of the buffer, and the call result has the exit status and the number of its bytes. If
-/// it returns false, the buffer stays. Then the call result has 90 if memory ran out, or 0 and the
-/// number of bytes if they have no room.
+/// Answers a question to the prover as the program mcs4_prove does. Writes the line of the answer to the front of the
+/// buffer. `report` then has the exit status and the number of bytes in the line. If it returns false, the buffer is
+/// unchanged. `report` then has 90 if memory ran out, or 0 and the number of bytes if the line does not fit.
 #[unsafe(no_mangle)]
 pub extern "C" fn bench_prove(
     alloc: Global,
@@ -169,7 +168,7 @@ pub extern "C" fn bench_prove(
         ReportsWhyNoLine report.new.number report.new.count (length answers.old) }
     ensures stays { result ≡ false → answers.new ≡ answers.old }
 {
-    // as the program does: bytes that are not text are no question
+    // as in the program, bytes that are not valid text are not a question
     let Ok(Answer { text, status }) = answer_to(alloc, str::from_utf8(question).unwrap_or(""))
     else {
         return report_why(ServeFault::Refused(StoreFault::NoMemory), report);
