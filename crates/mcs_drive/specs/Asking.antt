@@ -1,4 +1,4 @@
--- The readings of a machine's inputs, and the values that it can read.
+-- Reads of a machine's inputs, and the values that these reads can return.
 use Rattle.std.specs.Prelude.{◌≡◌, ◌<◌, ◌+◌, ◌%◌, ◌/◌, ℕ, [], Bool, true, false, not, ◌&&◌, ◌==◌, Option, Some, None, length, slice_index, slice_index_or, if◌then◌else◌}
 use Rattle.std.specs.List.{list_any, range_with_len}
 use Rattle.mcs_nibble.specs.Bits.{bit_of}
@@ -13,49 +13,50 @@ use Rattle.mcs_model.specs.Levels.{bit_when, is_pulled, is_rom_line, port_of}
 use Rattle.mcs_model.specs.Running.{Machine}
 use Rattle.mcs_drive.specs.Driven.{Levels, under, cycled}
 
--- ---- when a machine asks
+-- ---- reads of inputs
 
--- true if an instruction reads an input: RDR, and JCN with bit 0 of its condition, which tests TEST
+-- true if an instruction reads an input: RDR, or a JCN that tests the TEST pin (bit 0 of its condition)
 abbrev pub asks : Option Op → Bool
 asks (Some Rdr) = true
 asks (Some (Jcn c w)) = c % 2 == 1
 asks _ = false
 
--- true if the next cycle of a machine does
+-- true if a machine's next cycle reads an input; the second cycle of an instruction never does
 abbrev pub is_asking : Machine → Bool
 is_asking s = not (s.0.owed == 1) && asks (instruction_at s.0 s.1)
 
--- a cycle that reads no input is the same at all levels, and leaves them unchanged
+-- a cycle that reads no input does not depend on the input levels and leaves them unchanged
 abbrev pub LevelsRest : Type 0
 LevelsRest =
     (l : Levels) (s : Machine) → board_fault_of s.1.board ≡ None → is_asking s ≡ false →
     cycled (under l s) ≡ under l (cycled s)
 
--- ---- what the levels answer
+-- ---- the value that a read returns
 
--- the value that an instruction reads at these levels: the port, or TEST; 0 if it reads no input
+-- the value that an instruction reads at the given input levels: the selected ROM's port for RDR, TEST
+-- for JCN, and 0 if it reads no input
 abbrev pub answer_to : Option Op → Levels → BusState → ℕ
 answer_to (Some Rdr) l m = port_of (record m { keys = l.keys; test = l.test })
 answer_to (Some (Jcn c w)) l m = if c % 2 == 1 then l.test else 0
 answer_to _ l m = 0
 
--- the value that the next instruction of a machine reads
+-- the value that a machine's next instruction reads at the given input levels
 abbrev pub answer : Levels → Machine → ℕ
 answer l s = answer_to (instruction_at s.0 s.1) l s.1
 
--- a machine with no levels at its inputs
+-- a machine with its input levels erased: no keys, and TEST at 0
 abbrev pub plain : Machine → Machine
 plain s = under (record { keys = []; test = 0 }) s
 
--- of the levels, a cycle depends only on the value that it reads
+-- the input levels affect a cycle only through the value that it reads
 abbrev pub AnswersDecide : Type 0
 AnswersDecide =
     (l l' : Levels) (s : Machine) → board_fault_of s.1.board ≡ None → answer l s ≡ answer l' s →
     plain (cycled (under l s)) ≡ plain (cycled (under l' s))
 
--- ---- which answers there are
+-- ---- the values that a read can return
 
--- true if a driven row can pull line k of a ROM's port, with the right key down
+-- true if line k of a ROM's port is a column of the key matrix and some row is driven: a key can pull it
 abbrev pub may_be_pulled : BusState → ℕ → ℕ → Bool
 may_be_pulled s chip k =
     elim s.board.keys [
@@ -66,13 +67,14 @@ may_be_pulled s chip k =
           (range_with_len 0 (length m.columns.items))
     ]
 
--- no other line is pulled, at any levels
+-- at any input levels, every line that is pulled is one that a driven row can pull
 abbrev pub PulledAtMost : Type 0
 PulledAtMost =
     (l : Levels) (s : Machine) (chip k : ℕ) → is_pulled (under l s).1 chip k ≡ true →
     may_be_pulled s.1 chip k ≡ true
 
--- the value read at a ROM's port if, of the lines that can be pulled, the bits of c are
+-- the value read at a ROM's port if, of the lines that can be pulled, exactly those are pulled whose bit
+-- in c is 1; 0 if the ROM is absent
 abbrev pub port_choice : BusState → ℕ → ℕ → ℕ
 port_choice s chip c =
     elim (masks_on s.board chip) [
@@ -80,7 +82,7 @@ port_choice s chip c =
       | None ↦ 0
     ]
 
--- at any levels, one of these 16 values is read
+-- at any input levels, the value at the selected ROM's port is `port_choice` for some c below 16
 abbrev pub ChoicesCover : Type 0
 ChoicesCover =
     (l : Levels) (s : Machine) →

@@ -1,22 +1,23 @@
--- Runs from one reading of an input to the next.
+-- Runs from one read of an input to the next.
 use Rattle.std.specs.Prelude.{◌≡◌, ◌<◌, ◌≤◌, ℕ, suc, Bool, true, false, None}
 use Rattle.mcs_model.specs.Boards.{board_fault_of}
 use Rattle.mcs_drive.specs.Driven.{Levels}
 use Rattle.mcs_drive.specs.Tracked.{Stopwatch, Tracked, under, plain, after_cycles, is_asking, answer}
 
--- a property that does not depend on the inputs
+-- holds if a property does not depend on the input levels
 abbrev pub Ignores : (Tracked → Bool) → Type 0
 Ignores p = (s : Tracked) → p s ≡ p (plain s)
 
--- at these levels and with a stopwatch, a runs into b, up to levels: after the first cycle it reads no input before b, and
--- p holds after each cycle
+-- holds if, at input levels l, machine a runs into b in one or more cycles, apart from the input levels
+-- of both. Only the first cycle may read an input, and p holds after each cycle.
 pub record LeadsTo (w : Stopwatch) (p : Tracked → Bool) (a b : Tracked) (l : Levels) : Type 0 where
   pub more : ℕ
   pub quiet : (i : ℕ) → i < more → is_asking (after_cycles w (suc i) (under l a)) ≡ false
   pub well : (i : ℕ) → i ≤ more → p (after_cycles w (suc i) (under l a)) ≡ true
   pub same : plain (after_cycles w (suc more) (under l a)) ≡ plain b
 
--- one run shows the result for all levels at which the same is read
+-- a run from a to b at one set of input levels is also a run from a to b at any other set at which the
+-- next instruction of a reads the same value
 abbrev pub AnswersLead : Type 0
 AnswersLead =
     (w : Stopwatch) (p : Tracked → Bool) (a b : Tracked) (l m : Levels) → Ignores p → board_fault_of a.1.board ≡ None →

@@ -1,39 +1,40 @@
-//! Laws of the definitions, each as the contract of a function that does nothing.
+//! Laws of the definitions. Each law is the contract of a function with an empty body.
 ghost use Rattle.mcs_drive.specs.Asking.{AnswersDecide, ChoicesCover, LevelsRest, PulledAtMost};
 ghost use Rattle.mcs_drive.specs.Leading.{AnswersLead};
 ghost use Rattle.mcs_drive.specs.Tracked.{EndsWithin, TracksMachine};
 
-/// Proves that a cycle that reads no input is the same at all levels, and leaves them unchanged.
+/// Proves that a cycle that reads no input does not depend on the input levels and leaves them unchanged.
 pub fn levels_rest()
     ensures { LevelsRest }
 {}
 
-/// Proves that, of the levels, a cycle depends only on the value that it reads.
+/// Proves that the input levels affect a cycle only through the value that it reads.
 pub fn answers_decide()
     ensures { AnswersDecide }
 {}
 
-/// Proves that a line of a port is pulled only if a driven row can pull it.
+/// Proves that a port line is pulled only if a driven row can pull it.
 pub fn pulled_at_most()
     ensures { PulledAtMost }
 {}
 
-/// Proves that, at any levels, the value read at a port is one of 16.
+/// Proves that, at any input levels, the value at the selected ROM's port is one of the 16 that `port_choice` computes.
 pub fn choices_cover()
     ensures { ChoicesCover }
 {}
 
-/// Proves that a run at some levels shows the result for all levels at which the same is read.
+/// Proves that a run at one set of input levels is also a run at any other set at which its first cycle reads the same
+/// value.
 pub fn answers_lead()
     ensures { AnswersLead }
 {}
 
-/// Proves that the machine of a run is the same with and without what is counted beside it.
+/// Proves that counting calls and cycles does not change the machine of a run.
 pub fn tracks_machine()
     ensures { TracksMachine }
 {}
 
-/// Proves that a stopwatch that never shows more than a limit ends within the limit each time that it begins.
+/// Proves that a stopwatch that never exceeds a limit ends within that many cycles each time that it begins.
 pub fn ends_within()
     ensures { EndsWithin }
 {}

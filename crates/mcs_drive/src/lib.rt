@@ -1,4 +1,4 @@
-//! Everything that inputs can do to a machine: definitions and laws.
+//! The effects of inputs on a machine: definitions, and laws about them.
 #![tactic(auto)]
 
 mod laws;
