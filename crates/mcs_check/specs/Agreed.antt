@@ -1,11 +1,12 @@
--- Buses that agree in the chips that are there.
+-- Buses that agree in all chips that are present.
 use Rattle.std.specs.Prelude.{◌≡◌, ◌<◌, ◌/◌, ℕ, List, Some, slice_index}
 use Rattle.mcs_nibble.specs.declared.lines.LineMask.{LineMask}
 use Rattle.mcs_model.specs.Boards.{masks_on}
 use Rattle.mcs_model.specs.Bus.{BusState, chips_of, ram_index, status_index, ram_port_index}
 use Rattle.mcs_model.specs.Validity.{IsValidBus}
 
--- the same board and ROM, and the same in each cell of a chip that is there
+-- holds if two buses have the same board, ROM bytes and input levels, and agree in every cell of a chip
+-- that is present
 pub record AgreesInChips (s t : BusState) : Type 0 where
   pub board : s.board ≡ t.board
   pub rom : s.rom ≡ t.rom
@@ -23,6 +24,7 @@ pub record AgreesInChips (s t : BusState) : Type 0 where
   pub keys : s.keys ≡ t.keys
   pub test : s.test ≡ t.test
 
--- such buses are the same, if they are valid: what is packed into a key determines the rest
+-- valid buses that agree in all chips that are present are equal: the cells in a key determine all
+-- others
 abbrev pub AgreeingAreSame : Type 0
 AgreeingAreSame = (s t : BusState) → IsValidBus s → IsValidBus t → AgreesInChips s t → s ≡ t

@@ -1,5 +1,5 @@
--- The cells of a machine: what can differ between two machines with one board and one program, byte
--- by byte. A key is what the cells of a layout hold. (Our own choice.)
+-- The cells of a machine: the bytes that can differ between two machines with the same board and the
+-- same program. The values of a layout's cells form a key. (Our own choice.)
 use Rattle.std.specs.Prelude.{◌≡◌, ◌<◌, ◌/◌, ◌%◌, ℕ, List, [], ◌∷◌, Bool, true, is_some, map, nat_lt, slice_index, slice_index_or}
 use Rattle.std.specs.List.{Contains}
 use Rattle.mcs_model.specs.declared.board.BoardParts.{BoardParts}
@@ -10,8 +10,9 @@ use Rattle.mcs_check.specs.declared.cells.Cell.{Cell}
 use Rattle.mcs_check.specs.declared.cells.CellList.{CellList}
 use Rattle.mcs_check.specs.declared.cells.CellList.TheVariants.{Characters, StatusCharacters, RamPorts, RomPorts, BankSrcs, Registers, Counters, Chain}
 
--- the registers but for the index registers, the SRC byte that the ROMs keep, how many calls are open,
--- and what the stopwatch shows; an address in two bytes and a time in three, the upper one first
+-- all registers except the index registers, the SRC byte that the ROMs store, the number of open calls,
+-- and the stopwatch's cycles. An address takes two bytes and the cycles take three, most significant
+-- first.
 abbrev pub counters_of : Regs → ℕ → Counts → List ℕ
 counters_of s src t =
     s.acc ∷ s.cy ∷ s.dcl ∷ s.owed ∷ s.pc / 256 ∷ s.pc % 256
@@ -20,7 +21,7 @@ counters_of s src t =
     ∷ slice_index s.ret 2 / 256 ∷ slice_index s.ret 2 % 256 ∷ src ∷ t.calls
     ∷ t.elapsed / 65536 ∷ t.elapsed / 256 % 256 ∷ t.elapsed % 256 ∷ []
 
--- the numbers of a list of cells
+-- the values of all cells in a list
 abbrev pub list_of : Tracked → CellList → List ℕ
 list_of t Characters = t.1.ram
 list_of t StatusCharacters = t.1.status
@@ -31,7 +32,7 @@ list_of t Registers = t.0.r
 list_of t Counters = counters_of t.0 t.1.rom_src t.2
 list_of t (Chain n) = slice_index_or t.1.chains n []
 
--- how many cells a list has at most
+-- the maximum number of cells in a list
 abbrev pub count_of : CellList → ℕ
 count_of Characters = 2048
 count_of StatusCharacters = 512
@@ -42,7 +43,7 @@ count_of Registers = 16
 count_of Counters = 17
 count_of (Chain n) = 256
 
--- whether a board has the chip of cell i of a list; every board has the processor
+-- true if a board has the chip that contains cell i of a list; every board has the processor
 abbrev pub is_there : BoardParts → CellList → ℕ → Bool
 is_there b Characters i = nat_lt (i % 256 / 64) (slice_index b.banks (i / 256))
 is_there b StatusCharacters i = nat_lt (i % 64 / 16) (slice_index b.banks (i / 64))
@@ -53,24 +54,24 @@ is_there b Registers i = true
 is_there b Counters i = true
 is_there b (Chain n) i = nat_lt i (chain_bits b n)
 
--- what a cell holds
+-- the value of a cell; its index is reduced modulo the maximum number of cells in the list
 abbrev pub value_at : Tracked → Cell → ℕ
 value_at t c = slice_index (list_of t c.list) (c.index % count_of c.list)
 
--- the key of a machine: what the cells of a layout hold
+-- a machine's key: the values of the cells in a layout
 abbrev pub key_of : List Cell → Tracked → List ℕ
 key_of layout t = map (value_at t) layout
 
--- a layout has each cell of another one
+-- holds if a layout has every cell of another one
 abbrev pub HasAll : List Cell → List Cell → Type 0
 HasAll others layout = (c : Cell) → Contains others c → Contains layout c
 
--- a layout has each cell of a list that a board has
+-- holds if a layout has every cell of the list that the board has
 abbrev pub HasList : BoardParts → List Cell → CellList → Type 0
 HasList b layout list =
     (i : ℕ) → i < count_of list → is_there b list i ≡ true →
     Contains layout (record { list = list; index = i })
 
--- a layout has each cell of a board
+-- holds if a layout has every cell that the board has
 abbrev pub IsComplete : BoardParts → List Cell → Type 0
 IsComplete b layout = (list : CellList) → HasList b layout list

@@ -1,14 +1,14 @@
--- A machine all of whose keys are down.
+-- A machine with all its keys pressed.
 use Rattle.std.specs.Prelude.{◌≡◌, ◌<◌, ◌/◌, ◌%◌, ℕ, true, replicate}
 use Rattle.mcs_model.specs.declared.board.BoardParts.{BoardParts}
 use Rattle.mcs_model.specs.Boards.{has_key, key_count, key_index}
 use Rattle.mcs_drive.specs.Tracked.{Tracked}
 
--- a machine with all its keys down, and TEST at 0
+-- a machine with all its keys pressed and TEST at 0
 abbrev pub held : Tracked → Tracked
 held s = (s.0, record s.1 { keys = replicate (key_count s.1.board) 1; test = 0 }, s.2)
 
--- key i, row by row, of a board whose keys have that many columns
+-- holds if the board has a key in row i / columns and column i % columns, and its index is i
 pub record IsKeyAt (b : BoardParts) (columns i : ℕ) : Type 0 where
   pub some : 0 < columns
   pub there : has_key b (i / columns) (i % columns) ≡ true

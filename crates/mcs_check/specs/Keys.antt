@@ -1,4 +1,4 @@
--- For which machine a key stands. (Our own choice.)
+-- The machine that a key identifies. (Our own choice.)
 use Rattle.std.specs.Prelude.{◌≡◌, ℕ, List, Bool, true, replicate}
 use Rattle.mcs_model.specs.declared.board.BoardParts.{BoardParts}
 use Rattle.mcs_model.specs.Boards.{key_count}
@@ -9,23 +9,22 @@ use Rattle.mcs_check.specs.declared.cells.Cell.{Cell}
 use Rattle.mcs_check.specs.Cells.{IsComplete, key_of}
 use Rattle.mcs_check.specs.Conditions.{Aimed, keeps_to}
 
--- what stays the same for all machines of a search: the board, the bytes of its ROMs, its layout, and
--- the conditions
+-- the data shared by all machines of a search: the board, its ROM bytes, its layout and the conditions
 pub record Setting : Type 0 where
   pub board : BoardParts
   pub rom : List ℕ
   pub layout : List Cell
   pub aim : Aimed
 
--- that of a machine
+-- the setting of a machine, with a given layout and given conditions
 abbrev pub setting_of : Tracked → List Cell → Aimed → Setting
 setting_of s layout aim = record { board = s.1.board; rom = s.1.rom; layout = layout; aim = aim }
 
--- the property: of the conditions that are never to be met none are
+-- the property to check: true if none of the lists that must never be met has all its conditions met
 abbrev pub test_of : Setting → Tracked → Bool
 test_of g = keeps_to g.aim.nevers
 
--- a machine on this board and with these ROM bytes, all of whose keys are down, and TEST at 0
+-- holds if a machine is valid and has this board, these ROM bytes, all its keys pressed and TEST at 0
 pub record IsOn (b : BoardParts) (bytes : List ℕ) (a : Tracked) : Type 0 where
   pub registers : IsValidRegs a.0
   pub bus : IsValidBus a.1
@@ -34,21 +33,22 @@ pub record IsOn (b : BoardParts) (bytes : List ℕ) (a : Tracked) : Type 0 where
   pub keys : a.1.keys ≡ replicate (key_count b) 1
   pub test : a.1.test ≡ 0
 
--- a key stands for a machine: the property holds there, and the key has what its cells hold
+-- holds if a key identifies a machine: the machine has the setting's board and ROM bytes, the property
+-- holds for it, and the key has the values of its cells
 pub record IsKeyOf (g : Setting) (key : List ℕ) (a : Tracked) : Type 0 where
   pub on : IsOn g.board g.rom a
   pub well : test_of g a ≡ true
   pub cells : key ≡ key_of g.layout a
 
--- the board, the bytes of the ROMs, the keys and TEST stay
+-- holds if two buses have the same board, ROM bytes, key levels and TEST level
 pub record Keeps (s t : BusState) : Type 0 where
   pub board : t.board ≡ s.board
   pub rom : t.rom ≡ s.rom
   pub keys : t.keys ≡ s.keys
   pub test : t.test ≡ s.test
 
--- a key stands for one machine of a board and its ROM bytes: what the cells of a complete layout hold
--- decides all else
+-- a key identifies at most one machine with a given board and given ROM bytes: the cells of a complete
+-- layout determine everything else
 abbrev pub KeysDecide : Type 0
 KeysDecide =
     (b : BoardParts) (rom : List ℕ) (layout : List Cell) (s t : Tracked) → IsComplete b layout →

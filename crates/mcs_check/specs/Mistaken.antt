@@ -1,6 +1,6 @@
--- Mistakes that no program should make: each is made in the cycle that begins an instruction.
--- (MCS-4 Users Manual: the instruction table, the three return addresses, the ports of the 4001 and the
--- 4002. That these are mistakes is our own choice: what each does is in Effect and Bus of mcs_model.)
+-- Common programming mistakes. Each is made in the cycle that begins an instruction. (MCS-4 Users
+-- Manual: the instruction table, the three return addresses, the ports of the 4001 and the 4002. To call
+-- these mistakes is our own choice; Effect and Bus of mcs_model define what each one does.)
 use Rattle.std.specs.Prelude.{◌+◌, ◌/◌, ◌%◌, ℕ, Bool, true, false, not, ◌&&◌, ◌||◌, ◌==◌, Some, None, is_none, nat_lt}
 use Rattle.mcs_model.specs.declared.board.BoardParts.{BoardParts}
 use Rattle.mcs_model.specs.declared.op.Op.{Op}
@@ -15,17 +15,17 @@ use Rattle.mcs_model.specs.Registers.{pair_of}
 use Rattle.mcs_drive.specs.Tracked.{Tracked}
 use Rattle.mcs_check.specs.declared.common_mistakes.Mistakes.{Mistakes}
 
--- a fourth nested call: a JMS while three calls are open
+-- true if an instruction is a fourth nested call: a JMS while three calls are open
 abbrev pub is_fourth_call : Op → ℕ → Bool
 is_fourth_call (Jms h b) calls = nat_lt 2 calls
 is_fourth_call _ calls = false
 
--- a BBL while no call is open
+-- true if an instruction is a BBL while no call is open
 abbrev pub is_lone_return : Op → ℕ → Bool
 is_lone_return (Bbl d) calls = calls == 0
 is_lone_return _ calls = false
 
--- an instruction that reads or writes a RAM chip: a character, a status character or the port
+-- true if an instruction reads or writes a RAM chip: a RAM nibble, a status character or the port
 abbrev pub uses_ram : Op → Bool
 uses_ram Wrm = true
 uses_ram Wmp = true
@@ -42,12 +42,13 @@ uses_ram Rd2 = true
 uses_ram Rd3 = true
 uses_ram _ = false
 
--- RAM that is absent: the board lacks the chip that the SRC byte of the designated bank selects
+-- true if the selected RAM chip is absent: the board lacks the chip that the SRC byte of the designated
+-- bank selects
 abbrev pub lacks_ram : Regs → BusState → Bool
 lacks_ram s m = not (has_chip m s.dcl (src_of m s.dcl))
 
--- the address of the last word that an instruction reads from ROM: that of its second word, or of the
--- byte that FIN loads
+-- the address of the last word that an instruction reads from ROM: its second word, or the byte that FIN
+-- loads; the instruction's own address if it reads no other word
 abbrev pub last_read : Op → Regs → ℕ
 last_read (Jcn c b) s = (s.pc + 1) % 4096
 last_read (Fim k b) s = (s.pc + 1) % 4096
@@ -57,48 +58,53 @@ last_read (Jms h b) s = (s.pc + 1) % 4096
 last_read (Isz r b) s = (s.pc + 1) % 4096
 last_read _ s = s.pc
 
--- ROM that is absent: the board lacks the ROM of a word that the instruction reads
+-- true if an instruction reads a word from a ROM that the board does not have
 abbrev pub lacks_word : Op → Regs → BoardParts → Bool
 lacks_word op s b = lacks_rom b s.pc || lacks_rom b (last_read op s)
 
--- whether a ROM's port has an input line, and whether it has an output line; an absent ROM has neither
+-- true if a ROM's port has an input line; an absent ROM has none
 abbrev pub has_input : BoardParts → ℕ → Bool
 has_input b chip = input_on b chip 0 || input_on b chip 1 || input_on b chip 2 || input_on b chip 3
 
+-- true if a ROM's port has an output line; an absent ROM has none
 abbrev pub has_output : BoardParts → ℕ → Bool
 has_output b chip =
     not (is_none (masks_on b chip))
     && not (input_on b chip 0 && input_on b chip 1 && input_on b chip 2 && input_on b chip 3)
 
--- an RDR, or a WRR
+-- true if an instruction is an RDR
 abbrev pub is_rdr : Op → Bool
 is_rdr Rdr = true
 is_rdr _ = false
 
+-- true if an instruction is a WRR
 abbrev pub is_wrr : Op → Bool
 is_wrr Wrr = true
 is_wrr _ = false
 
--- whether an instruction makes one of these mistakes: with calls, with chips, with lines
+-- true if an instruction makes one of the given mistakes with calls
 abbrev pub errs_in_calls : Mistakes → Op → Tracked → Bool
 errs_in_calls asked op s =
     (asked.fourth_call && is_fourth_call op s.2.calls) || (asked.lone_return && is_lone_return op s.2.calls)
 
+-- true if an instruction makes one of the given mistakes with chips
 abbrev pub errs_in_chips : Mistakes → Op → Tracked → Bool
 errs_in_chips asked op s =
     (asked.absent_ram && uses_ram op && lacks_ram s.0 s.1)
     || (asked.absent_rom && lacks_word op s.0 s.1.board)
 
+-- true if an instruction makes one of the given mistakes with port lines
 abbrev pub errs_in_lines : Mistakes → Op → Tracked → Bool
 errs_in_lines asked op s =
     (asked.no_inputs && is_rdr op && not (has_input s.1.board (s.1.rom_src / 16)))
     || (asked.no_outputs && is_wrr op && not (has_output s.1.board (s.1.rom_src / 16)))
 
+-- true if an instruction makes one of the given mistakes
 abbrev pub makes : Mistakes → Op → Tracked → Bool
 makes asked op s = errs_in_calls asked op s || errs_in_chips asked op s || errs_in_lines asked op s
 
--- whether the next cycle makes one of these mistakes: it begins an instruction that does, or there is
--- none to begin, since the code at the counter is outside the instruction table
+-- true if the next cycle makes one of the given mistakes: it begins an instruction that makes one, or
+-- the opcode at the program counter is outside the instruction table
 abbrev pub is_mistaken : Mistakes → Tracked → Bool
 is_mistaken asked s =
     not (s.0.owed == 1)

@@ -1,4 +1,4 @@
--- The rules of the search. (Our own choice.)
+-- The rules of the search over keys. (Our own choice.)
 use Rattle.std.specs.Prelude.{ℕ, List}
 use Rattle.std.specs.List.{Contains}
 use Rattle.mcs_drive.specs.Driven.{Levels, FitBoard}
@@ -7,12 +7,13 @@ use Rattle.mcs_search.specs.Rules.{Rules}
 use Rattle.mcs_check.specs.Keys.{Setting, IsKeyOf}
 use Rattle.mcs_check.specs.Walking.{IsState, Leads}
 
--- these values are all that can be read
+-- holds if the values include every value that the machine that a key identifies can read next
 abbrev pub Covers : Setting → List ℕ → List ℕ → Type 0
 Covers g key values =
     (a : Tracked) → IsKeyOf g key a → (l : Levels) → FitBoard a.1.board l → Contains values (answer l a)
 
--- That the property fails on a way says nothing here: it is seen when the way is replayed on a bench.
+-- the rules of the search. A failure that the search reports promises nothing: it must be replayed on a
+-- bench.
 abbrev pub rules_of : Setting → Rules
 rules_of g = record {
   is_state = IsState g;

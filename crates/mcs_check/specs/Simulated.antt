@@ -1,4 +1,4 @@
--- A system whose keys stand for machines.
+-- A transition system whose keys identify machines.
 use Rattle.std.specs.Prelude.{◌≡◌, ℕ, List, Bool, true, false, None}
 use Rattle.std.specs.List.{Contains}
 use Rattle.mcs_model.specs.Boards.{board_fault_of}
@@ -7,14 +7,14 @@ use Rattle.mcs_drive.specs.Tracked.{Stopwatch, Tracked, under, after_cycles, ans
 use Rattle.mcs_drive.specs.Leading.{LeadsTo}
 use Rattle.mcs_search.specs.Rules.{Rules}
 
--- a machine that a key may stand for: on a sound board, with p
+-- holds if a key may identify a machine: its board is sound, and p holds for it
 pub record IsStation (p : Tracked → Bool) (a : Tracked) : Type 0 where
   pub sound : board_fault_of a.1.board ≡ None
   pub well : p a ≡ true
 
--- the rules of a search whose keys stand for machines. A choice is the value that is read; it leads to
--- a key if, at all levels at which this value is read, the machine leads to one of that key, p all the
--- way
+-- the rules of a search whose keys identify machines. A choice is the value that a machine reads. It
+-- leads to a key if, at all input levels that give this value, the machine runs into one that the key
+-- identifies, and p holds at every step.
 abbrev pub machine_rules : Stopwatch → (Tracked → Bool) → (List ℕ → Type 0) → (List ℕ → Tracked → Type 0) → Rules
 machine_rules w p is_state is_key_of = record {
   is_state = is_state;

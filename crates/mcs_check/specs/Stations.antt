@@ -1,4 +1,4 @@
--- What a machine reads of the outside, and its run to where the next cycle reads again.
+-- The inputs that a machine reads, and its run from one read to the next.
 use Rattle.std.specs.Prelude.{◌≡◌, ◌<◌, ◌≤◌, ◌+◌, ◌/◌, ◌%◌, ◌==◌, ◌&&◌, ℕ, Bool, true, false, Some, None, nat_le}
 use Rattle.mcs_nibble.specs.Bits.{bit_of}
 use Rattle.mcs_nibble.specs.Ports.{read_lines}
@@ -14,66 +14,67 @@ use Rattle.mcs_drive.specs.Tracked.{Counts, Stopwatch, Tracked, under, plain, cy
 use Rattle.mcs_check.specs.declared.reading.Source.{Source}
 use Rattle.mcs_check.specs.declared.reading.Source.TheVariants.{Nothing, Port, Test}
 
--- an instruction is a JCN that looks at TEST
+-- holds if an instruction is a JCN that tests the TEST pin
 pub record LooksAtTest (op : Op) : Type 0 where
   pub condition : ℕ
   pub word : ℕ
   pub is : op ≡ Jcn condition word
   pub odd : (condition % 2 == 1) ≡ true
 
--- what an instruction reads
+-- holds if an instruction reads its input from the given source
 abbrev pub OpReads : Op → Source → Type 0
 OpReads op Nothing = asks (Some op) ≡ false
 OpReads op Port = op ≡ Rdr
 OpReads op Test = LooksAtTest op
 
--- the next cycle begins an instruction of which a fact holds
+-- holds if the next cycle begins an instruction for which a given fact holds
 pub record Begins (fact : Op → Type 0) (s : Tracked) : Type 0 where
   pub free : (s.0.owed == 1) ≡ false
   pub op : Op
   pub next : instruction_at s.0 s.1 ≡ Some op
   pub is : fact op
 
--- what the next cycle reads
+-- holds if the next cycle reads its input from the given source
 abbrev pub Reads : Tracked → Source → Type 0
 Reads s Nothing = is_asking s ≡ false
 Reads s Port = Begins (λ op. op ≡ Rdr) s
 Reads s Test = Begins LooksAtTest s
 
--- at no levels is this value read
+-- holds if the next instruction does not read this value at any input levels
 abbrev pub CannotRead : ℕ → Tracked → Type 0
 CannotRead value s = (l : Levels) → FitBoard s.1.board l → answer l s ≡ value → ⊥
 
--- whether each bit of a nibble is one of another nibble
+-- true if every bit that is set in nibble n is also set in nibble most
 abbrev pub has_no_more : ℕ → ℕ → Bool
 has_no_more n most =
     nat_le (bit_of n 0) (bit_of most 0) && nat_le (bit_of n 1) (bit_of most 1)
     && nat_le (bit_of n 2) (bit_of most 2) && nat_le (bit_of n 3) (bit_of most 3)
 
--- what the port of the selected ROM reads while no key is down
+-- the value that the selected ROM's port reads while no key is pressed; 0 if the ROM is absent
 abbrev pub port_unpressed : BusState → ℕ
 port_unpressed m =
     elim (masks_on m.board (m.rom_src / 16)) [ Some mask ↦ read_lines (λ k. 0) mask | None ↦ 0 ]
 
--- one cycle led from s to t, whatever the levels at which this value is read, and but for levels
+-- holds if one cycle leads from s to t, at all input levels at which s reads the given value; the levels
+-- of the result are ignored
 abbrev pub HasRead : Stopwatch → ℕ → Tracked → Tracked → Type 0
 HasRead w value s t =
     (l : Levels) → FitBoard s.1.board l → answer l s ≡ value → plain (cycled w (under l s)) ≡ plain t
 
--- a run from s to t, in which no cycle reads of the outside and the property holds at each moment
+-- holds if s runs to t, no cycle of that run reads an input, and the property holds at every moment
 pub record Reaches (w : Stopwatch) (p : Tracked → Bool) (s t : Tracked) : Type 0 where
   pub cycles : ℕ
   pub quiet : (i : ℕ) → i < cycles → is_asking (after_cycles w i s) ≡ false
   pub well : (i : ℕ) → i ≤ cycles → p (after_cycles w i s) ≡ true
   pub at : t ≡ after_cycles w cycles s
 
--- a stopwatch is at 0, and never begins
+-- holds if a stopwatch is at 0 and never begins
 pub record IsStill (w : Stopwatch) (n : Counts) : Type 0 where
   pub stands : n.elapsed ≡ 0
   pub never : (t : Tracked) → w.begins t ≡ false
 
--- the next cycle begins an ISZ of register r that jumps to itself, and not for the last time; no stopwatch
--- runs or begins
+-- holds if the next cycle begins an ISZ of register r that jumps to itself, this is not its last pass,
+-- and the stopwatch is at 0 and never begins
 pub record Spins (w : Stopwatch) (r : ℕ) (s : Tracked) : Type 0 where
   pub still : IsStill w s.2
   pub free : s.0.owed ≡ 0
@@ -82,7 +83,7 @@ pub record Spins (w : Stopwatch) (r : ℕ) (s : Tracked) : Type 0 where
   pub back : address_beside ((s.0.pc + 2) % 4096) word ≡ s.0.pc
   pub few : register_of s.0 r < 15
 
--- all passes of it but the last one lead from s to t
+-- holds if all passes but the last of an ISZ that jumps to itself lead from s to t
 pub record HasSpun (w : Stopwatch) (s t : Tracked) : Type 0 where
   pub register : ℕ
   pub spins : Spins w register s

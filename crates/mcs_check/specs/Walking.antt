@@ -1,4 +1,4 @@
--- What a step of the search shows: its keys stand for machines of one board.
+-- One step of the search. Its keys identify machines of one board.
 use Rattle.std.specs.Prelude.{◌≡◌, ℕ, List}
 use Rattle.mcs_drive.specs.Driven.{Levels, FitBoard}
 use Rattle.mcs_drive.specs.Tracked.{Tracked, answer}
@@ -6,11 +6,12 @@ use Rattle.mcs_drive.specs.Leading.{LeadsTo}
 use Rattle.mcs_check.specs.Conditions.{stopwatch_in}
 use Rattle.mcs_check.specs.Keys.{Setting, IsKeyOf, test_of}
 
--- a key stands for some machine
+-- holds if a key identifies some machine
 abbrev pub IsState : Setting → List ℕ → Type 0
 IsState g key = (a : Tracked) × IsKeyOf g key a
 
--- where this value is read, the machine of a key leads to that of the next one, the property all the way
+-- holds if the machine that a key identifies runs into the one that the next key identifies, at all
+-- input levels at which it reads this value, and the property holds at every step
 abbrev pub Leads : Setting → List ℕ → ℕ → List ℕ → Type 0
 Leads g key value next =
     (a : Tracked) → IsKeyOf g key a → (b : Tracked) × IsKeyOf g next b

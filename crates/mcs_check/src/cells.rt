@@ -1,4 +1,4 @@
-//! The cells of a machine, and the layout of a board: the cells that its machines have.
+//! The cells of a machine, and a board's layout: the list of cells that machines on the board have.
 ghost use Rattle.std.specs.Prelude.{◌≡◌, ◌<◌, ◌%◌, IfOk, OnOk};
 ghost use Rattle.mcs_check.specs.Cells.{count_of, is_there, HasAll, HasList, IsComplete};
 
@@ -6,29 +6,30 @@ use mcs_model::board::{Board, Line};
 use mcs_model::limits::CHAINS;
 use std::alloc::{AllocError, Global};
 
-/// A list of numbers of a machine.
+/// A list of cells of one kind.
 #[derive(Clone, Copy, Debug)]
 pub enum CellList {
-    /// The RAM characters, at bank * 256 + SRC byte.
+    /// The nibbles of RAM (Intel's "RAM characters"), indexed by bank * 256 + SRC byte.
     Characters,
-    /// The status characters, at (bank * 16 + upper nibble of SRC) * 4 + k.
+    /// The status characters, indexed by (bank * 16 + upper nibble of the SRC byte) * 4 + number of the character (0 to
+    /// 3).
     StatusCharacters,
-    /// The port latches of the RAM chips, at bank * 4 + chip.
+    /// The port latches of the RAM chips, indexed by bank * 4 + chip.
     RamPorts,
-    /// The port latches of the ROMs.
+    /// The port latches of the ROMs, indexed by chip.
     RomPorts,
-    /// The SRC byte that each bank keeps.
+    /// The SRC byte that each RAM bank stores, indexed by bank.
     BankSrcs,
     /// The index registers.
     Registers,
-    /// The other registers, addresses in two bytes, the SRC byte that the ROMs keep, how many calls are open, and the
-    /// cycles that the stopwatch shows, in three bytes.
+    /// All other registers (an address as two bytes), the SRC byte that the ROMs store, the number of open calls, and
+    /// the stopwatch's cycles as three bytes. The upper byte comes first.
     Counters,
-    /// The bits of a shift-register chain.
+    /// The bits of the shift-register chain with this number.
     Chain(u8),
 }
 
-/// A cell: a list and an index into it.
+/// A cell of a machine, given by its list and its index in that list.
 #[derive(Clone, Copy, Debug)]
 pub struct Cell {
     pub list: CellList,
@@ -45,7 +46,7 @@ impl Default for Cell {
 }
 
 impl CellList {
-    /// Returns how many cells the list has at most.
+    /// Returns the maximum number of cells in the list.
     pub fn count(self) -> u16
         ensures { result ≡ count_of self }
     {
@@ -63,7 +64,7 @@ impl CellList {
 }
 
 impl Cell {
-    /// Returns the index into the list. An index beyond the list begins again at its front.
+    /// Returns the index into the list, reduced modulo the maximum number of cells in the list.
     pub(crate) fn place(self) -> u16
         ensures { result ≡ self.index % count_of self.list }
     {
@@ -71,7 +72,7 @@ impl Cell {
     }
 }
 
-/// Returns whether a board has the chip of a cell.
+/// Returns whether a board has the chip that contains cell `i` of a list. Registers and counters are always present.
 fn is_there(board: &Board, list: CellList, i: u16) -> bool
     requires { i < count_of list }
     ensures { result ≡ is_there board.now list i }
@@ -87,7 +88,7 @@ fn is_there(board: &Board, list: CellList, i: u16) -> bool
     }
 }
 
-/// Adds the cells of a list that a board has.
+/// Appends the cells of one list that a board has to the layout.
 fn add_list(layout: &mut Vec<Cell>, board: &Board, list: CellList) -> Result<(), AllocError>
     ensures keeps { OnOk result (HasAll layout.old.items layout.new.items) }
     ensures has { OnOk result (HasList board.now layout.new.items list) }
@@ -100,11 +101,11 @@ fn add_list(layout: &mut Vec<Cell>, board: &Board, list: CellList) -> Result<(),
     Ok(())
 }
 
-/// Returns the layout of a board.
+/// Returns a board's layout, which contains every cell that machines on the board have.
 pub fn layout_of(alloc: Global, board: &Board) -> Result<Vec<Cell>, AllocError>
     ensures { IfOk result (λ layout. IsComplete board.now layout.items) }
 {
-    // (that a board has four chains at most is a fact then)
+    // This call gives the proof the fact that a board has at most four chains.
     let _parts = board.parts();
     let mut layout = Vec::new(alloc);
     for n in 0..CHAINS {

@@ -1,4 +1,4 @@
-//! Whether conditions are never met by a machine, whatever its keys and its TEST pin do.
+//! Checks that a machine never meets given conditions, for all levels of its keys and its TEST pin.
 ghost use Rattle.std.specs.Prelude.{◌≤◌, IfOk};
 ghost use Rattle.mcs_search.specs.declared.searching.TheConstants.{MOST};
 ghost use Rattle.mcs_check.specs.Conditions.{keeps_to, stopwatch_in};
@@ -11,32 +11,33 @@ use crate::walker::Walker;
 use mcs_search::{MOST, Verdict, search_all};
 use std::alloc::{AllocError, Global};
 
-/// What a search through all inputs found.
+/// The result of a search through all inputs.
 #[derive(Debug, Drop)]
 pub enum Outcome {
-    /// The conditions are never met, whatever the inputs: that many states.
+    /// The conditions are never met, for any inputs. The field is the number of states found.
     Holds(usize),
-    /// They may be met after these values were read, one at each reading; without a value they are met at once. Of them
-    /// nothing is proved.
+    /// The conditions may be met after the machine has read these values, one value per read. If there are no values,
+    /// the conditions are met at once. Nothing is proved about the values.
     MayFail(Vec<u8>),
-    /// There are more states than were asked for.
+    /// The search found more states than the caller's limit allows.
     TooMany,
-    /// Memory has room for this many states, and there may be more.
+    /// Memory ran out. The field is the number of states that fit; there may be more.
     NoMemory(usize),
-    /// The search gave up.
+    /// The search gave up without a result.
     GaveUp,
 }
 
-/// The bytes that a state takes beside its key, at most: its parent, and its part of the table.
+/// The maximum number of bytes that a state needs besides its key: its parent, and its share of the hash table.
 const STATE_BYTES: usize = 24;
 
-/// Returns how many states of a key this long have room in so many bytes.
+/// Returns the number of states with keys of `key_len` bytes that fit into `memory` bytes.
 fn room_in(memory: usize, key_len: usize) -> usize {
     memory / key_len.saturating_add(STATE_BYTES)
 }
 
-/// Searches through all that a machine can do, whatever its keys and its TEST pin do, in at most `most` states and about
-/// `memory` bytes, and looks whether conditions are met after each cycle. A pause without reads is cut every `pause` cycles.
+/// Searches all runs of a machine, for all levels of its keys and its TEST pin, and checks the conditions after each
+/// cycle. The search uses at most `most` states and about `memory` bytes. It splits a stretch of cycles without reads
+/// every `pause` cycles.
 pub fn check_all(
     alloc: Global,
     mut replica: Replica,

@@ -1,4 +1,4 @@
-//! Mistakes that no program should make.
+//! Common programming mistakes, detected in the cycle that begins an instruction.
 ghost use Rattle.std.specs.Prelude.{◌≡◌};
 ghost use Rattle.mcs_model.specs.Command.{lacks_rom};
 ghost use Rattle.mcs_check.specs.Mistaken.{errs_in_calls, errs_in_chips, errs_in_lines, has_input, has_output, is_fourth_call, is_lone_return, is_mistaken, is_rdr, is_wrr, lacks_ram, lacks_word, last_read, makes, uses_ram};
@@ -9,27 +9,27 @@ use mcs_model::op::Op;
 use mcs_model::regs::Regs;
 use mcs_nibble::{Addr, PairNo};
 
-/// Which mistakes are looked for.
+/// The kinds of mistake to look for.
 #[derive(Clone, Copy, Debug)]
 pub struct Mistakes {
-    /// A code outside the instruction table.
+    /// An opcode outside the instruction table.
     pub no_code: bool,
     /// A fourth nested call.
     pub fourth_call: bool,
-    /// BBL without a call.
+    /// A BBL while no call is open.
     pub lone_return: bool,
-    /// A RAM chip that is absent is read or written.
+    /// A read or write of an absent RAM chip.
     pub absent_ram: bool,
-    /// A word is read from a ROM that is absent.
+    /// A read of a word from an absent ROM.
     pub absent_rom: bool,
-    /// RDR of a port without inputs.
+    /// An RDR from a port without input lines.
     pub no_inputs: bool,
-    /// WRR to a port without outputs.
+    /// A WRR to a port without output lines.
     pub no_outputs: bool,
 }
 
 impl Mistakes {
-    /// Looks for none.
+    /// Looks for no mistakes.
     pub const NONE: Mistakes = Mistakes {
         no_code: false,
         fourth_call: false,
@@ -40,7 +40,7 @@ impl Mistakes {
         no_outputs: false,
     };
 
-    /// Looks for all.
+    /// Looks for all kinds of mistake.
     pub(crate) const ALL: Mistakes = Mistakes {
         no_code: true,
         fourth_call: true,
@@ -99,14 +99,14 @@ fn last_read(op: &Op, regs: &Regs) -> Addr
     }
 }
 
-/// Returns whether a board lacks the ROM of an address.
+/// Returns whether a board has no ROM at an address.
 fn lacks_rom(board: &Board, at: Addr) -> bool
     ensures { result ≡ lacks_rom board.now at }
 {
     board.mask(at.page().get()).is_none()
 }
 
-/// Returns whether a board lacks the ROM of a word that an instruction reads.
+/// Returns whether an instruction reads a word from a ROM that the board does not have.
 fn lacks_word(op: &Op, regs: &Regs, board: &Board) -> bool
     ensures { result ≡ lacks_word op.now regs.now board.now }
 {
@@ -155,7 +155,7 @@ fn is_wrr(op: &Op) -> bool
 }
 
 impl Replica {
-    /// Returns whether the board lacks the RAM chip that is selected.
+    /// Returns whether the selected RAM chip is absent from the board.
     fn lacks_ram(&self) -> bool
         ensures { result ≡ lacks_ram self.now.0 self.now.1 }
     {
@@ -164,7 +164,8 @@ impl Replica {
         !has_chip
     }
 
-    /// Returns whether an instruction makes one of these mistakes with calls.
+    /// Returns whether an instruction makes a call mistake that `asked` includes: a fourth nested call, or a BBL
+    /// without one.
     fn errs_in_calls(&self, asked: &Mistakes, op: &Op) -> bool
         ensures { result ≡ errs_in_calls asked.now op.now self.now }
     {
@@ -172,7 +173,8 @@ impl Replica {
             || asked.lone_return && is_lone_return(op, self.calls)
     }
 
-    /// Returns whether an instruction makes one of these mistakes with chips.
+    /// Returns whether an instruction makes a chip mistake that `asked` includes: it uses an absent RAM chip or an
+    /// absent ROM.
     fn errs_in_chips(&self, asked: &Mistakes, op: &Op) -> bool
         ensures { result ≡ errs_in_chips asked.now op.now self.now }
     {
@@ -180,7 +182,8 @@ impl Replica {
             || asked.absent_rom && lacks_word(op, &self.cpu.regs(), self.rig.board())
     }
 
-    /// Returns whether an instruction makes one of these mistakes with the lines of a port.
+    /// Returns whether an instruction makes a port mistake that `asked` includes: an RDR without input lines, or a WRR
+    /// without output lines.
     fn errs_in_lines(&self, asked: &Mistakes, op: &Op) -> bool
         ensures { result ≡ errs_in_lines asked.now op.now self.now }
     {
@@ -190,7 +193,7 @@ impl Replica {
             || asked.no_outputs && is_wrr(op) && !has_output(board, chip)
     }
 
-    /// Returns whether an instruction makes one of these mistakes.
+    /// Returns whether an instruction makes a mistake that `asked` includes.
     pub(crate) fn makes(&self, asked: &Mistakes, op: &Op) -> bool
         ensures { result ≡ makes asked.now op.now self.now }
     {
@@ -199,7 +202,7 @@ impl Replica {
             || self.errs_in_lines(asked, op)
     }
 
-    /// Returns whether the next cycle makes one of these mistakes.
+    /// Returns whether the next cycle makes a mistake that `asked` includes.
     pub fn is_mistaken(&self, asked: &Mistakes) -> bool
         ensures { result ≡ is_mistaken asked.now self.now }
     {

@@ -1,4 +1,4 @@
-//! Conditions of a machine at some moment.
+//! Conditions on the state of a machine at one moment.
 ghost use Rattle.std.specs.Prelude.{◌≡◌};
 ghost use Rattle.mcs_check.specs.Conditions.{are_met, compares, is_inside, is_met, keeps_to, part_of};
 
@@ -8,16 +8,17 @@ use crate::replica::Replica;
 use mcs_nibble::Nibble;
 use std::marker::Model;
 
-/// What is compared of what a cell holds.
+/// The part of a cell's value that a comparison uses.
 #[derive(Clone, Copy, Debug)]
 pub enum Part {
-    /// The number.
+    /// The whole value.
     Whole,
-    /// One of its lower four bits, as the line of a port.
+    /// One of the lower four bits. For a port latch, this is one line.
     Line(u8),
 }
 
-/// A comparison: what a cell holds lies between two numbers, or does not.
+/// A comparison of a cell's value with a range. It is met if the value is in `low..=high`, or, if `inside` is false, if
+/// it is not.
 #[derive(Clone, Copy, Debug)]
 pub struct Comparison {
     pub cell: Cell,
@@ -39,7 +40,7 @@ impl Default for Comparison {
     }
 }
 
-/// Returns a number, or one of its bits.
+/// Returns a whole value, or one of its lower four bits.
 fn part_of(n: u8, part: Part) -> u8
     ensures { result ≡ part_of n part }
 {
@@ -49,7 +50,7 @@ fn part_of(n: u8, part: Part) -> u8
     }
 }
 
-/// Returns whether what a cell holds lies between two numbers.
+/// Returns whether the compared part of the cell's value is in `low..=high`.
 fn is_inside(replica: &Replica, comparison: &Comparison) -> bool
     ensures { result ≡ is_inside replica.now comparison.now }
 {
@@ -69,7 +70,7 @@ fn compares(replica: &Replica, comparison: &Comparison) -> bool
     }
 }
 
-/// A condition of a machine at some moment.
+/// A condition on the state of a machine at one moment.
 #[derive(Clone, Copy, Debug)]
 pub enum Condition {
     /// A comparison is met.
@@ -106,7 +107,7 @@ fn are_met(replica: &Replica, conditions: &[Condition]) -> bool
     true
 }
 
-/// Conditions that are met as a whole if all of them are met at once. Contracts see their list.
+/// A conjunction of conditions. It is met if all its conditions are met at the same moment. Contracts see the list.
 #[derive(Drop)]
 pub struct Conjunction {
     conditions: Vec<Condition>,
@@ -122,7 +123,7 @@ impl Model for Conjunction {
 }
 
 impl Conjunction {
-    /// Makes one of conditions.
+    /// Creates a conjunction of the given conditions.
     pub fn of(conditions: Vec<Condition>) -> Conjunction
         ensures { result ≡ conditions.items }
     {
@@ -144,7 +145,7 @@ impl Conjunction {
     }
 }
 
-/// Returns whether none of these is met as a whole.
+/// Returns whether none of the conjunctions is met.
 pub fn keeps_to(replica: &Replica, nevers: &[Conjunction]) -> bool
     ensures { result ≡ keeps_to nevers.now replica.now }
 {

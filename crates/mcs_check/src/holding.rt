@@ -1,4 +1,4 @@
-//! A machine all of whose keys are put down, as a search needs it.
+//! Presses all keys of a machine, as a search requires.
 ghost use Rattle.std.specs.Prelude.{◌≡◌, ◌<◌, ℕ, replicate};
 ghost use Rattle.mcs_model.specs.Boards.{key_count};
 ghost use Rattle.mcs_check.specs.Held.{IsKeyAt, held};
@@ -8,7 +8,8 @@ use mcs_board::BenchRig;
 use mcs_model::board::Board;
 use mcs_nibble::Bit;
 
-/// Returns how many columns the keys of a board have, by which the row and the column of each key are found.
+/// Returns the number of columns in a board's key matrix, or 1 if it has none. Key `i` is in row `i / columns` and
+/// column `i % columns`.
 fn columns_of(board: &Board) -> usize
     ensures { (i : ℕ) → i < key_count board.now → IsKeyAt board.now result i }
 {
@@ -18,7 +19,7 @@ fn columns_of(board: &Board) -> usize
     }
 }
 
-/// Puts all keys of a rig down.
+/// Presses all keys of a rig.
 fn press_all(rig: &mut BenchRig)
     ensures { rig.new ≡ record rig.old { keys = replicate (key_count rig.old.board) 1 } }
 {
@@ -31,7 +32,7 @@ fn press_all(rig: &mut BenchRig)
 }
 
 impl Replica {
-    /// Puts all keys down, and TEST at 0.
+    /// Presses all keys and sets TEST to 0.
     pub(crate) fn hold(&mut self)
         ensures { self.new ≡ held self.old }
     {

@@ -1,7 +1,7 @@
-//! A law of keys, as the contract of a function that does nothing.
+//! A law about buses. The law is the contract of a function with an empty body.
 ghost use Rattle.mcs_check.specs.Agreed.{AgreeingAreSame};
 
-/// Valid buses that agree in the chips that are there are the same.
+/// Proves that two valid buses are equal if they agree in all chips that are present.
 pub fn agreeing_same()
     ensures { AgreeingAreSame }
 {}

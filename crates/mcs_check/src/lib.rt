@@ -1,8 +1,8 @@
-//! From a search to what holds of a machine for all inputs.
+//! Checks properties of a machine for all inputs, by a search over keys.
 //!
-//! A key stands for one machine of a board: `Replica` loads it and saves it, and runs from where a cycle reads an input to
-//! where the next one does. Contracts see a replica as the machine of `mcs_model`
-//! and the calls that are open in it.
+//! A key identifies one machine of a board. `Replica` loads a machine from a key, saves it into a key, and runs it from
+//! one read of an input to the next. Contracts see a replica as a machine of `mcs_model` with two counts: its open
+//! calls and the cycles on a stopwatch.
 #![tactic(auto)]
 
 mod aim;

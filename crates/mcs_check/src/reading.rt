@@ -1,21 +1,21 @@
-//! What the next cycle of a machine reads of the outside.
+//! The input that a machine's next cycle reads.
 ghost use Rattle.std.specs.Prelude.{◌≡◌};
 ghost use Rattle.mcs_check.specs.Stations.{OpReads};
 
 use mcs_model::op::Op;
 
-/// What an instruction cycle reads of the outside.
+/// The input that an instruction cycle reads.
 #[derive(Clone, Copy, Debug, PartialEq, Eq)]
 pub enum Source {
-    /// Neither a key nor the TEST pin.
+    /// No input.
     Nothing,
-    /// The port of the selected ROM, by RDR.
+    /// The port of the selected ROM, read by RDR.
     Port,
-    /// The TEST pin, by JCN.
+    /// The TEST pin, read by JCN.
     Test,
 }
 
-/// Returns what an instruction reads.
+/// Returns the input that an instruction reads.
 pub(crate) fn source_of(op: Op) -> Source
     ensures { OpReads op result }
 {

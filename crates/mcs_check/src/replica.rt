@@ -1,4 +1,4 @@
-//! A processor on a rig, whose cells are loaded from a key and saved into one.
+//! A processor on a rig. Its cells can be loaded from a key and saved into one.
 ghost use Rattle.std.specs.Prelude.{◌≡◌, ◌<◌, All, length, IsTrue};
 ghost use Rattle.mcs_model.specs.Validity.{IsValidBus, IsValidRegs};
 ghost use Rattle.mcs_drive.specs.Tracked.{without_calls};
@@ -14,7 +14,8 @@ use mcs_model::board::Board;
 use mcs_nibble::{Addr, Bit, Nibble};
 use std::marker::Model;
 
-/// A processor on a rig, with the count of its open calls and what a stopwatch shows. Contracts see a machine with its counts.
+/// A processor on a rig, with the number of open calls and the cycles on a stopwatch. Contracts see a machine with its
+/// counts.
 #[derive(Drop)]
 pub struct Replica {
     pub(crate) cpu: Cpu,
@@ -31,8 +32,8 @@ impl Model for Replica {
     ghost view = { λ r. (r.cpu, r.rig, record { calls = r.calls; elapsed = r.elapsed }) };
 }
 
-/// Returns the registers of a processor but for the index registers, the SRC byte that the ROMs of a rig keep, the count of
-/// open calls, and what a stopwatch shows.
+/// Returns the values of the list `Counters`: all registers except the index registers, the SRC byte that the ROMs
+/// store, the number of open calls, and the cycles on a stopwatch.
 fn counters(cpu: &Cpu, rig: &BenchRig, calls: u8, elapsed: Cycles) -> [u8; 17]
     ensures { result ≡ list_of (cpu.now, rig.now, record { calls = calls; elapsed = elapsed }) Counters }
 {
@@ -60,7 +61,7 @@ fn counters(cpu: &Cpu, rig: &BenchRig, calls: u8, elapsed: Cycles) -> [u8; 17]
     ]
 }
 
-/// Returns an address with another upper or lower byte.
+/// Returns an address with its upper or its lower byte replaced. Only the lower nibble of an upper byte is used.
 fn with_byte(at: Addr, is_upper: bool, byte: u8) -> Addr {
     if is_upper {
         Addr::on_page(Nibble::low_of(byte), at.low())
@@ -69,7 +70,7 @@ fn with_byte(at: Addr, is_upper: bool, byte: u8) -> Addr {
     }
 }
 
-/// Sets one of the registers that `counters` lists.
+/// Sets the register, or the byte of an address register, that `counters` returns at index `i`.
 fn set_counter(cpu: &mut Cpu, i: u16, n: u8) {
     let regs = cpu.regs();
     let mut ret = regs.ret;
@@ -88,7 +89,7 @@ fn set_counter(cpu: &mut Cpu, i: u16, n: u8) {
     }
 }
 
-/// A law: each number of a list of nibbles is below 16.
+/// Proves that each number in a list of nibbles is below 16.
 fn are_nibbles(list: &[Nibble])
     ensures { All (λ n. n < 16) list.now }
 {
@@ -97,7 +98,7 @@ fn are_nibbles(list: &[Nibble])
     }
 }
 
-/// A law: each number of a list of addresses is below 4096.
+/// Proves that each number in a list of addresses is below 4096.
 fn are_addresses(list: &[Addr])
     ensures { All (λ a. a < 4096) list.now }
 {
@@ -106,7 +107,7 @@ fn are_addresses(list: &[Addr])
     }
 }
 
-/// A law: each register of a processor holds a number of its kind.
+/// Proves that each register of a processor holds a value in its range.
 fn registers_are_valid(cpu: &Cpu)
     ensures { IsValidRegs cpu.now }
 {
@@ -117,7 +118,7 @@ fn registers_are_valid(cpu: &Cpu)
 }
 
 impl Replica {
-    /// Makes one of a processor and a rig, in which no call is open, with a stopwatch at 0.
+    /// Creates a replica from a processor and a rig, with no open calls and the stopwatch at 0.
     pub fn of(cpu: Cpu, rig: BenchRig) -> Replica
         ensures { result ≡ without_calls (cpu, rig) }
     {
@@ -136,7 +137,7 @@ impl Replica {
         self.rig.board()
     }
 
-    /// Returns what a cell holds.
+    /// Returns the value of a cell.
     pub fn value(&self, cell: Cell) -> u8
         ensures { result ≡ value_at self.now cell }
     {
@@ -164,7 +165,7 @@ impl Replica {
         }
     }
 
-    /// Sets what a cell holds. That it does is looked at by `is_at`.
+    /// Sets the value of a cell. The contract does not promise this; `load` checks it with `is_at`.
     fn set(&mut self, cell: Cell, n: u8)
         ensures { Keeps self.old.1 self.new.1 }
     {
@@ -213,7 +214,7 @@ impl Replica {
         }
     }
 
-    /// Writes what the cells of a layout hold into a key.
+    /// Writes the values of a layout's cells into a key.
     pub fn save(&self, layout: &[Cell], key: &mut [u8])
         requires { length key.old ≡ length layout.now }
         ensures { key.new ≡ key_of layout.now self.now }
@@ -223,7 +224,7 @@ impl Replica {
         }
     }
 
-    /// Returns whether the cells of a layout hold what a key has.
+    /// Returns whether the values of a layout's cells equal the bytes of a key.
     pub(crate) fn is_at(&self, layout: &[Cell], key: &[u8]) -> bool
         requires { length key.now ≡ length layout.now }
         ensures { IsTrue result → key.now ≡ key_of layout.now self.now }
@@ -236,7 +237,7 @@ impl Replica {
         true
     }
 
-    /// Sets the cells of a layout from a key, and returns whether they hold it then.
+    /// Sets a layout's cells from a key. Returns whether their values then equal the bytes of the key.
     pub fn load(&mut self, layout: &[Cell], key: &[u8]) -> bool
         requires { length key.now ≡ length layout.now }
         ensures keeps { Keeps self.old.1 self.new.1 }
@@ -248,7 +249,7 @@ impl Replica {
         self.is_at(layout, key)
     }
 
-    /// A law: the machine is valid.
+    /// Proves that the machine is valid: its registers and its bus are in their ranges.
     pub fn show_state_is_valid(&self)
         ensures registers { IsValidRegs self.now.0 }
         ensures bus { IsValidBus self.now.1 }

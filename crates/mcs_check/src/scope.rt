@@ -1,4 +1,4 @@
-//! The scope of conditions, by which a run knows the cycles that leave them as they are.
+//! The scope of conditions. A run uses it to recognise cycles that cannot change whether the conditions are met.
 ghost use Rattle.std.specs.Prelude.{◌≡◌, ◌<◌, ◌+◌, ◌*◌, ◌||◌};
 ghost use Rattle.mcs_check.specs.Scopes.{changes, has_all, has_cell, has_condition, has_each, has_register};
 
@@ -7,18 +7,18 @@ use crate::conditions::{Condition, Conjunction};
 use mcs_model::op::Op;
 use mcs_nibble::PairNo;
 
-/// What of a machine some conditions look at.
+/// The parts of a machine that some conditions depend on.
 #[derive(Clone, Copy)]
 pub(crate) struct Scope {
-    /// The index registers that they look at.
+    /// For each index register, true if a condition depends on it.
     pub(crate) registers: [bool; 16],
-    /// Whether they look at a chip other than the processor.
+    /// True if a condition depends on a chip other than the processor.
     pub(crate) chips: bool,
-    /// Whether they look for mistakes.
+    /// True if a condition looks for mistakes.
     pub(crate) mistakes: bool,
 }
 
-/// Returns the scope of conditions.
+/// Returns the scope of all conditions in the conjunctions.
 pub(crate) fn scope_of(nevers: &[Conjunction]) -> Scope {
     let mut scope = Scope {
         registers: [false; 16],
@@ -32,7 +32,7 @@ pub(crate) fn scope_of(nevers: &[Conjunction]) -> Scope {
 }
 
 impl Scope {
-    /// Adds what a cell is of.
+    /// Adds the index register or the chip that contains a cell. A counter adds nothing.
     fn add_cell(&mut self, cell: Cell) {
         match cell.list {
             CellList::Registers => self.registers[usize::from(cell.place())] = true,
@@ -41,7 +41,7 @@ impl Scope {
         }
     }
 
-    /// Adds what these conditions look at.
+    /// Adds the index registers and chips that the conditions depend on, and whether the conditions look for mistakes.
     fn add_all(&mut self, conditions: &[Condition]) {
         for i in 0..conditions.len() {
             match &conditions[i] {
@@ -51,7 +51,7 @@ impl Scope {
         }
     }
 
-    /// Returns whether an index register is in it.
+    /// Returns whether an index register is in the scope.
     fn has_register(&self, r: u8) -> bool
         requires { r < 16 }
         ensures { result ≡ has_register self.now r }
@@ -59,7 +59,7 @@ impl Scope {
         self.registers[usize::from(r)]
     }
 
-    /// Returns whether a register of a pair is in it.
+    /// Returns whether at least one register of a pair is in the scope.
     fn has_pair(&self, pair: PairNo) -> bool
         ensures { result ≡ (has_register self.now (2 * pair) || has_register self.now (2 * pair + 1)) }
     {
@@ -67,7 +67,7 @@ impl Scope {
         self.has_register(even) || self.has_register(even + 1)
     }
 
-    /// Returns whether a cell is in it.
+    /// Returns whether a cell is in the scope. A counter never is.
     fn has_cell(&self, cell: Cell) -> bool
         ensures { result ≡ has_cell self.now cell.list cell.index }
     {
@@ -78,7 +78,7 @@ impl Scope {
         }
     }
 
-    /// Returns whether what a condition looks at is in it.
+    /// Returns whether the scope covers everything that a condition depends on.
     fn has_condition(&self, condition: &Condition) -> bool
         ensures { result ≡ has_condition self.now condition.now }
     {
@@ -88,7 +88,7 @@ impl Scope {
         }
     }
 
-    /// Returns whether what these conditions look at is in it.
+    /// Returns whether the scope covers everything that these conditions depend on.
     fn has_all(&self, conditions: &[Condition]) -> bool
         ensures { result ≡ has_all self.now conditions.now }
     {
@@ -100,7 +100,7 @@ impl Scope {
         true
     }
 
-    /// Returns whether what each of these looks at is in it.
+    /// Returns whether the scope covers everything that the conjunctions depend on.
     pub(crate) fn has_each(&self, nevers: &[Conjunction]) -> bool
         ensures { result ≡ has_each self.now nevers.now }
     {
@@ -112,7 +112,7 @@ impl Scope {
         true
     }
 
-    /// Returns whether an instruction may change a register or a chip that is in it.
+    /// Returns whether an instruction may change a register or a chip in the scope.
     pub(crate) fn changes(&self, op: Op) -> bool
         ensures { result ≡ changes self.now op }
     {

@@ -1,4 +1,4 @@
-//! The run of a machine from where a cycle reads of the outside to where the next one does.
+//! Runs a machine from one read of an input to the next.
 ghost use Rattle.std.specs.Prelude.{◌≡◌, ◌<◌, ◌+◌, ◌%◌, ◌==◌, ◌||◌, ◌&&◌, ◌⊎◌, true, false, length, nat_lt, IfSome, Some, IsTrue, replicate};
 ghost use Rattle.mcs_model.specs.Boards.{key_count};
 ghost use Rattle.mcs_model.specs.Effect.{address_beside, instruction_at};
@@ -23,7 +23,7 @@ use mcs_model::regs::Regs;
 use mcs_nibble::{Addr, Bit, Nibble, RegNo};
 use mcs_rom4001::read_port_of;
 
-/// Returns whether each bit of a nibble is one of another nibble.
+/// Returns whether every bit that is set in `n` is also set in `most`.
 fn has_no_more(n: Nibble, most: Nibble) -> bool
     ensures { result ≡ has_no_more n most }
 {
@@ -33,7 +33,7 @@ fn has_no_more(n: Nibble, most: Nibble) -> bool
         && n.bit(3).get() <= most.bit(3).get()
 }
 
-/// Returns how many calls are open after an instruction, of so many before.
+/// Returns the number of open calls after an instruction, if `calls` are open before it.
 fn calls_after_op(op: &Op, calls: u8) -> u8
     ensures { result ≡ calls_after (Some op.now) calls }
 {
@@ -44,26 +44,26 @@ fn calls_after_op(op: &Op, calls: u8) -> u8
     }
 }
 
-/// The most cycles that an ISZ which jumps to itself takes before its last pass.
+/// The maximum number of cycles that an ISZ that jumps to itself takes before its last pass.
 const MOST_PASSED: u32 = 30;
 
-/// What is known of the next cycle before it is run, and of the scope of conditions.
+/// Facts about the next cycle that are known before it runs. Some depend on the scope of the conditions.
 #[derive(Clone, Copy)]
 struct Ahead {
-    /// Whether it may read of the outside.
+    /// True if the cycle may read an input.
     may_read: bool,
-    /// Whether it makes a mistake, if mistakes are in the scope.
+    /// True if the scope includes mistakes and the cycle makes one.
     errs: bool,
-    /// Whether it may change a register or a chip that is in the scope.
+    /// True if the cycle may change a register or a chip in the scope.
     changes: bool,
-    /// How many calls are open after it.
+    /// The number of open calls after the cycle.
     calls: u8,
-    /// The register of an ISZ that it begins, if that jumps to itself, and not for the last time, and no stopwatch runs or
-    /// begins.
+    /// The register of an ISZ that jumps to itself, if the cycle begins one of its passes but not the last. `None` if a
+    /// stopwatch runs or can begin.
     spins: Option<RegNo>,
 }
 
-/// Returns whether an instruction may read of the outside.
+/// Returns whether an instruction may read an input.
 fn may_read(op: Op) -> bool
     ensures { result ≡ false → asks (Some op) ≡ false }
 {
@@ -73,14 +73,15 @@ fn may_read(op: Op) -> bool
     }
 }
 
-/// Returns whether a word leads from after a two-word instruction at an address back to it.
+/// Returns whether a two-word instruction at address `at`, with `word` as its second word, jumps to itself if it jumps.
 fn leads_back(at: Addr, word: u8) -> bool
     ensures { result ≡ (address_beside ((at + 2) % 4096) word == at) }
 {
     Addr::on_page(at.plus(2).page(), word).get() == at.get()
 }
 
-/// Returns whether an ISZ at the counter jumps to itself, and not for the last time.
+/// Returns whether an ISZ at the program counter, with `word` as its second word, jumps to itself and this is not its
+/// last pass.
 fn is_pass(regs: &Regs, r: RegNo, word: u8) -> bool
     ensures { result ≡ (regs.now.owed == 0 && address_beside ((regs.now.pc + 2) % 4096) word == regs.now.pc
         && nat_lt (register_of regs.now r) 15) }
@@ -88,8 +89,9 @@ fn is_pass(regs: &Regs, r: RegNo, word: u8) -> bool
     regs.owed == 0 && leads_back(regs.pc, word) && regs.register(r).get() < 15
 }
 
-/// Returns whether the passes of a loop may be run at once: there are cycles left for them, no machine is looked for among
-/// them, conditions are in a scope in which nothing is changed, and no mistake is made.
+/// Returns whether a loop's passes may run in one step. This requires that enough cycles are left and that the loop is
+/// not at the address where the run looks for the machine of its key. The scope must cover all conditions, and the next
+/// cycle must change nothing in it and make no mistake.
 fn may_spin(left: u32, is_sought: bool, has_each: bool, ahead: &Ahead) -> bool
     ensures { result ≡ true → (has_each ≡ true) × ((ahead.now.errs ≡ false) × (ahead.now.changes ≡ false)) }
 {
@@ -97,7 +99,7 @@ fn may_spin(left: u32, is_sought: bool, has_each: bool, ahead: &Ahead) -> bool
 }
 
 impl Replica {
-    /// Returns what the next cycle reads.
+    /// Returns the input that the next cycle reads.
     pub fn source(&self) -> Source
         ensures { Reads self.now result }
     {
@@ -111,12 +113,12 @@ impl Replica {
         }
     }
 
-    /// Returns the address that the counter is at.
+    /// Returns the program counter.
     pub(crate) fn counter(&self) -> Addr {
         self.cpu.regs().pc
     }
 
-    /// Returns how many calls are open after the next cycle.
+    /// Returns the number of open calls after the next cycle.
     fn open_after(&self) -> u8
         ensures { result ≡ open_after self.now.0 self.now.1 self.now.2.calls }
     {
@@ -130,8 +132,8 @@ impl Replica {
         }
     }
 
-    /// Returns the register of this instruction at the counter, if it is an ISZ that jumps to itself, and not for the last
-    /// time, and no stopwatch runs or begins.
+    /// Returns the register of the instruction `op` at the program counter, if `op` is an ISZ that jumps to itself and
+    /// this is not its last pass. Returns `None` if a stopwatch runs or can begin.
     fn spins(&self, aim: &Aim, op: Op) -> Option<RegNo>
         requires { instruction_at self.now.0 self.now.1 ≡ Some op }
         ensures { IfSome result (λ r. Spins (stopwatch_in aim.now) r self.now) }
@@ -148,7 +150,7 @@ impl Replica {
         }
     }
 
-    /// Returns what is known of the next cycle, and of a scope.
+    /// Returns the known facts about the next cycle, for a given scope.
     fn ahead(&self, aim: &Aim, scope: &Scope) -> Ahead
         ensures quiet { result.may_read ≡ false → is_asking self.now ≡ false }
         ensures errs { result.errs ≡ errs scope.now self.now }
@@ -187,7 +189,7 @@ impl Replica {
         }
     }
 
-    /// Runs one cycle, after which so many calls are open.
+    /// Runs one cycle. `calls` is the number of open calls after it.
     fn cycle(&mut self, aim: &Aim, calls: u8)
         requires { calls ≡ open_after self.old.0 self.old.1 self.old.2.calls }
         ensures { self.new ≡ cycled (stopwatch_in aim.now) self.old }
@@ -198,7 +200,7 @@ impl Replica {
         self.elapsed = elapsed;
     }
 
-    /// Runs all passes of an ISZ that jumps to itself but the last one. Returns the number of their cycles.
+    /// Runs all passes but the last of an ISZ that jumps to itself. Returns the number of cycles that they take.
     fn spin(&mut self, aim: &Aim, r: RegNo) -> u32
         requires { Spins (stopwatch_in aim.now) r self.old }
         ensures { HasSpun (stopwatch_in aim.now) self.old self.new }
@@ -208,7 +210,8 @@ impl Replica {
         2 * u32::from(passes)
     }
 
-    /// Runs one cycle, or all passes of an ISZ that jumps to itself but the last one, if it may. Returns the number of cycles.
+    /// Runs one cycle or, if `may_spin` is true, all passes but the last of an ISZ that jumps to itself. Returns the
+    /// number of cycles that it ran.
     fn go_on(&mut self, aim: &Aim, ahead: &Ahead, may_spin: bool) -> u32
         requires calls { ahead.now.calls ≡ open_after self.old.0 self.old.1 self.old.2.calls }
         requires spins { IfSome ahead.now.spins (λ r. Spins (stopwatch_in aim.now) r self.old) }
@@ -223,14 +226,15 @@ impl Replica {
         1
     }
 
-    /// Returns whether the next cycle may answer this value though it reads nothing.
+    /// Returns whether `answer` may be this value at a cycle that reads no input. It is 0 if the cycle begins an
+    /// instruction.
     fn may_rest_at(&self, value: u8) -> bool
         ensures { result ≡ (value == 0 || self.now.0.owed == 1) }
     {
         value == 0 || self.cpu.regs().owed == 1
     }
 
-    /// Returns what the selected port reads while no key is down.
+    /// Returns the value that the selected ROM's port reads while no key is pressed, or 0 if the ROM is absent.
     fn unpressed_port(&self) -> Nibble
         ensures { result ≡ port_unpressed self.now.1 }
     {
@@ -240,8 +244,8 @@ impl Replica {
         }
     }
 
-    /// Returns whether this value lies between what the selected port reads while no key is down and what it reads now, line by
-    /// line.
+    /// Returns whether, on each line, this value is between the selected port's level with no key pressed and its
+    /// present level.
     fn port_gives(&self, value: u8) -> bool
         requires { value < 16 }
         ensures { result ≡ (has_no_more (port_unpressed self.now.1) value && has_no_more value (port_of self.now.1)) }
@@ -251,7 +255,8 @@ impl Replica {
         has_no_more(self.unpressed_port(), value) && has_no_more(value, most)
     }
 
-    /// Returns whether some keys or a level of TEST may give this value. All keys of the machine are down.
+    /// Returns whether the next cycle may read this value at some levels of the keys and TEST. All keys of the machine
+    /// must be pressed.
     pub fn can_read(&self, source: Source, value: u8) -> bool
         requires reads { Reads self.now source }
         requires keys { self.now.1.keys ≡ replicate (key_count self.now.1.board) 1 }
@@ -277,7 +282,7 @@ impl Replica {
         self.cpu.set_acc(Nibble::low_of(value));
     }
 
-    /// Runs the next cycle, a JCN, with TEST at this level, and sets TEST back.
+    /// Runs the next cycle, a JCN that tests TEST, with TEST at this level. Restores TEST afterwards.
     fn read_test(&mut self, aim: &Aim, value: u8)
         requires reads { Begins LooksAtTest self.old }
         requires value { value < 2 }
@@ -292,7 +297,7 @@ impl Replica {
         self.rig.set_test(level);
     }
 
-    /// Runs the next cycle, which reads nothing.
+    /// Runs the next cycle, which reads no input.
     fn read_nothing(&mut self, aim: &Aim, value: u8)
         requires { is_asking self.old ≡ false }
         ensures read { HasRead (stopwatch_in aim.now) value self.old self.new }
@@ -303,7 +308,8 @@ impl Replica {
         self.cycle(aim, calls);
     }
 
-    /// Runs the next cycle, which reads this value. Returns whether it can.
+    /// Runs the next cycle as if it read this value. Returns false, without running it, if the value is out of the
+    /// source's range.
     pub fn read(&mut self, aim: &Aim, source: Source, value: u8) -> bool
         requires reads { Reads self.old source }
         ensures read { IsTrue result → HasRead (stopwatch_in aim.now) value self.old self.new }
@@ -331,15 +337,15 @@ impl Replica {
         }
     }
 
-    /// Returns whether the machine is at an address, and the cells of a layout hold what a key has.
+    /// Returns whether the program counter is `at` and the values of a layout's cells equal the bytes of a key.
     fn is_again(&self, layout: &[Cell], key: &[u8], at: Addr) -> bool
         requires { length key.now ≡ length layout.now }
     {
         self.cpu.regs().pc.get() == at.get() && self.is_at(layout, key)
     }
 
-    /// Returns whether the property holds. It is looked at if it is not known to hold but for mistakes, or the next cycle
-    /// makes one.
+    /// Returns whether the property holds. The check is skipped if the scope covers all conditions, the last step
+    /// changed nothing in it, and the next cycle makes no mistake.
     fn keeps_on(&self, aim: &Aim, is_known: bool, changed: bool, errs: bool) -> bool
         requires { is_known ≡ true → changed ≡ false → errs ≡ false → keeps_to aim.now.nevers self.now ≡ true }
         ensures { result ≡ true → keeps_to aim.now.nevers self.now ≡ true }
@@ -347,8 +353,8 @@ impl Replica {
         is_known && !changed && !errs || aim.keeps(self)
     }
 
-    /// Runs to where the next cycle reads of the outside, to where the machine is that of a key again, whose counter is at this
-    /// address, or for `most` cycles. Returns whether the property holds all the way.
+    /// Runs until the next cycle may read an input, the machine is back at the one that a key identifies, or `most`
+    /// cycles have run. `at` is that machine's program counter. Returns whether the property holds at every step.
     pub fn go_to_station(
         &mut self,
         aim: &Aim,
@@ -376,7 +382,7 @@ impl Replica {
             if ahead.may_read {
                 return true;
             }
-            // A loop that reads nothing: no more is seen in it.
+            // The run is in a loop that reads no input, and further passes reach no new state.
             if self.is_again(layout, key, at) {
                 return true;
             }

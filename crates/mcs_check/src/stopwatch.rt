@@ -1,4 +1,4 @@
-//! What a stopwatch beside a machine shows, and its limit.
+//! The cycles that a stopwatch beside a machine shows, and the limit on them.
 ghost use Rattle.std.specs.Prelude.{◌≡◌, ◌==◌, ◌<◌, ◌/◌, ◌%◌, ◌∷◌, ◌&&◌, ◌↔◌, [], false, true, nat_le, IsSome, IfSome, OnOk};
 ghost use Rattle.mcs_drive.specs.Tracked.{Tracked, elapsed_after, shown_after};
 ghost use Rattle.mcs_check.specs.Conditions.{elapsed_byte, keeps_to, stopwatch_in};
@@ -12,10 +12,10 @@ use crate::replica::Replica;
 use std::alloc::{AllocError, Global};
 use std::marker::Model;
 
-/// The most cycles that a stopwatch shows.
+/// The largest number of cycles that a stopwatch shows: 2^24 - 1.
 const LONGEST: u32 = 16_777_215;
 
-/// A number of cycles, as a stopwatch shows it. Contracts see the number.
+/// A number of cycles that a stopwatch can show, at most 2^24 - 1. Contracts see the number.
 #[derive(Clone, Copy, Debug)]
 pub struct Cycles {
     cycles: u32,
@@ -34,10 +34,10 @@ impl Model for Cycles {
 }
 
 impl Cycles {
-    /// No cycle.
+    /// Zero cycles.
     pub(crate) const ZERO: Cycles = Cycles { cycles: 0 };
 
-    /// Returns a number of cycles, if a stopwatch can show it.
+    /// Returns a number of cycles, or `None` if it is more than a stopwatch can show.
     pub fn of(cycles: u32) -> Option<Cycles>
         ensures in_range { IsSome result ↔ (cycles < 16777216) }
         ensures value { IfSome result (λ n. n ≡ cycles) }
@@ -49,14 +49,14 @@ impl Cycles {
         }
     }
 
-    /// Returns whether it is 0.
+    /// Returns whether the number is 0.
     fn is_zero(self) -> bool
         ensures { result ≡ (self == 0) }
     {
         self.cycles == 0
     }
 
-    /// Returns its three bytes, the upper one first.
+    /// Returns the number as three bytes, most significant first.
     pub(crate) fn bytes(self) -> [u8; 3]
         ensures { result ≡ self / 65536 ∷ self / 256 % 256 ∷ self % 256 ∷ [] }
     {
@@ -67,7 +67,7 @@ impl Cycles {
         ]
     }
 
-    /// Returns it with another byte: the upper one is byte 0.
+    /// Returns the number with byte `i` replaced. Byte 0 is the most significant.
     pub(crate) fn with_byte(self, i: u16, byte: u8) -> Cycles {
         let mut bytes = self.bytes();
         bytes[usize::from(i % 3)] = byte;
@@ -77,7 +77,8 @@ impl Cycles {
         }
     }
 
-    /// Returns what is shown after a cycle, by whether the stopwatch begins and ends before it.
+    /// Returns the number shown after one more cycle. `begins` and `ends` say whether the stopwatch begins or ends in
+    /// the state before that cycle.
     fn after(self, begins: bool, ends: bool) -> Cycles
         ensures { result ≡ shown_after self begins ends }
     {
@@ -98,7 +99,7 @@ impl Cycles {
     }
 }
 
-/// Returns the condition that a byte of what a stopwatch shows is above a number: the upper one is byte 0.
+/// Returns the condition that byte `i` of a stopwatch's cycles is greater than `n`. Byte 0 is the most significant.
 fn is_above(i: u16, n: u8) -> Condition
     requires { i < 3 }
     ensures { result ≡ Compare (elapsed_byte i 0 n false) }
@@ -115,7 +116,7 @@ fn is_above(i: u16, n: u8) -> Condition
     })
 }
 
-/// Returns the condition that a byte of what a stopwatch shows is a number.
+/// Returns the condition that byte `i` of a stopwatch's cycles equals `n`. Byte 0 is the most significant.
 fn is_same(i: u16, n: u8) -> Condition
     requires { i < 3 }
     ensures { result ≡ Compare (elapsed_byte i n n true) }
@@ -132,7 +133,7 @@ fn is_same(i: u16, n: u8) -> Condition
     })
 }
 
-/// Adds to conditions, never to be met, that a stopwatch shows more than a limit.
+/// Adds conjunctions to `nevers` that are met if a stopwatch shows more than a limit.
 pub fn add_limit(
     alloc: Global,
     nevers: &mut Vec<Conjunction>,
@@ -159,7 +160,7 @@ impl Replica {
         self.elapsed.is_zero() && aim.never_begins()
     }
 
-    /// Returns what the stopwatch shows after the next cycle.
+    /// Returns the cycles that the stopwatch shows after the machine's next cycle.
     pub(crate) fn elapsed_after(&self, aim: &Aim) -> Cycles
         ensures { result ≡ elapsed_after (stopwatch_in aim.now) self.now }
     {

@@ -1,4 +1,4 @@
-//! The system that is searched: its states stand for the machines of one board.
+//! The transition system that a search runs on. Each state identifies a machine of one board.
 ghost use Rattle.std.specs.Prelude.{◌≡◌};
 
 use crate::aim::Aim;
@@ -9,7 +9,7 @@ use mcs_search::System;
 use std::alloc::AllocError;
 use std::marker::Model;
 
-/// Machines of one board, and what is looked at in their runs.
+/// The machines of one board, and the conditions to check in their runs. The replica holds one machine at a time.
 #[derive(Drop)]
 pub struct Walker {
     pub(crate) replica: Replica,

@@ -1,4 +1,4 @@
-//! A step of the search, from the machine of a key to the next one.
+//! One step of the search, from the machine that a key identifies to the next machine.
 ghost use Rattle.std.specs.Prelude.{◌≡◌, ◌<◌, ◌⊎◌, ℕ, length, true, replicate, IfSome, OnOk};
 ghost use Rattle.std.specs.List.{Contains};
 ghost use Rattle.mcs_model.specs.Boards.{key_count};
@@ -14,10 +14,10 @@ use crate::cells::Cell;
 use crate::replica::Replica;
 use std::alloc::AllocError;
 
-/// The values of a nibble.
+/// The number of values that a nibble can have.
 const VALUES: u8 = 16;
 
-/// Adds all values of a nibble.
+/// Appends all 16 values of a nibble.
 fn list_all(into: &mut Vec<u8>) -> Result<(), AllocError>
     ensures { OnOk result ((value : ℕ) → value < 16 → Contains into.new.items value) }
 {
@@ -27,7 +27,7 @@ fn list_all(into: &mut Vec<u8>) -> Result<(), AllocError>
     Ok(())
 }
 
-/// Adds the values that the next cycle of a machine can read. All of its keys are down.
+/// Appends the values that a machine's next cycle can read. All keys of the machine must be pressed.
 fn list_readable(replica: &Replica, into: &mut Vec<u8>) -> Result<(), AllocError>
     requires keys { replica.now.1.keys ≡ replicate (key_count replica.now.1.board) 1 }
     ensures { OnOk result ((value : ℕ) → value < 16 → CannotRead value replica.now ⊎ Contains into.new.items value) }
@@ -41,7 +41,8 @@ fn list_readable(replica: &Replica, into: &mut Vec<u8>) -> Result<(), AllocError
     Ok(())
 }
 
-/// Lists the values that the machine of a key can read; all values if the key was not loaded.
+/// Lists the values that the machine that a key identifies can read in its next cycle. Lists all 16 values if the key
+/// cannot be loaded.
 pub(crate) fn list_values(
     replica: &mut Replica,
     layout: &[Cell],
@@ -65,8 +66,9 @@ pub(crate) fn list_values(
     Ok(())
 }
 
-/// Goes from the machine of a key to where the next cycle reads of the outside, where the first one reads this value.
-/// Returns whether the property holds all the way, and nothing if the key was not loaded or such a value is never read.
+/// Runs the machine that a key identifies until its next read, with `value` as the value that its first cycle reads.
+/// Saves the machine into `into` if the property holds. Returns whether the property holds at every step, or `None` if
+/// the key cannot be loaded or the first cycle cannot read `value`.
 pub(crate) fn follow(
     replica: &mut Replica,
     layout: &[Cell],

@@ -11,7 +11,7 @@ use Rattle.mcs_prove.specs.declared.fault.Refusal.{Refusal}
 use Rattle.mcs_prove.specs.declared.fault.Refusal.TheVariants as refusal
 use Rattle.mcs_prove.specs.Questions.{IsAnswerTo}
 
--- a number behind a space
+-- a space and a number in decimal
 abbrev pub spaced : ℕ → List ℕ
 spaced n = codes " " ++ decimal n
 
@@ -31,7 +31,7 @@ refusal_line refusal.NoRom = codes "no" ++ spaced NO_ROM
 refusal_line (refusal.Line line) = codes "wrong line" ++ spaced line
 refusal_line refusal.NotWhole = codes "no question"
 
--- 2 where the text is no question, 3 where it has no answer
+-- the exit status of a refusal: 2 if the text is not a valid question, 3 if the question has no answer
 abbrev pub refusal_status : Refusal → ℕ
 refusal_status (refusal.Line line) = 2
 refusal_status refusal.NotWhole = 2
@@ -45,7 +45,7 @@ abbrev pub status_of_answer : Result Outcome Refusal → ℕ
 status_of_answer (Ok found) = 0
 status_of_answer (Err why) = refusal_status why
 
--- a line and an exit status answer the question that a text spells
+-- holds if a line and an exit status answer the question that a text contains
 pub record IsAnswered (text line : List ℕ) (status : ℕ) : Type 0 where
   pub found : Result Outcome Refusal
   pub tells : line ≡ line_of_answer found

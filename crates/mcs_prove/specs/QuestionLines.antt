@@ -1,4 +1,4 @@
--- What a line of a question says: the table of lines. (Our own choice.)
+-- The lines of a question and their meaning. (Our own choice.)
 use Rattle.std.specs.Prelude.{ℕ, Bool, true, false, List, [], ◌∷◌, codes, nat_lt, Option, Some, None, if◌then◌else◌}
 use Rattle.std.specs.Option.{option_map}
 use Rattle.mcs_model.specs.Options.{◌>>=◌}
@@ -49,7 +49,7 @@ parts =
     ∷ (codes "line3", Line 3)
     ∷ []
 
--- the cell of an index, if its list can have so many
+-- the cell at an index of a list, if the index is below the maximum number of cells in the list
 abbrev pub cell_at : CellList → ℕ → Option Cell
 cell_at list i = if nat_lt i (count_of list) then Some (record { list = list; index = i }) else None
 
@@ -57,7 +57,7 @@ abbrev pub cell_of : List ℕ → List ℕ → Option Cell
 cell_of list index =
     beside (bytes_eq list) lists >>= λ l. number_up_to LAST_INDEX index >>= λ i. cell_at l i
 
--- whether what a cell holds, or a line of it, lies between two numbers
+-- the comparison of a cell's value, or of one line of it, with a range
 abbrev pub comparison_of : List ℕ → List ℕ → List ℕ → List ℕ → List ℕ → List ℕ → Option Comparison
 comparison_of way list index part low high =
     beside (bytes_eq way) ways >>= λ inside.
@@ -98,7 +98,7 @@ abbrev pub with_mistakes : Mistakes → List (List ℕ) → Option Mistakes
 with_mistakes m [] = Some m
 with_mistakes m (word ∷ words) = with_mistake m word >>= λ more. with_mistakes more words
 
--- one at least
+-- the kinds of mistake that words name, at least one
 abbrev pub mistakes_of : List (List ℕ) → Option Mistakes
 mistakes_of [] = None
 mistakes_of (word ∷ words) = with_mistakes no_mistakes (word ∷ words)
@@ -115,11 +115,11 @@ alone =
     ∷ (codes "prove", Prove)
     ∷ []
 
--- `pause 1000000`: one cycle at least
+-- `pause 1000000`: at least one cycle
 abbrev pub pause_of : ℕ → Option QuestionLine
 pause_of n = if nat_lt 0 n then Some (Pause n) else None
 
--- a line of two words
+-- a line of two words: a name and a number
 abbrev pub with_number : List ℕ → List ℕ → Option QuestionLine
 with_number name word =
     if bytes_eq name (codes "most") then option_map Most (number_up_to MOST word)
@@ -129,7 +129,7 @@ with_number name word =
     else if bytes_eq name (codes "pause") then number_up_to LONGEST_PAUSE word >>= pause_of
     else None
 
--- a line of three words and more
+-- a line of three or more words; only a comparison, with six words, is valid
 abbrev pub with_comparison : List ℕ → List ℕ → List ℕ → List (List ℕ) → Option QuestionLine
 with_comparison way list index (part ∷ low ∷ high ∷ []) =
     option_map (λ c. Met (condition.Compare c)) (comparison_of way list index part low high)
@@ -140,7 +140,7 @@ by_words name [] = beside (bytes_eq name) alone
 by_words name (word ∷ []) = with_number name word
 by_words name (first ∷ second ∷ words) = with_comparison name first second words
 
--- what the words of a line say, if they are one of a question
+-- the parsed line of a question, if its words are valid
 abbrev pub line_of : List (List ℕ) → Option QuestionLine
 line_of [] = Some Blank
 line_of (name ∷ words) =

@@ -1,4 +1,4 @@
--- What is asked by the lines of a question. (Our own choice.)
+-- The meaning of a question, read line by line. (Our own choice.)
 use Rattle.std.specs.Prelude.{◌≡◌, ◌==◌, ◌&&◌, ℕ, Bool, true, false, not, List, [], ◌∷◌, ◌++◌, length, nat_le, codes, Option, Some, None, if◌then◌else◌}
 use Rattle.std.specs.Option.{option_map}
 use Rattle.mcs_model.specs.Options.{◌>>=◌}
@@ -20,9 +20,9 @@ use Rattle.mcs_prove.specs.declared.question.TheConstants.{PAUSE}
 use Rattle.mcs_prove.specs.Given.{IsProvedOf}
 use Rattle.mcs_prove.specs.QuestionLines.{line_of}
 
--- what was asked so far: two texts, the conditions that are never met all at once, those that begin and
--- end the stopwatch, its limit, those of the last `never`, `begin` or `end`, and where the next line
--- belongs
+-- a question as read so far. `nevers`, `begins` and `ends` are the complete lists of conditions.
+-- `conditions` is the list after the last `never`, `begin` or `end`, while it is read, and `role` is its
+-- role. `section` is where the next line belongs. `is_whole` is true after `prove`.
 pub record Asked : Type 0 where
   pub board : Option (List ℕ)
   pub program : Option (List ℕ)
@@ -57,7 +57,7 @@ nothing_asked = record {
   is_whole = false;
 }
 
--- the conditions of the last `never`, `begin` or `end` are complete
+-- a question after the current list of conditions is complete: the list is stored by its role
 abbrev pub with_conditions : Asked → List Condition → Role → Asked
 with_conditions a cs Never = record a { nevers = a.nevers ++ cs ∷ []; conditions = None }
 with_conditions a cs Begin = record a { begins = a.begins ++ cs ∷ []; conditions = None }
@@ -70,26 +70,28 @@ without_conditions a (Some cs) = with_conditions a cs a.role
 abbrev pub ended : Asked → Asked
 ended a = without_conditions a a.conditions
 
--- what was asked, where a line is one of a question
+-- the question if a line is valid, and None otherwise
 abbrev pub when : Bool → Asked → Option Asked
 when true a = Some a
 when false a = None
 
--- a board's text begins; a question has one
+-- a question after its board's text begins; None if it already has one
 abbrev pub begin_board : Asked → Option (List ℕ) → Option Asked
 begin_board a None = Some (record a { board = Some []; section = Board })
 begin_board a (Some text) = None
 
+-- a question after its program's text begins; None if it already has one
 abbrev pub begin_program : Asked → Option (List ℕ) → Option Asked
 begin_program a None = Some (record a { program = Some []; section = Program })
 begin_program a (Some text) = None
 
--- a condition stands behind a `never`, `begin` or `end`
+-- a question with one more condition in the current list; None if no `never`, `begin` or `end` precedes
+-- it
 abbrev pub with_condition : Asked → Condition → Option (List Condition) → Option Asked
 with_condition a c None = None
 with_condition a c (Some cs) = Some (record a { conditions = Some (cs ++ c ∷ []) })
 
--- after what a line says
+-- a question after a parsed line; None if the line is not allowed there
 abbrev pub after_said : Asked → QuestionLine → Option Asked
 after_said a line.Blank = Some a
 after_said a (line.Most n) = Some (record a { most = n })
@@ -103,19 +105,19 @@ after_said a (line.Conditions role) = Some (record (ended a) { conditions = Some
 after_said a (line.Met c) = with_condition a c a.conditions
 after_said a line.Prove = Some (record (ended a) { is_whole = true })
 
--- nothing follows `prove`
+-- a question after the words of a line outside the two texts; None if the line is invalid or follows
+-- `prove`
 abbrev pub after_words : Asked → List (List ℕ) → Option Asked
 after_words a words = if a.is_whole then None else line_of words >>= λ said. after_said a said
 
--- a text with one line more
+-- a text with one more line
 abbrev pub with_line : Option (List ℕ) → List ℕ → Option (List ℕ)
 with_line text bytes = option_map (λ t. t ++ as_line bytes) text
 
 abbrev pub is_end : List ℕ → Bool
 is_end bytes = bytes_eq bytes (codes ".")
 
--- after a line: one of the board's text or of the program's, each of which ends at a line of a dot,
--- or one outside
+-- a question after a line of the given section; a line with a single dot ends a text
 abbrev pub after_line_in : Section → Asked → List ℕ → Option Asked
 after_line_in Lines a bytes = after_words a (words_of bytes)
 after_line_in Board a bytes =
@@ -130,13 +132,13 @@ abbrev pub after_lines : Asked → List (List ℕ) → Option Asked
 after_lines a [] = Some a
 after_lines a (bytes ∷ rest) = after_line a bytes >>= λ b. after_lines b rest
 
--- what a text asks, if each line of it is one of a question
+-- the question that a text contains; None if a line is invalid
 abbrev pub asked_by : List ℕ → Option Asked
 asked_by text = after_lines nothing_asked (lines text)
 
--- ---- what is asked
+-- ---- the property of a question
 
--- a stopwatch begins, ends and has a limit, and is looked at by search; or there is none
+-- true if there is no stopwatch, or one with a begin, an end and a limit that is checked by search
 abbrev pub is_posed_with : Option ℕ → Asked → Bool
 is_posed_with None a = length a.begins == 0 && length a.ends == 0
 is_posed_with (Some limit) a = not (length a.begins == 0) && not (length a.ends == 0) && a.sets == 0
@@ -144,17 +146,17 @@ is_posed_with (Some limit) a = not (length a.begins == 0) && not (length a.ends 
 abbrev pub is_posed : Asked → Bool
 is_posed a = is_posed_with a.limit a
 
--- the stopwatch shows no more than its limit, if there is one
+-- true if the stopwatch shows no more than its limit, or if there is no limit
 abbrev pub is_within : Option ℕ → Tracked → Bool
 is_within None s = true
 is_within (Some limit) s = nat_le s.2.elapsed limit
 
--- the property: of the conditions that are never met all at once none are, and the stopwatch stays within
--- its limit
+-- the property: true if no list in `nevers` has all its conditions met, and the stopwatch is within its
+-- limit
 abbrev pub is_kept : List (List Condition) → Option ℕ → Tracked → Bool
 is_kept nevers limit s = keeps_to nevers s && is_within limit s
 
--- what an outcome promises of the question that a text spells
+-- holds if a text contains a complete question and the promise of an outcome is true for it
 pub record IsAnswerTo (text : List ℕ) (outcome : Outcome) : Type 0 where
   pub asked : Asked
   pub board : List ℕ

@@ -1,4 +1,4 @@
-//! The answer to a question, a line.
+//! The answer to a question: one line and an exit status.
 ghost use Rattle.std.specs.Prelude.{◌≡◌, ◌++◌, string_bytes, IfOk, OnOk};
 ghost use Rattle.std.specs.List.{flat_map};
 ghost use Rattle.mcs_prove.specs.Answers.{IsAnswered, line_of_answer, outcome_line, refusal_line, refusal_status, spaced, status_of_answer};
@@ -12,26 +12,26 @@ use mcs_model::refusal_numbers;
 use mcs_search::MOST;
 use std::alloc::{AllocError, Global};
 
-/// The bytes of a MB.
+/// The number of bytes in a MB.
 const MB: usize = 1_048_576;
 
-/// The exit status where there is an outcome.
+/// The exit status if there is an outcome.
 const ANSWERED: u8 = 0;
 
-/// The exit status where a line of the question is none.
+/// The exit status if a line of the question is invalid or the question is incomplete.
 const WRONG_QUESTION: u8 = 2;
 
-/// The exit status where a text is refused, or memory.
+/// The exit status if the board's text or the program's text is rejected, or memory runs out.
 const REFUSED: u8 = 3;
 
-/// A line, and the exit status.
+/// The answer to a question: its line and the exit status.
 #[derive(Drop)]
 pub struct Answer {
     pub text: String,
     pub status: u8,
 }
 
-/// Writes values that were read.
+/// Appends the values that were read, each after a space.
 fn push_values(out: &mut String, values: &[u8]) -> Result<(), AllocError>
     ensures { OnOk result (string_bytes out.new ≡ string_bytes out.old ++ flat_map spaced values.now) }
 {
@@ -41,7 +41,7 @@ fn push_values(out: &mut String, values: &[u8]) -> Result<(), AllocError>
     Ok(())
 }
 
-/// Writes the line of an outcome.
+/// Appends the line for an outcome.
 fn push_outcome(out: &mut String, outcome: &Outcome) -> Result<(), AllocError>
     ensures { OnOk result (string_bytes out.new ≡ string_bytes out.old ++ outcome_line outcome.now) }
 {
@@ -57,7 +57,7 @@ fn push_outcome(out: &mut String, outcome: &Outcome) -> Result<(), AllocError>
     }
 }
 
-/// Writes the line of a refusal.
+/// Appends the line for a refusal.
 fn push_refusal(out: &mut String, refusal: Refusal) -> Result<(), AllocError>
     ensures { OnOk result (string_bytes out.new ≡ string_bytes out.old ++ refusal_line refusal) }
 {
@@ -71,7 +71,7 @@ fn push_refusal(out: &mut String, refusal: Refusal) -> Result<(), AllocError>
     }
 }
 
-/// Writes the line of an answer.
+/// Appends the line for an outcome or a refusal.
 fn push_answer(out: &mut String, found: &Result<Outcome, Refusal>) -> Result<(), AllocError>
     ensures { OnOk result (string_bytes out.new ≡ string_bytes out.old ++ line_of_answer found.now) }
 {
@@ -81,7 +81,7 @@ fn push_answer(out: &mut String, found: &Result<Outcome, Refusal>) -> Result<(),
     }
 }
 
-/// Returns the exit status of a refusal.
+/// Returns the exit status for a refusal.
 fn refusal_status(refusal: Refusal) -> u8
     ensures { result ≡ refusal_status refusal }
 {
@@ -91,7 +91,7 @@ fn refusal_status(refusal: Refusal) -> u8
     }
 }
 
-/// Returns the exit status of an answer.
+/// Returns the exit status for an outcome or a refusal.
 fn status_of(found: &Result<Outcome, Refusal>) -> u8
     ensures { result ≡ status_of_answer found.now }
 {
@@ -101,7 +101,7 @@ fn status_of(found: &Result<Outcome, Refusal>) -> u8
     }
 }
 
-/// Returns the outcome of a question.
+/// Parses a question, tries to prove it and returns the outcome.
 fn outcome_of(alloc: Global, text: &str) -> Result<Outcome, Refusal>
     ensures { IfOk result (IsAnswerTo text.now) }
 {
@@ -150,7 +150,7 @@ fn outcome_of(alloc: Global, text: &str) -> Result<Outcome, Refusal>
     )
 }
 
-/// Answers a question.
+/// Answers the question that a text contains.
 pub fn answer_to(alloc: Global, text: &str) -> Result<Answer, AllocError>
     ensures { IfOk result (λ answer. IsAnswered text.now (string_bytes answer.text) answer.status) }
 {

@@ -1,7 +1,7 @@
-//! Proves conditions of the machine of a board's text and a program's text, for all inputs.
+//! Proves, for all inputs, properties of the machine that a board's text and a program's text define.
 //!
-//! A question comes as lines, as a session's do; its answer is a line. The machine is the one of a bench that was given
-//! the texts by `wire` and `asm`, and then `reset`.
+//! A question is a sequence of lines, as in a session. Its answer is one line. The machine is that of a new bench after
+//! `wire` with the board's text, `asm` with the program's text, and `reset`.
 #![tactic(auto)]
 
 mod answer;

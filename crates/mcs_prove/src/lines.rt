@@ -1,18 +1,18 @@
-//! The lines of a question, outside of texts:
+//! The lines of a question, outside the two texts:
 //!
-//!     most 1000000
-//!     sets 1000000                by sets of values, in at most so many entries; 0: by search
-//!     memory 1000                 of so many MB
-//!     pause 1000000
-//!     wire                        the board's text, up to a line of a dot
-//!     asm                         the program's text, up to a line of a dot
-//!     never                       the conditions that follow are never met all at once
-//!     in ramport 0 line1 1 1
-//!     mistake code call           and the next cycle makes one of these mistakes
-//!     begin                       the conditions that follow begin a stopwatch, if met all at once
-//!     end                         the conditions that follow end it, if met all at once
-//!     within 1000                 it never shows more cycles than these
-//!     prove                       ends it: what is cut off before is no question
+//!     most 1000000                search at most 1000000 states
+//!     sets 1000000                use sets of values, with at most 1000000 entries; 0: use search
+//!     memory 1000                 use about 1000 MB at most
+//!     pause 1000000               split a stretch of cycles without reads every 1000000 cycles
+//!     wire                        the board's text follows, up to a line with a single dot
+//!     asm                         the program's text follows, up to a line with a single dot
+//!     never                       the conditions that follow must never all be met at once
+//!     in ramport 0 line1 1 1      condition: line 1 of RAM port 0 is in the range 1 to 1
+//!     mistake code call           condition: the next cycle makes one of these mistakes
+//!     begin                       a stopwatch begins when the conditions that follow are all met
+//!     end                         the stopwatch ends when the conditions that follow are all met
+//!     within 1000                 the stopwatch must never show more than 1000 cycles
+//!     prove                       the question is complete; without this line it is not a question
 ghost use Rattle.std.specs.Prelude.{◌≡◌};
 ghost use Rattle.std.specs.Str.{bytes_eq};
 ghost use Rattle.mcs_model.specs.Numerals.{number_up_to};
@@ -28,57 +28,57 @@ use mcs_search::MOST;
 /// The largest index of a cell.
 const LAST_INDEX: u32 = 2047;
 
-/// The most entries that a question may ask for.
+/// The largest number of entries that a question can allow for sets of values.
 const MOST_ENTRIES: u32 = 100_000_000;
 
-/// The most memory that a question may ask for, in MB.
+/// The largest amount of memory that a question can allow, in MB.
 pub(crate) const MOST_MEMORY: u32 = 1_000_000;
 
-/// The longest pause without reads that a question may ask for.
+/// The largest `pause` that a question can set, in cycles.
 const LONGEST_PAUSE: u32 = 1_000_000_000;
 
-/// The most cycles that a question may ask for: one less than a stopwatch shows.
+/// The largest stopwatch limit that a question can set, in cycles: one less than the most that a stopwatch shows.
 const LONGEST_LIMIT: u32 = 16_777_214;
 
-/// What conditions that are met all at once do.
+/// The role of a list of conditions in a question.
 #[derive(Clone, Copy, Debug)]
 pub(crate) enum Role {
-    /// They never are.
+    /// The conditions must never all be met at once.
     Never,
-    /// They begin the stopwatch.
+    /// The stopwatch begins when all conditions are met.
     Begin,
-    /// They end it.
+    /// The stopwatch ends when all conditions are met.
     End,
 }
 
-/// What a line of a question says.
+/// A parsed line of a question.
 #[derive(Clone, Copy, Debug)]
 pub(crate) enum QuestionLine {
-    /// Nothing.
+    /// A blank line.
     Blank,
-    /// The most states.
+    /// The maximum number of states.
     Most(u32),
-    /// The most entries, if the conditions are looked at by sets of values; 0 if by search.
+    /// The maximum number of entries, if the proof uses sets of values; 0 if it uses search.
     Sets(u32),
-    /// The most memory for them, in MB.
+    /// The maximum memory for states or entries, in MB.
     Memory(u32),
-    /// The longest pause without reads, in cycles.
+    /// The number of cycles after which a stretch without reads is split.
     Pause(u32),
-    /// The most cycles that the stopwatch shows.
+    /// The maximum number of cycles that the stopwatch may show.
     Within(Cycles),
-    /// The board's text begins.
+    /// The board's text begins on the next line.
     Wire,
-    /// The program's text begins.
+    /// The program's text begins on the next line.
     Asm,
-    /// Conditions follow.
+    /// A list of conditions with this role follows.
     Conditions(Role),
-    /// One of these conditions.
+    /// A condition of the current list.
     Met(Condition),
-    /// The question is whole.
+    /// The question is complete.
     Prove,
 }
 
-/// Returns what a way of comparing asks for: inside of two numbers, or outside.
+/// Parses the kind of a comparison: true for `in` (inside the range), false for `out` (outside it).
 fn is_inside(word: &[u8]) -> Option<bool>
     ensures { result ≡ beside (bytes_eq word.now) ways }
 {
@@ -91,7 +91,7 @@ fn is_inside(word: &[u8]) -> Option<bool>
     }
 }
 
-/// Returns the list of cells of a word.
+/// Parses the name of a list of cells.
 fn list_named(word: &[u8]) -> Option<CellList>
     ensures { result ≡ beside (bytes_eq word.now) lists }
 {
@@ -123,7 +123,7 @@ fn list_named(word: &[u8]) -> Option<CellList>
     Some(list)
 }
 
-/// Returns the part of a word.
+/// Parses the name of a part: `whole`, or `line0` to `line3`.
 fn part_named(word: &[u8]) -> Option<Part>
     ensures { result ≡ beside (bytes_eq word.now) parts }
 {
@@ -142,7 +142,7 @@ fn part_named(word: &[u8]) -> Option<Part>
     }
 }
 
-/// Returns the cell of a list and an index.
+/// Parses a cell from the name of its list and its index. Returns `None` if the index is beyond the list.
 fn cell_of(list: &[u8], index: &[u8]) -> Option<Cell>
     ensures { result ≡ cell_of list.now index.now }
 {
@@ -155,14 +155,14 @@ fn cell_of(list: &[u8], index: &[u8]) -> Option<Cell>
     }
 }
 
-/// Returns a number 0 to 255.
+/// Parses a number from 0 to 255.
 fn byte_of(word: &[u8]) -> Option<u8>
     ensures { result ≡ number_up_to 255 word.now }
 {
     Some(number_within(word, 255)? as u8)
 }
 
-/// Returns the comparison of six words.
+/// Parses a comparison from its six words.
 fn comparison_of(
     way: &[u8],
     list: &[u8],
@@ -187,7 +187,7 @@ fn comparison_of(
     })
 }
 
-/// Returns mistakes with the one of a word.
+/// Adds the kind of mistake that a word names to `asked`. Returns `None` if the word names none.
 fn with_mistake(asked: Mistakes, word: &[u8]) -> Option<Mistakes>
     ensures { result ≡ with_mistake asked word.now }
 {
@@ -212,7 +212,7 @@ fn with_mistake(asked: Mistakes, word: &[u8]) -> Option<Mistakes>
     Some(more)
 }
 
-/// Returns the mistakes of words.
+/// Parses the kinds of mistake that words name.
 fn with_mistakes(words: &[u8]) -> Option<Mistakes>
     ensures { result ≡ with_mistakes no_mistakes (words_of words.now) }
 {
@@ -225,7 +225,7 @@ fn with_mistakes(words: &[u8]) -> Option<Mistakes>
     Some(asked)
 }
 
-/// Returns the mistakes of words, one at least.
+/// Parses the kinds of mistake that words name. Returns `None` if there are no words.
 fn mistakes_of(words: &[u8]) -> Option<Mistakes>
     ensures { result ≡ mistakes_of (words_of words.now) }
 {
@@ -235,7 +235,7 @@ fn mistakes_of(words: &[u8]) -> Option<Mistakes>
     }
 }
 
-/// Returns what a line of one word says.
+/// Parses a line of one word.
 fn read_alone(word: &[u8]) -> Option<QuestionLine>
     ensures { result ≡ beside (bytes_eq word.now) alone }
 {
@@ -256,7 +256,7 @@ fn read_alone(word: &[u8]) -> Option<QuestionLine>
     }
 }
 
-/// Returns what a line of a name and a number says.
+/// Parses a line that consists of a name and a number.
 fn with_number(name: &[u8], word: &[u8]) -> Option<QuestionLine>
     ensures { result ≡ with_number name.now word.now }
 {
@@ -284,7 +284,7 @@ fn with_number(name: &[u8], word: &[u8]) -> Option<QuestionLine>
     None
 }
 
-/// Returns what a line of three words and more says.
+/// Parses a line of three or more words. Only a comparison, with six words, is valid.
 fn with_comparison(way: &[u8], list: &[u8], index: &[u8], rest: &[u8]) -> Option<QuestionLine>
     ensures { result ≡ with_comparison way.now list.now index.now (words_of rest.now) }
 {
@@ -300,7 +300,7 @@ fn with_comparison(way: &[u8], list: &[u8], index: &[u8], rest: &[u8]) -> Option
     }
 }
 
-/// Returns what a line says, by the words after its first one.
+/// Parses a line from its first word, which is not `mistake`, and the words after it.
 fn by_words(name: &[u8], rest: &[u8]) -> Option<QuestionLine>
     ensures { result ≡ by_words name.now (words_of rest.now) }
 {
@@ -313,7 +313,7 @@ fn by_words(name: &[u8], rest: &[u8]) -> Option<QuestionLine>
     }
 }
 
-/// Returns what a line says, if it is one of a question.
+/// Parses a line of a question. Returns `None` if the line is invalid.
 pub(crate) fn line_of(line: &[u8]) -> Option<QuestionLine>
     ensures { result ≡ line_of (words_of line.now) }
 {

@@ -1,4 +1,4 @@
-//! The machine of two texts.
+//! The machine that a board's text and a program's text define.
 ghost use Rattle.std.specs.Prelude.{◌≡◌, None, IfOk, IfSome};
 ghost use Rattle.std.specs.List.{list_any};
 ghost use Rattle.mcs_model.specs.ChipWrites.{with_rom_bytes};
@@ -13,7 +13,7 @@ use mcs_model::board::Board;
 use mcs_model::image::Image;
 use std::alloc::{AllocError, Global};
 
-/// Returns whether a board lacks the ROM of some byte of an image.
+/// Returns whether an image has a byte at an address where the board has no ROM.
 fn lacks_a_rom(board: &Board, image: &Image) -> bool
     ensures { result ≡ list_any (λ p. lacks_rom board.now p.0) image.now }
 {
@@ -23,7 +23,7 @@ fn lacks_a_rom(board: &Board, image: &Image) -> bool
         .any(|pair| board.mask(pair.0.page().get()).is_none())
 }
 
-/// Puts the bytes of an image into ROM.
+/// Writes the bytes of an image into a rig's ROM.
 fn load(rig: &mut BenchRig, image: &Image)
     ensures { rig.new ≡ with_rom_bytes rig.old image.now }
 {
@@ -32,8 +32,8 @@ fn load(rig: &mut BenchRig, image: &Image)
     }
 }
 
-/// Returns the rig of a bench after `wire`, `asm` and `reset`, whose processor is then a new one; none if the board lacks a
-/// ROM of the image.
+/// Returns the rig of a new bench after `wire`, `asm` and `reset`. The processor of that bench has the state of a new
+/// one. Returns `None` if the image has a byte at an address where the board has no ROM.
 pub(crate) fn rig_given(
     alloc: Global,
     board: &Board,

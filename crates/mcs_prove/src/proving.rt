@@ -1,4 +1,4 @@
-//! Whether conditions are never met by the machine of two texts, whatever its inputs are.
+//! Proves, for all inputs, that the machine that two texts define never meets given conditions.
 ghost use Rattle.std.specs.Prelude.{◌≡◌, ◌≤◌, IfOk, map};
 ghost use Rattle.mcs_search.specs.declared.searching.TheConstants.{MOST};
 ghost use Rattle.mcs_drive.specs.Tracked.{Tracked, no_stopwatch};
@@ -17,7 +17,7 @@ use mcs_sets::check_by_sets;
 use mcs_wiring::{WiringFault, board_of};
 use std::alloc::{AllocError, Global};
 
-/// Returns why a program's text is refused.
+/// Returns the refusal for an assembler error.
 fn program_refusal(fault: AsmFault) -> Refusal {
     match fault.kind {
         FaultKind::NoMemory => Refusal::NoMemory,
@@ -25,7 +25,7 @@ fn program_refusal(fault: AsmFault) -> Refusal {
     }
 }
 
-/// Returns the rig of a board's text and a program's text.
+/// Returns the rig that a board's text and a program's text define.
 fn rig_of(alloc: Global, board: &str, program: &str) -> Result<BenchRig, Refusal>
     ensures { IfOk result (IsGiven board.now program.now) }
 {
@@ -44,20 +44,20 @@ fn rig_of(alloc: Global, board: &str, program: &str) -> Result<BenchRig, Refusal
     }
 }
 
-/// What is asked of a machine.
+/// The property to prove of a machine, and the stopwatch that it may refer to.
 #[derive(Drop)]
 pub struct Goal {
-    /// Conditions that are never met all at once.
+    /// Lists of conditions. The conditions of a list must never all be met at once.
     pub nevers: Vec<Vec<Condition>>,
-    /// Conditions that begin a stopwatch if they are met all at once.
+    /// Lists of conditions. The stopwatch begins when all conditions of a list are met.
     pub begins: Vec<Vec<Condition>>,
-    /// Conditions that end it.
+    /// Lists of conditions. The stopwatch ends when all conditions of a list are met.
     pub ends: Vec<Vec<Condition>>,
-    /// The most cycles that it shows.
+    /// The maximum number of cycles that the stopwatch may show, if there is a limit.
     pub limit: Option<Cycles>,
 }
 
-/// Returns conditions as a search takes them.
+/// Converts lists of conditions to the conjunctions that a search uses.
 fn conjunctions_of(
     alloc: Global,
     lists: Vec<Vec<Condition>>,
@@ -71,7 +71,7 @@ fn conjunctions_of(
     Ok(made)
 }
 
-/// Returns conditions that are never met, with a limit.
+/// Returns the conjunctions that must never be met, with those that express the stopwatch's limit, if there is one.
 fn nevers_of(
     alloc: Global,
     nevers: Vec<Vec<Condition>>,
@@ -87,10 +87,9 @@ fn nevers_of(
     Ok(made)
 }
 
-/// Searches through all that the machine of a board's text and a program's text can do, whatever its keys and its TEST pin
-/// do, in at most `most` states and about `memory` bytes, and looks after each cycle whether conditions are met and what a
-/// stopwatch shows. A pause
-/// without reads is cut every `pause` cycles.
+/// Searches all runs of the machine that a board's text and a program's text define, for all levels of its keys and its
+/// TEST pin. Checks the conditions and the stopwatch's limit after each cycle. The search uses at most `most` states
+/// and about `memory` bytes. It splits a stretch of cycles without reads every `pause` cycles.
 pub fn prove(
     alloc: Global,
     board: &str,
@@ -119,7 +118,8 @@ pub fn prove(
     )?)
 }
 
-/// Looks for a proof that conditions are never met by sets of values, in at most `most` entries and about `memory` bytes.
+/// Tries to prove with sets of values that the machine never meets all conditions of a list at once. Uses at most
+/// `most` entries and about `memory` bytes.
 pub fn prove_by_sets(
     alloc: Global,
     board: &str,

@@ -1,4 +1,4 @@
-//! What a text asks, by its lines.
+//! Parses a question from the lines of a text.
 ghost use Rattle.std.specs.Prelude.{◌≡◌, Some, map, option_map, string_bytes, IfOk, OnOk};
 ghost use Rattle.std.specs.Str.Lines.{lines};
 ghost use Rattle.mcs_model.specs.TextLines.{words_of};
@@ -12,21 +12,21 @@ use std::alloc::{AllocError, Global};
 use std::marker::Model;
 use std::mem;
 
-/// The longest pause without reads, in cycles, if nothing is said.
+/// The default for `pause`: the number of cycles after which a stretch without reads is split.
 const PAUSE: u32 = 1_000_000;
 
-/// Where the next line belongs.
+/// The section of a question that the next line belongs to.
 #[derive(Clone, Copy, Debug)]
 pub(crate) enum Section {
-    /// Outside of texts.
+    /// The lines outside the two texts.
     Lines,
-    /// To the board's text.
+    /// The board's text.
     Board,
-    /// To the program's text.
+    /// The program's text.
     Program,
 }
 
-/// What was asked so far. Contracts see what its fields say.
+/// A question as parsed so far. Contracts see the values of its fields.
 #[derive(Drop)]
 pub(crate) struct Question {
     pub(crate) board: Option<String>,
@@ -69,7 +69,7 @@ impl Model for Question {
     } };
 }
 
-/// Adds a line to a text.
+/// Appends a line and a line feed to a text. Does nothing if there is no text.
 fn add_line(text: &mut Option<String>, line: &str) -> Result<(), AllocError>
     ensures { OnOk result (option_map string_bytes text.new
         ≡ with_line (option_map string_bytes text.old) line.now) }
@@ -82,7 +82,7 @@ fn add_line(text: &mut Option<String>, line: &str) -> Result<(), AllocError>
 }
 
 impl Question {
-    /// Returns a question of which no line was read.
+    /// Returns the question before its first line is read.
     fn new(alloc: Global) -> Question
         ensures { result ≡ nothing_asked }
     {
@@ -104,7 +104,8 @@ impl Question {
         }
     }
 
-    /// Returns whether the question has a stopwatch with a limit, to be looked at by search, or none.
+    /// Returns whether the question has no stopwatch, or one with a begin, an end and a limit that is checked by
+    /// search.
     pub(crate) fn is_posed(&self) -> bool
         ensures { result ≡ is_posed self.now }
     {
@@ -114,7 +115,7 @@ impl Question {
         }
     }
 
-    /// Ends the conditions of a line `never`, `begin` or `end`.
+    /// Ends the current list of conditions, if there is one, and stores it by its role.
     fn end_conditions(&mut self) -> Result<(), AllocError>
         ensures { OnOk result (self.new ≡ ended self.old) }
     {
@@ -128,7 +129,7 @@ impl Question {
         Ok(())
     }
 
-    /// Adds a condition. Returns whether it stands behind a line `never`, `begin` or `end`.
+    /// Adds a condition to the current list. Returns false if no `never`, `begin` or `end` line precedes it.
     fn add_condition(&mut self, condition: Condition) -> Result<bool, AllocError>
         ensures { IfOk result (λ known. when known self.new
             ≡ with_condition self.old condition self.old.conditions) }
@@ -142,7 +143,7 @@ impl Question {
         }
     }
 
-    /// Begins the board's text. Returns whether it is the first one.
+    /// Begins the board's text. Returns false if the question already has one.
     fn begin_board(&mut self, alloc: Global) -> bool
         ensures { when result self.new ≡ begin_board self.old self.old.board }
     {
@@ -154,7 +155,7 @@ impl Question {
         true
     }
 
-    /// Begins the program's text. Returns whether it is the first one.
+    /// Begins the program's text. Returns false if the question already has one.
     fn begin_program(&mut self, alloc: Global) -> bool
         ensures { when result self.new ≡ begin_program self.old self.old.program }
     {
@@ -166,7 +167,7 @@ impl Question {
         true
     }
 
-    /// Takes what a line says. Returns whether it belongs there.
+    /// Applies a parsed line. Returns whether the line is allowed at this point.
     fn take(&mut self, alloc: Global, said: QuestionLine) -> Result<bool, AllocError>
         ensures { IfOk result (λ known. when known self.new ≡ after_said self.old said) }
     {
@@ -193,7 +194,7 @@ impl Question {
         Ok(true)
     }
 
-    /// Reads a line outside of texts. Returns whether it is one of a question.
+    /// Reads a line outside the two texts. Returns whether it is valid at this point.
     fn read_words(&mut self, alloc: Global, line: &str) -> Result<bool, AllocError>
         ensures { IfOk result (λ known. when known self.new ≡ after_words self.old (words_of line.now)) }
     {
@@ -206,7 +207,7 @@ impl Question {
         }
     }
 
-    /// Reads a line of the board's text.
+    /// Reads a line of the board's text. A line with a single dot ends the text.
     fn read_board(&mut self, line: &str) -> Result<(), AllocError>
         ensures { OnOk result (Some self.new ≡ after_line_in Board self.old line.now) }
     {
@@ -218,7 +219,7 @@ impl Question {
         Ok(())
     }
 
-    /// Reads a line of the program's text.
+    /// Reads a line of the program's text. A line with a single dot ends the text.
     fn read_program(&mut self, line: &str) -> Result<(), AllocError>
         ensures { OnOk result (Some self.new ≡ after_line_in Program self.old line.now) }
     {
@@ -230,7 +231,7 @@ impl Question {
         Ok(())
     }
 
-    /// Reads a line. Returns whether it is one of a question.
+    /// Reads a line of a question. Returns whether it is valid at this point.
     fn read_line(&mut self, alloc: Global, line: &str) -> Result<bool, AllocError>
         ensures { IfOk result (λ known. when known self.new ≡ after_line self.old line.now) }
     {
@@ -250,7 +251,7 @@ fn lines_of(alloc: Global, text: &str) -> Result<Vec<&str>, AllocError>
     text.lines().collect(alloc)
 }
 
-/// Returns what a text asks.
+/// Parses the question that a text contains. Fails at the first invalid line.
 pub(crate) fn question_of(alloc: Global, text: &str) -> Result<Question, Refusal>
     ensures { IfOk result (λ question. asked_by text.now ≡ Some question) }
 {
