@@ -1,0 +1,67 @@
+-- The marks that a cycle shows depend on what it reads, and on nothing else of the levels.
+use Rattle.std.proofs.Common.{◌≡◌, ℕ, Bool, true, false, not, cond, ◌&&◌, Option, Some, None, length, slice_get, refl, ap, ◌∙◌, eqb}
+use Rattle.mcs_model.specs.declared.op.Op.{Op}
+use Rattle.mcs_model.specs.declared.op.Op.TheVariants.{Rdr}
+use Rattle.mcs_model.specs.Bus.{BusState, fetch_of}
+use Rattle.mcs_model.specs.Effect.{instruction_at}
+use Rattle.mcs_model.specs.Levels.{port_of}
+use Rattle.mcs_drive.specs.declared.marks.Mark.{Mark}
+use Rattle.mcs_drive.specs.Driven.{Levels}
+use Rattle.mcs_drive.specs.Asking.{asks, answer_to}
+use Rattle.mcs_drive.specs.Marks.{shows}
+use Rattle.mcs_drive.specs.Tracked.{Observer, Tracked, answer, is_asking, marks_after, opens_at, progress, seen_after, seen_reading, under}
+use Rattle.mcs_drive.proofs.Commuting.{at_levels}
+
+-- whether a mark is shown, if there is one
+abbrev pub some_shown : Option Mark → (Mark → Bool) → Bool
+some_shown o p = elim o [ Some mark ↦ p mark | None ↦ false ]
+
+none-shown : (o : Option Mark) (p : Mark → Bool) → ((mark : Mark) → p mark ≡ false) → some_shown o p ≡ false
+none-shown None p h = refl
+none-shown (Some mark) p h = h mark
+
+same-shown : (o : Option Mark) (p q : Mark → Bool) → ((mark : Mark) → p mark ≡ q mark) → some_shown o p ≡ some_shown o q
+same-shown None p q h = refl
+same-shown (Some mark) p q h = h mark
+
+-- ---- a cycle that reads no port
+
+op-quiet : (o : Option Op) (m : BusState) (value : ℕ) (mark : Mark) → asks o ≡ false → shows o m value mark ≡ false
+op-quiet (Some Rdr) m value mark e = absurd (cc)
+op-quiet _ m value mark e = refl
+
+next-quiet : (b : Bool) (o : Option Op) (m : BusState) (value : ℕ) (mark : Mark) → (not b && asks o) ≡ false → shows (cond b None o) m value mark ≡ false
+next-quiet true o m value mark e = refl
+next-quiet false o m value mark e = op-quiet o m value mark e
+
+pub quiet-seen : (w : Observer) (s : Tracked) (value : ℕ) → is_asking s ≡ false → seen_reading w s value ≡ marks_after (length w.marks) s.2.seen (opens_at w s) false
+quiet-seen w s value quiet =
+    ap (marks_after (length w.marks) s.2.seen (opens_at w s))
+    (none-shown (slice_get w.marks (progress (length w.marks) s.2.seen)) (shows (cond (eqb s.0.owed 1) None (instruction_at s.0 s.1)) s.1 value)
+    (λ mark. next-quiet (eqb s.0.owed 1) (instruction_at s.0 s.1) s.1 value mark quiet))
+
+-- it sees as much at all levels
+pub quiet-rests : (w : Observer) (l : Levels) (s : Tracked) → is_asking s ≡ false → seen_after w (under l s) ≡ seen_after w s
+unfolding fetch_of
+quiet-rests w l s quiet = rw (quiet-seen w (under l s) (port_of (at_levels l s.1)) quiet, quiet-seen w s (port_of s.1) quiet) refl
+
+-- ---- the value that is read
+
+op-decides : (o : Option Op) (l l' : Levels) (m : BusState) (mark : Mark) → answer_to o l m ≡ answer_to o l' m → shows o m (port_of (at_levels l m)) mark ≡ shows o m (port_of (at_levels l' m)) mark
+op-decides (Some Rdr) l l' m mark e = ap (λ value. shows (Some Rdr) m value mark) e
+op-decides _ l l' m mark e = refl
+
+next-decides : (b : Bool) (o : Option Op) (l l' : Levels) (m : BusState) (mark : Mark) → answer_to o l m ≡ answer_to o l' m → shows (cond b None o) m (port_of (at_levels l m)) mark ≡ shows (cond b None o) m (port_of (at_levels l' m)) mark
+next-decides true o l l' m mark e = refl
+next-decides false o l l' m mark e = op-decides o l l' m mark e
+
+-- where the same is read, as much is seen
+pub seen-decides : (w : Observer) (l l' : Levels) (s : Tracked) → answer l s ≡ answer l' s → seen_after w (under l s) ≡ seen_after w (under l' s)
+unfolding fetch_of
+seen-decides w l l' s same =
+    let o = slice_get w.marks (progress (length w.marks) s.2.seen) in
+    ap (marks_after (length w.marks) s.2.seen (opens_at w s))
+    (same-shown o
+    (λ mark. shows (cond (eqb s.0.owed 1) None (instruction_at s.0 s.1)) s.1 (port_of (at_levels l s.1)) mark)
+    (λ mark. shows (cond (eqb s.0.owed 1) None (instruction_at s.0 s.1)) s.1 (port_of (at_levels l' s.1)) mark)
+    (λ mark. next-decides (eqb s.0.owed 1) (instruction_at s.0 s.1) l l' s.1 mark same))
