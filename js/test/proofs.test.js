@@ -99,7 +99,8 @@ test("each question goes on only while there are more states, and says how many 
   assert.deepEqual(engine.asked, [[10000, 1], [20000, 1], [40000, 1]]);
   // The questions about mistakes come last, the one by sets of states first.
   assert.deepEqual(seen, [0, 10000, 20000, 0, 0]);
-  assert.deepEqual(all, [{ text: "never lamp 1 on", line: 2, isGoal: false, verdict: { kind: "proved", states: 23456, bySets: false, leftOut: "" } }]);
+  const verdict = { kind: "proved", states: 23456, bySets: false, leftOut: "" };
+  assert.deepEqual(all, [{ text: "never lamp 1 on", line: 2, isGoal: false, verdict }]);
 });
 
 test("properties are asked together, and alone only if that decides something", async () => {
@@ -261,13 +262,14 @@ test("cancelling ends the worker at once; a worker that is silent is not dead", 
 
 test("verdicts in words", () => {
   const found = { steps: 2, cycles: 1204, isAllowed: true, isTest: true, text: "", before: "" };
-  const all = [{ kind: "proved", states: 1, bySets: true, leftOut: "" }, { kind: "proved", states: 96937, bySets: false, leftOut: "" }, { kind: "found", found },
-    { kind: "open", words: "why" }].map((verdict, at) => ({ text: `p${at}`, line: at + 1, isGoal: false, verdict }));
+  const proved = { kind: "proved", states: 96937, bySets: false, leftOut: '"once"' };
+  const verdicts = [{ ...proved, states: 1, bySets: true, leftOut: "" }, proved, { kind: "found", found }, { kind: "open", words: "why" }];
+  const all = verdicts.map((verdict, at) => ({ text: `p${at}`, line: at + 1, isGoal: false, verdict }));
   const goals = all.map((each) => ({ ...each, isGoal: true }));
   assert.deepEqual(all.map(markOf), ["proved", "proved", "can fail", "not decided"]);
   assert.deepEqual(goals.map(markOf), ["never reached", "never reached", "reached", "not decided"]);
-  assert.deepEqual(all.map(wordsOfVerdict),
-    ["for all inputs: 1 set of states", "for all inputs: 96,937 states", "broken by 2 steps, 1,204 cycles", "why"]);
+  assert.deepEqual(all.map(wordsOfVerdict), [
+    "for all inputs: 1 set of states", 'for all inputs: 96,937 states, even without "once"', "broken by 2 steps, 1,204 cycles", "why"]);
   assert.equal(wordsOfEnd(all, false), "2 proved, 1 can fail, 1 not decided.");
   assert.equal(wordsOfEnd(goals, true), "Cancelled: 1 reached, 2 never reached, 1 not decided.");
   assert.equal(wordsSoFar({ judged: all.slice(1), count: 4, states: 0 }), "Property 4 of 4");

@@ -192,7 +192,7 @@ test("presses are a question about the keys of the matrix, by their rows and col
   assert.deepEqual(presses("lamp on on only after press A, press C, press A"), { opens: on, keys: [a, c, a] });
   assert.deepEqual(presses("@lit only after press C"), { opens: [AT_LIT], keys: [c] });
   // A condition counts between the two cycles of an instruction as after them, but a label alone is reached by an instruction.
-  assert.deepEqual(presses("@lit or r5 = 16 only after press C").opens, [AT_LIT.slice(1)]);
+  assert.deepEqual(presses("@lit or @look only after press C").opens, [AT_LOOK.slice(1), AT_LIT.slice(1)]);
   assert.deepEqual(presses("r5 > 15 only after press C").opens, [["in register 0 whole 1 0"]]);
   assert.equal(presses("never lamp on on"), null);
 });
@@ -208,7 +208,7 @@ test("presses that the prover cannot count are refused with the reason", () => {
   for (const [code, isAsked] of [["JIN P0", false], ["BBL 0", false], ["FIN P0", true], ["JUN same", true]]) {
     const own = subjectOf(engine, BOARD, `        FIM P0, 2\nsame:   ${code}\n        NOP\n`);
     assert.equal(asked("@same only after press A", own).question !== null, isAsked, code);
-    assert.notEqual(asked("@same or r5 = 16 only after press A", own).question, null, code);
+    assert.notEqual(asked("@same or r5 = 1 only after press A", own).question, null, code);
   }
 });
 
@@ -343,7 +343,6 @@ test("a press that comes too early, or not at all, becomes a test that fails", a
   assert.ok(await fails((await counterexample(`${keys}lamp on on only after press A, press B`, withB)).found));
   assert.equal((await counterexample(`${keys}lamp on on only after press B, press A`, withB)).found, null);
   assert.ok((await counterexample(`${keys}@lit only after press A, press B`, withB)).found);
-  assert.equal((await counterexample(`${keys}@lit only after press B, press A`, withB)).found, null);
   // Two keys can go down at one moment.
   const together = [0, 13, ...LIGHTS.slice(1)];
   assert.equal((await counterexample(`${keys}lamp on on only after press B, press C, press A`, together)).found, null);

@@ -1,5 +1,5 @@
-// Guards in proofs: a property is proved without those that depend on the past, and a counterexample must break it with them. Presses that a
-// property names: what the bench makes of a way that the prover found.
+// Guards in proofs: a property is proved without those that depend on the past, and a counterexample must break it with them. And presses
+// that a property names: what the bench makes of a way that the prover found.
 import assert from "node:assert/strict";
 import { test } from "node:test";
 import { Engine } from "../core/engine/engine.js";
@@ -34,7 +34,7 @@ idle:   SRC P1
         SRC P0
         LDM 1
         WMP
-        FIM P2, 0x0D
+        FIM P2, 0x0F
 wait:   JCN pressed, foul
         ISZ R4, wait
         ISZ R5, wait
@@ -74,9 +74,9 @@ async function verdictsOn(propertiesText, own = engine, programText = PROGRAM) {
 
 const WITHOUT_ONCE = 'without "once", which a proof leaves out';
 const WITHOUT_PRESS = 'without "after press", which a proof leaves out';
-// Each form with each guard: what the prover is asked is the property without it, and what comes of that. `proved`: it holds without the
-// guard, so it holds with it; of a goal, the way there is missing without the guard, so it is missing with it. `found`: a way breaks it, and
-// the guard is open there. The reason: a way breaks it without the guard, but the guard is closed there.
+// Each form with guards, and the verdict. The prover is asked about the property without the guard. `proved`: that holds, so the property
+// holds; of a goal, there is no way without the guard, and so none with it. `found`: a way breaks it (reaches it), and the guard is open
+// there. A reason: the guard is closed there.
 const TABLE = [
   ["once lamp go on, never lamp waiting on and lamp go on", "proved"],
   ["once lamp go on, never lamp foul on", `it can fail ${WITHOUT_ONCE}`],
@@ -88,7 +88,7 @@ const TABLE = [
   ["once lamp waiting on, at @foul lamp go off", "proved"],
   ["once lamp foul on, at @foul lamp waiting off", `it can fail ${WITHOUT_ONCE}`],
   ["after press PRESS, at @foul lamp waiting off", "found"],
-  ["once lamp go on, never lamp waiting on for 5000", "proved"],
+  ["once lamp go on, never lamp waiting on for 500", "proved"],
   ["after press START within 20, never lamp waiting on for 20", `it can fail ${WITHOUT_PRESS}`],
   ["after press START within 50, never lamp waiting on for 20", "found"],
   ["once lamp go on, reach lamp waiting on and lamp go on", "proved"],
@@ -130,20 +130,21 @@ test("what is proved without a guard is proved with it, and a way must break it 
 
 test("a property with such a guard is asked alone, also before a search", () => {
   const subject = subjectOf(engine, BOARD, PROGRAM);
-  const { campaign } = readCampaign("never r15 = 1\nonce lamp go on, never lamp foul on\nnever r14 = 1\n@go only after press START\n", subject);
+  const text = "never r15 = 1\nonce lamp go on, never lamp foul on\nnever r14 = 1\n@go only after press START\n";
+  const { campaign } = readCampaign(text, subject);
   const [joint, ...alone] = new ProofFirst(subject, campaign, 1000).questions.map(({ properties }) => properties);
   assert.deepEqual([joint.includes(0), joint.includes(1), joint.includes(2), joint.includes(3)], [true, false, true, false]);
   assert.ok([0, 1, 2, 3].every((at) => alone.some((each) => each.length === 1 && each[0] === at)));
 });
 
 test("presses that no read sees are no counterexample", async () => {
-  // The level of START is read, and so a press before the first read is enough. Values: START is down, then PRESS is up and down.
+  // The first stretch ends at the first read, which sees START down: a press before it, of which no read sees the beginning.
   const text = "lamp waiting on only after press START\n";
-  const [open] = await verdictsOn(text, new Answering("may fail 8\n"));
+  const [open] = await verdictsOn(text, new Answering("may fail 0 8\n"));
   assert.deepEqual(open, { kind: "open", words: "it can become true before the program has read each key up and then down" });
   const [proved] = await verdictsOn(text, new Answering("holds 12\n"));
   assert.deepEqual(proved, { kind: "proved", states: 12, bySets: false, leftOut: "" });
-  const [found] = await verdictsOn("lamp go on only after press START, press START\n", new Answering(`may fail 8${" 1".repeat(48)}\n`));
+  const [found] = await verdictsOn("lamp go on only after press START, press START\n", new Answering(`may fail 0 8${" 1".repeat(16)}\n`));
   assert.equal(found.kind, "found");
   assert.match(found.found.text, /\n {2}press START\n {2}run \d+\n {2}expect not lamp go on\n$/);
   const [pin] = await verdictsOn("lamp foul on only after press PRESS\n");

@@ -13,8 +13,10 @@ export const isNoMatrixKey = (name) => `${name} is at the TEST pin; only presses
 /** @type {(most: number) => string} */
 export const hasManyPresses = (most) => `it names more than ${most} presses`;
 export const LABEL_REPEATS = "the BBL or JIN at its label can lead to the same label in one cycle";
-/** @type {(words: string[]) => string} */
-export const both = (words) => words.map((each) => `"${each}"`).join(" and ");
+/** The first words of guards, by their kinds. */
+const GUARDS = { press: "after press", once: "once", while: "while" };
+/** @type {(kinds: Iterable<keyof typeof GUARDS>) => string} */
+export const guardsNamed = (kinds) => [...kinds].map((kind) => `"${GUARDS[kind]}"`).join(" and ");
 /** @type {(most: string) => string} */
 export const timeIsLong = (most) => `its time is longer than ${most} cycles`;
 export const BEGINS_LATER = "a proof begins at power-on, but the text begins elsewhere (from)";

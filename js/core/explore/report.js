@@ -15,7 +15,8 @@ import { neverReached, proved } from "../../words/prove.js";
  * @typedef {{ test: string, steps: number, cycles: number, seed: number }} Found
  *
  * A property in a report: `isSkipped` says that it is a model whose command was not run; `applied`, that it was checked; `states` are the
- * states of the proof that it holds for all inputs, otherwise 0, and `leftOut` the guards that a proof leaves out; `chains` are the chains of keys for which a model was asked.
+ * states of the proof that it holds for all inputs, otherwise 0, and `leftOut` the guards that a proof leaves out; `chains` are the
+ * chains of keys for which a model was asked.
  * @typedef {{ text: string, line: number, isGoal: boolean, isSkipped: boolean, applied: boolean, states: number, leftOut: string,
  *   chains: number, found: Found | null }} PropertyResult
  *

@@ -131,7 +131,8 @@ class Replay {
       const cycles = cyclesToMistake(subject, file, this.mistake, rest);
       return cycles < 0 ? null : { property: 0, steps, time: time + cycles };
     }
-    const waits = wholeRuns(Math.max(1, rest)).map((wait) => ({ wait, kind: /** @type {const} */ ("none"), input: -1 }));
+    // A cycle more begins the instruction at a label there.
+    const waits = wholeRuns(rest + 1).map((wait) => ({ wait, kind: /** @type {const} */ ("none"), input: -1 }));
     const broken = isRemembered ? this.timeBroken(subject.file, [...steps.flatMap(cut), ...waits]) : this.timeBroken(file, waits);
     if (broken < 0) return null;
     return isRemembered ? { property: 0, steps: stepsBefore(steps, broken), time: broken } : { property: 0, steps, time: time + broken };

@@ -191,16 +191,11 @@ export function askedOf(property, { from }, subject) {
   }
 }
 
-/** The first words of guards that a question leaves out. That of `while` is in the condition. */
-const LEFT_OUT = { press: "after press", once: "once", while: "while" };
-
 /**
  * Returns the guards that the question about a property leaves out, by their first words; "" if there are none.
  * @param {Property} property
  */
-export function leftOutOf({ guards }) {
-  return say.both([...new Set(guards.map(({ kind }) => LEFT_OUT[kind]))]);
-}
+export const leftOutOf = ({ guards }) => say.guardsNamed(new Set(guards.map(({ kind }) => kind)));
 
 /**
  * Returns the lines of conditions, one of which is met if all comparisons of one list hold.
@@ -213,7 +208,7 @@ const linesOf = (word, lists) => lists.flatMap((all) => [word, ...all]);
  * Returns the lines that a key is up, and then down.
  * @param {MatrixKey} key
  */
-const linesOfPress = (key) => [`up ${textOfKey(key)}`, `down ${textOfKey(key)}`];
+const linesOfPress = (key) => ["up", "down"].map((level) => [level, textOfKey(key)].join(" "));
 
 /**
  * Returns the lines of a question.
