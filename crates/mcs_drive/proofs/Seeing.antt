@@ -9,14 +9,14 @@ use Rattle.mcs_drive.specs.declared.marks.Mark.{Mark}
 use Rattle.mcs_drive.specs.Driven.{Levels}
 use Rattle.mcs_drive.specs.Asking.{asks, answer_to}
 use Rattle.mcs_drive.specs.Marks.{shows}
-use Rattle.mcs_drive.specs.Tracked.{Observer, Tracked, answer, is_asking, marks_after, opens_at, progress, seen_after, seen_reading, under}
+use Rattle.mcs_drive.specs.Tracked.{Observer, Tracked, answer, is_asking, marks_after, opens_at, progress, seen_after, seen_reading, shows_next, under}
 use Rattle.mcs_drive.proofs.Commuting.{at_levels}
 
 -- whether a mark is shown, if there is one
 abbrev pub some_shown : Option Mark → (Mark → Bool) → Bool
 some_shown o p = elim o [ Some mark ↦ p mark | None ↦ false ]
 
-none-shown : (o : Option Mark) (p : Mark → Bool) → ((mark : Mark) → p mark ≡ false) → some_shown o p ≡ false
+pub none-shown : (o : Option Mark) (p : Mark → Bool) → ((mark : Mark) → p mark ≡ false) → some_shown o p ≡ false
 none-shown None p h = refl
 none-shown (Some mark) p h = h mark
 
@@ -34,11 +34,13 @@ next-quiet : (b : Bool) (o : Option Op) (m : BusState) (value : ℕ) (mark : Mar
 next-quiet true o m value mark e = refl
 next-quiet false o m value mark e = op-quiet o m value mark e
 
-pub quiet-seen : (w : Observer) (s : Tracked) (value : ℕ) → is_asking s ≡ false → seen_reading w s value ≡ marks_after (length w.marks) s.2.seen (opens_at w s) false
-quiet-seen w s value quiet =
-    ap (marks_after (length w.marks) s.2.seen (opens_at w s))
-    (none-shown (slice_get w.marks (progress (length w.marks) s.2.seen)) (shows (cond (eqb s.0.owed 1) None (instruction_at s.0 s.1)) s.1 value)
-    (λ mark. next-quiet (eqb s.0.owed 1) (instruction_at s.0 s.1) s.1 value mark quiet))
+pub quiet-shows : (w : Observer) (s : Tracked) (value : ℕ) → is_asking s ≡ false → shows_next w s value ≡ false
+quiet-shows w s value quiet =
+    none-shown (slice_get w.marks (progress (length w.marks) s.2.seen)) (shows (cond (eqb s.0.owed 1) None (instruction_at s.0 s.1)) s.1 value)
+    (λ mark. next-quiet (eqb s.0.owed 1) (instruction_at s.0 s.1) s.1 value mark quiet)
+
+quiet-seen : (w : Observer) (s : Tracked) (value : ℕ) → is_asking s ≡ false → seen_reading w s value ≡ marks_after (length w.marks) s.2.seen (opens_at w s) false
+quiet-seen w s value quiet = ap (marks_after (length w.marks) s.2.seen (opens_at w s)) (quiet-shows w s value quiet)
 
 -- it sees as much at all levels
 pub quiet-rests : (w : Observer) (l : Levels) (s : Tracked) → is_asking s ≡ false → seen_after w (under l s) ≡ seen_after w s

@@ -4,25 +4,25 @@ use Rattle.std.proofs.lemmas.Bool.{and_parts, eqb-true}
 use Rattle.mcs_model.specs.declared.regs.Regs.{Regs}
 use Rattle.mcs_model.specs.BenchState.{new_regs}
 use Rattle.mcs_model.specs.Bus.{BusState}
-use Rattle.mcs_drive.specs.Tracked.{Stopwatch, Tracked, no_stopwatch, without_calls}
+use Rattle.mcs_drive.specs.Tracked.{Observer, Tracked, no_observer, without_calls}
 use Rattle.mcs_check.specs.declared.checking.Outcome.{Outcome}
 use Rattle.mcs_check.specs.declared.checking.Outcome.TheVariants as outcome
 use Rattle.mcs_check.specs.declared.conditions.Condition.{Condition}
-use Rattle.mcs_check.specs.Conditions.{keeps_to, stopwatch_of}
+use Rattle.mcs_check.specs.Conditions.{keeps_to, observer_of}
 use Rattle.mcs_check.specs.Promised.{IsProved}
 use Rattle.mcs_prove.specs.Given.{IsGiven, IsProvedOf, machine_given}
 use Rattle.mcs_prove.specs.declared.fault.Refusal.{Refusal}
 use Rattle.mcs_prove.specs.Questions.{Asked, IsAnswerTo, asked_by, is_kept, is_posed, is_posed_with}
 
 -- properties that are the same at each machine
-pub proved-same : (w : Stopwatch) (p q : Tracked → Bool) (s : Tracked) (found : Outcome) → ((t : Tracked) → p t ≡ q t) → IsProved w p s found → IsProved w q s found
+pub proved-same : (w : Observer) (p q : Tracked → Bool) (s : Tracked) (found : Outcome) → ((t : Tracked) → p t ≡ q t) → IsProved w p s found → IsProved w q s found
 proved-same w p q s (outcome.Holds n) same h = λ f fit k. sym (same _) ∙ h f fit k
 proved-same w p q s (outcome.MayFail values) same h = h
 proved-same w p q s outcome.TooMany same h = h
 proved-same w p q s (outcome.NoMemory n) same h = h
 proved-same w p q s outcome.GaveUp same h = h
 
-pub proved-of : (board program : List ℕ) (w : Stopwatch) (p q : Tracked → Bool) (cpu : Regs) (rig : BusState) (found : Outcome) → IsGiven board program rig → cpu ≡ new_regs → ((t : Tracked) → p t ≡ q t) → IsProved w p (without_calls (cpu, rig)) found → IsProvedOf board program w q found
+pub proved-of : (board program : List ℕ) (w : Observer) (p q : Tracked → Bool) (cpu : Regs) (rig : BusState) (found : Outcome) → IsGiven board program rig → cpu ≡ new_regs → ((t : Tracked) → p t ≡ q t) → IsProved w p (without_calls (cpu, rig)) found → IsProvedOf board program w q found
 proved-of board program w p q cpu rig found g new same h = record {
   parts = g.parts;
   loaded = g.loaded;
@@ -49,23 +49,23 @@ unlimited q (Some n) h some =
     absurd (omega arith)
 
 -- the conditions alone
-proved-alone : (board program : List ℕ) (q : Asked) (found : Outcome) → is_posed q ≡ true → 0 < q.sets → IsProvedOf board program no_stopwatch (keeps_to q.nevers) found →
-    IsProvedOf board program (stopwatch_of q.begins q.ends) (is_kept q.nevers q.limit) found
+proved-alone : (board program : List ℕ) (q : Asked) (found : Outcome) → is_posed q ≡ true → 0 < q.sets → IsProvedOf board program no_observer (keeps_to q.nevers) found →
+    IsProvedOf board program (observer_of q.begins q.ends) (is_kept q.nevers q.limit) found
 proved-alone board program q found posed some h =
     let parts = unlimited q q.limit posed some in
-    let kept : IsProvedOf board program no_stopwatch (is_kept q.nevers None) found = record {
+    let kept : IsProvedOf board program no_observer (is_kept q.nevers None) found = record {
       parts = h.parts;
       loaded = h.loaded;
       accepted = h.accepted;
-      proved = proved-same no_stopwatch (keeps_to q.nevers) (is_kept q.nevers None) (machine_given h.parts h.loaded) found (λ t. sym (and-true (keeps_to q.nevers t))) h.proved;
+      proved = proved-same no_observer (keeps_to q.nevers) (is_kept q.nevers None) (machine_given h.parts h.loaded) found (λ t. sym (and-true (keeps_to q.nevers t))) h.proved;
     } in
-    subst (λ (o : Option ℕ). IsProvedOf board program (stopwatch_of q.begins q.ends) (is_kept q.nevers o) found) (sym parts.0)
-    (subst (λ (xs : List (List Condition)). IsProvedOf board program (stopwatch_of q.begins xs) (is_kept q.nevers None) found) (sym parts.1.1)
-    (subst (λ (xs : List (List Condition)). IsProvedOf board program (stopwatch_of xs []) (is_kept q.nevers None) found) (sym parts.1.0) kept))
+    subst (λ (o : Option ℕ). IsProvedOf board program (observer_of q.begins q.ends) (is_kept q.nevers o) found) (sym parts.0)
+    (subst (λ (xs : List (List Condition)). IsProvedOf board program (observer_of q.begins xs) (is_kept q.nevers None) found) (sym parts.1.1)
+    (subst (λ (xs : List (List Condition)). IsProvedOf board program (observer_of xs []) (is_kept q.nevers None) found) (sym parts.1.0) kept))
 
 pub answered-alone : (text board program : List ℕ) (q : Asked) (nevers : List (List Condition)) (found : Result Outcome Refusal) →
     asked_by text ≡ Some q → q.is_whole ≡ true → is_posed q ≡ true → q.board ≡ Some board → q.program ≡ Some program → 0 < q.sets → nevers ≡ q.nevers →
-    IfOk found (IsProvedOf board program no_stopwatch (keeps_to nevers)) → IfOk found (IsAnswerTo text)
+    IfOk found (IsProvedOf board program no_observer (keeps_to nevers)) → IfOk found (IsAnswerTo text)
 answered-alone text board program q nevers (Ok found) spells whole posed has_board has_program some same h = record {
   asked = q;
   board = board;
@@ -75,6 +75,6 @@ answered-alone text board program q nevers (Ok found) spells whole posed has_boa
   is_posed = posed;
   has_board = has_board;
   has_program = has_program;
-  proved = proved-alone board program q found posed some (subst (λ (n : List (List Condition)). IsProvedOf board program no_stopwatch (keeps_to n) found) same h);
+  proved = proved-alone board program q found posed some (subst (λ (n : List (List Condition)). IsProvedOf board program no_observer (keeps_to n) found) same h);
 }
 answered-alone text board program q nevers (Err why) spells whole posed has_board has_program some same h = h

@@ -8,7 +8,7 @@ use Rattle.mcs_model.specs.TextLines.{as_line, words_of}
 use Rattle.mcs_drive.specs.Tracked.{Tracked}
 use Rattle.mcs_check.specs.declared.checking.Outcome.{Outcome}
 use Rattle.mcs_check.specs.declared.conditions.Condition.{Condition}
-use Rattle.mcs_check.specs.Conditions.{keeps_to, stopwatch_of}
+use Rattle.mcs_check.specs.Conditions.{keeps_to, observer_of}
 use Rattle.mcs_prove.specs.declared.lines.QuestionLine.{QuestionLine}
 use Rattle.mcs_prove.specs.declared.lines.QuestionLine.TheVariants as line
 use Rattle.mcs_prove.specs.declared.lines.Role.{Role}
@@ -166,4 +166,4 @@ pub record IsAnswerTo (text : List ℕ) (outcome : Outcome) : Type 0 where
   pub is_posed : is_posed asked ≡ true
   pub has_board : asked.board ≡ Some board
   pub has_program : asked.program ≡ Some program
-  pub proved : IsProvedOf board program (stopwatch_of asked.begins asked.ends) (is_kept asked.nevers asked.limit) outcome
+  pub proved : IsProvedOf board program (observer_of asked.begins asked.ends) (is_kept asked.nevers asked.limit) outcome

@@ -1,8 +1,8 @@
 //! Proves, for all inputs, that the machine that two texts define never meets given conditions.
 ghost use Rattle.std.specs.Prelude.{◌≡◌, ◌≤◌, IfOk, map};
 ghost use Rattle.mcs_search.specs.declared.searching.TheConstants.{MOST};
-ghost use Rattle.mcs_drive.specs.Tracked.{Tracked, no_stopwatch};
-ghost use Rattle.mcs_check.specs.Conditions.{keeps_to, stopwatch_of};
+ghost use Rattle.mcs_drive.specs.Tracked.{Tracked, no_observer};
+ghost use Rattle.mcs_check.specs.Conditions.{keeps_to, observer_of};
 ghost use Rattle.mcs_prove.specs.Given.{IsGiven, IsProvedOf};
 ghost use Rattle.mcs_prove.specs.Questions.{is_kept};
 
@@ -101,7 +101,7 @@ pub fn prove(
 ) -> Result<Outcome, Refusal>
     requires { most ≤ MOST }
     ensures { IfOk result (IsProvedOf board.now program.now
-        (stopwatch_of (map (λ n. n.items) goal.begins.items) (map (λ n. n.items) goal.ends.items))
+        (observer_of (map (λ n. n.items) goal.begins.items) (map (λ n. n.items) goal.ends.items))
         (is_kept (map (λ n. n.items) goal.nevers.items) goal.limit)) }
 {
     let rig = rig_of(alloc, board, program)?;
@@ -128,7 +128,7 @@ pub fn prove_by_sets(
     most: usize,
     memory: usize,
 ) -> Result<Outcome, Refusal>
-    ensures { IfOk result (IsProvedOf board.now program.now no_stopwatch (keeps_to (map (λ n. n.items) nevers.now))) }
+    ensures { IfOk result (IsProvedOf board.now program.now no_observer (keeps_to (map (λ n. n.items) nevers.now))) }
 {
     let mut rig = rig_of(alloc, board, program)?;
     let mut own = rig_of(alloc, board, program)?;

@@ -9,6 +9,8 @@ mod checks;
 #[cfg(test)]
 mod mistakes;
 #[cfg(test)]
+mod openings;
+#[cfg(test)]
 mod refused;
 #[cfg(test)]
 mod sets;
