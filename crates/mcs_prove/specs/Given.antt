@@ -37,7 +37,7 @@ pub record IsGiven (board program : List ℕ) (rig : BusState) : Type 0 where
   pub given : without_calls (new_regs, rig) ≡ machine_given parts loaded
 
 -- holds if the promise of an outcome is true of the machine that two texts define, with a given
--- stopwatch
+-- observer
 pub record IsProvedOf (board program : List ℕ) (w : Observer) (p : Tracked → Bool) (outcome : Outcome) : Type 0 where
   pub parts : BoardParts
   pub loaded : List (ℕ × ℕ)
