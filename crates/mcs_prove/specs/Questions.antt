@@ -92,8 +92,8 @@ abbrev pub begin_program : Asked → Option (List ℕ) → Option Asked
 begin_program a None = Some (record a { program = Some []; section = Program })
 begin_program a (Some text) = None
 
--- a question with one more condition in the current list; None if no `never`, `begin` or `end` precedes
--- it
+-- a question with one more condition in the current list; None if no `never`, `begin`, `end` or `open`
+-- precedes it
 abbrev pub with_condition : Asked → Condition → Option (List Condition) → Option Asked
 with_condition a c None = None
 with_condition a c (Some cs) = Some (record a { conditions = Some (cs ++ c ∷ []) })
