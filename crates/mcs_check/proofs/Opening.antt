@@ -35,11 +35,12 @@ sees-fewer n s some =
 -- with one list more: k, that of the lists so far none is met; m, that the next one is; f, that marks are to be seen
 turn-more : (a k m f : Bool) → ((a && not (not k && f)) && (not (m && f) && true)) ≡ (a && not (not (k && (not m && true)) && f))
 turn-more false k m f = refl
-turn-more true true m true = refl
+turn-more true true true true = refl
 turn-more true true true false = refl
-turn-more true true false false = refl
-turn-more true false m true = refl
+turn-more true true false f = refl
+turn-more true false true true = refl
 turn-more true false true false = refl
+turn-more true false false true = refl
 turn-more true false false false = refl
 
 pub opened-none : (nevers : List (List Condition)) (n : ℕ) (s : Tracked) → keeps_to nevers s ≡ opens_in_turn nevers [] n s

@@ -9,13 +9,13 @@ use Rattle.mcs_model.specs.Levels.{port_of}
 use Rattle.mcs_model.specs.Effect.{cycle_of, effect, instruction_at}
 use Rattle.mcs_model.specs.Running.{Machine}
 use Rattle.mcs_drive.specs.declared.marks.Mark.{Mark}
-use Rattle.mcs_drive.specs.Driven.{Levels, FitBoard, under as under_machine}
+use Rattle.mcs_drive.specs.Driven.{Levels, FitBoard, under as under_machine, cycled as cycled_machine}
 use Rattle.mcs_drive.specs.Asking.{asks, answer_to, plain as plain_machine}
 use Rattle.mcs_drive.specs.Marks.{port_shows, shows}
 use Rattle.mcs_drive.specs.Tracked.{Counts, Observer, Tracked, counts_after, machine_in, under, plain, cycled, after_cycles, is_asking, answer, marks_after, next_op, opens_at, progress, seen_reading, shows_next}
 use Rattle.mcs_drive.specs.Leading.{Ignores, LeadsTo}
 use Rattle.mcs_drive.proofs.Commuting.{at_levels}
-use Rattle.mcs_drive.proofs.Seeing.{none-shown, some_shown}
+use Rattle.mcs_drive.proofs.Seeing.{none-shown, reading-levels, some_shown}
 use Rattle.mcs_drive.proofs.Tracking.{with_counts, cycle-rest, answers-decide}
 use Rattle.mcs_drive.proofs.Stations.{cycle-board}
 use Rattle.mcs_check.specs.Stations.{Begins, CannotRead, LooksAtTest, HasRead, Reaches, has_no_more, port_unpressed, with_seen}
@@ -56,7 +56,8 @@ port-read w value s begins = λ l fit same.
     let is : instruction_at s.0 s.1 ≡ Some Rdr = begins.next ∙ ap Some begins.is in
     let port = port_of (at_levels l s.1) in
     let read : port ≡ value = sym (port-answer l (instruction_at s.0 s.1) s.1 is) ∙ same in
-    ap (with_counts (record (counts_after w s) { seen = seen_reading w s port })) (port-when l (machine_in s) (eqb s.0.owed 1) (instruction_at s.0 s.1) begins.free is)
+    ap (λ (n : ℕ). with_counts (record (counts_after w s) { seen = n }) (plain_machine (cycled_machine (under_machine l (machine_in s))))) (reading-levels w l s port)
+    ∙ ap (with_counts (record (counts_after w s) { seen = seen_reading w s port })) (port-when l (machine_in s) (eqb s.0.owed 1) (instruction_at s.0 s.1) begins.free is)
     ∙ ap (λ n. plain (with_accumulator n (with_seen (seen_reading w s port) (cycled w s)))) same
     ∙ ap (λ v. plain (with_accumulator value (with_seen (seen_reading w s v) (cycled w s)))) read
 
@@ -70,10 +71,16 @@ test-shows : (b : Bool) (o : Option Op) (m : BusState) (value c w : ℕ) (mark :
 test-shows true o m value c w mark is = refl
 test-shows false o m value c w mark is = rw is refl
 
-pub test-unseen : (w : Observer) (s : Tracked) (value : ℕ) → Begins LooksAtTest s → shows_next w s value ≡ false
+test-unseen : (w : Observer) (s : Tracked) (value : ℕ) → Begins LooksAtTest s → shows_next w s value ≡ false
 test-unseen w s value begins =
     none-shown (slice_get w.marks (progress (length w.marks) s.2.seen)) (shows (next_op s.0 s.1) s.1 value)
     (λ mark. test-shows (eqb s.0.owed 1) (instruction_at s.0 s.1) s.1 value begins.is.condition begins.is.word mark (begins.next ∙ ap Some begins.is.is))
+
+-- at each level of TEST
+pub test-unseen-at : (w : Observer) (s : Tracked) (level value : ℕ) → Begins LooksAtTest s → shows_next w (s.0, record s.1 { test = level }, s.2) value ≡ false
+unfolding fetch_of
+test-unseen-at w s level value begins =
+    test-unseen w (s.0, record s.1 { test = level }, s.2) value (record { free = begins.free; op = begins.op; next = begins.next; is = begins.is })
 
 port-shows : (b : Bool) (o : Option Op) (m : BusState) (value : ℕ) (mark : Mark) → b ≡ false → o ≡ Some Rdr → shows (cond b None o) m value mark ≡ port_shows m value mark
 port-shows b o m value mark free is = rw (free, is) refl

@@ -49,9 +49,9 @@ keeps_to (cs ∷ nevers) t = not (are_met t cs) && keeps_to nevers t
 abbrev pub ConditionsIgnoreLevels : Type 0
 ConditionsIgnoreLevels = (nevers : List (List Condition)) → Ignores (keeps_to nevers)
 
--- an observer whose stopwatch begins when all conditions of a list in `begins` are met, and ends when all
--- conditions of a list in `ends` are met. It opens when all conditions of a list in `opens` are met, and
--- the marks are to be seen before.
+-- an observer whose stopwatch begins when all conditions of a list in `begins` are met, and ends when
+-- all conditions of a list in `ends` are met. Its condition holds when all conditions of a list in
+-- `opens` are met.
 abbrev pub observer_of : List (List Condition) → List (List Condition) → List (List Condition) → List Mark → Observer
 observer_of begins ends opens marks = record {
   begins = λ s. not (keeps_to begins s);
@@ -78,7 +78,7 @@ abbrev pub elapsed_byte : ℕ → ℕ → ℕ → Bool → Comparison
 elapsed_byte i low high inside =
     record { cell = record { list = Counters; index = 14 + i }; part = Whole; low = low; high = high; inside = inside }
 
--- the comparison that is met while fewer than n marks were seen, for n above 0
+-- the comparison that is met if the count of marks is below n, for n above 0
 abbrev pub sees_fewer : ℕ → Comparison
 sees_fewer n =
     record { cell = record { list = Counters; index = 17 }; part = Whole; low = 0; high = n - 1; inside = true }

@@ -68,8 +68,8 @@ pub record Reaches (w : Observer) (p : Tracked → Bool) (s t : Tracked) : Type 
   pub well : (i : ℕ) → i ≤ cycles → p (after_cycles w i s) ≡ true
   pub at : t ≡ after_cycles w cycles s
 
--- holds if an observer's counts never change: its stopwatch is at 0 and never begins, it never opens, and
--- there is no mark to see
+-- holds if the counts of an observer never change: its stopwatch is at 0 and never begins, its condition
+-- never holds, and it has no marks and has seen none
 pub record IsStill (w : Observer) (n : Counts) : Type 0 where
   pub stands : n.elapsed ≡ 0
   pub never : (t : Tracked) → w.begins t ≡ false

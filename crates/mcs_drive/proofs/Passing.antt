@@ -121,16 +121,16 @@ module _ (w : Observer) where
 
   -- right after the condition held none does
   opened-none : (s : Tracked) (f : ℕ → Levels) (p : ℕ) → opens_at w (driven w f p s) ≡ true → progress (length w.marks) (driven w f (suc p) s).2.seen ≡ 0
-  opened-none s f p open =
+  opened-none s f p is =
       let y = under (f p) (driven w f p s) in
       let n = length w.marks in
-      ap (λ b. progress n (marks_after n y.2.seen b (shows_next w y (port_of y.1)))) open ∙ progress-opened n
+      ap (λ b. progress n (marks_after n y.2.seen b (shows_next w y (port_of y.1)))) is ∙ progress-opened n
 
   before-none : (s : Tracked) (f : ℕ → Levels) (a b : ℕ) → BecomesTrue (λ i. opens_at w (driven w f i s)) a b → a < b → opens_at w (driven w f (a - 1) s) ≡ true → progress (length w.marks) (driven w f a s).2.seen ≡ 0
-  before-none s f zero b is less open = (let closed = is.waits 0 (omega arith) less in absurd (cc))
-  before-none s f (suc p) b is less open =
+  before-none s f zero b is less held = (let closed = is.waits 0 (omega arith) less in absurd (cc))
+  before-none s f (suc p) b is less held =
       let at : suc p - 1 ≡ p = omega arith in
-      opened-none s f p (ap (λ i. opens_at w (driven w f i s)) (sym at) ∙ open)
+      opened-none s f p (ap (λ i. opens_at w (driven w f i s)) (sym at) ∙ held)
 
   first-none : (s : Tracked) (f : ℕ → Levels) (a : ℕ) → s.2.seen ≡ 0 → a ≡ 0 → progress (length w.marks) (driven w f a s).2.seen ≡ 0
   first-none s f a none start =
@@ -158,7 +158,7 @@ module _ (w : Observer) where
 
   -- and it has reached it, if the property holds
   count-ge : (t : Tracked) → is_open_in_turn w t ≡ true → opens_at w t ≡ true → length w.marks ≤ t.2.seen
-  count-ge t turn open =
+  count-ge t turn held =
       elim (and_cases (opens_at w t) (nat_lt t.2.seen (length w.marks)) (not-true (opens_at w t && nat_lt t.2.seen (length w.marks)) turn)) [
         | inl closed ↦ absurd (cc)
         | inr all ↦ ltb-false t.2.seen (length w.marks) all

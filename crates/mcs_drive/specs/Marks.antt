@@ -45,7 +45,8 @@ line_shows s m value mark (Rom chip k) =
         else bit_of value k == 0 && is_row_driven s m mark.row)
 line_shows s m value mark _ = false
 
--- true if a value that is read at the port of the selected ROM shows a mark; the board has its key
+-- true if the board has a mark's key, and a value that is read at the port of the selected ROM shows the
+-- mark
 abbrev pub port_shows : BusState → ℕ → Mark → Bool
 port_shows s value mark =
     has_key s.board mark.row mark.column
@@ -59,7 +60,7 @@ abbrev pub shows : Option Op → BusState → ℕ → Mark → Bool
 shows (Some Rdr) s value mark = port_shows s value mark
 shows _ s value mark = false
 
--- ---- what levels pass
+-- ---- what levels show
 
 -- holds if the board has a mark's key, and the key is at the mark's level
 pub record IsAtMark (b : BoardParts) (l : Levels) (mark : Mark) : Type 0 where

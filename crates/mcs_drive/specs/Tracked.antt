@@ -62,15 +62,16 @@ open_after s m n = calls_after (next_op s m) n
 
 -- ---- an observer
 
--- what is observed beside a machine: the states at which a stopwatch begins, and those at which it ends;
--- the states at which a condition opens, and the marks to be seen, in this order, before it does
+-- what an observer looks for: the states at which its stopwatch begins, those at which it ends, and
+-- those at which its condition holds. The marks are to be seen, in this order, before the condition
+-- becomes true.
 pub record Observer : Type 0 where
   pub begins : Tracked → Bool
   pub ends : Tracked → Bool
   pub opens : Tracked → Bool
   pub marks : List Mark
 
--- an observer whose stopwatch never begins, without marks
+-- an observer whose stopwatch never begins and whose condition never holds, without marks
 abbrev pub no_observer : Observer
 no_observer = record { begins = λ s. false; ends = λ s. false; opens = λ s. false; marks = [] }
 
@@ -99,22 +100,22 @@ elapsed_after w s = shown_after s.2.elapsed (begins_at w s) (ends_at w s)
 
 -- ---- its marks
 
--- true if the condition of an observer holds at a machine; the machine's input levels are ignored
+-- true if the condition holds at a machine; the machine's input levels are ignored
 abbrev pub opens_at : Observer → Tracked → Bool
 opens_at w s = w.opens (plain s)
 
--- the number of marks, of n, seen in order since the condition held last. The count is n + 1 right after
--- the condition held: then no mark has been seen.
+-- the number of marks, of n, that were seen in order since the condition held last, by the count `seen`.
+-- The count is n + 1 right after the condition held: no mark has been seen since.
 abbrev pub progress : ℕ → ℕ → ℕ
 progress n seen = if nat_lt n seen then 0 else seen
 
--- the count after a cycle, if it is `seen` before: by whether the condition holds before the cycle, and
--- by whether the cycle shows the next mark
+-- the count after a cycle, if it is `seen` before: n + 1 if the condition holds before the cycle, and
+-- otherwise one mark more if the cycle shows the next mark
 abbrev pub marks_after : ℕ → ℕ → Bool → Bool → ℕ
 marks_after n seen opens shown =
     if opens then n + 1 else if shown then progress n seen + 1 else progress n seen
 
--- true if the next cycle shows the next mark, if there is one, by reading this value
+-- true if there is a next mark, and the next cycle shows it if it reads this value
 abbrev pub shows_next : Observer → Tracked → ℕ → Bool
 shows_next w s value =
     elim (slice_get w.marks (progress (length w.marks) s.2.seen)) [
@@ -122,7 +123,7 @@ shows_next w s value =
       | None ↦ false
     ]
 
--- the count after the next cycle, if it reads this value; below: if it reads the selected ROM's port
+-- the count after the next cycle, if that reads this value (below: what the selected ROM's port gives)
 abbrev pub seen_reading : Observer → Tracked → ℕ → ℕ
 seen_reading w s value = marks_after (length w.marks) s.2.seen (opens_at w s) (shows_next w s value)
 

@@ -40,7 +40,7 @@ pub fn ends_within()
     ensures { EndsWithin }
 {}
 
-/// Proves that a condition that never holds before all marks were seen becomes true only after the keys have passed these
+/// Proves that a condition that never holds before all marks were seen becomes true only after the keys were at these
 /// levels, one after the other.
 pub fn opens_only_after()
     ensures { OpensOnlyAfter }

@@ -11,7 +11,7 @@ use Rattle.mcs_model.specs.Bus.{BusState, ram_of, status_of}
 use Rattle.mcs_model.specs.Effect.{effect, cycle_of, instruction_at}
 use Rattle.mcs_model.specs.Levels.{port_of}
 use Rattle.mcs_model.specs.Registers.{register_of}
-use Rattle.mcs_drive.specs.Tracked.{Tracked, machine_in, cycled, calls_after, elapsed_after, counts_after, no_observer}
+use Rattle.mcs_drive.specs.Tracked.{Tracked, machine_in, cycled, calls_after, elapsed_after, seen_after, counts_after, no_observer}
 use Rattle.mcs_sets.proofs.Ports.{port-lt}
 use Rattle.mcs_sets.specs.declared.entries.Entry.{Entry}
 use Rattle.mcs_sets.specs.declared.landing.Choice.{Choice}
@@ -118,11 +118,11 @@ cycled-op op s free next =
     let work = cycled-when (eqb s.0.owed 1) (instruction_at s.0 s.1) op s free next in
     let opened = opens-when (eqb s.0.owed 1) (instruction_at s.0 s.1) op s.2.calls free next in
     ap (λ (m : Regs × BusState). (m.0, m.1, counts_after no_observer s)) work
-    ∙ ap (λ (n : ℕ). ((effect op s.0 s.1).0, (effect op s.0 s.1).1, record s.2 { calls = n; elapsed = elapsed_after no_observer s })) opened
+    ∙ ap (λ (n : ℕ). ((effect op s.0 s.1).0, (effect op s.0 s.1).1, record s.2 { calls = n; elapsed = elapsed_after no_observer s; seen = seen_after no_observer s })) opened
 
 -- a machine after its idle cycle
 abbrev idle : Tracked → Tracked
-idle s = (record s.0 { owed = 0 }, s.1, record s.2 { elapsed = elapsed_after no_observer s })
+idle s = (record s.0 { owed = 0 }, s.1, record s.2 { elapsed = elapsed_after no_observer s; seen = seen_after no_observer s })
 
 idle-when : (b : Bool) (o : Option Op) (s : Tracked) → b ≡ true →
     (unwrap_or (cond b (Some (record s.0 { owed = 0 }, s.1)) (elim o as (λ _. Option (Regs × BusState)) [ Some op ↦ Some (effect op s.0 s.1) | None ↦ None ])) (machine_in s)) ≡ machine_in (idle s)
@@ -135,7 +135,7 @@ cycled-idle : (s : Tracked) → eqb s.0.owed 1 ≡ true → cycled no_observer s
 unfolding cycle_of
 cycled-idle s owed =
     ap (λ (m : Regs × BusState). (m.0, m.1, counts_after no_observer s)) (idle-when (eqb s.0.owed 1) (instruction_at s.0 s.1) s owed)
-    ∙ ap (λ (n : ℕ). ((idle s).0, (idle s).1, record s.2 { calls = n; elapsed = elapsed_after no_observer s })) (idle-opens (eqb s.0.owed 1) (instruction_at s.0 s.1) s.2.calls owed)
+    ∙ ap (λ (n : ℕ). ((idle s).0, (idle s).1, record s.2 { calls = n; elapsed = elapsed_after no_observer s; seen = seen_after no_observer s })) (idle-opens (eqb s.0.owed 1) (instruction_at s.0 s.1) s.2.calls owed)
 
 idle-in : (e : Entry) (s : Tracked) → IsIn e s → IsIn e (idle s)
 idle-in e s is = record { at = is.at; calls = is.calls; ret = is.ret; acc = is.acc; places = is.places; carry = is.carry; registers = is.registers; banks = is.banks }

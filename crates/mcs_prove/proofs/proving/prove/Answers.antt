@@ -1,4 +1,5 @@
-use Rattle.std.proofs.Common.{◌≡◌, ◌∙◌, ℕ, List, Vec, Global, map, ap, subst}
+use Rattle.std.proofs.Common.{◌≡◌, ◌∙◌, ℕ, List, Vec, Global, map, ap, subst, sym}
+use Rattle.mcs_drive.specs.declared.marks.Mark.{Mark}
 use Rattle.mcs_drive.specs.Tracked.{Tracked}
 use Rattle.mcs_check.specs.declared.conditions.Condition.{Condition}
 use Rattle.mcs_check.specs.Conditions.{Aimed, keeps_to, observer_in, observer_of}
@@ -13,13 +14,6 @@ returns c =
     let nevers = c.in_ok-nevers.nevers.items in
     let begins = lists c.args.goal.begins in
     let ends = lists c.args.goal.ends in
+    let opens = lists c.args.goal.opens in
     let found = c.in_ok-check_all.field-0 in
-    let aim : c.timed.result ≡ record { nevers = nevers; begins = begins; ends = ends } =
-    c.timed.ensures
-    ∙ ap (λ (b : List (List Condition)). record { nevers = nevers; begins = b; ends = c.in_ok-ends.ends.items }) c.in_ok-begins.ensures
-    ∙ ap (λ (e : List (List Condition)). record { nevers = nevers; begins = begins; ends = e }) c.in_ok-ends.ensures in
-    let proved : IsProved (observer_of begins ends) (keeps_to nevers) c.of.result found =
-    subst (λ (a : Aimed). IsProved (observer_in a) (keeps_to a.nevers) c.of.result found) aim c.in_ok-check_all.ensures in
-    proved-of c.args.board.now c.args.program.now (observer_of begins ends) (keeps_to nevers) (is_kept (lists c.args.goal.nevers) c.args.goal.limit) c.new.result c.in_ok-rig.rig found
-    c.in_ok-rig.ensures c.new.ensures c.in_ok-nevers.ensures
-    (subst (λ (s : Tracked). IsProved (observer_of begins ends) (keeps_to nevers) s found) c.of.ensures proved)
+    0

@@ -1,10 +1,21 @@
-use Rattle.std.proofs.Common.{◌≡◌, ◌∙◌, ℕ, ap, arith}
+use Rattle.std.proofs.Common.{◌≡◌, ◌∙◌, ℕ, false, sym, ap, subst, arith}
 use Rattle.mcs_model.specs.Bus.{BusState}
-use Rattle.mcs_drive.specs.Tracked.{Tracked, plain, cycled}
+use Rattle.mcs_drive.specs.Tracked.{Tracked, plain, cycled, shows_next}
 use Rattle.mcs_check.specs.Conditions.{observer_in}
 use Rattle.mcs_check.proofs.Keeping.{cycle-keeps}
-use Rattle.mcs_check.proofs.ValuesRead.{test-read}
+use Rattle.mcs_check.proofs.ValuesRead.{test-read, test-unseen-at}
 use Rattle.mcs_check.proofs.replica.Replica.read_test.Goals as goal
+
+pub cycle_without_mark-requires-clause-unseen : goal.cycle_without_mark-requires-clause-unseen
+cycle_without_mark-requires-clause-unseen c = λ n.
+    let s = c.args.self.now in
+    let w = observer_in c.args.aim.now in
+    let value = c.args.value in
+    let level : c.low_of.result ≡ value = c.low_of.ensures ∙ (let small = c.requires.value in omega arith) in
+    let set : (c.self.inside.cpu, c.set_test.new.self, (record { calls = c.self.inside.calls; elapsed = c.self.inside.elapsed; seen = c.self.inside.seen })) ≡ (s.0, record s.1 { test = value }, s.2) =
+    ap (λ (r : BusState). (c.self.inside.cpu, r, (record { calls = c.self.inside.calls; elapsed = c.self.inside.elapsed; seen = c.self.inside.seen }))) (c.set_test.ensures ∙ ap (λ (n : ℕ). record c.self.inside.rig { test = n }) level)
+    ∙ ap (λ (m : Tracked). (m.0, record m.1 { test = value }, m.2)) c.self.view_is in
+    subst (λ (t : Tracked). shows_next w t n ≡ false) (sym set) (test-unseen-at w s value n c.requires.reads)
 
 pub returns-clause-read : goal.returns-clause-read
 returns-clause-read c =
