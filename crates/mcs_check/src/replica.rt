@@ -162,8 +162,9 @@ impl Replica {
             CellList::BankSrcs => self.rig.ram_src(cell.place() as u8),
             CellList::Registers => self.cpu.regs().r[usize::from(cell.place())].get(),
             CellList::Counters => {
-                counters(&self.cpu, &self.rig, self.calls, self.elapsed, self.seen)
-                    [usize::from(cell.place())]
+                counters(&self.cpu, &self.rig, self.calls, self.elapsed, self.seen)[usize::from(
+                    cell.place(),
+                )]
             }
             CellList::Chain(n) => self.rig.chain_bit(n, cell.place() as u8).get(),
         }

@@ -73,7 +73,14 @@ fn is_another_driven(rig: &BenchRig, matrix: &KeyMatrix, mark: Mark, j: usize) -
 }
 
 /// Returns whether a key of column `j` other than the mark's can pull line `k` of a ROM.
-fn can_column_pull(rig: &BenchRig, matrix: &KeyMatrix, mark: Mark, j: usize, chip: u8, k: u8) -> bool
+fn can_column_pull(
+    rig: &BenchRig,
+    matrix: &KeyMatrix,
+    mark: Mark,
+    j: usize,
+    chip: u8,
+    k: u8,
+) -> bool
     requires size { is_matrix_size matrix.now ≡ true }
     requires column { j < length matrix.now.columns.items }
     ensures { result ≡ (is_rom_line chip k (column_line matrix.now j)
@@ -140,7 +147,11 @@ impl Replica {
         ensures seen { result ≡ progress (length aim.now.marks) self.now.2.seen }
         ensures few { result ≤ 200 }
     {
-        if aim.mark_count() < self.seen { 0 } else { self.seen }
+        if aim.mark_count() < self.seen {
+            0
+        } else {
+            self.seen
+        }
     }
 
     /// Returns whether the next cycle, an RDR, shows the next mark if it reads this value.

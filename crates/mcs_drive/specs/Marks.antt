@@ -41,8 +41,8 @@ abbrev pub line_shows : BusState → KeyMatrix → ℕ → Mark → Line → Boo
 line_shows s m value mark (Rom chip k) =
     chip == s.rom_src / 16
     && (if mark.is_down
-        then bit_of value k == 1 && not (can_another_pull s m mark chip k)
-        else bit_of value k == 0 && is_row_driven s m mark.row)
+    then bit_of value k == 1 && not (can_another_pull s m mark chip k)
+    else bit_of value k == 0 && is_row_driven s m mark.row)
 line_shows s m value mark _ = false
 
 -- true if the board has a mark's key, and a value that is read at the port of the selected ROM shows the

@@ -9,7 +9,7 @@ pub returns-in-Some : goal.returns-in-Some
 returns-in-Some c =
     let w = observer_in c.args.aim.now in
     let s = c.args.self.now in
-    let mark = c.in-Some.field-0 in
+    let mark = c.in-Some.mark in
     let is : slice_get w.marks (progress (length w.marks) s.2.seen) ≡ Some mark =
     ap (slice_get w.marks) (sym c.progress.ensures.seen) ∙ sym c.mark.ensures ∙ c.in-Some.is in
     let value : c.low_of.result ≡ c.args.value = c.low_of.ensures ∙ (let small = c.requires.value in omega arith) in
