@@ -1,10 +1,10 @@
 //! Proves, for all inputs, that the machine that two texts define never meets given conditions.
-ghost use Rattle.std.specs.Prelude.{◌≡◌, ◌≤◌, [], IfOk, map};
+ghost use Rattle.std.specs.Prelude.{◌≡◌, ◌≤◌, ◌&&◌, [], IfOk, map};
 ghost use Rattle.mcs_search.specs.declared.searching.TheConstants.{MOST};
 ghost use Rattle.mcs_drive.specs.Tracked.{Tracked, no_observer};
 ghost use Rattle.mcs_check.specs.Conditions.{keeps_to, observer_of};
 ghost use Rattle.mcs_prove.specs.Given.{IsGiven, IsProvedOf};
-ghost use Rattle.mcs_prove.specs.Questions.{IsKeptOf, is_kept};
+ghost use Rattle.mcs_prove.specs.Questions.{IsKeptOf, is_kept, is_within};
 
 use crate::fault::Refusal;
 use crate::machine::rig_given;
@@ -75,6 +75,22 @@ fn conjunctions_of(
     Ok(made)
 }
 
+/// Returns the conjunctions that must never be met, with those that express the stopwatch's limit, if there is one.
+fn with_limit(
+    alloc: Global,
+    nevers: Vec<Vec<Condition>>,
+    limit: Option<Cycles>,
+) -> Result<Vec<Conjunction>, AllocError>
+    ensures { IfOk result (λ made. (s : Tracked) →
+        keeps_to made.items s ≡ (keeps_to (map (λ n. n.items) nevers.items) s && is_within limit s)) }
+{
+    let mut made = conjunctions_of(alloc, nevers)?;
+    if let Some(limit) = limit {
+        add_limit(alloc, &mut made, limit)?;
+    }
+    Ok(made)
+}
+
 /// Returns the conjunctions that must never be met, with those that express the stopwatch's limit, if there is one, and
 /// those that express that the marks come first.
 fn nevers_of(
@@ -87,10 +103,7 @@ fn nevers_of(
     ensures { IfOk result (λ made. (s : Tracked) →
         keeps_to made.items s ≡ is_kept (observer_of [] [] opens.now marks.now) (map (λ n. n.items) nevers.items) limit s) }
 {
-    let mut made = conjunctions_of(alloc, nevers)?;
-    if let Some(limit) = limit {
-        add_limit(alloc, &mut made, limit)?;
-    }
+    let mut made = with_limit(alloc, nevers, limit)?;
     add_opening(alloc, &mut made, opens, marks)?;
     conditions_ignore_levels();
     Ok(made)
