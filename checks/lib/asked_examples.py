@@ -1,5 +1,5 @@
-"""Questions to mcs4-prove about the examples: the nevers and the times in their properties as comparisons, and the expected answers. Also mutants:
-examples in which one instruction is replaced by another one.
+"""Questions to mcs4-prove about the examples: the nevers, the times and the presses in their properties as comparisons, and the expected answers.
+Also mutants: examples in which one instruction is replaced by another one.
 """
 
 from __future__ import annotations
@@ -183,6 +183,36 @@ TIMES = [
 ]
 # Lines with a time that are not asked: their conditions need the digits of a display, or several rows, and their programs have too many states.
 NOT_TIMED = {"never display -0 and st.0.0.2 3 for 20 ms", "never not ram.0.8 0 and not ram.0.8 9 for 200 ms"}
+
+
+@dataclass
+class Pressed:
+    """A line of a file of properties with a condition that becomes true only after presses: its comparisons, the keys by row and column, and the
+    answer."""
+
+    props: str
+    line: str
+    opens: str
+    keys: list[tuple[int, int]]
+    answer: str
+
+    def question(self, keys: list[tuple[int, int]], most: int = 1000000, pause: int = 1000000) -> Question:
+        """Returns the question about these keys."""
+        question = question_of(self.props, [], most, pause)
+        question.opens = [comparisons_of(self.opens, {})]
+        question.marks = [(level, *key) for key in keys for level in ("up", "down")]
+        return question
+
+
+PRESSED = [
+    Pressed(LOCK, "lamp open on only after press 4, press 7, press 1, press 1, press #", "in ramport 0 line1 1 1",
+            [(1, 0), (2, 0), (0, 0), (0, 0), (3, 2)], "holds 0"),
+]
+
+
+def pressed_in(props: str) -> list[str]:
+    """Returns the lines of a file of properties about presses that come first."""
+    return [line for line in (EXAMPLE_FILES / props).read_text().splitlines() if " only after press " in line and not line.startswith("#")]
 
 
 def times_in(props: str) -> list[str]:

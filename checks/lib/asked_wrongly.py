@@ -10,12 +10,13 @@ NO_LINES = [
     "most", "most x", "most -1", "most 1 2", "most 4000000001", f"most {'9' * 5000}", "most 0x", "most 1.5", "Most 1", "pause", "pause 0", "pause 1000000001",
     "pause 0x", "memory", "memory x", "memory 1000001", "wire", "wire x", "asm", "asm x", ".", "[[rom]]", "never x", "nevermore", "prove it", "proved",
     "within", "within x", "within -1", "within 1 2", "within 16777215", "begin x", "begins", "end x", "ended",
+    "open x", "opens", "up", "up 0", "up 0 0 0", "up x 0", "up 0 256", "up 0 -1", "Up 0 0", "ups 0 0", "down", "down 256 0", "in 0 0",
     "\0", "most 1\0", "\x7f", "x" * 100000, "in register 0 whole 0 0", "out register 0 whole 0 0", "mistake code"]
 # Texts that are not comparisons.
 NO_COMPARISONS = [
     "in", "in register 0 whole 0", "in register 0 whole 0 0 0", "at register 0 whole 0 0", "In register 0 whole 0 0", "in registers 0 whole 0 0",
     "in register 16 whole 0 0", "in character 2048 whole 0 0", "in status 512 whole 0 0", "in ramport 32 whole 0 0", "in romport 16 whole 0 0",
-    "in banksrc 8 whole 0 0", "in counter 17 whole 0 0", "in chain0 256 whole 0 0", "in chain4 0 whole 0 0", "in chain 0 whole 0 0",
+    "in banksrc 8 whole 0 0", "in counter 18 whole 0 0", "in chain0 256 whole 0 0", "in chain4 0 whole 0 0", "in chain 0 whole 0 0",
     "in register 65536 whole 0 0", "in register 4294967296 whole 0 0", "in register -1 whole 0 0", "in register x whole 0 0", "in register 0 line4 0 0",
     "in register 0 line 0 0", "in register 0 0 0 0", "in register 0 whole 256 0", "in register 0 whole 0 256", "in register 0 whole 0 99999999999",
     "in register 0 whole 0x100 0", "in register 0 whole a b", "mistake", "mistake x", "mistake code x", "mistake code,call", "Mistake code", "mistakes code"]
@@ -48,6 +49,15 @@ ANSWERS: list[tuple[list[str], int, str]] = [
     ([*BEGUN, "within 16777214", "end", "begin", "mistake rdr", "prove"], 0, "holds 1"),
     ([*BEGUN, "within 0", "within 1", "begin", "end", "prove"], 0, "holds 2"),
     ([*BEGUN, "never", "within 1", "begin", "end", "prove"], 0, "may fail"),
+    # Marks have conditions that open, and are at most 200; sets of states show none. The board has no keys.
+    *(([*BEGUN, *lines, "prove"], 2, "no question") for lines in (
+        ["open"], ["up 0 0"], ["down 255 255"], ["open", *201 * ["up 0 0"]], ["sets 9", "open", "up 0 0"], ["within 5", "open", "up 0 0"])),
+    *(([*BEGUN, "up 0 0", "open", line, "prove"], 2, f"wrong line {len(BEGUN) + 3}") for line in NO_COMPARISONS),
+    ([*BEGUN, "open", *200 * ["up 0 0"], "prove"], 0, "may fail"), ([*BEGUN, "open", "down 0x0 0xFF", "in register 0 whole 9 3", "prove"], 0, "holds 1"),
+    ([*BEGUN, "up 0 0", "open", "in counter 17 whole 0 0", "prove"], 0, "may fail"),
+    ([*BEGUN, "up 0 0", "open", "in counter 17 whole 1 255", "prove"], 0, "holds 1"),
+    ([*BEGUN, "never", "up 0 0", "open", "in register 0 whole 9 3", "prove"], 0, "may fail"),
+    ([*BEGUN, "never", "open", "in register 0 whole 9 3", "up 0 0", "prove"], 0, "may fail"),
     (["wire", "x", ".", *PROGRAM, "prove"], 3, "no 20"), (["wire", "[[rim]]", ".", *PROGRAM, "prove"], 3, "no 21"),
     (["wire", "[[rom]]", "chip = 0", ".", *PROGRAM, "prove"], 3, "no 22"),
     (["wire", "[[rom]]", "chip = 16", 'port = "0000"', ".", *PROGRAM, "prove"], 3, "no 23"),

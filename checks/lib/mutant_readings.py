@@ -14,7 +14,7 @@ import board4004
 import second_search
 import expected_tool_output
 from board4004 import Board, Chips
-from second_search import Comparison, Condition, Levels
+from second_search import Comparison, Condition, Levels, Mark
 
 
 def instruction(name: str, work: Callable[[Board, int, int], None]) -> Callable[[], AbstractContextManager]:
@@ -210,9 +210,33 @@ def ended_at_once(board: Board) -> int:
 RIGHT_SAVED, RIGHT_VALUES, RIGHT_GO_ON = second_search.saved, second_search.values_read, second_search.go_on
 RIGHT_CONDITION, RIGHT_MET, RIGHT_BEGINS = second_search.condition_of, second_search.is_met, second_search.begins
 RIGHT_CYCLE, RIGHT_MISTAKES = second_search.cycle, second_search.mistakes
+def kept(board: Board) -> int:
+    """Keeps the marks that were seen when the condition holds."""
+    look = second_search.look_of(board)
+    return second_search.seen_of(board) if look and look.opens(board) else RIGHT_SEEN(board)
+
+
+def seen_while_open(board: Board) -> int:
+    """Begins to look for marks while the condition holds."""
+    look = second_search.look_of(board)
+    return int(second_search.is_shown(board, look.marks[0])) if look and look.opens(board) else RIGHT_SEEN(board)
+
+
+def shown_by_line(level: str) -> Callable[[Board, Mark], bool]:
+    """Takes the level of a key from the line that it can pull, whatever else can pull the line, or whether the row is driven."""
+    def is_shown(board: Board, mark: Mark) -> bool:
+        chips = board.chips
+        if mark[0] != level or second_search.begins(board)[0] != "RDR" or mark[1:] not in second_search.all_keys(board):
+            return RIGHT_SHOWN(board, mark)
+        kind, numbers = chips.columns[mark[2]]
+        return kind == "rom" and numbers[0] == chips.rom_src >> 4 and chips.read_port(numbers[0]) >> numbers[1] & 1 == (level == "down")
+    return is_shown
+
+
 RIGHT_ELAPSED, RIGHT_LATE = second_search.elapsed_after, second_search.is_late
+RIGHT_SEEN, RIGHT_SHOWN, RIGHT_EARLY = second_search.seen_after, second_search.is_shown, second_search.is_early
 PARTS = ("accumulator", "carry", "counter", "DCL", "owed cycle", "registers", "return addresses", "SRC of the ROMs", "SRC of the banks",
-         "ports of ROMs", "ports of RAM", "chains", "RAM", "open calls", "elapsed cycles")
+         "ports of ROMs", "ports of RAM", "chains", "RAM", "open calls", "elapsed cycles", "marks")
 WRONG_SEARCHES: dict[str, Callable[[], AbstractContextManager]] = {
     **{f"a state without its {part}": method(second_search, "saved", without(place)) for place, part in enumerate(PARTS)},
     "a value is left out": method(second_search, "values_read", but_the_largest),
@@ -236,5 +260,12 @@ WRONG_SEARCHES: dict[str, Callable[[], AbstractContextManager]] = {
         second_search.elapsed_of(board) if second_search.is_reading(board) else RIGHT_ELAPSED(board))),
     "a limit is a cycle longer": method(second_search, "is_late", lambda board, within: within is not None and RIGHT_LATE(board, within + 1)),
     "a limit is a cycle shorter": method(second_search, "is_late", lambda board, within: within is not None and RIGHT_LATE(board, within - 1)),
+    "marks are kept when the condition holds": method(second_search, "seen_after", kept),
+    "a mark is seen while the condition holds": method(second_search, "seen_after", seen_while_open),
+    "a key is up if its line is 0": method(second_search, "is_shown", shown_by_line("up")),
+    "a key is down if its line is 1": method(second_search, "is_shown", shown_by_line("down")),
+    "up is down": method(second_search, "is_shown", lambda board, mark: RIGHT_SHOWN(board, ("down" if mark[0] == "up" else "up", *mark[1:]))),
+    "the last mark need not be seen": method(second_search, "is_early", lambda board: (
+        RIGHT_EARLY(board) and second_search.seen_of(board) < len(second_search.look_of(board).marks) - 1)),
     **{f"no mistake {kind}": method(second_search, "mistakes", lambda board, kind=kind: RIGHT_MISTAKES(board) - {kind}) for kind in second_search.MISTAKES},
 }

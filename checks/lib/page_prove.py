@@ -138,7 +138,7 @@ def check_kinds(browser):
         "proved | never lamp 1 on | for all inputs: 32 states", "can fail | never lamp lit on | broken by 1 step, 4 cycles",
         "reached | reach lamp lit on | reached by 1 step, 4 cycles", "never reached | reach lamp 1 on | for all inputs: 32 states",
         "proved | every 1 ms @look | for all inputs: 33 states"])
-    verdict("and a form that is not decided", rows[5:6], re.compile(r"^\['not decided \| lamp lit on only after press WALK \| a property of the form"))
+    verdict("and a form that is not decided", rows[5:6], re.compile(r"^\['not decided \| lamp lit on only after press WALK \| WALK is at the TEST pin"))
     verdict("no mistake is made", [row.split(" | ")[0] for row in rows[6:]], ["proved"] * MISTAKES)
     verdict("what is proved is lit", browser.script(LIT), 2 + MISTAKES)
     check_counterexample(browser)

@@ -1,10 +1,10 @@
 """A second implementation of mcs4-prove over the board of board4004.py. It searches breadth-first through everything that a machine can do, with any
 keys and any TEST pin, and tests conditions on the way. It shares no code with the program.
 
-A state is everything in a machine except its inputs, and what its stopwatch shows, if it has one. There is a state at power-on, before each cycle
-that reads an input (RDR, or JCN with TEST), and after a fixed number of cycles without such a read. The search continues from a state once for each
-value that the next cycle can read, with keys and TEST that give this value. It stops at the next state, or when the machine repeats an earlier state.
-Conditions are tested after each cycle.
+A state is everything in a machine except its inputs, what its stopwatch shows, if it has one, and how many marks were seen, if it looks for some.
+There is a state at power-on, before each cycle that reads an input (RDR, or JCN with TEST), and after a fixed number of cycles without such a read.
+The search continues from a state once for each value that the next cycle can read, with keys and TEST that give this value. It stops at the next
+state, or when the machine repeats an earlier state. Conditions are tested after each cycle.
 """
 
 from __future__ import annotations
@@ -21,6 +21,8 @@ Comparison = tuple[str, str, int, str, int, int]
 # The condition that the next cycle makes one of some mistakes: `mistake` and their names.
 Mistakes = tuple[str, ...]
 Row = list[Comparison | Mistakes]
+# A mark: `up` or `down`, and the row and the column of a key that a read must show at that level.
+Mark = tuple[str, int, int]
 # The keys that are down, by row and column, and the level of TEST.
 Levels = tuple[frozenset[tuple[int, int]], int]
 Condition = Callable[[Board], bool]
@@ -36,7 +38,7 @@ def rows_of(word: str, rows: list[Row]) -> list[str]:
 class Question:
     """A board and a program, the conditions that must never be met (all conditions of a row at once), the maximum number of states, and the
     maximum length of a stretch. With `within` there is a stopwatch, which must never show more cycles. A row of `begins` begins it, and a row of
-    `ends` ends it."""
+    `ends` ends it. No row of `opens` must be met before all `marks` were seen in order, since such a row was met last."""
 
     board: list[str]
     program: list[str]
@@ -46,12 +48,14 @@ class Question:
     begins: list[Row] = field(default_factory=list)
     ends: list[Row] = field(default_factory=list)
     within: int | None = None
+    opens: list[Row] = field(default_factory=list)
+    marks: list[Mark] = field(default_factory=list)
 
     def lines(self) -> list[str]:
         """Returns the question in the form that the program reads."""
         limits = [] if self.within is None else [f"within {self.within}"]
         return [f"most {self.most}", f"pause {self.pause}", *limits, *self.begun(), *rows_of("never", self.nevers), *rows_of("begin", self.begins),
-                *rows_of("end", self.ends), "prove"]
+                *rows_of("end", self.ends), *rows_of("open", self.opens), *(" ".join(map(str, mark)) for mark in self.marks), "prove"]
 
     def begun(self) -> list[str]:
         """Returns the session lines that set up its board and program."""
@@ -92,7 +96,7 @@ def cell(board: Board, name: str, index: int) -> int:
         "banksrc": lambda: chips.bank_src[index],
         "register": lambda: board.r[index],
         "counter": lambda: [board.acc, board.cy, board.dcl, board.owed, *addresses(board), chips.rom_src, calls_of(board),
-                            *elapsed_of(board).to_bytes(3, "big")][index],
+                            *elapsed_of(board).to_bytes(3, "big"), seen_of(board)][index],
     }[name]()
 
 
@@ -103,8 +107,8 @@ OPEN_CALLS = 3
 # The instructions for a RAM chip: its characters, its status characters, and its port.
 FOR_RAM = {"WRM", "RDM", "ADM", "SBM", "WMP", *(f"{way}{k}" for way in ("WR", "RD") for k in range(4))}
 MISTAKES = ("code", "call", "return", "ram", "rom", "rdr", "wrr")
-# The attributes of a board with the number of its open calls, its stopwatch, and what that shows.
-CALLS, STOPWATCH, ELAPSED = "calls", "stopwatch", "elapsed"
+# The attributes of a board with the number of its open calls, its stopwatch, what that shows, what it looks for, and the marks seen.
+CALLS, STOPWATCH, ELAPSED, LOOK, SEEN = "calls", "stopwatch", "elapsed", "look", "seen"
 
 
 def calls_of(board: Board) -> int:
@@ -148,6 +152,77 @@ def elapsed_after(board: Board) -> int:
     return elapsed + 1 if elapsed and not stopwatch.ends(board) else int(stopwatch.begins(board))
 
 
+# ---- marks
+
+@dataclass
+class Look:
+    """Looks for marks, in order, from where a condition fails to where it holds."""
+
+    opens: Condition
+    marks: list[Mark]
+
+
+def look_of(board: Board) -> Look | None:
+    """Returns what is looked for on a board."""
+    return getattr(board, LOOK, None)
+
+
+def seen_of(board: Board) -> int:
+    """Returns how many marks were seen; one more than there are while the condition holds, and right after it."""
+    return getattr(board, SEEN, 0)
+
+
+def set_seen(board: Board, seen: int) -> None:
+    """Sets how many marks were seen."""
+    setattr(board, SEEN, seen)
+
+
+def value_with(board: Board, down: Iterable[tuple[int, int]]) -> int:
+    """Returns the value of the selected port with these keys down."""
+    chips = board.chips
+    before, chips.down = chips.down, set(down)
+    value = chips.read_port(chips.rom_src >> 4)
+    chips.down = before
+    return value
+
+
+def all_keys(board: Board) -> list[tuple[int, int]]:
+    """Returns the keys of a board."""
+    return [(row, column) for row in range(board.chips.keys["rows"]) for column in range(len(board.chips.columns))]
+
+
+def is_shown(board: Board, mark: Mark) -> bool:
+    """Returns true if the next cycle reads a port, and the value can be read only with the key of a mark at its level: the line of its column is 1
+    although the other keys cannot pull it, or it is 0 although this key would pull it."""
+    level, *place = mark
+    key, chips = (place[0], place[1]), board.chips
+    if begins(board)[0] != "RDR" or key not in all_keys(board):
+        return False
+    kind, (chip, line) = chips.columns[key[1]]
+    if kind != "rom" or chip != chips.rom_src >> 4:
+        return False
+    at_line = [value >> line & 1 for value in (
+        chips.read_port(chip), value_with(board, [key]), value_with(board, [each for each in all_keys(board) if each != key]))]
+    return at_line[0] == 1 and at_line[2] == 0 if level == "down" else at_line[0] == 0 and at_line[1] == 1
+
+
+def seen_after(board: Board) -> int:
+    """Returns how many marks were seen after the next cycle."""
+    look = look_of(board)
+    if not look:
+        return 0
+    if look.opens(board):
+        return len(look.marks) + 1
+    seen = seen_of(board) if seen_of(board) <= len(look.marks) else 0
+    return seen + int(seen < len(look.marks) and is_shown(board, look.marks[seen]))
+
+
+def is_early(board: Board) -> bool:
+    """Returns true if the condition holds before all marks were seen."""
+    look = look_of(board)
+    return look is not None and seen_of(board) < len(look.marks) and look.opens(board)
+
+
 def read_by(board: Board, name: str) -> list[int]:
     """Returns the addresses of the ROM words that the instruction at the counter reads: its own, and for FIN the word that it loads."""
     behind = (board.pc + 1) % ADDRESSES
@@ -174,14 +249,15 @@ def mistakes(board: Board) -> set[str]:
 
 def cycle(board: Board) -> None:
     """Does one cycle, which can open or close a call. A fourth call replaces the first one. At a code outside the table, only the stopwatch
-    continues."""
-    elapsed = elapsed_after(board)
+    and the look for marks continue."""
+    elapsed, seen = elapsed_after(board), seen_after(board)
     if board.owed or not board.is_outside():
         name = "" if board.owed else CODES[board.rom[board.pc]][0]
         change = {"JMS": 1, "BBL": -1}.get(name, 0)
         set_calls(board, min(max(calls_of(board) + change, 0), OPEN_CALLS))
         board.cycle()
     set_elapsed(board, elapsed)
+    set_seen(board, seen)
 
 
 # ---- conditions
@@ -208,9 +284,9 @@ def is_late(board: Board, within: int | None) -> bool:
 
 
 def fault_of(question: Question) -> Condition:
-    """Returns the function that tests whether the forbidden conditions are met, or the stopwatch is late."""
+    """Returns the function that tests whether the forbidden conditions are met, the stopwatch is late, or a condition comes before its marks."""
     is_bad = condition_of(question.nevers)
-    return lambda board: is_bad(board) or is_late(board, question.within)
+    return lambda board: is_bad(board) or is_late(board, question.within) or is_early(board)
 
 
 # ---- what a machine reads
@@ -257,19 +333,21 @@ def values_read(board: Board) -> dict[int, Levels]:
 # ---- from state to state
 
 def saved(board: Board) -> tuple:
-    """Returns the whole state of a machine except its inputs, the number of open calls, and what the stopwatch shows."""
+    """Returns the whole state of a machine except its inputs, the number of open calls, what the stopwatch shows, and the marks seen."""
     chips = board.chips
     return (board.acc, board.cy, board.pc, board.dcl, board.owed, tuple(board.r), tuple(board.ret), chips.rom_src, tuple(chips.bank_src),
             tuple(chips.rom_latch.values()), tuple(chips.ram_latch.values()), tuple(map(tuple, chips.chains)),
-            tuple((bytes(chips.ram[bank]), *map(bytes, chips.status[bank])) for bank in sorted(chips.chips)), calls_of(board), elapsed_of(board))
+            tuple((bytes(chips.ram[bank]), *map(bytes, chips.status[bank])) for bank in sorted(chips.chips)), calls_of(board), elapsed_of(board),
+            seen_of(board))
 
 
 def load(board: Board, state: tuple) -> None:
     """Loads a state into a machine."""
     chips = board.chips
-    board.acc, board.cy, board.pc, board.dcl, board.owed, r, ret, chips.rom_src, srcs, roms, rams, chains, banks, calls, elapsed = state
+    board.acc, board.cy, board.pc, board.dcl, board.owed, r, ret, chips.rom_src, srcs, roms, rams, chains, banks, calls, elapsed, seen = state
     set_calls(board, calls)
     set_elapsed(board, elapsed)
+    set_seen(board, seen)
     board.r, board.ret, chips.bank_src, chips.chains = list(r), list(ret), list(srcs), [list(chain) for chain in chains]
     chips.rom_latch, chips.ram_latch = dict(zip(chips.rom_latch, roms)), dict(zip(chips.ram_latch, rams))
     for bank, (characters, *status) in zip(sorted(chips.chips), banks):
@@ -282,7 +360,7 @@ def go_on(board: Board, levels: Levels, is_bad: Condition, pause: int) -> tuple[
     board.chips.down, board.test = set(levels[0]), levels[1]
     at, state = board.pc, saved(board)
     for cycles in range(1, pause + 2):
-        if not board.owed and board.is_outside() and not stopwatch_of(board):
+        if not board.owed and board.is_outside() and not stopwatch_of(board) and not look_of(board):
             # The state repeats, so nothing changes any more.
             return cycles - 1, False
         cycle(board)
@@ -302,6 +380,9 @@ def power_on(question: Question) -> Board:
     set_calls(board, 0)
     if question.within is not None:
         setattr(board, STOPWATCH, Stopwatch(condition_of(question.begins), condition_of(question.ends)))
+    if question.marks:
+        setattr(board, LOOK, Look(condition_of(question.opens), question.marks))
+    set_seen(board, 0)
     return board
 
 

@@ -1,17 +1,19 @@
 """Random questions to mcs4-prove, reproducible by a seed: a random board (seeded_boards.py), a short program that reads keys and TEST in loops,
-and comparisons of values that such a program changes. Some of the comparisons become true, some never. Some questions also ask for mistakes, and a
-quarter of them for a time.
+and comparisons of values that such a program changes. Some of the comparisons become true, some never. Some questions also ask for mistakes, a
+quarter of them for a time, and a quarter for marks.
 """
 
 from __future__ import annotations
 
+import copy
 import dataclasses
 import random
 from collections.abc import Iterator
 
 from assembler import ALONE
 from board4004 import Board
-from second_search import MISTAKES, Comparison, Question, Row, cell, elapsed_of, go_on, power_on, values_read
+from second_search import (
+    MISTAKES, Comparison, Mark, Question, Row, all_keys, cell, elapsed_of, go_on, is_shown, power_on, values_read)
 from seeded_boards import OUTSIDE, Program, Seeded, Wiring
 
 # Most of the instructions that do nothing with a chip.
@@ -85,6 +87,34 @@ class Asking(Program):
         return chance.choice([
             [], ["KBP"], [f"XCH R{register}"], [chance.choice(written)], [chance.choice(written)], [f"JCN {chance.choice([4, 12])}"],
             ["RAR", f"JCN {chance.choice([2, 10])}"], [f"ADD R{register}"], [chance.choice(HANDY)], [f"INC R{register}"], ["RAR", "TCC", "WMP"]])
+
+
+class Keys(Wiring):
+    """A small board with a key matrix."""
+
+    def __init__(self, chance: random.Random) -> None:
+        self.chance, self.pages, self.lamps = chance, [0], []
+        self.ports = {0: "0000", 1: chance.choice(["iiii", "iii1", "0ii0", "i0i1"])}
+        self.banks = {0: 1} if chance.random() < 0.5 else {}
+        self.outputs = [[f"rom0.{line}" for line in range(4)]]
+        self.inputs = [f"rom1.{3 - i}" for i in range(4) if self.ports[1][i] == "i"]
+        self.chains, self.driver = [("rom0.0", "rom0.1", 1)], 0
+        self.rows, self.first = chance.randrange(1, 4), chance.randrange(3)
+        self.columns = chance.choices(self.inputs, k=chance.randrange(1, 4))
+
+
+class AskingKeys(Asking):
+    """A short program that drives rows of keys and reads their columns."""
+
+    def prepared(self) -> list[str]:
+        """Returns phrases that drive rows."""
+        return [phrase for _n in range(2) for phrase in self.pulses("rom0.0", "rom0.1")]
+
+    def asked(self) -> list[str]:
+        """Returns the phrases of the loop."""
+        if self.chance.random() < 0.6:
+            return self.selected_by(self.chance.randrange(8)) + ["RDR"] + self.used(self.chance.choice(self.registers))
+        return super().asked()
 
 
 def walked(question: Question, chance: random.Random) -> Iterator[Board]:
@@ -171,16 +201,82 @@ def longest_seen(question: Question, chance: random.Random) -> int:
     return max(shown)
 
 
+def marked(question: Question, chance: random.Random, wiring: Wiring) -> None:
+    """Adds marks that must be seen before a condition is met: mostly such as reads show on some way, before a value is there first."""
+    if chance.random() < 0.5:
+        question.nevers = []
+    cells, way = cells_of(wiring), marks_on_way(question, chance)
+    there = [{each: cell(board, *each) for each in cells} for board, _marks in way]
+    firsts = [(each, at) for each in cells for at in range(1, len(way)) if there[at][each] not in {seen[each] for seen in there[:at]}]
+    (name, index), at = chance.choice(firsts) if firsts else (chance.choice(cells), 1)
+    value = there[min(at, len(way) - 1)][name, index]
+    question.opens = [[("in", name, index, "whole", value, value)]]
+    if chance.random() < 0.2:
+        question.opens.append([comparison(chance, wiring, there)])
+    shown = [chance.choice(marks) for _board, marks in way[:at] if marks]
+    if chance.random() < 0.3:
+        shown = [(chance.choice(["up", "down"]), row, column) for row in range(wiring.rows) for column in range(len(wiring.columns))]
+    places = sorted(chance.sample(range(len(shown)), min(len(shown), chance.choice([1, 1, 1, 2, 2, 3]))))
+    question.marks = [shown[place] for place in places] or [("up", 0, 0), ("down", 0, 0)][:chance.choice([1, 2])]
+    if chance.random() < 0.15:
+        # How many marks were seen, itself.
+        question.nevers.append([("in", "counter", 17, "whole", chance.randrange(1, len(question.marks) + 2), 255)])
+
+
+def waiting(chance: random.Random, wiring: Wiring) -> Question:
+    """Returns a question about a program that waits for keys of a row, one after the other, and then shows a number in a register. Some of these
+    programs do not wait until a key is up, some drive other rows as well, and some questions ask for other marks."""
+    row, register, number = chance.randrange(wiring.rows), chance.randrange(12), chance.randrange(1, 16)
+    program, marks = [" FIM P7, 0", " SRC P7"], []
+    for bit in range(wiring.first + row + 1):
+        data = 2 if bit == 0 or chance.random() < 0.1 else 0
+        program += [f" LDM {data}", " WRR", f" LDM {data + 1}", " WRR"]
+    program += [" FIM P6, 0x10", " SRC P6", "loop: CLB", f" XCH R{register}"]
+    for n in range(chance.choice([1, 1, 2])):
+        column = chance.randrange(len(wiring.columns))
+        to_carry = (int(wiring.columns[column][-1]) + 1) * [" RAR"]
+        if chance.random() < 0.85:
+            program += [f"up{n}: RDR", *to_carry, f" JCN 2, up{n}"]
+        program += [f"down{n}: RDR", *to_carry, f" JCN 10, down{n}"]
+        marks += [("up", row, column), ("down", row, column)]
+    if chance.random() < 0.3:
+        marks[chance.randrange(len(marks))] = (chance.choice(["up", "down"]), chance.randrange(wiring.rows), chance.randrange(len(wiring.columns)))
+    opens = [[("in", "register", register, "whole", number, number)]]
+    return Question(wiring.text(), [*program, f" LDM {number}", f" XCH R{register}", " JUN loop"], opens=opens, marks=marks)
+
+
+def marks_on_way(question: Question, chance: random.Random) -> list[tuple[Board, list[Mark]]]:
+    """Returns the machine at some states of a random walk, each with the marks that the next cycle shows."""
+    board, way = power_on(question), []
+    for _n in range(2 * WALK):
+        values = values_read(board)
+        levels = values[chance.choice(sorted(values))]
+        board.chips.down = set(levels[0])
+        marks = [(level, row, column) for row, column in all_keys(board) for level in ("up", "down") if is_shown(board, (level, row, column))]
+        way.append((copy.deepcopy(board), marks))
+        go_on(board, levels, lambda _board: False, min(question.pause, 50))
+    return way
+
+
 def seeded_question(seed: int, most: int) -> Question:
     """Returns a random question; one in eight has a long program of any instructions."""
     chance = random.Random(seed)
+    wiring: Wiring
     if seed % 8 == 7:
         seeded = Seeded(seed)
         wiring, question = seeded.wiring, Question(seeded.board_text, seeded.program_text)
+    elif seed % 8 == 6:
+        wiring = Keys(chance)
+        question = waiting(chance, wiring)
+    elif seed % 8 == 2:
+        wiring = Keys(chance)
+        question = Question(wiring.text(), AskingKeys(chance, wiring).text())
     else:
         wiring = Wiring(chance)
         question = Question(wiring.text(), Asking(chance, wiring).text())
     question.most, question.pause = most, chance.choice([1, 2, 7, 30, 100, 300])
+    if seed % 8 == 6:
+        return question
     cells = cells_of(wiring)
     boards = [{each: cell(board, *each) for each in cells} for board in walked(question, chance)]
     question.nevers = [[comparison(chance, wiring, boards) for _each in range(chance.choice([1, 2, 2, 3]))] for _row in range(chance.choice([0, 1, 1, 1, 2]))]
@@ -189,4 +285,6 @@ def seeded_question(seed: int, most: int) -> Question:
         question.nevers.append([asked, *([comparison(chance, wiring, boards)] if chance.random() < 0.2 else [])])
     if seed % 4 == 1:
         timed(question, chance, wiring, boards)
+    if seed % 8 == 2:
+        marked(question, chance, wiring)
     return question

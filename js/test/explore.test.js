@@ -205,7 +205,8 @@ test("a model says what the display has to show, and what is wrong with it is re
 });
 
 test("a model whose command may not be run is reported as not run, and is not right", () => {
-  const reported = (text, isSkipped) => ({ text, line: 2, isGoal: false, isSkipped, applied: true, states: 0, chains: 0, found: null });
+  const reported = (text, isSkipped) => (
+    { text, line: 2, isGoal: false, isSkipped, applied: true, states: 0, leftOut: "", chains: 0, found: null });
   const report = (isSkipped) => ({
     form: "explore 1", names: { properties: "x.props" }, sums: "",
     properties: [reported("model ./says", isSkipped), reported("never lamp 1 on", false)],
@@ -452,7 +453,7 @@ test("the same seed makes the same find, however long it may take", async () => 
 });
 
 test("what came of it is described in words", () => {
-  const property = { text: "never lamp 0 on", line: 1, isGoal: false, applied: true, states: 0, chains: 0, found: null };
+  const property = { text: "never lamp 0 on", line: 1, isGoal: false, applied: true, states: 0, leftOut: "", chains: 0, found: null };
   const found = { test: "", steps: 2, cycles: 1200, seed: 1 };
   const report = (...properties) => ({ properties, steps: 2000, states: 3, seconds: 0.5, seeds: [7] });
   const goal = { ...property, isGoal: true };
@@ -463,6 +464,8 @@ test("what came of it is described in words", () => {
   assert.equal(wordsOfProperty(property, report()), "");
   assert.equal(wordsOfProperty({ ...property, applied: false }, report()), "never checked");
   assert.equal(wordsOfProperty({ ...property, states: 12 }, report()), "proved for all inputs (12 states)");
+  assert.equal(wordsOfProperty({ ...property, states: 12, leftOut: '"once"' }, report()),
+    'proved for all inputs (12 states), even without "once"');
   const skipped = { ...property, text: "model ./says", isSkipped: true };
   assert.match(wordsOfProperty(skipped, report()), /^a page cannot run a command; mcs4 explore --allow-model can$/);
   const marks = [markOf(goal, true), markOf(goal, false), markOf(property, true), markOf(skipped, true)];

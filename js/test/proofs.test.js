@@ -99,7 +99,8 @@ test("each question goes on only while there are more states, and says how many 
   assert.deepEqual(engine.asked, [[10000, 1], [20000, 1], [40000, 1]]);
   // The questions about mistakes come last, the one by sets of states first.
   assert.deepEqual(seen, [0, 10000, 20000, 0, 0]);
-  assert.deepEqual(all, [{ text: "never lamp 1 on", line: 2, isGoal: false, verdict: { kind: "proved", states: 23456, bySets: false } }]);
+  const verdict = { kind: "proved", states: 23456, bySets: false, leftOut: "" };
+  assert.deepEqual(all, [{ text: "never lamp 1 on", line: 2, isGoal: false, verdict }]);
 });
 
 test("properties are asked together, and alone only if that decides something", async () => {
@@ -121,7 +122,7 @@ test("every program is asked for seven mistakes: together, and each alone if one
   const { made, engine } = await judged(() => "", none);
   assert.deepEqual(engine.mistakes, ["code call return ram rom rdr wrr"]);
   assert.deepEqual(kinds(made), Array.from({ length: 7 }, () => "proved"));
-  const verdict = { kind: "proved", states: 9, bySets: false };
+  const verdict = { kind: "proved", states: 9, bySets: false, leftOut: "" };
   assert.deepEqual(made[0], { text: "no code outside the instruction table", line: 0, isGoal: false, verdict });
   // The program jumps into ROM that the board lacks.
   const away = { ...none, programText: "        JUN 256\n" };
@@ -135,7 +136,7 @@ test("every program is asked for seven mistakes: together, and each alone if one
 
 test("sets of states prove that no mistake is made, and what the search does not decide", async () => {
   const words = "code call return ram rom rdr wrr";
-  const proved = { kind: "proved", states: 5, bySets: true };
+  const proved = { kind: "proved", states: 5, bySets: true, leftOut: "" };
   const all = await judged(() => "too many\n", { answerSets: () => "holds 5\n" });
   assert.deepEqual(all.engine.mistakes, []);
   assert.deepEqual(all.made.map(({ verdict }) => verdict), Array.from({ length: 7 }, () => proved));
@@ -156,7 +157,7 @@ test("a time is asked alone, and never by sets of states", async () => {
   assert.deepEqual(engine.times, [9, 93, 5, 5]);
   assert.deepEqual(engine.asked, [[10000, 1]]);
   assert.deepEqual(kinds(all), ["proved", "found", "proved", "open"]);
-  assert.deepEqual(all[2].verdict, { kind: "proved", states: 7, bySets: false });
+  assert.deepEqual(all[2].verdict, { kind: "proved", states: 7, bySets: false, leftOut: "" });
   const { text } = all[1].verdict.found;
   assert.match(text, /^test never lamp lit on for 9\n {2}press WALK\n {2}run \d+\n {2}until not lamp lit on within 9\n$/);
 });
@@ -180,7 +181,7 @@ test("a way that is not one, or a prover that says nothing, proves nothing", asy
 });
 
 test("a verdict stands while its property, the program and the board are the same", () => {
-  const proved = { text: "never lamp 1 on", line: 2, isGoal: false, verdict: { kind: "proved", states: 3, bySets: false } };
+  const proved = { text: "never lamp 1 on", line: 2, isGoal: false, verdict: { kind: "proved", states: 3, bySets: false, leftOut: "" } };
   const open = { ...proved, verdict: { kind: "open", words: "why" } };
   const now = (change) => ({ ...texts, ...change });
   const properties = (text) => now({ propertiesText: text });
@@ -261,13 +262,14 @@ test("cancelling ends the worker at once; a worker that is silent is not dead", 
 
 test("verdicts in words", () => {
   const found = { steps: 2, cycles: 1204, isAllowed: true, isTest: true, text: "", before: "" };
-  const all = [{ kind: "proved", states: 1, bySets: true }, { kind: "proved", states: 96937, bySets: false }, { kind: "found", found },
-    { kind: "open", words: "why" }].map((verdict, at) => ({ text: `p${at}`, line: at + 1, isGoal: false, verdict }));
+  const proved = { kind: "proved", states: 96937, bySets: false, leftOut: '"once"' };
+  const verdicts = [{ ...proved, states: 1, bySets: true, leftOut: "" }, proved, { kind: "found", found }, { kind: "open", words: "why" }];
+  const all = verdicts.map((verdict, at) => ({ text: `p${at}`, line: at + 1, isGoal: false, verdict }));
   const goals = all.map((each) => ({ ...each, isGoal: true }));
   assert.deepEqual(all.map(markOf), ["proved", "proved", "can fail", "not decided"]);
   assert.deepEqual(goals.map(markOf), ["never reached", "never reached", "reached", "not decided"]);
-  assert.deepEqual(all.map(wordsOfVerdict),
-    ["for all inputs: 1 set of states", "for all inputs: 96,937 states", "broken by 2 steps, 1,204 cycles", "why"]);
+  assert.deepEqual(all.map(wordsOfVerdict), [
+    "for all inputs: 1 set of states", 'for all inputs: 96,937 states, even without "once"', "broken by 2 steps, 1,204 cycles", "why"]);
   assert.equal(wordsOfEnd(all, false), "2 proved, 1 can fail, 1 not decided.");
   assert.equal(wordsOfEnd(goals, true), "Cancelled: 1 reached, 2 never reached, 1 not decided.");
   assert.equal(wordsSoFar({ judged: all.slice(1), count: 4, states: 0 }), "Property 4 of 4");

@@ -1,6 +1,7 @@
 // Questions to the prover: conditions become comparisons that mean the same on every machine; the values read become keys, and a test.
 import assert from "node:assert/strict";
 import { test } from "node:test";
+import { matrixKey } from "../core/board/key_place.js";
 import { tracedConditionOf } from "../core/conditions/condition_language.js";
 import { Engine } from "../core/engine/engine.js";
 import { readCampaign } from "../core/explore/campaign.js";
@@ -9,7 +10,7 @@ import { randomFrom } from "../core/explore/walks.js";
 import { counterexampleOf } from "../core/prove/counterexample.js";
 import { comparisonsOf } from "../core/prove/decided.js";
 import { allMistakes, cyclesToMistake } from "../core/prove/mistakes.js";
-import { MAX_TIME, askedOf, mistakeQuestion, neverQuestion, questionText, readAnswer } from "../core/prove/question.js";
+import { MAX_TIME, MOST_PRESSES, askedOf, mistakeQuestion, neverQuestion, questionText, readAnswer } from "../core/prove/question.js";
 import { statusOf, tapHead, tapOfJudged } from "../core/prove/verdicts.js";
 import { runTests } from "../core/testing/test_suite.js";
 import { NoAccount } from "../core/testing/account.js";
@@ -104,7 +105,7 @@ const CONDITIONS = [
   "r5 - r7 = 0", "r5 & 3 = 1", "r5 >= 0",
 ];
 
-const asked = (text) => askedOf(readCampaign(`press A\n${text}`, subject).campaign.properties[0], { from: null }, board);
+const asked = (text, own = subject) => askedOf(readCampaign(`press A\n${text}`, own).campaign.properties[0], { from: null }, own);
 
 test("comparisons mean what their condition means", () => {
   const all = [...states()];
@@ -148,9 +149,8 @@ test("conditions that look at inputs, or at too much, are refused with the reaso
   assert.deepEqual(asked("never rom1 in 3"), { question: null, words: "its condition uses rom1, an input" });
   assert.deepEqual(asked("never rom1.1 = 1 for 1 ms"), { question: null, words: "its condition uses rom1.1, an input" });
   assert.match(asked("never r0 + r1 + r2 + r3 + r4 = 9").words, /uses too many places/);
-  assert.match(asked("lamp on on only after press A").words, /of the form "only after" cannot be proved yet/);
   assert.match(asked("after press A within 1 ms lamp on on").words, /of the form "after press" cannot be proved yet/);
-  assert.match(asked("once r0 = 2, never r0 = 1 for 1 ms").words, /guard/);
+  assert.match(asked("@look at most once for each press").words, /of the form "once" cannot be proved yet/);
   assert.equal(asked("while r0 = 2, never r1 = 1").question.nevers.length, 1);
 });
 
@@ -185,6 +185,33 @@ test("a condition that always holds, or never, has both lists, too", () => {
   assert.deepEqual(never, { begins: [["in register 0 whole 1 0"]], ends: [[]], within: 9 });
 });
 
+test("presses are a question about the keys of the matrix, by their rows and columns", () => {
+  const presses = (text) => asked(text).question.presses;
+  const on = [["in ramport 0 line0 1 1"]];
+  const [a, c] = [{ kind: "matrix", row: 0, column: 0 }, { kind: "matrix", row: 0, column: 2 }];
+  assert.deepEqual(presses("lamp on on only after press A, press C, press A"), { opens: on, keys: [a, c, a] });
+  assert.deepEqual(presses("@lit only after press C"), { opens: [AT_LIT], keys: [c] });
+  // A condition counts between the two cycles of an instruction as after them, but a label alone is reached by an instruction.
+  assert.deepEqual(presses("@lit or @look only after press C").opens, [AT_LOOK.slice(1), AT_LIT.slice(1)]);
+  assert.deepEqual(presses("r5 > 15 only after press C").opens, [["in register 0 whole 1 0"]]);
+  assert.equal(presses("never lamp on on"), null);
+});
+
+test("presses that the prover cannot count are refused with the reason", () => {
+  const words = (text, own) => asked(text, own).words;
+  assert.match(words("lamp on on only after press A, press WALK"), /^WALK is at the TEST pin/);
+  assert.match(words("rom1 in 3 only after press A"), /^its condition uses rom1, an input/);
+  const presses = (count) => asked(`lamp on on only after ${Array(count).fill("press A").join(", ")}`);
+  assert.equal(presses(MOST_PRESSES).question.presses.keys.length, 100);
+  assert.match(presses(MOST_PRESSES + 1).words, /^it names more than 100 presses/);
+  // At `same`, one instruction of one cycle leads to the next one that begins there.
+  for (const [code, isAsked] of [["JIN P0", false], ["BBL 0", false], ["FIN P0", true], ["JUN same", true]]) {
+    const own = subjectOf(engine, BOARD, `        FIM P0, 2\nsame:   ${code}\n        NOP\n`);
+    assert.equal(asked("@same only after press A", own).question !== null, isAsked, code);
+    assert.notEqual(asked("@same or r5 = 1 only after press A", own).question, null, code);
+  }
+});
+
 test("a time that the stopwatch cannot count is refused with the reason", () => {
   assert.equal(asked(`every ${MAX_TIME} @look`).question.stopwatch.within, MAX_TIME);
   assert.deepEqual(asked(`every ${MAX_TIME + 1} @look`), { question: null, words: "its time is longer than 16,777,214 cycles" });
@@ -192,9 +219,15 @@ test("a time that the stopwatch cannot count is refused with the reason", () => 
 
 test("a stopwatch has its lines after the texts", () => {
   const stopwatch = { begins: [["in register 1 whole 0 3"], []], ends: [["out counter 1 whole 0 0"]], within: 5 };
-  const lines = questionText({ board: "rom = []\n", program: "NOP" }, { nevers: [], mistakes: [], stopwatch }, { most: 77 }).split("\n");
+  const lines = questionText({ board: "rom = []\n", program: "NOP" }, { ...neverQuestion([]), stopwatch }, { most: 77 }).split("\n");
   assert.deepEqual(lines.slice(8),
     ["within 5", "begin", "in register 1 whole 0 3", "begin", "end", "out counter 1 whole 0 0", "prove", ""]);
+});
+
+test("presses have their lines after the conditions that they open", () => {
+  const presses = { opens: [["in register 1 whole 0 3"], []], keys: [matrixKey(0, 2), matrixKey(1, 0)] };
+  const lines = questionText({ board: "rom = []\n", program: "NOP" }, { ...neverQuestion([]), presses }, { most: 77 }).split("\n");
+  assert.deepEqual(lines.slice(8), ["open", "in register 1 whole 0 3", "open", "up 0 2", "down 0 2", "up 1 0", "down 1 0", "prove", ""]);
 });
 
 test("a question has its limits, both texts and what must never be", () => {
@@ -300,6 +333,22 @@ test("a condition may hold for exactly its time, whatever instruction changes it
   }
 });
 
+test("a press that comes too early, or not at all, becomes a test that fails", async () => {
+  const { found } = await counterexample("press A B\nlamp on on only after press B", LIGHTS);
+  assert.ok(found.isAllowed && await fails(found));
+  assert.match(found.text, /^test lamp on on only after press B\n {2}run \d+\n {2}press A\n {2}run \d+\n {2}expect not lamp on on\n$/);
+  // B comes too early or late.
+  const withB = [0, 5, ...LIGHTS.slice(1)];
+  const keys = "press A B C\ntogether 3\n";
+  assert.ok(await fails((await counterexample(`${keys}lamp on on only after press A, press B`, withB)).found));
+  assert.equal((await counterexample(`${keys}lamp on on only after press B, press A`, withB)).found, null);
+  assert.ok((await counterexample(`${keys}@lit only after press A, press B`, withB)).found);
+  // Two keys can go down at one moment.
+  const together = [0, 13, ...LIGHTS.slice(1)];
+  assert.equal((await counterexample(`${keys}lamp on on only after press B, press C, press A`, together)).found, null);
+  assert.ok((await counterexample(`${keys}lamp on on only after press C, press A, press B`, together)).found);
+});
+
 test("keys that change together are on the way to what takes too long", async () => {
   const { found } = await counterexample("press A B C\nnever lamp on on for 20", [0, 13, ...LIGHTS.slice(1)]);
   assert.ok(found && await fails(found));
@@ -329,14 +378,14 @@ test("mistakes are seen before the instruction that makes them", () => {
 test("verdicts are TAP, and decide the exit status", () => {
   const property = { text: "never # on", isGoal: false, line: 3 };
   const goal = { ...property, text: "reach it", isGoal: true };
-  const proved = { kind: "proved", states: 96937, bySets: false };
-  const bySets = { kind: "proved", states: 23, bySets: true };
+  const proved = { kind: "proved", states: 96937, bySets: false, leftOut: "" };
+  const bySets = { kind: "proved", states: 23, bySets: true, leftOut: '"once" and "after press"' };
   const open = { kind: "open", words: "why" };
   const found = { kind: "found", found: { steps: 1, cycles: 1200, isAllowed: true, isTest: true, text: "test x\n  run 1\n" } };
   const all = [{ property, verdict: proved }, { property, verdict: open }, { property: goal, verdict: found },
-    { property: goal, verdict: proved }, { property, verdict: bySets }];
+    { property: goal, verdict: proved }, { property, verdict: bySets }, { property: goal, verdict: bySets }];
   assert.equal(tapHead(all.length) + all.map((each, at) => tapOfJudged(each, at, "p")).join(""), `TAP version 13
-1..5
+1..6
 ok 1 - never \\# on # proved for all inputs (96,937 states)
 not ok 2 - never \\# on # TODO not decided: why
 ok 3 - reach it # reached, 1 step
@@ -348,7 +397,8 @@ ok 3 - reach it # reached, 1 step
       run 1
   ...
 not ok 4 - reach it # never reached, for all inputs (96,937 states)
-ok 5 - never \\# on # proved for all inputs (23 sets of states)
+ok 5 - never \\# on # proved for all inputs (23 sets of states), even without "once" and "after press"
+not ok 6 - reach it # never reached, for all inputs (23 sets of states), even without "once" and "after press"
 `);
   assert.equal(statusOf([{ property, verdict: proved }, { property: goal, verdict: found }]), 0);
   assert.equal(statusOf([{ property, verdict: proved }, { property, verdict: open }]), 3);

@@ -8,7 +8,15 @@ export const looksAtInput = (place) => `its condition uses ${place}, an input`;
 // --- prove/question.js ---
 /** @type {(form: string) => string} */
 export const otherForm = (form) => `a property of the form "${form}" cannot be proved yet`;
-export const HAS_GUARDS = "a property with a guard cannot be proved yet";
+/** @type {(name: string) => string} */
+export const isNoMatrixKey = (name) => `${name} is at the TEST pin; only presses of keys of the matrix are counted`;
+/** @type {(most: number) => string} */
+export const hasManyPresses = (most) => `it names more than ${most} presses`;
+export const LABEL_REPEATS = "the BBL or JIN at its label can lead to the same label in one cycle";
+/** The first words of guards, by their kinds. */
+const GUARDS = { press: "after press", once: "once", while: "while" };
+/** @type {(kinds: Iterable<keyof typeof GUARDS>) => string} */
+export const guardsNamed = (kinds) => [...kinds].map((kind) => `"${GUARDS[kind]}"`).join(" and ");
 /** @type {(most: string) => string} */
 export const timeIsLong = (most) => `its time is longer than ${most} cycles`;
 export const BEGINS_LATER = "a proof begins at power-on, but the text begins elsewhere (from)";
@@ -29,6 +37,9 @@ export const MISTAKES = {
 /** @type {(steps: string) => string} */
 export const excluded = (steps) => `so far, only inputs that the text excludes break it (${steps})`;
 export const NOT_CONFIRMED = "the bench does not confirm the counterexample that was found";
+/** @type {(guards: string, isGoal: boolean) => string} */
+export const failsWithout = (guards, isGoal) => `it can ${isGoal ? "be reached" : "fail"} without ${guards}, which a proof leaves out`;
+export const READ_LESS = "it can become true before the program has read each key up and then down";
 
 // --- prove/bounded_proof.js ---
 /** @type {(states: string) => string} */
@@ -42,10 +53,12 @@ export const SET = "set of states";
 export const SETS = "sets of states";
 /** @type {(words: string) => string} */
 export const notDecided = (words) => `TODO not decided: ${words}`;
-/** @type {(states: string) => string} */
-export const proved = (states) => `proved for all inputs (${states})`;
-/** @type {(states: string) => string} */
-export const neverReached = (states) => `never reached, for all inputs (${states})`;
+/** @type {(guards: string) => string} */
+const evenWithout = (guards) => (guards ? `, even without ${guards}` : "");
+/** @type {(states: string, leftOut: string) => string} `leftOut` are the guards that the proof leaves out, "" for none */
+export const proved = (states, leftOut) => `proved for all inputs (${states})${evenWithout(leftOut)}`;
+/** @type {(states: string, leftOut: string) => string} */
+export const neverReached = (states, leftOut) => `never reached, for all inputs (${states})${evenWithout(leftOut)}`;
 /** @type {(steps: string) => string} */
 export const brokenBy = (steps) => `broken, ${steps}`;
 /** @type {(steps: string) => string} */
@@ -91,8 +104,8 @@ export const AT_END = "at the end of Tests";
 // --- words/proved.js ---
 /** The verdict on a property, in one or two words. */
 export const MARKS = { proved: "proved", never: "never reached", fails: "can fail", reached: "reached", open: "not decided" };
-/** @type {(states: string) => string} */
-export const forAllInputs = (states) => `for all inputs: ${states}`;
+/** @type {(states: string, leftOut: string) => string} */
+export const forAllInputs = (states, leftOut) => `for all inputs: ${states}${evenWithout(leftOut)}`;
 export const CANCELLED = "Cancelled: ";
 /** @type {(count: string) => string} */
 export const countProved = (count) => `${count} proved`;

@@ -33,7 +33,7 @@ export function markOf({ isGoal, verdict }) {
  */
 export function wordsOfVerdict({ isGoal, verdict }) {
   if (verdict.kind === "open") return verdict.words;
-  if (verdict.kind === "proved") return say.forAllInputs(statesOf(verdict));
+  if (verdict.kind === "proved") return say.forAllInputs(statesOf(verdict), verdict.leftOut);
   const { steps, cycles } = verdict.found;
   return say.foundBy(stepsOf(steps), grouped(cycles), isGoal);
 }

@@ -6,7 +6,7 @@ use Rattle.mcs_drive.specs.Tracked.{Tracked, plain, Holds}
 use Rattle.mcs_search.specs.Rules.{Closure}
 use Rattle.mcs_check.specs.declared.cells.Cell.{Cell}
 use Rattle.mcs_check.specs.Cells.{key_of}
-use Rattle.mcs_check.specs.Conditions.{Aimed, keeps_to, stopwatch_in}
+use Rattle.mcs_check.specs.Conditions.{Aimed, keeps_to, observer_in}
 use Rattle.mcs_check.specs.Held.{held}
 use Rattle.mcs_check.specs.Keys.{IsKeyOf, setting_of}
 use Rattle.mcs_check.specs.Searched.{rules_of}
@@ -25,7 +25,7 @@ held-key layout aim key s m e registers bus well cells = record {
 }
 
 -- what was found of it holds of the machine whose keys were put down
-pub held-holds : (layout : List Cell) (aim : Aimed) (key : List ℕ) (n : ℕ) (s m : Tracked) → m ≡ held s → IsKeyOf (setting_of m layout aim) key m → Closure (rules_of (setting_of m layout aim)) key n → Holds (stopwatch_in aim) (keeps_to aim.nevers) s
+pub held-holds : (layout : List Cell) (aim : Aimed) (key : List ℕ) (n : ℕ) (s m : Tracked) → m ≡ held s → IsKeyOf (setting_of m layout aim) key m → Closure (rules_of (setting_of m layout aim)) key n → Holds (observer_in aim) (keeps_to aim.nevers) s
 held-holds layout aim key n s m e is closure =
-    alike-holds (stopwatch_in aim) (keeps_to aim.nevers) m s (conditions-ignore aim.nevers) (ap plain e)
+    alike-holds (observer_in aim) (keeps_to aim.nevers) m s (conditions-ignore aim.nevers) (ap plain e)
     (walker-holds (setting_of m layout aim) key n m (conditions-ignore aim.nevers) closure is)

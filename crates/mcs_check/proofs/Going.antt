@@ -1,18 +1,18 @@
 -- A run cycle by cycle.
 use Rattle.std.proofs.Common.{◌≡◌, ◌<◌, ℕ, zero, suc, Bool, true, false, refl, sym, ap, ◌∙◌, arith, below_more}
-use Rattle.mcs_drive.specs.Tracked.{Stopwatch, Tracked, cycled, after_cycles, is_asking}
+use Rattle.mcs_drive.specs.Tracked.{Observer, Tracked, cycled, after_cycles, is_asking}
 use Rattle.mcs_check.specs.Keys.{Keeps}
 use Rattle.mcs_check.specs.Stations.{Reaches}
 use Rattle.mcs_check.proofs.Keeping.{cycle-keeps, keeps-itself, keeps-on}
 
 -- a run from s to t, in which no cycle reads of the outside, and the property holds before each
-pub record Walked (w : Stopwatch) (p : Tracked → Bool) (s t : Tracked) : Type 0 where
+pub record Walked (w : Observer) (p : Tracked → Bool) (s t : Tracked) : Type 0 where
   pub cycles : ℕ
   pub quiet : (i : ℕ) → i < cycles → is_asking (after_cycles w i s) ≡ false
   pub well : (i : ℕ) → i < cycles → p (after_cycles w i s) ≡ true
   pub at : t ≡ after_cycles w cycles s
 
-module _ (w : Stopwatch) where
+module _ (w : Observer) where
   pub walked-none : (p : Tracked → Bool) (s : Tracked) → Walked w p s s
   walked-none p s = record { cycles = 0; quiet = λ i h. absurd (omega arith); well = λ i h. absurd (omega arith); at = refl }
 

@@ -11,7 +11,7 @@ use Rattle.mcs_model.specs.ChipWrites.{with_ram_latch, with_rom_latch, with_ram_
 use Rattle.mcs_model.specs.Levels.{clock_levels, chains_clocked, with_rom_ports_at, after_ram_port, after_rom_port}
 use Rattle.mcs_model.specs.Effect.{bus_after, cycle_of, effect, instruction_at}
 use Rattle.mcs_model.specs.Running.{Machine}
-use Rattle.mcs_drive.specs.Tracked.{Stopwatch, Tracked, machine_in, cycled}
+use Rattle.mcs_drive.specs.Tracked.{Observer, Tracked, machine_in, cycled}
 use Rattle.mcs_check.specs.Keys.{Keeps}
 
 pub keeps-itself : (s : BusState) → Keeps s s
@@ -85,7 +85,7 @@ cycle-keeps-when s true o = keeps-itself s.1
 cycle-keeps-when s false None = keeps-itself s.1
 cycle-keeps-when s false (Some op) = bus-keeps op s.0 s.1
 
-pub cycle-keeps : (w : Stopwatch) (s : Tracked) → Keeps s.1 (cycled w s).1
+pub cycle-keeps : (w : Observer) (s : Tracked) → Keeps s.1 (cycled w s).1
 unfolding cycle_of
 cycle-keeps w s = cycle-keeps-when (machine_in s) (eqb s.0.owed 1) (instruction_at s.0 s.1)
 

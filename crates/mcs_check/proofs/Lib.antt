@@ -15,3 +15,6 @@ pub mod Beginning
 pub mod Scoping
 pub mod Spinning
 pub mod Limiting
+pub mod Opening
+pub mod Ranging
+pub mod Matrices

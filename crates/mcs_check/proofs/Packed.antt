@@ -74,8 +74,8 @@ same-registers s t a b c d e f g =
 same-times : (a b : ℕ) → a / 65536 ≡ b / 65536 → a / 256 % 256 ≡ b / 256 % 256 → a % 256 ≡ b % 256 → a ≡ b
 same-times a b high middle low = omega arith
 
-same-counts : (s t : Counts) → s.calls ≡ t.calls → s.elapsed ≡ t.elapsed → s ≡ t
-same-counts s t a b = ap (λ x. record s { calls = x }) a ∙ ap (λ x. record t { elapsed = x }) b
+same-counts : (s t : Counts) → s.calls ≡ t.calls → s.elapsed ≡ t.elapsed → s.seen ≡ t.seen → s ≡ t
+same-counts s t a b c = ap (λ x. record s { calls = x }) a ∙ ap (λ x. record s { calls = t.calls; elapsed = x }) b ∙ ap (λ x. record t { seen = x }) c
 
 -- ---- the chips
 
@@ -123,7 +123,7 @@ pub same-machine : (b : BoardParts) (rom : List ℕ) (layout : List Cell) (s t :
 same-machine b rom layout s t complete on-s on-t e =
     let whole : IsComplete s.1.board layout = subst (λ (d : BoardParts). IsComplete d layout) (sym on-s.board) complete in
     let n : (list : CellList) (i : ℕ) → i < count_of list → is_there s.1.board list i ≡ true → slice_index (list_of s list) i ≡ slice_index (list_of t list) i = number-same s t layout whole e in
-    let k : (i : ℕ) → i < 17 → slice_index (counters_of s.0 s.1.rom_src s.2) i ≡ slice_index (counters_of t.0 t.1.rom_src t.2) i = λ i h. n Counters i h refl in
+    let k : (i : ℕ) → i < 18 → slice_index (counters_of s.0 s.1.rom_src s.2) i ≡ slice_index (counters_of t.0 t.1.rom_src t.2) i = λ i h. n Counters i h refl in
     let board : s.1.board ≡ t.1.board = on-s.board ∙ sym on-t.board in
     let banks : length s.1.board.banks ≡ 8 = on-s.bus.board.sized.banks in
     let v = on-s.bus.in_range in
@@ -155,4 +155,4 @@ same-machine b rom layout s t complete on-s on-t e =
       test = on-s.test ∙ sym on-t.test;
     } in
     ap (λ (x : Regs). (x, s.1, s.2)) registers ∙ ap (λ (m : BusState). (t.0, m, s.2)) (agreeing-same s.1 t.1 on-s.bus on-t.bus agrees)
-    ∙ ap (λ (n : Counts). (t.0, t.1, n)) (same-counts s.2 t.2 (k 13 (omega arith)) (same-times s.2.elapsed t.2.elapsed (k 14 (omega arith)) (k 15 (omega arith)) (k 16 (omega arith))))
+    ∙ ap (λ (n : Counts). (t.0, t.1, n)) (same-counts s.2 t.2 (k 13 (omega arith)) (same-times s.2.elapsed t.2.elapsed (k 14 (omega arith)) (k 15 (omega arith)) (k 16 (omega arith))) (k 17 (omega arith)))

@@ -7,7 +7,7 @@ use Rattle.mcs_model.specs.declared.op.Op.TheVariants.{Jcn, Fim, Src, Fin, Inc, 
 use Rattle.mcs_model.specs.Bus.{BusState, fetch_of}
 use Rattle.mcs_model.specs.Effect.{address_beside, after_words, bus_after, cycle_of, effect, instruction_at, is_taken, registers_after, with_word}
 use Rattle.mcs_model.specs.Registers.{pair_of, register_of, with_pair, with_register}
-use Rattle.mcs_drive.specs.Tracked.{Counts, Stopwatch, Tracked, counts_after, cycled, machine_in, next_op}
+use Rattle.mcs_drive.specs.Tracked.{Counts, Observer, Tracked, counts_after, cycled, machine_in, next_op}
 use Rattle.mcs_drive.proofs.Tracking.{with_counts}
 use Rattle.mcs_check.specs.declared.cells.CellList.{CellList}
 use Rattle.mcs_check.specs.declared.cells.CellList.TheVariants.{Characters, StatusCharacters, RamPorts, RomPorts, BankSrcs, Registers, Counters, Chain}
@@ -214,7 +214,7 @@ cycle-same-when c s n false (Some op) rest = record {
   chips = λ seen. bus-rests c op s.0 s.1 rest seen;
 }
 
-cycle-same : (w : Stopwatch) (c : Scope) (s : Tracked) → cycle_changes c (next_op s.0 s.1) ≡ false → SameIn c s (cycled w s)
+cycle-same : (w : Observer) (c : Scope) (s : Tracked) → cycle_changes c (next_op s.0 s.1) ≡ false → SameIn c s (cycled w s)
 unfolding cycle_of
 cycle-same w c s rest = cycle-same-when c s (counts_after w s) (eqb s.0.owed 1) (instruction_at s.0 s.1) rest
 
@@ -225,5 +225,5 @@ pub known-keeps : (c : Scope) (nevers : List (List Condition)) (t : Tracked) →
 known-keeps c nevers t has apart free = keeps-alone c t free nevers has ∙ apart
 
 -- after a cycle that changes nothing in the scope it holds but for mistakes, if it held before
-pub known-next : (w : Stopwatch) (c : Scope) (nevers : List (List Condition)) (s t : Tracked) → has_each c nevers ≡ true → cycle_changes c (next_op s.0 s.1) ≡ false → keeps_to nevers s ≡ true → t ≡ cycled w s → keeps_apart nevers t ≡ true
+pub known-next : (w : Observer) (c : Scope) (nevers : List (List Condition)) (s t : Tracked) → has_each c nevers ≡ true → cycle_changes c (next_op s.0 s.1) ≡ false → keeps_to nevers s ≡ true → t ≡ cycled w s → keeps_apart nevers t ≡ true
 known-next w c nevers s t has rest well e = ap (keeps_apart nevers) e ∙ sym (keeps-same c s (cycled w s) (cycle-same w c s rest) nevers has) ∙ kept-apart nevers s well

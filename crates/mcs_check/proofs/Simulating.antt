@@ -3,7 +3,7 @@ use Rattle.std.proofs.Common.{ℕ, List, Bool, refl}
 use Rattle.std.specs.List.{Contains, All}
 use Rattle.std.proofs.lemmas.List.Elements.{All-contains}
 use Rattle.mcs_drive.specs.Driven.{Levels, FitBoard}
-use Rattle.mcs_drive.specs.Tracked.{Stopwatch, Tracked, answer, Holds}
+use Rattle.mcs_drive.specs.Tracked.{Observer, Tracked, answer, Holds}
 use Rattle.mcs_drive.specs.Leading.{Ignores}
 use Rattle.mcs_drive.proofs.Stations.{Leads, Closed, closed-holds}
 use Rattle.mcs_search.specs.Rules.{IsFollowed, LeadsInto, Closure}
@@ -15,7 +15,7 @@ record Stands (keys : List (List ℕ)) (is_key_of : List ℕ → Tracked → Typ
   found : Contains keys key
   is : is_key_of key a
 
-module _ (w : Stopwatch) where
+module _ (w : Observer) where
   leads-on : (p : Tracked → Bool) (is_state : List ℕ → Type 0) (is_key_of : List ℕ → Tracked → Type 0) (keys : List (List ℕ)) →
       All (IsFollowed (machine_rules w p is_state is_key_of) keys) keys →
       (a : Tracked) (l : Levels) → Stands keys is_key_of a → FitBoard a.1.board l → Leads w p (Stands keys is_key_of) a l

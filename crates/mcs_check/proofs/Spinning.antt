@@ -1,5 +1,5 @@
 -- The passes of a loop of one ISZ.
-use Rattle.std.proofs.Common.{◌≡◌, ◌<◌, ℕ, ◌+◌, ◌-◌, ◌%◌, zero, suc, inl, inr, Bool, true, false, not, cond, ◌&&◌, List, Option, Some, None, unwrap_or, length, slice_set, refl, sym, ap, ◌∙◌, subst, arith, eqb}
+use Rattle.std.proofs.Common.{◌≡◌, ◌<◌, ℕ, ◌+◌, ◌-◌, ◌%◌, zero, suc, inl, inr, Bool, true, false, not, cond, ◌&&◌, List, [], Option, Some, None, unwrap_or, length, slice_get, slice_set, refl, sym, ap, ◌∙◌, subst, arith, eqb}
 use Rattle.std.proofs.lemmas.Bool.{and_right, cases_lt, cond-false, ne_eqb}
 use Rattle.std.proofs.lemmas.List.{get_or-set_same, set-get_or, set-set, set_past}
 use Rattle.mcs_model.specs.declared.regs.Regs.{Regs}
@@ -7,9 +7,13 @@ use Rattle.mcs_model.specs.declared.op.Op.{Op}
 use Rattle.mcs_model.specs.declared.op.Op.TheVariants.{Isz}
 use Rattle.mcs_model.specs.Bus.{BusState, fetch_of}
 use Rattle.mcs_model.specs.Effect.{address_beside, after_words, cycle_of, effect, instruction_at, registers_after, with_word}
+use Rattle.mcs_model.specs.Levels.{port_of}
 use Rattle.mcs_model.specs.Registers.{register_of, with_register}
+use Rattle.mcs_drive.specs.declared.marks.Mark.{Mark}
 use Rattle.mcs_drive.specs.Asking.{asks}
-use Rattle.mcs_drive.specs.Tracked.{Counts, Stopwatch, Tracked, begins_at, calls_after, counts_after, cycled, elapsed_after, ends_at, is_asking, machine_in, next_op, open_after, plain, shown_after}
+use Rattle.mcs_drive.specs.Marks.{shows}
+use Rattle.mcs_drive.specs.Tracked.{Counts, Observer, Tracked, begins_at, calls_after, counts_after, cycled, elapsed_after, ends_at, is_asking, machine_in, marks_after, next_op, open_after, opens_at, plain, progress, seen_after, shown_after}
+use Rattle.mcs_drive.proofs.Seeing.{some_shown}
 use Rattle.mcs_drive.proofs.Tracking.{with_counts}
 use Rattle.mcs_check.specs.declared.conditions.Condition.{Condition}
 use Rattle.mcs_check.specs.declared.scope.Scope.{Scope}
@@ -27,7 +31,7 @@ at_pass r v s = (with_register s.0 r v, s.1, s.2)
 abbrev pub in_pass : ℕ → ℕ → Tracked → Tracked
 in_pass r v s = (record s.0 { r = slice_set s.0.r r v; owed = 1 }, s.1, s.2)
 
-module _ (w : Stopwatch) where
+module _ (w : Observer) where
   -- a loop that changes nothing in a scope, and makes no mistake
   record IsLeft (c : Scope) (r : ℕ) (s : Tracked) : Type 0 where
     spins : Spins w r s
@@ -57,11 +61,19 @@ module _ (w : Stopwatch) where
   pub still-shows : (n : ℕ) (begins ends : Bool) → n ≡ 0 → begins ≡ false → shown_after n begins ends ≡ n
   still-shows n begins ends stands never = rw (stands, never) refl
 
+  still-marks : (marks : List Mark) (seen : ℕ) (opens : Bool) (p : Mark → Bool) → seen ≡ 0 → opens ≡ false → marks ≡ [] →
+      marks_after (length marks) seen opens (some_shown (slice_get marks (progress (length marks) seen)) p) ≡ seen
+  still-marks marks seen opens p unseen closed unmarked = rw (unseen, closed, unmarked) refl
+
+  still-sees : (s : Tracked) → IsStill w s.2 → seen_after w s ≡ s.2.seen
+  still-sees s still = still-marks w.marks s.2.seen (opens_at w s) (shows (next_op s.0 s.1) s.1 (port_of s.1)) still.unseen (still.closed (plain s)) still.unmarked
+
   -- a cycle that begins an ISZ, or none, leaves what is counted as it is
   counts-rest : (s : Tracked) → IsStill w s.2 → open_after s.0 s.1 s.2.calls ≡ s.2.calls → counts_after w s ≡ s.2
   counts-rest s still calls =
-      ap (λ (n : ℕ). record s.2 { calls = n; elapsed = elapsed_after w s }) calls
-      ∙ ap (λ (n : ℕ). record s.2 { elapsed = n }) (still-shows s.2.elapsed (begins_at w s) (ends_at w s) still.stands (still.never (plain s)))
+      ap (λ (n : ℕ). record s.2 { calls = n; elapsed = elapsed_after w s; seen = seen_after w s }) calls
+      ∙ ap (λ (n : ℕ). record s.2 { elapsed = n; seen = seen_after w s }) (still-shows s.2.elapsed (begins_at w s) (ends_at w s) still.stands (still.never (plain s)))
+      ∙ ap (λ (n : ℕ). record s.2 { seen = n }) (still-sees s still)
 
   isz-opens : (r u n : ℕ) (b : Bool) (o : Option Op) → b ≡ false → o ≡ Some (Isz r u) → calls_after (cond b None o) n ≡ n
   isz-opens r u n b o free is = rw (free, is) refl

@@ -5,10 +5,10 @@ use Rattle.mcs_model.specs.Validity.{IsValidBus, IsValidRegs}
 use Rattle.mcs_model.specs.declared.board.BoardParts.{BoardParts}
 use Rattle.mcs_model.specs.Bus.{BusState}
 use Rattle.mcs_drive.specs.Driven.{Levels, FitBoard}
-use Rattle.mcs_drive.specs.Tracked.{Stopwatch, Tracked, answer}
+use Rattle.mcs_drive.specs.Tracked.{Observer, Tracked, answer}
 use Rattle.mcs_drive.specs.Leading.{Ignores, LeadsTo}
 use Rattle.mcs_check.specs.Cells.{IsComplete, key_of}
-use Rattle.mcs_check.specs.Conditions.{stopwatch_in}
+use Rattle.mcs_check.specs.Conditions.{observer_in}
 use Rattle.mcs_check.specs.Keys.{Setting, IsOn, IsKeyOf, Keeps, test_of}
 use Rattle.mcs_check.specs.Stations.{CannotRead, HasRead, Reaches}
 use Rattle.mcs_check.specs.Walking.{Leads}
@@ -21,13 +21,13 @@ use Rattle.mcs_check.proofs.ValuesRead.{answer-lt, reaches-leads}
 the-machine : (g : Setting) (key : List ℕ) (m a : Tracked) → IsComplete g.board g.layout → IsOn g.board g.rom m → key ≡ key_of g.layout m → IsKeyOf g key a → m ≡ a
 the-machine g key m a complete on is h = same-machine g.board g.rom g.layout m a complete on h.on (sym is ∙ h.cells)
 
-leads-from : (g : Setting) (next : List ℕ) (value : ℕ) (m x n : Tracked) → Ignores (test_of g) → board_fault_of m.1.board ≡ None → HasRead (stopwatch_in g.aim) value m x → Reaches (stopwatch_in g.aim) (test_of g) x n → IsKeyOf g next n →
-    (b : Tracked) × IsKeyOf g next b × ((l : Levels) → FitBoard m.1.board l → answer l m ≡ value → LeadsTo (stopwatch_in g.aim) (test_of g) m b l)
-leads-from g next value m x n ignores sound read reaches is = (n, is, λ l fit e. reaches-leads (stopwatch_in g.aim) (test_of g) m x n l ignores sound (read l fit e) reaches)
+leads-from : (g : Setting) (next : List ℕ) (value : ℕ) (m x n : Tracked) → Ignores (test_of g) → board_fault_of m.1.board ≡ None → HasRead (observer_in g.aim) value m x → Reaches (observer_in g.aim) (test_of g) x n → IsKeyOf g next n →
+    (b : Tracked) × IsKeyOf g next b × ((l : Levels) → FitBoard m.1.board l → answer l m ≡ value → LeadsTo (observer_in g.aim) (test_of g) m b l)
+leads-from g next value m x n ignores sound read reaches is = (n, is, λ l fit e. reaches-leads (observer_in g.aim) (test_of g) m x n l ignores sound (read l fit e) reaches)
 
-pub walked-leads : (g : Setting) (key next : List ℕ) (value : ℕ) (m x n : Tracked) → Ignores (test_of g) → IsComplete g.board g.layout → IsOn g.board g.rom m → key ≡ key_of g.layout m → HasRead (stopwatch_in g.aim) value m x → Reaches (stopwatch_in g.aim) (test_of g) x n → IsKeyOf g next n → Leads g key value next
+pub walked-leads : (g : Setting) (key next : List ℕ) (value : ℕ) (m x n : Tracked) → Ignores (test_of g) → IsComplete g.board g.layout → IsOn g.board g.rom m → key ≡ key_of g.layout m → HasRead (observer_in g.aim) value m x → Reaches (observer_in g.aim) (test_of g) x n → IsKeyOf g next n → Leads g key value next
 walked-leads g key next value m x n ignores complete on is read reaches to = λ a h.
-    subst (λ (a : Tracked). (b : Tracked) × IsKeyOf g next b × ((l : Levels) → FitBoard a.1.board l → answer l a ≡ value → LeadsTo (stopwatch_in g.aim) (test_of g) a b l))
+    subst (λ (a : Tracked). (b : Tracked) × IsKeyOf g next b × ((l : Levels) → FitBoard a.1.board l → answer l a ≡ value → LeadsTo (observer_in g.aim) (test_of g) a b l))
     (the-machine g key m a complete on is h)
     (leads-from g next value m x n ignores on.bus.board.valid read reaches to)
 
@@ -50,7 +50,7 @@ on-itself m registers bus keys test = record { registers = registers; bus = bus;
 pub on-kept : (m n : Tracked) → IsValidRegs n.0 → IsValidBus n.1 → m.1.keys ≡ replicate (key_count m.1.board) 1 → m.1.test ≡ 0 → Keeps m.1 n.1 → IsOn m.1.board m.1.rom n
 on-kept m n registers bus keys test k = record { registers = registers; bus = bus; board = k.board; rom = k.rom; keys = k.keys ∙ keys; test = k.test ∙ test }
 
-pub reaches-well : (w : Stopwatch) (p : Tracked → Bool) (s t : Tracked) → Reaches w p s t → p t ≡ true
+pub reaches-well : (w : Observer) (p : Tracked → Bool) (s t : Tracked) → Reaches w p s t → p t ≡ true
 reaches-well w p s t r = ap p r.at ∙ r.well r.cycles (omega arith)
 
 -- all keys are down still

@@ -1,5 +1,5 @@
 -- What is read decides: one run for each value shows what all levels do.
-use Rattle.std.proofs.Common.{◌≡◌, ◌<◌, ◌≤◌, ◌%◌, ℕ, suc, Bool, true, false, not, ◌&&◌, cond, replicate, Option, Some, None, unwrap_or, refl, sym, ap, ◌∙◌, arith, eqb}
+use Rattle.std.proofs.Common.{◌≡◌, ◌<◌, ◌≤◌, ◌%◌, ℕ, suc, Bool, true, false, not, ◌&&◌, cond, replicate, Option, Some, None, unwrap_or, length, slice_get, refl, sym, ap, ◌∙◌, arith, eqb}
 use Rattle.mcs_model.specs.declared.regs.Regs.{Regs}
 use Rattle.mcs_model.specs.declared.op.Op.{Op}
 use Rattle.mcs_model.specs.declared.op.Op.TheVariants.{Jcn, Rdr}
@@ -8,27 +8,30 @@ use Rattle.mcs_model.specs.Bus.{BusState, fetch_of}
 use Rattle.mcs_model.specs.Levels.{port_of}
 use Rattle.mcs_model.specs.Effect.{cycle_of, effect, instruction_at}
 use Rattle.mcs_model.specs.Running.{Machine}
-use Rattle.mcs_drive.specs.Driven.{Levels, FitBoard, under as under_machine}
+use Rattle.mcs_drive.specs.declared.marks.Mark.{Mark}
+use Rattle.mcs_drive.specs.Driven.{Levels, FitBoard, under as under_machine, cycled as cycled_machine}
 use Rattle.mcs_drive.specs.Asking.{asks, answer_to, plain as plain_machine}
-use Rattle.mcs_drive.specs.Tracked.{Counts, Stopwatch, Tracked, counts_after, machine_in, under, plain, cycled, after_cycles, is_asking, answer}
+use Rattle.mcs_drive.specs.Marks.{port_shows, shows}
+use Rattle.mcs_drive.specs.Tracked.{Counts, Observer, Tracked, counts_after, machine_in, under, plain, cycled, after_cycles, is_asking, answer, marks_after, next_op, opens_at, progress, seen_reading, shows_next}
 use Rattle.mcs_drive.specs.Leading.{Ignores, LeadsTo}
 use Rattle.mcs_drive.proofs.Commuting.{at_levels}
+use Rattle.mcs_drive.proofs.Seeing.{none-shown, reading-levels, some_shown}
 use Rattle.mcs_drive.proofs.Tracking.{with_counts, cycle-rest, answers-decide}
 use Rattle.mcs_drive.proofs.Stations.{cycle-board}
-use Rattle.mcs_check.specs.Stations.{Begins, CannotRead, LooksAtTest, HasRead, Reaches, has_no_more, port_unpressed}
+use Rattle.mcs_check.specs.Stations.{Begins, CannotRead, LooksAtTest, HasRead, Reaches, has_no_more, port_unpressed, with_seen}
 use Rattle.mcs_check.proofs.Pulling.{port-lt, port-no-less, port-no-more}
 use Rattle.mcs_drive.proofs.Alike.{behind, run-alike}
 
 -- ---- one cycle
 
-pub nothing-read : (w : Stopwatch) (value : ℕ) (s : Tracked) → board_fault_of s.1.board ≡ None → is_asking s ≡ false → HasRead w value s (cycled w s)
+pub nothing-read : (w : Observer) (value : ℕ) (s : Tracked) → board_fault_of s.1.board ≡ None → is_asking s ≡ false → HasRead w value s (cycled w s)
 nothing-read w value s v quiet = λ l fit e. ap plain (cycle-rest w l s v quiet)
 
 test-answer : (m : Levels) (o : Option Op) (b : BusState) (c w : ℕ) → o ≡ Some (Jcn c w) → eqb (c % 2) 1 ≡ true → answer_to o m b ≡ m.test
 test-answer m o b c w is odd = rw (is, odd) refl
 
 -- TEST was set to the value, and may be set to any level then
-pub test-read : (w : Stopwatch) (value : ℕ) (s t : Tracked) → board_fault_of s.1.board ≡ None → Begins LooksAtTest s → plain t ≡ plain (cycled w (s.0, record s.1 { test = value }, s.2)) → HasRead w value s t
+pub test-read : (w : Observer) (value : ℕ) (s t : Tracked) → board_fault_of s.1.board ≡ None → Begins LooksAtTest s → plain t ≡ plain (cycled w (s.0, record s.1 { test = value }, s.2)) → HasRead w value s t
 test-read w value s t v begins e = λ l fit same.
     let m : Levels = record { keys = s.1.keys; test = value } in
     let is : instruction_at s.0 s.1 ≡ Some (Jcn begins.is.condition begins.is.word) = begins.next ∙ ap Some begins.is.is in
@@ -40,15 +43,56 @@ with_accumulator n s = (record s.0 { acc = n }, s.1, s.2)
 
 port-when : (l : Levels) (s : Machine) (b : Bool) (o : Option Op) → b ≡ false → o ≡ Some Rdr →
     plain_machine (unwrap_or (cond b (Some (record s.0 { owed = 0 }, at_levels l s.1)) (elim o as (λ _. Option (Regs × BusState)) [ Some op ↦ Some (effect op s.0 (at_levels l s.1)) | None ↦ None ])) (under_machine l s))
-    ≡ plain_machine (machine_in (with_accumulator (answer_to o l s.1) (with_counts (record { calls = 0; elapsed = 0 }) (unwrap_or (cond b (Some (record s.0 { owed = 0 }, s.1)) (elim o as (λ _. Option (Regs × BusState)) [ Some op ↦ Some (effect op s.0 s.1) | None ↦ None ])) s))))
+    ≡ plain_machine (machine_in (with_accumulator (answer_to o l s.1) (with_counts (record { calls = 0; elapsed = 0; seen = 0 }) (unwrap_or (cond b (Some (record s.0 { owed = 0 }, s.1)) (elim o as (λ _. Option (Regs × BusState)) [ Some op ↦ Some (effect op s.0 s.1) | None ↦ None ])) s))))
 port-when l s b o free is = rw (free, is) refl
 
--- the accumulator was set to the value afterwards
-pub port-read : (w : Stopwatch) (value : ℕ) (s : Tracked) → Begins (λ op. op ≡ Rdr) s → HasRead w value s (with_accumulator value (cycled w s))
+port-answer : (l : Levels) (o : Option Op) (m : BusState) → o ≡ Some Rdr → answer_to o l m ≡ port_of (at_levels l m)
+port-answer l o m is = rw is refl
+
+-- the accumulator was set to the value afterwards, and so was what was seen
+pub port-read : (w : Observer) (value : ℕ) (s : Tracked) → Begins (λ op. op ≡ Rdr) s → HasRead w value s (with_accumulator value (with_seen (seen_reading w s value) (cycled w s)))
 unfolding cycle_of fetch_of
 port-read w value s begins = λ l fit same.
-    ap (with_counts (counts_after w s)) (port-when l (machine_in s) (eqb s.0.owed 1) (instruction_at s.0 s.1) begins.free (begins.next ∙ ap Some begins.is))
-    ∙ ap (λ n. plain (with_accumulator n (cycled w s))) same
+    let is : instruction_at s.0 s.1 ≡ Some Rdr = begins.next ∙ ap Some begins.is in
+    let port = port_of (at_levels l s.1) in
+    let read : port ≡ value = sym (port-answer l (instruction_at s.0 s.1) s.1 is) ∙ same in
+    ap (λ (n : ℕ). with_counts (record (counts_after w s) { seen = n }) (plain_machine (cycled_machine (under_machine l (machine_in s))))) (reading-levels w l s port)
+    ∙ ap (with_counts (record (counts_after w s) { seen = seen_reading w s port })) (port-when l (machine_in s) (eqb s.0.owed 1) (instruction_at s.0 s.1) begins.free is)
+    ∙ ap (λ n. plain (with_accumulator n (with_seen (seen_reading w s port) (cycled w s)))) same
+    ∙ ap (λ v. plain (with_accumulator value (with_seen (seen_reading w s v) (cycled w s)))) read
+
+-- ---- marks
+
+-- a cycle that shows no mark
+pub unseen-cycle : (w : Observer) (s : Tracked) → ((value : ℕ) → shows_next w s value ≡ false) → with_seen (marks_after (length w.marks) s.2.seen (opens_at w s) false) (cycled w s) ≡ cycled w s
+unseen-cycle w s unseen = ap (λ b. with_seen (marks_after (length w.marks) s.2.seen (opens_at w s) b) (cycled w s)) (sym (unseen (port_of s.1)))
+
+test-shows : (b : Bool) (o : Option Op) (m : BusState) (value c w : ℕ) (mark : Mark) → o ≡ Some (Jcn c w) → shows (cond b None o) m value mark ≡ false
+test-shows true o m value c w mark is = refl
+test-shows false o m value c w mark is = rw is refl
+
+test-unseen : (w : Observer) (s : Tracked) (value : ℕ) → Begins LooksAtTest s → shows_next w s value ≡ false
+test-unseen w s value begins =
+    none-shown (slice_get w.marks (progress (length w.marks) s.2.seen)) (shows (next_op s.0 s.1) s.1 value)
+    (λ mark. test-shows (eqb s.0.owed 1) (instruction_at s.0 s.1) s.1 value begins.is.condition begins.is.word mark (begins.next ∙ ap Some begins.is.is))
+
+-- at each level of TEST
+pub test-unseen-at : (w : Observer) (s : Tracked) (level value : ℕ) → Begins LooksAtTest s → shows_next w (s.0, record s.1 { test = level }, s.2) value ≡ false
+unfolding fetch_of
+test-unseen-at w s level value begins =
+    test-unseen w (s.0, record s.1 { test = level }, s.2) value (record { free = begins.free; op = begins.op; next = begins.next; is = begins.is })
+
+port-shows : (b : Bool) (o : Option Op) (m : BusState) (value : ℕ) (mark : Mark) → b ≡ false → o ≡ Some Rdr → shows (cond b None o) m value mark ≡ port_shows m value mark
+port-shows b o m value mark free is = rw (free, is) refl
+
+-- an RDR shows the next mark
+pub read-shows : (w : Observer) (s : Tracked) (value : ℕ) (mark : Mark) → Begins (λ op. op ≡ Rdr) s → slice_get w.marks (progress (length w.marks) s.2.seen) ≡ Some mark → shows_next w s value ≡ port_shows s.1 value mark
+read-shows w s value mark begins is =
+    ap (λ o. some_shown o (shows (next_op s.0 s.1) s.1 value)) is
+    ∙ port-shows (eqb s.0.owed 1) (instruction_at s.0 s.1) s.1 value mark begins.free (begins.next ∙ ap Some begins.is)
+
+pub none-left : (w : Observer) (s : Tracked) (value : ℕ) → slice_get w.marks (progress (length w.marks) s.2.seen) ≡ None → shows_next w s value ≡ false
+none-left w s value is = ap (λ o. some_shown o (shows (next_op s.0 s.1) s.1 value)) is
 
 -- ---- values that cannot be read
 
@@ -70,9 +114,6 @@ test-cannot value s begins large = λ l fit e.
     let level = test-answer l (instruction_at s.0 s.1) s.1 begins.is.condition begins.is.word is begins.is.odd in
     let small = fit.test in
     absurd (omega arith)
-
-port-answer : (l : Levels) (o : Option Op) (m : BusState) → o ≡ Some Rdr → answer_to o l m ≡ port_of (at_levels l m)
-port-answer l o m is = rw is refl
 
 pub port-cannot : (value : ℕ) (s : Tracked) → Begins (λ op. op ≡ Rdr) s → s.1.keys ≡ replicate (key_count s.1.board) 1 → (has_no_more (port_unpressed s.1) value && has_no_more value (port_of s.1)) ≡ false → CannotRead value s
 port-cannot value s begins all outside = λ l fit e.
@@ -102,7 +143,7 @@ asking-plain : (s : Tracked) → is_asking (plain s) ≡ is_asking s
 unfolding fetch_of
 asking-plain s = refl
 
-pub reaches-leads : (w : Stopwatch) (p : Tracked → Bool) (a x b : Tracked) (l : Levels) → Ignores p → board_fault_of a.1.board ≡ None → plain (cycled w (under l a)) ≡ plain x → Reaches w p x b → LeadsTo w p a b l
+pub reaches-leads : (w : Observer) (p : Tracked → Bool) (a x b : Tracked) (l : Levels) → Ignores p → board_fault_of a.1.board ≡ None → plain (cycled w (under l a)) ≡ plain x → Reaches w p x b → LeadsTo w p a b l
 reaches-leads w p a x b l ignores v first reaches =
     let s = cycled w (under l a) in
     let board : x.1.board ≡ a.1.board = sym (ap (λ (m : Tracked). m.1.board) first) ∙ cycle-board w (under l a) in

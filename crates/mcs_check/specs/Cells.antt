@@ -11,15 +11,15 @@ use Rattle.mcs_check.specs.declared.cells.CellList.{CellList}
 use Rattle.mcs_check.specs.declared.cells.CellList.TheVariants.{Characters, StatusCharacters, RamPorts, RomPorts, BankSrcs, Registers, Counters, Chain}
 
 -- all registers except the index registers, the SRC byte that the ROMs store, the number of open calls,
--- and the stopwatch's cycles. An address takes two bytes and the cycles take three, most significant
--- first.
+-- the stopwatch's cycles, and the number of marks seen. An address takes two bytes and the cycles take
+-- three, most significant first.
 abbrev pub counters_of : Regs → ℕ → Counts → List ℕ
 counters_of s src t =
     s.acc ∷ s.cy ∷ s.dcl ∷ s.owed ∷ s.pc / 256 ∷ s.pc % 256
     ∷ slice_index s.ret 0 / 256 ∷ slice_index s.ret 0 % 256
     ∷ slice_index s.ret 1 / 256 ∷ slice_index s.ret 1 % 256
     ∷ slice_index s.ret 2 / 256 ∷ slice_index s.ret 2 % 256 ∷ src ∷ t.calls
-    ∷ t.elapsed / 65536 ∷ t.elapsed / 256 % 256 ∷ t.elapsed % 256 ∷ []
+    ∷ t.elapsed / 65536 ∷ t.elapsed / 256 % 256 ∷ t.elapsed % 256 ∷ t.seen ∷ []
 
 -- the values of all cells in a list
 abbrev pub list_of : Tracked → CellList → List ℕ
@@ -40,7 +40,7 @@ count_of RamPorts = 32
 count_of RomPorts = 16
 count_of BankSrcs = 8
 count_of Registers = 16
-count_of Counters = 17
+count_of Counters = 18
 count_of (Chain n) = 256
 
 -- true if a board has the chip that contains cell i of a list; every board has the processor

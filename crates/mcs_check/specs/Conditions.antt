@@ -1,9 +1,11 @@
 -- Conditions on a machine: comparisons of cell values, and mistakes. A list of conditions is met if all
--- of them are met at once. Some lists must never be met; others begin or end a stopwatch. (Our own
--- choice.)
-use Rattle.std.specs.Prelude.{ℕ, ◌+◌, ◌%◌, List, [], ◌∷◌, Bool, true, not, ◌&&◌, nat_le, if◌then◌else◌}
+-- of them are met at once. Some lists must never be met; others begin or end a stopwatch, or are met
+-- only after some marks were seen. (Our own choice.)
+use Rattle.std.specs.Prelude.{ℕ, ◌+◌, ◌%◌, List, [], ◌∷◌, ◌-◌, Bool, true, not, ◌&&◌, nat_le, if◌then◌else◌}
 use Rattle.mcs_nibble.specs.Bits.{bit_of}
-use Rattle.mcs_drive.specs.Tracked.{Stopwatch, Tracked}
+use Rattle.mcs_drive.specs.declared.marks.Mark.{Mark}
+use Rattle.mcs_drive.specs.Leading.{Ignores}
+use Rattle.mcs_drive.specs.Tracked.{Observer, Tracked}
 use Rattle.mcs_check.specs.declared.cells.CellList.TheVariants.{Counters}
 use Rattle.mcs_check.specs.declared.conditions.Comparison.{Comparison}
 use Rattle.mcs_check.specs.declared.conditions.Condition.{Condition}
@@ -43,23 +45,40 @@ abbrev pub keeps_to : List (List Condition) → Tracked → Bool
 keeps_to [] t = true
 keeps_to (cs ∷ nevers) t = not (are_met t cs) && keeps_to nevers t
 
--- a stopwatch that begins when all conditions of a list in `begins` are met, and ends when all
--- conditions of a list in `ends` are met
-abbrev pub stopwatch_of : List (List Condition) → List (List Condition) → Stopwatch
-stopwatch_of begins ends = record { begins = λ s. not (keeps_to begins s); ends = λ s. not (keeps_to ends s) }
+-- conditions do not depend on the input levels
+abbrev pub ConditionsIgnoreLevels : Type 0
+ConditionsIgnoreLevels = (nevers : List (List Condition)) → Ignores (keeps_to nevers)
 
--- the conditions that a run checks: lists that must never be met, and lists that begin or end a
--- stopwatch
+-- an observer whose stopwatch begins when all conditions of a list in `begins` are met, and ends when
+-- all conditions of a list in `ends` are met. Its condition holds when all conditions of a list in
+-- `opens` are met.
+abbrev pub observer_of : List (List Condition) → List (List Condition) → List (List Condition) → List Mark → Observer
+observer_of begins ends opens marks = record {
+  begins = λ s. not (keeps_to begins s);
+  ends = λ s. not (keeps_to ends s);
+  opens = λ s. not (keeps_to opens s);
+  marks = marks;
+}
+
+-- the conditions that a run checks: lists that must never be met, lists that begin or end a stopwatch,
+-- and lists that are to be met only after some marks were seen
 pub record Aimed : Type 0 where
   pub nevers : List (List Condition)
   pub begins : List (List Condition)
   pub ends : List (List Condition)
+  pub opens : List (List Condition)
+  pub marks : List Mark
 
--- the stopwatch that an aim describes
-abbrev pub stopwatch_in : Aimed → Stopwatch
-stopwatch_in a = stopwatch_of a.begins a.ends
+-- the observer that an aim describes
+abbrev pub observer_in : Aimed → Observer
+observer_in a = observer_of a.begins a.ends a.opens a.marks
 
 -- a comparison of byte i of the stopwatch's cycles; byte 0 is the most significant
 abbrev pub elapsed_byte : ℕ → ℕ → ℕ → Bool → Comparison
 elapsed_byte i low high inside =
     record { cell = record { list = Counters; index = 14 + i }; part = Whole; low = low; high = high; inside = inside }
+
+-- the comparison that is met if the count of marks is below n, for n above 0
+abbrev pub sees_fewer : ℕ → Comparison
+sees_fewer n =
+    record { cell = record { list = Counters; index = 17 }; part = Whole; low = 0; high = n - 1; inside = true }

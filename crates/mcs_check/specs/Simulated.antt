@@ -3,7 +3,7 @@ use Rattle.std.specs.Prelude.{◌≡◌, ℕ, List, Bool, true, false, None}
 use Rattle.std.specs.List.{Contains}
 use Rattle.mcs_model.specs.Boards.{board_fault_of}
 use Rattle.mcs_drive.specs.Driven.{Levels, FitBoard}
-use Rattle.mcs_drive.specs.Tracked.{Stopwatch, Tracked, under, after_cycles, answer}
+use Rattle.mcs_drive.specs.Tracked.{Observer, Tracked, under, after_cycles, answer}
 use Rattle.mcs_drive.specs.Leading.{LeadsTo}
 use Rattle.mcs_search.specs.Rules.{Rules}
 
@@ -15,7 +15,7 @@ pub record IsStation (p : Tracked → Bool) (a : Tracked) : Type 0 where
 -- the rules of a search whose keys identify machines. A choice is the value that a machine reads. It
 -- leads to a key if, at all input levels that give this value, the machine runs into one that the key
 -- identifies, and p holds at every step.
-abbrev pub machine_rules : Stopwatch → (Tracked → Bool) → (List ℕ → Type 0) → (List ℕ → Tracked → Type 0) → Rules
+abbrev pub machine_rules : Observer → (Tracked → Bool) → (List ℕ → Type 0) → (List ℕ → Tracked → Type 0) → Rules
 machine_rules w p is_state is_key_of = record {
   is_state = is_state;
   covers = λ key choices. (a : Tracked) → is_key_of key a → (l : Levels) → FitBoard a.1.board l → Contains choices (answer l a);

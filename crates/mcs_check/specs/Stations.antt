@@ -1,5 +1,5 @@
 -- The inputs that a machine reads, and its run from one read to the next.
-use Rattle.std.specs.Prelude.{◌≡◌, ◌<◌, ◌≤◌, ◌+◌, ◌/◌, ◌%◌, ◌==◌, ◌&&◌, ℕ, Bool, true, false, Some, None, nat_le}
+use Rattle.std.specs.Prelude.{◌≡◌, ◌<◌, ◌≤◌, ◌+◌, ◌/◌, ◌%◌, ◌==◌, ◌&&◌, ℕ, [], Bool, true, false, Some, None, nat_le}
 use Rattle.mcs_nibble.specs.Bits.{bit_of}
 use Rattle.mcs_nibble.specs.Ports.{read_lines}
 use Rattle.mcs_model.specs.declared.op.Op.{Op}
@@ -10,7 +10,7 @@ use Rattle.mcs_model.specs.Effect.{address_beside, instruction_at}
 use Rattle.mcs_model.specs.Registers.{register_of, with_register}
 use Rattle.mcs_drive.specs.Driven.{Levels, FitBoard}
 use Rattle.mcs_drive.specs.Asking.{asks}
-use Rattle.mcs_drive.specs.Tracked.{Counts, Stopwatch, Tracked, under, plain, cycled, after_cycles, is_asking, answer}
+use Rattle.mcs_drive.specs.Tracked.{Counts, Observer, Tracked, under, plain, cycled, after_cycles, is_asking, answer}
 use Rattle.mcs_check.specs.declared.reading.Source.{Source}
 use Rattle.mcs_check.specs.declared.reading.Source.TheVariants.{Nothing, Port, Test}
 
@@ -57,25 +57,33 @@ port_unpressed m =
 
 -- holds if one cycle leads from s to t, at all input levels at which s reads the given value; the levels
 -- of the result are ignored
-abbrev pub HasRead : Stopwatch → ℕ → Tracked → Tracked → Type 0
+abbrev pub HasRead : Observer → ℕ → Tracked → Tracked → Type 0
 HasRead w value s t =
     (l : Levels) → FitBoard s.1.board l → answer l s ≡ value → plain (cycled w (under l s)) ≡ plain t
 
 -- holds if s runs to t, no cycle of that run reads an input, and the property holds at every moment
-pub record Reaches (w : Stopwatch) (p : Tracked → Bool) (s t : Tracked) : Type 0 where
+pub record Reaches (w : Observer) (p : Tracked → Bool) (s t : Tracked) : Type 0 where
   pub cycles : ℕ
   pub quiet : (i : ℕ) → i < cycles → is_asking (after_cycles w i s) ≡ false
   pub well : (i : ℕ) → i ≤ cycles → p (after_cycles w i s) ≡ true
   pub at : t ≡ after_cycles w cycles s
 
--- holds if a stopwatch is at 0 and never begins
-pub record IsStill (w : Stopwatch) (n : Counts) : Type 0 where
+-- holds if the counts of an observer never change: its stopwatch is at 0 and never begins, its condition
+-- never holds, and it has no marks and has seen none
+pub record IsStill (w : Observer) (n : Counts) : Type 0 where
   pub stands : n.elapsed ≡ 0
   pub never : (t : Tracked) → w.begins t ≡ false
+  pub unseen : n.seen ≡ 0
+  pub closed : (t : Tracked) → w.opens t ≡ false
+  pub unmarked : w.marks ≡ []
+
+-- a machine with another number of marks seen
+abbrev pub with_seen : ℕ → Tracked → Tracked
+with_seen n s = (s.0, s.1, record s.2 { seen = n })
 
 -- holds if the next cycle begins an ISZ of register r that jumps to itself, this is not its last pass,
--- and the stopwatch is at 0 and never begins
-pub record Spins (w : Stopwatch) (r : ℕ) (s : Tracked) : Type 0 where
+-- and the observer is still
+pub record Spins (w : Observer) (r : ℕ) (s : Tracked) : Type 0 where
   pub still : IsStill w s.2
   pub free : s.0.owed ≡ 0
   pub word : ℕ
@@ -84,7 +92,7 @@ pub record Spins (w : Stopwatch) (r : ℕ) (s : Tracked) : Type 0 where
   pub few : register_of s.0 r < 15
 
 -- holds if all passes but the last of an ISZ that jumps to itself lead from s to t
-pub record HasSpun (w : Stopwatch) (s t : Tracked) : Type 0 where
+pub record HasSpun (w : Observer) (s t : Tracked) : Type 0 where
   pub register : ℕ
   pub spins : Spins w register s
   pub at : t ≡ (with_register s.0 register 15, s.1, s.2)

@@ -3,7 +3,7 @@ use Rattle.std.specs.Prelude.{◌≡◌, ℕ, List}
 use Rattle.mcs_drive.specs.Driven.{Levels, FitBoard}
 use Rattle.mcs_drive.specs.Tracked.{Tracked, answer}
 use Rattle.mcs_drive.specs.Leading.{LeadsTo}
-use Rattle.mcs_check.specs.Conditions.{stopwatch_in}
+use Rattle.mcs_check.specs.Conditions.{observer_in}
 use Rattle.mcs_check.specs.Keys.{Setting, IsKeyOf, test_of}
 
 -- holds if a key identifies some machine
@@ -15,4 +15,4 @@ IsState g key = (a : Tracked) × IsKeyOf g key a
 abbrev pub Leads : Setting → List ℕ → ℕ → List ℕ → Type 0
 Leads g key value next =
     (a : Tracked) → IsKeyOf g key a → (b : Tracked) × IsKeyOf g next b
-    × ((l : Levels) → FitBoard a.1.board l → answer l a ≡ value → LeadsTo (stopwatch_in g.aim) (test_of g) a b l)
+    × ((l : Levels) → FitBoard a.1.board l → answer l a ≡ value → LeadsTo (observer_in g.aim) (test_of g) a b l)

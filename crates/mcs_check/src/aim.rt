@@ -1,21 +1,25 @@
-//! The conditions that a run checks: those that must never be met, and those that begin and end a stopwatch.
-ghost use Rattle.std.specs.Prelude.{◌≡◌, [], not, true};
+//! The conditions that a run checks, and what it observes beside the machine.
+ghost use Rattle.std.specs.Prelude.{◌≡◌, ◌≤◌, [], length, not, slice_get, true};
 ghost use Rattle.mcs_check.specs.Conditions.{keeps_to};
 ghost use Rattle.mcs_check.specs.Scopes.{has_each};
 
 use crate::conditions::{Conjunction, keeps_to};
+use crate::marks::Marks;
 use crate::replica::Replica;
 use crate::scope::{Scope, scope_of};
+use mcs_drive::Mark;
 use std::alloc::Global;
 use std::marker::Model;
 
-/// The conjunctions that a run checks: those that must never be met, and those that begin or end a stopwatch. Contracts
-/// see lists of conditions.
+/// The conjunctions that a run checks: those that must never be met, those that begin or end a stopwatch, and those that
+/// are to be met only after some marks were seen. Contracts see lists of conditions, and the list of marks.
 #[derive(Drop)]
 pub struct Aim {
     nevers: Vec<Conjunction>,
     begins: Vec<Conjunction>,
     ends: Vec<Conjunction>,
+    opens: Vec<Conjunction>,
+    marks: Marks,
 }
 
 impl Model for Aim {
@@ -23,30 +27,48 @@ impl Model for Aim {
 
     ghost Value = { Aimed };
 
-    ghost view = { λ a. record { nevers = a.nevers.items; begins = a.begins.items; ends = a.ends.items } };
+    ghost view = { λ a. record { nevers = a.nevers.items; begins = a.begins.items; ends = a.ends.items; opens = a.opens.items; marks = a.marks } };
 }
 
 impl Aim {
-    /// Creates an aim from conjunctions that must never be met and conjunctions that begin and end a stopwatch.
-    pub fn timed(nevers: Vec<Conjunction>, begins: Vec<Conjunction>, ends: Vec<Conjunction>) -> Aim
-        ensures { result ≡ record { nevers = nevers.items; begins = begins.items; ends = ends.items } }
+    /// Creates an aim from conjunctions that must never be met, conjunctions that begin and end a stopwatch, and
+    /// conjunctions that are to be met only after marks were seen. `add_opening` adds that requirement to `nevers`.
+    pub fn of(
+        nevers: Vec<Conjunction>,
+        begins: Vec<Conjunction>,
+        ends: Vec<Conjunction>,
+        opens: Vec<Conjunction>,
+        marks: Marks,
+    ) -> Aim
+        ensures { result ≡ record { nevers = nevers.items; begins = begins.items; ends = ends.items; opens = opens.items; marks = marks } }
     {
         Aim {
             nevers,
             begins,
             ends,
+            opens,
+            marks,
         }
     }
 
-    /// Creates an aim from conjunctions that must never be met, without a stopwatch.
-    pub fn never(alloc: Global, nevers: Vec<Conjunction>) -> Aim
-        ensures { result ≡ record { nevers = nevers.items; begins = []; ends = [] } }
+    /// Creates an aim from conjunctions that must never be met and conjunctions that begin and end a stopwatch, without
+    /// marks.
+    pub fn timed(
+        alloc: Global,
+        nevers: Vec<Conjunction>,
+        begins: Vec<Conjunction>,
+        ends: Vec<Conjunction>,
+    ) -> Aim
+        ensures { result ≡ record { nevers = nevers.items; begins = begins.items; ends = ends.items; opens = []; marks = [] } }
     {
-        Aim {
-            nevers,
-            begins: Vec::new(alloc),
-            ends: Vec::new(alloc),
-        }
+        Aim::of(nevers, begins, ends, Vec::new(alloc), Marks::none(alloc))
+    }
+
+    /// Creates an aim from conjunctions that must never be met, without a stopwatch and without marks.
+    pub fn never(alloc: Global, nevers: Vec<Conjunction>) -> Aim
+        ensures { result ≡ record { nevers = nevers.items; begins = []; ends = []; opens = []; marks = [] } }
+    {
+        Aim::timed(alloc, nevers, Vec::new(alloc), Vec::new(alloc))
     }
 
     /// Returns whether a machine meets none of the conjunctions that must never be met.
@@ -75,6 +97,14 @@ impl Aim {
         self.begins.is_empty()
     }
 
+    /// Returns whether there is neither a conjunction that waits for marks nor a mark.
+    pub(crate) fn is_unmarked(&self) -> bool
+        ensures opens { result ≡ true → self.now.opens ≡ [] }
+        ensures marks { result ≡ true → self.now.marks ≡ [] }
+    {
+        self.opens.is_empty() && self.marks.is_empty()
+    }
+
     /// Returns whether the stopwatch begins in the machine's present state.
     pub(crate) fn begins(&self, replica: &Replica) -> bool
         ensures { result ≡ not (keeps_to self.now.begins replica.now) }
@@ -87,5 +117,27 @@ impl Aim {
         ensures { result ≡ not (keeps_to self.now.ends replica.now) }
     {
         !keeps_to(replica, &self.ends)
+    }
+
+    /// Returns whether a conjunction that waits for marks is met in the machine's present state.
+    pub(crate) fn opens(&self, replica: &Replica) -> bool
+        ensures { result ≡ not (keeps_to self.now.opens replica.now) }
+    {
+        !keeps_to(replica, &self.opens)
+    }
+
+    /// Returns the number of marks.
+    pub(crate) fn mark_count(&self) -> u8
+        ensures count { result ≡ length self.now.marks }
+        ensures few { result ≤ 200 }
+    {
+        self.marks.count()
+    }
+
+    /// Returns mark `i`, counted from 0.
+    pub(crate) fn mark(&self, i: u8) -> Option<Mark>
+        ensures { result ≡ slice_get self.now.marks i }
+    {
+        self.marks.get(i)
     }
 }

@@ -22,8 +22,8 @@ pub enum CellList {
     BankSrcs,
     /// The index registers.
     Registers,
-    /// All other registers (an address as two bytes), the SRC byte that the ROMs store, the number of open calls, and
-    /// the stopwatch's cycles as three bytes. The upper byte comes first.
+    /// All other registers (an address as two bytes), the SRC byte that the ROMs store, the number of open calls,
+    /// the stopwatch's cycles as three bytes, and the number of marks seen. The upper byte comes first.
     Counters,
     /// The bits of the shift-register chain with this number.
     Chain(u8),
@@ -57,7 +57,7 @@ impl CellList {
             CellList::RomPorts => 16,
             CellList::BankSrcs => 8,
             CellList::Registers => 16,
-            CellList::Counters => 17,
+            CellList::Counters => 18,
             CellList::Chain(_) => 256,
         }
     }

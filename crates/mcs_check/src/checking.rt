@@ -1,7 +1,7 @@
 //! Checks that a machine never meets given conditions, for all levels of its keys and its TEST pin.
 ghost use Rattle.std.specs.Prelude.{◌≤◌, IfOk};
 ghost use Rattle.mcs_search.specs.declared.searching.TheConstants.{MOST};
-ghost use Rattle.mcs_check.specs.Conditions.{keeps_to, stopwatch_in};
+ghost use Rattle.mcs_check.specs.Conditions.{keeps_to, observer_in};
 ghost use Rattle.mcs_check.specs.Promised.{IsProved};
 
 use crate::aim::Aim;
@@ -47,7 +47,7 @@ pub fn check_all(
     pause: u32,
 ) -> Result<Outcome, AllocError>
     requires { most ≤ MOST }
-    ensures { IfOk result (IsProved (stopwatch_in aim) (keeps_to aim.nevers) replica) }
+    ensures { IfOk result (IsProved (observer_in aim) (keeps_to aim.nevers) replica) }
 {
     replica.hold();
     let layout = layout_of(alloc, replica.board())?;

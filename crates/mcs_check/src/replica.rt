@@ -14,14 +14,15 @@ use mcs_model::board::Board;
 use mcs_nibble::{Addr, Bit, Nibble};
 use std::marker::Model;
 
-/// A processor on a rig, with the number of open calls and the cycles on a stopwatch. Contracts see a machine with its
-/// counts.
+/// A processor on a rig, with the number of open calls, the cycles on a stopwatch and the number of marks seen.
+/// Contracts see a machine with its counts.
 #[derive(Drop)]
 pub struct Replica {
     pub(crate) cpu: Cpu,
     pub(crate) rig: BenchRig,
     pub(crate) calls: u8,
     pub(crate) elapsed: Cycles,
+    pub(crate) seen: u8,
 }
 
 impl Model for Replica {
@@ -29,13 +30,13 @@ impl Model for Replica {
 
     ghost Value = { Tracked };
 
-    ghost view = { λ r. (r.cpu, r.rig, record { calls = r.calls; elapsed = r.elapsed }) };
+    ghost view = { λ r. (r.cpu, r.rig, record { calls = r.calls; elapsed = r.elapsed; seen = r.seen }) };
 }
 
 /// Returns the values of the list `Counters`: all registers except the index registers, the SRC byte that the ROMs
-/// store, the number of open calls, and the cycles on a stopwatch.
-fn counters(cpu: &Cpu, rig: &BenchRig, calls: u8, elapsed: Cycles) -> [u8; 17]
-    ensures { result ≡ list_of (cpu.now, rig.now, record { calls = calls; elapsed = elapsed }) Counters }
+/// store, the number of open calls, the cycles on a stopwatch, and the number of marks seen.
+fn counters(cpu: &Cpu, rig: &BenchRig, calls: u8, elapsed: Cycles, seen: u8) -> [u8; 18]
+    ensures { result ≡ list_of (cpu.now, rig.now, record { calls = calls; elapsed = elapsed; seen = seen }) Counters }
 {
     let regs = cpu.regs();
     let [first, second, third] = regs.ret;
@@ -58,6 +59,7 @@ fn counters(cpu: &Cpu, rig: &BenchRig, calls: u8, elapsed: Cycles) -> [u8; 17]
         high,
         middle,
         low,
+        seen,
     ]
 }
 
@@ -127,6 +129,7 @@ impl Replica {
             rig,
             calls: 0,
             elapsed: Cycles::ZERO,
+            seen: 0,
         }
     }
 
@@ -159,7 +162,9 @@ impl Replica {
             CellList::BankSrcs => self.rig.ram_src(cell.place() as u8),
             CellList::Registers => self.cpu.regs().r[usize::from(cell.place())].get(),
             CellList::Counters => {
-                counters(&self.cpu, &self.rig, self.calls, self.elapsed)[usize::from(cell.place())]
+                counters(&self.cpu, &self.rig, self.calls, self.elapsed, self.seen)[usize::from(
+                    cell.place(),
+                )]
             }
             CellList::Chain(n) => self.rig.chain_bit(n, cell.place() as u8).get(),
         }
@@ -201,6 +206,8 @@ impl Replica {
                     self.rig.set_rom_src(n);
                 } else if i == 13 {
                     self.calls = n;
+                } else if i == 17 {
+                    self.seen = n;
                 } else if i > 13 {
                     self.elapsed = self.elapsed.with_byte(i - 14, n);
                 } else {

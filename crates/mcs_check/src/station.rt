@@ -1,16 +1,16 @@
 //! Runs a machine from one read of an input to the next.
-ghost use Rattle.std.specs.Prelude.{◌≡◌, ◌<◌, ◌+◌, ◌%◌, ◌==◌, ◌||◌, ◌&&◌, ◌⊎◌, true, false, length, nat_lt, IfSome, Some, IsTrue, replicate};
+ghost use Rattle.std.specs.Prelude.{◌≡◌, ◌<◌, ◌+◌, ◌%◌, ◌==◌, ℕ, ◌||◌, ◌&&◌, ◌⊎◌, true, false, length, nat_lt, IfSome, Some, IsTrue, replicate};
 ghost use Rattle.mcs_model.specs.Boards.{key_count};
 ghost use Rattle.mcs_model.specs.Effect.{address_beside, instruction_at};
 ghost use Rattle.mcs_model.specs.Levels.{port_of};
 ghost use Rattle.mcs_model.specs.Registers.{register_of};
 ghost use Rattle.mcs_model.specs.declared.op.Op.TheVariants.{Rdr};
 ghost use Rattle.mcs_drive.specs.Asking.{asks};
-ghost use Rattle.mcs_drive.specs.Tracked.{calls_after, cycled, is_asking, next_op, open_after};
-ghost use Rattle.mcs_check.specs.Conditions.{keeps_to, stopwatch_in};
+ghost use Rattle.mcs_drive.specs.Tracked.{calls_after, cycled, is_asking, next_op, open_after, shows_next};
+ghost use Rattle.mcs_check.specs.Conditions.{keeps_to, observer_in};
 ghost use Rattle.mcs_check.specs.Keys.{Keeps};
 ghost use Rattle.mcs_check.specs.Scopes.{cycle_changes, errs};
-ghost use Rattle.mcs_check.specs.Stations.{Begins, LooksAtTest, Reads, CannotRead, HasRead, HasSpun, Reaches, Spins, has_no_more, port_unpressed};
+ghost use Rattle.mcs_check.specs.Stations.{Begins, LooksAtTest, Reads, CannotRead, HasRead, HasSpun, Reaches, Spins, has_no_more, port_unpressed, with_seen};
 
 use crate::aim::Aim;
 use crate::cells::Cell;
@@ -136,7 +136,7 @@ impl Replica {
     /// this is not its last pass. Returns `None` if a stopwatch runs or can begin.
     fn spins(&self, aim: &Aim, op: Op) -> Option<RegNo>
         requires { instruction_at self.now.0 self.now.1 ≡ Some op }
-        ensures { IfSome result (λ r. Spins (stopwatch_in aim.now) r self.now) }
+        ensures { IfSome result (λ r. Spins (observer_in aim.now) r self.now) }
     {
         match op {
             Op::Isz(r, word) => {
@@ -156,7 +156,7 @@ impl Replica {
         ensures errs { result.errs ≡ errs scope.now self.now }
         ensures changes { result.changes ≡ cycle_changes scope.now (next_op self.now.0 self.now.1) }
         ensures calls { result.calls ≡ open_after self.now.0 self.now.1 self.now.2.calls }
-        ensures spins { IfSome result.spins (λ r. Spins (stopwatch_in aim.now) r self.now) }
+        ensures spins { IfSome result.spins (λ r. Spins (observer_in aim.now) r self.now) }
     {
         let registers = self.cpu.regs();
         if registers.owed == 1 {
@@ -189,40 +189,52 @@ impl Replica {
         }
     }
 
-    /// Runs one cycle. `calls` is the number of open calls after it.
-    fn cycle(&mut self, aim: &Aim, calls: u8)
+    /// Runs one cycle. `calls` is the number of open calls after it, `seen` the number of marks seen.
+    fn cycle(&mut self, aim: &Aim, calls: u8, seen: u8)
         requires { calls ≡ open_after self.old.0 self.old.1 self.old.2.calls }
-        ensures { self.new ≡ cycled (stopwatch_in aim.now) self.old }
+        ensures { self.new ≡ with_seen seen (cycled (observer_in aim.now) self.old) }
     {
         let elapsed = self.elapsed_after(aim);
         let _cycle = mcs_board::cycle(&mut self.cpu, &mut self.rig);
         self.calls = calls;
         self.elapsed = elapsed;
+        self.seen = seen;
+    }
+
+    /// Runs one cycle, which shows no mark. `calls` is the number of open calls after it.
+    fn cycle_without_mark(&mut self, aim: &Aim, calls: u8)
+        requires calls { calls ≡ open_after self.old.0 self.old.1 self.old.2.calls }
+        requires unseen { (value : ℕ) → shows_next (observer_in aim.now) self.old value ≡ false }
+        ensures { self.new ≡ cycled (observer_in aim.now) self.old }
+    {
+        let seen = self.seen_after(aim, false);
+        self.cycle(aim, calls, seen);
     }
 
     /// Runs all passes but the last of an ISZ that jumps to itself. Returns the number of cycles that they take.
     fn spin(&mut self, aim: &Aim, r: RegNo) -> u32
-        requires { Spins (stopwatch_in aim.now) r self.old }
-        ensures { HasSpun (stopwatch_in aim.now) self.old self.new }
+        requires { Spins (observer_in aim.now) r self.old }
+        ensures { HasSpun (observer_in aim.now) self.old self.new }
     {
         let passes = 15 - self.cpu.regs().register(r).get();
         self.cpu.set_register(r, Nibble::low_of(15));
         2 * u32::from(passes)
     }
 
-    /// Runs one cycle or, if `may_spin` is true, all passes but the last of an ISZ that jumps to itself. Returns the
-    /// number of cycles that it ran.
+    /// Runs one cycle, which reads no input, or, if `may_spin` is true, all passes but the last of an ISZ that jumps to
+    /// itself. Returns the number of cycles that it ran.
     fn go_on(&mut self, aim: &Aim, ahead: &Ahead, may_spin: bool) -> u32
         requires calls { ahead.now.calls ≡ open_after self.old.0 self.old.1 self.old.2.calls }
-        requires spins { IfSome ahead.now.spins (λ r. Spins (stopwatch_in aim.now) r self.old) }
-        ensures { (self.new ≡ cycled (stopwatch_in aim.now) self.old) ⊎ ((may_spin ≡ true) × HasSpun (stopwatch_in aim.now) self.old self.new) }
+        requires spins { IfSome ahead.now.spins (λ r. Spins (observer_in aim.now) r self.old) }
+        requires quiet { is_asking self.old ≡ false }
+        ensures { (self.new ≡ cycled (observer_in aim.now) self.old) ⊎ ((may_spin ≡ true) × HasSpun (observer_in aim.now) self.old self.new) }
     {
         if may_spin {
             if let Some(r) = ahead.spins {
                 return self.spin(aim, r);
             }
         }
-        self.cycle(aim, ahead.calls);
+        self.cycle_without_mark(aim, ahead.calls);
         1
     }
 
@@ -274,11 +286,13 @@ impl Replica {
     fn read_port(&mut self, aim: &Aim, value: u8)
         requires reads { Begins (λ op. op ≡ Rdr) self.old }
         requires value { value < 16 }
-        ensures read { HasRead (stopwatch_in aim.now) value self.old self.new }
+        ensures read { HasRead (observer_in aim.now) value self.old self.new }
         ensures keeps { Keeps self.old.1 self.new.1 }
     {
+        let shown = self.shows_next(aim, value);
+        let seen = self.seen_after(aim, shown);
         let calls = self.open_after();
-        self.cycle(aim, calls);
+        self.cycle(aim, calls, seen);
         self.cpu.set_acc(Nibble::low_of(value));
     }
 
@@ -286,33 +300,33 @@ impl Replica {
     fn read_test(&mut self, aim: &Aim, value: u8)
         requires reads { Begins LooksAtTest self.old }
         requires value { value < 2 }
-        ensures read { HasRead (stopwatch_in aim.now) value self.old self.new }
+        ensures read { HasRead (observer_in aim.now) value self.old self.new }
         ensures keeps { Keeps self.old.1 self.new.1 }
     {
         self.show_state_is_valid();
         let level = self.rig.test_level();
         self.rig.set_test(Bit::low_of(value));
         let calls = self.open_after();
-        self.cycle(aim, calls);
+        self.cycle_without_mark(aim, calls);
         self.rig.set_test(level);
     }
 
     /// Runs the next cycle, which reads no input.
     fn read_nothing(&mut self, aim: &Aim, value: u8)
         requires { is_asking self.old ≡ false }
-        ensures read { HasRead (stopwatch_in aim.now) value self.old self.new }
+        ensures read { HasRead (observer_in aim.now) value self.old self.new }
         ensures keeps { Keeps self.old.1 self.new.1 }
     {
         self.show_state_is_valid();
         let calls = self.open_after();
-        self.cycle(aim, calls);
+        self.cycle_without_mark(aim, calls);
     }
 
     /// Runs the next cycle as if it read this value. Returns false, without running it, if the value is out of the
     /// source's range.
     pub fn read(&mut self, aim: &Aim, source: Source, value: u8) -> bool
         requires reads { Reads self.old source }
-        ensures read { IsTrue result → HasRead (stopwatch_in aim.now) value self.old self.new }
+        ensures read { IsTrue result → HasRead (observer_in aim.now) value self.old self.new }
         ensures keeps { Keeps self.old.1 self.new.1 }
     {
         match source {
@@ -364,7 +378,7 @@ impl Replica {
         at: Addr,
     ) -> bool
         requires { length key.now ≡ length layout.now }
-        ensures reaches { IsTrue result → Reaches (stopwatch_in aim.now) (keeps_to aim.now.nevers) self.old self.new }
+        ensures reaches { IsTrue result → Reaches (observer_in aim.now) (keeps_to aim.now.nevers) self.old self.new }
         ensures keeps { Keeps self.old.1 self.new.1 }
     {
         let scope = aim.scope();

@@ -1,7 +1,7 @@
 //! The cycles that a stopwatch beside a machine shows, and the limit on them.
 ghost use Rattle.std.specs.Prelude.{◌≡◌, ◌==◌, ◌<◌, ◌/◌, ◌%◌, ◌∷◌, ◌&&◌, ◌↔◌, [], false, true, nat_le, IsSome, IfSome, OnOk};
 ghost use Rattle.mcs_drive.specs.Tracked.{Tracked, elapsed_after, shown_after};
-ghost use Rattle.mcs_check.specs.Conditions.{elapsed_byte, keeps_to, stopwatch_in};
+ghost use Rattle.mcs_check.specs.Conditions.{elapsed_byte, keeps_to, observer_in};
 ghost use Rattle.mcs_check.specs.declared.conditions.Condition.TheVariants.{Compare};
 ghost use Rattle.mcs_check.specs.Stations.{IsStill};
 
@@ -153,16 +153,16 @@ pub fn add_limit(
 }
 
 impl Replica {
-    /// Returns whether the stopwatch is at 0 and never begins.
+    /// Returns whether the counts of the observer never change.
     pub(crate) fn is_still(&self, aim: &Aim) -> bool
-        ensures { result ≡ true → IsStill (stopwatch_in aim.now) self.now.2 }
+        ensures { result ≡ true → IsStill (observer_in aim.now) self.now.2 }
     {
-        self.elapsed.is_zero() && aim.never_begins()
+        self.elapsed.is_zero() && self.seen == 0 && aim.never_begins() && aim.is_unmarked()
     }
 
     /// Returns the cycles that the stopwatch shows after the machine's next cycle.
     pub(crate) fn elapsed_after(&self, aim: &Aim) -> Cycles
-        ensures { result ≡ elapsed_after (stopwatch_in aim.now) self.now }
+        ensures { result ≡ elapsed_after (observer_in aim.now) self.now }
     {
         if self.is_still(aim) {
             return self.elapsed;

@@ -3,7 +3,7 @@ use Rattle.std.proofs.Common.{◌≡◌, ◌<◌, ◌≤◌, ℕ, zero, suc, Boo
 use Rattle.mcs_model.specs.Boards.{board_fault_of}
 use Rattle.mcs_model.specs.Bus.{fetch_of}
 use Rattle.mcs_drive.specs.Driven.{Levels}
-use Rattle.mcs_drive.specs.Tracked.{Stopwatch, Tracked, under, plain, cycled, after_cycles, is_asking, answer}
+use Rattle.mcs_drive.specs.Tracked.{Observer, Tracked, under, plain, cycled, after_cycles, is_asking, answer}
 use Rattle.mcs_drive.specs.Leading.{Ignores, LeadsTo}
 use Rattle.mcs_drive.proofs.Tracking.{cycle-rest, answers-decide}
 use Rattle.mcs_drive.proofs.Stations.{cycle-board, cycles-board}
@@ -15,7 +15,7 @@ asking-plain : (s : Tracked) → is_asking (plain s) ≡ is_asking s
 unfolding fetch_of
 asking-plain s = refl
 
-module _ (w : Stopwatch) where
+module _ (w : Observer) where
   -- a cycle that does not ask, and levels away
   cycle-plain : (s : Tracked) → board_fault_of s.1.board ≡ None → is_asking s ≡ false → plain (cycled w s) ≡ plain (cycled w (plain s))
   unfolding levels_of

@@ -12,17 +12,17 @@ use Rattle.mcs_drive.specs.Driven.{Levels, under}
 use Rattle.mcs_drive.specs.Asking.{may_be_pulled, port_choice}
 use Rattle.mcs_drive.proofs.Answering.{pulled-at-most}
 
-record Bits (n a b c d : ℕ) : Type 0 where
-  at_0 : bit_of n 0 ≡ a
-  at_1 : bit_of n 1 ≡ b
-  at_2 : bit_of n 2 ≡ c
-  at_3 : bit_of n 3 ≡ d
-  less : n < 16
+pub record Bits (n a b c d : ℕ) : Type 0 where
+  pub at_0 : bit_of n 0 ≡ a
+  pub at_1 : bit_of n 1 ≡ b
+  pub at_2 : bit_of n 2 ≡ c
+  pub at_3 : bit_of n 3 ≡ d
+  pub less : n < 16
 
-bits : (a b c d : ℕ) → a < 2 → b < 2 → c < 2 → d < 2 → Bits (a + 2 * b + 4 * c + 8 * d) a b c d
+pub bits : (a b c d : ℕ) → a < 2 → b < 2 → c < 2 → d < 2 → Bits (a + 2 * b + 4 * c + 8 * d) a b c d
 bits a b c d ha hb hc hd = record { at_0 = omega arith; at_1 = omega arith; at_2 = omega arith; at_3 = omega arith; less = omega (arith) }
 
-bit-lt : (b : Bool) → bit_when b < 2
+pub bit-lt : (b : Bool) → bit_when b < 2
 bit-lt true = omega arith
 bit-lt false = omega arith
 

@@ -2,7 +2,10 @@ pub mod Outputs
 pub mod Commuting
 pub mod Answering
 pub mod Choosing
+pub mod Seeing
 pub mod Tracking
 pub mod Timing
 pub mod Stations
 pub mod Alike
+pub mod Showing
+pub mod Passing

@@ -13,7 +13,7 @@ use Rattle.mcs_model.specs.Levels.{clock_levels, chains_clocked, with_rom_ports_
 use Rattle.mcs_model.specs.Effect.{bus_after, cycle_of, effect, instruction_at}
 use Rattle.mcs_model.specs.Running.{Machine}
 use Rattle.mcs_drive.specs.Driven.{Levels, FitBoard}
-use Rattle.mcs_drive.specs.Tracked.{Stopwatch, Tracked, machine_in, under, plain, cycled, after_cycles, is_asking, driven, Holds}
+use Rattle.mcs_drive.specs.Tracked.{Observer, Tracked, machine_in, under, plain, cycled, after_cycles, is_asking, driven, Holds}
 use Rattle.mcs_drive.specs.Leading.{Ignores, LeadsTo}
 use Rattle.mcs_drive.proofs.Tracking.{cycle-rest}
 
@@ -45,7 +45,7 @@ cycle-board-when s true o = refl
 cycle-board-when s false None = refl
 cycle-board-when s false (Some op) = bus-board op s.0 s.1
 
-module _ (w : Stopwatch) where
+module _ (w : Observer) where
   pub cycle-board : (s : Tracked) → (cycled w s).1.board ≡ s.1.board
   unfolding cycle_of
   cycle-board s = cycle-board-when (machine_in s) (eqb s.0.owed 1) (instruction_at s.0 s.1)

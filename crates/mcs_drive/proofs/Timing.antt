@@ -2,7 +2,7 @@
 use Rattle.std.proofs.Common.{◌≡◌, ◌<◌, ◌≤◌, ◌+◌, ◌⊎◌, ℕ, zero, suc, inl, inr, Bool, true, false, cond, ◌||◌, nat_lt, nat_le, refl, sym, ap, ◌∙◌, subst, arith, eqb}
 use Rattle.std.proofs.lemmas.Bool.{eqb-false, leb-true, lt-ltb, ne_eqb, or_parts}
 use Rattle.mcs_drive.specs.Driven.{Levels, FitBoard}
-use Rattle.mcs_drive.specs.Tracked.{Stopwatch, Tracked, LONGEST, begins_at, ends_at, shown_after, driven, Holds}
+use Rattle.mcs_drive.specs.Tracked.{Observer, Tracked, LONGEST, begins_at, ends_at, shown_after, driven, Holds}
 
 -- ---- one cycle
 
@@ -27,7 +27,7 @@ counts-on n m begins ends runs few free more =
     let is : shown_after n begins ends ≡ n + 1 = rw (at, below) refl in
     subst (λ (k : ℕ). suc m ≤ k) (sym is) (omega arith)
 
-module _ (w : Stopwatch) where
+module _ (w : Observer) where
   -- ---- a run
 
   -- it ended within m cycles after cycle k, or shows more than m

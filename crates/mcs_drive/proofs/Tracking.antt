@@ -1,27 +1,32 @@
 -- A machine with its counts: what holds of a cycle of the machine holds of both.
-use Rattle.std.proofs.Common.{◌≡◌, ℕ, zero, suc, false, None, refl, ap}
+use Rattle.std.proofs.Common.{◌≡◌, ◌∙◌, ℕ, zero, suc, false, None, refl, ap}
 use Rattle.mcs_model.specs.Boards.{board_fault_of}
 use Rattle.mcs_model.specs.Bus.{fetch_of}
 use Rattle.mcs_model.specs.Running.{Machine}
 use Rattle.mcs_drive.specs.Driven.{Levels, under as under_machine, cycled as cycled_machine, driven as driven_machine}
-use Rattle.mcs_drive.specs.Tracked.{Counts, Stopwatch, Tracked, machine_in, counts_after, under, plain, cycled, is_asking, answer, driven}
+use Rattle.mcs_drive.specs.Tracked.{Counts, Observer, Tracked, machine_in, counts_after, under, plain, cycled, is_asking, answer, driven}
 use Rattle.mcs_drive.proofs.Commuting.{cycle-rest as machine-rest}
 use Rattle.mcs_drive.proofs.Answering.{answers-decide as machine-decides}
+use Rattle.mcs_drive.proofs.Seeing.{quiet-rests, seen-decides}
 
 -- a machine with these counts
 abbrev pub with_counts : Counts → Machine → Tracked
 with_counts n m = (m.0, m.1, n)
 
-module _ (w : Stopwatch) where
+module _ (w : Observer) where
   -- a cycle that does not ask is the same at all levels, and leaves them
   pub cycle-rest : (l : Levels) (s : Tracked) → board_fault_of s.1.board ≡ None → is_asking s ≡ false → cycled w (under l s) ≡ under l (cycled w s)
   unfolding fetch_of
-  cycle-rest l s v e = ap (with_counts (counts_after w s)) (machine-rest l (machine_in s) v e)
+  cycle-rest l s v e =
+      ap (λ (n : ℕ). with_counts (record (counts_after w s) { seen = n }) (cycled_machine (under_machine l (machine_in s)))) (quiet-rests w l s e)
+      ∙ ap (with_counts (counts_after w s)) (machine-rest l (machine_in s) v e)
 
   -- of the levels, a cycle depends on what is read alone
   pub answers-decide : (l l' : Levels) (s : Tracked) → board_fault_of s.1.board ≡ None → answer l s ≡ answer l' s → plain (cycled w (under l s)) ≡ plain (cycled w (under l' s))
   unfolding fetch_of
-  answers-decide l l' s v e = ap (with_counts (counts_after w s)) (machine-decides l l' (machine_in s) v e)
+  answers-decide l l' s v e =
+      ap (λ (n : ℕ). plain (with_counts (record (counts_after w s) { seen = n }) (cycled_machine (under_machine l (machine_in s))))) (seen-decides w l l' s e)
+      ∙ ap (with_counts (counts_after w (under l' s))) (machine-decides l l' (machine_in s) v e)
 
   pub tracks-machine : (f : ℕ → Levels) (k : ℕ) (s : Tracked) → machine_in (driven w f k s) ≡ driven_machine f k (machine_in s)
   tracks-machine f zero s = refl

@@ -2,7 +2,7 @@
 use Rattle.std.specs.Prelude.{◌≡◌, ◌<◌, ◌≤◌, ℕ, suc, Bool, true, false, None}
 use Rattle.mcs_model.specs.Boards.{board_fault_of}
 use Rattle.mcs_drive.specs.Driven.{Levels}
-use Rattle.mcs_drive.specs.Tracked.{Stopwatch, Tracked, under, plain, after_cycles, is_asking, answer}
+use Rattle.mcs_drive.specs.Tracked.{Observer, Tracked, under, plain, after_cycles, is_asking, answer}
 
 -- holds if a property does not depend on the input levels
 abbrev pub Ignores : (Tracked → Bool) → Type 0
@@ -10,7 +10,7 @@ Ignores p = (s : Tracked) → p s ≡ p (plain s)
 
 -- holds if, at input levels l, machine a runs into b in one or more cycles, apart from the input levels
 -- of both. Only the first cycle may read an input, and p holds after each cycle.
-pub record LeadsTo (w : Stopwatch) (p : Tracked → Bool) (a b : Tracked) (l : Levels) : Type 0 where
+pub record LeadsTo (w : Observer) (p : Tracked → Bool) (a b : Tracked) (l : Levels) : Type 0 where
   pub more : ℕ
   pub quiet : (i : ℕ) → i < more → is_asking (after_cycles w (suc i) (under l a)) ≡ false
   pub well : (i : ℕ) → i ≤ more → p (after_cycles w (suc i) (under l a)) ≡ true
@@ -20,5 +20,5 @@ pub record LeadsTo (w : Stopwatch) (p : Tracked → Bool) (a b : Tracked) (l : L
 -- next instruction of a reads the same value
 abbrev pub AnswersLead : Type 0
 AnswersLead =
-    (w : Stopwatch) (p : Tracked → Bool) (a b : Tracked) (l m : Levels) → Ignores p → board_fault_of a.1.board ≡ None →
+    (w : Observer) (p : Tracked → Bool) (a b : Tracked) (l m : Levels) → Ignores p → board_fault_of a.1.board ≡ None →
     answer l a ≡ answer m a → LeadsTo w p a b m → LeadsTo w p a b l

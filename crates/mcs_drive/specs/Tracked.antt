@@ -1,20 +1,26 @@
--- A machine with two counts kept beside it, and the meaning of a property of both that holds for all
--- inputs. The counts are the number of open calls and the cycles on a stopwatch. Neither is part of a
--- machine: the processor stores three return addresses but not how many are in use. (Our own choice.)
-use Rattle.std.specs.Prelude.{◌≡◌, ◌<◌, ◌≤◌, ◌+◌, ◌-◌, ℕ, zero, suc, Bool, true, false, Option, Some, None, unwrap_or, nat_lt, nat_le, if◌then◌else◌, ◌==◌, not, ◌&&◌, ◌||◌, []}
+-- A machine with three counts kept beside it, and the meaning of a property of both that holds for all
+-- inputs. The counts are the number of open calls, the cycles on a stopwatch, and the number of marks
+-- seen. None is part of a machine: the processor stores three return addresses but not how many are in
+-- use. (Our own choice.)
+use Rattle.std.specs.Prelude.{◌≡◌, ◌<◌, ◌≤◌, ◌+◌, ◌-◌, ℕ, zero, suc, Bool, true, false, Option, Some, None, unwrap_or, nat_lt, nat_le, if◌then◌else◌, ◌==◌, not, ◌&&◌, ◌||◌, List, [], length, slice_get}
 use Rattle.mcs_model.specs.declared.op.Op.{Op}
 use Rattle.mcs_model.specs.declared.op.Op.TheVariants.{Jms, Bbl}
 use Rattle.mcs_model.specs.declared.regs.Regs.{Regs}
 use Rattle.mcs_model.specs.Bus.{BusState}
 use Rattle.mcs_model.specs.Effect.{cycle_of, instruction_at}
+use Rattle.mcs_model.specs.Levels.{port_of}
 use Rattle.mcs_model.specs.Running.{Machine}
+use Rattle.mcs_drive.specs.declared.marks.Mark.{Mark}
 use Rattle.mcs_drive.specs.Driven.{Levels, FitBoard, driven as driven_machine}
 use Rattle.mcs_drive.specs.Asking.{asks, answer_to}
+use Rattle.mcs_drive.specs.Marks.{shows}
 
--- the counts kept beside a machine: the number of open calls, and the cycles that a stopwatch shows
+-- the counts kept beside a machine: the number of open calls, the cycles that a stopwatch shows, and how
+-- many marks were seen
 pub record Counts : Type 0 where
   pub calls : ℕ
   pub elapsed : ℕ
+  pub seen : ℕ
 
 -- a machine with its counts
 abbrev pub Tracked : Type 0
@@ -24,9 +30,9 @@ Tracked = Regs × BusState × Counts
 abbrev pub machine_in : Tracked → Machine
 machine_in s = (s.0, s.1)
 
--- a machine in which no call is open, with a stopwatch at 0
+-- a machine in which no call is open, with a stopwatch at 0 and no mark seen
 abbrev pub without_calls : Machine → Tracked
-without_calls s = (s.0, s.1, record { calls = 0; elapsed = 0 })
+without_calls s = (s.0, s.1, record { calls = 0; elapsed = 0; seen = 0 })
 
 -- a tracked machine with the given levels at its inputs
 abbrev pub under : Levels → Tracked → Tracked
@@ -54,22 +60,28 @@ next_op s m = if s.owed == 1 then None else instruction_at s m
 abbrev pub open_after : Regs → BusState → ℕ → ℕ
 open_after s m n = calls_after (next_op s m) n
 
--- ---- a stopwatch
+-- ---- an observer
 
--- the events of a stopwatch: the states at which it begins, and those at which it ends
-pub record Stopwatch : Type 0 where
+-- what an observer looks for: the states at which its stopwatch begins, those at which it ends, and
+-- those at which its condition holds. The marks are to be seen, in this order, before the condition
+-- becomes true.
+pub record Observer : Type 0 where
   pub begins : Tracked → Bool
   pub ends : Tracked → Bool
+  pub opens : Tracked → Bool
+  pub marks : List Mark
 
--- a stopwatch that never begins
-abbrev pub no_stopwatch : Stopwatch
-no_stopwatch = record { begins = λ s. false; ends = λ s. false }
+-- an observer whose stopwatch never begins and whose condition never holds, without marks
+abbrev pub no_observer : Observer
+no_observer = record { begins = λ s. false; ends = λ s. false; opens = λ s. false; marks = [] }
 
--- true if a stopwatch begins (below: ends) at a machine; the machine's input levels are ignored
-abbrev pub begins_at : Stopwatch → Tracked → Bool
+-- ---- its stopwatch
+
+-- true if the stopwatch begins (below: ends) at a machine; the machine's input levels are ignored
+abbrev pub begins_at : Observer → Tracked → Bool
 begins_at w s = w.begins (plain s)
 
-abbrev pub ends_at : Stopwatch → Tracked → Bool
+abbrev pub ends_at : Observer → Tracked → Bool
 ends_at w s = w.ends (plain s)
 
 -- the largest number of cycles that a stopwatch shows: 2^24 - 1
@@ -83,23 +95,59 @@ abbrev pub shown_after : ℕ → Bool → Bool → ℕ
 shown_after n begins ends =
     if n == 0 || ends then (if begins then 1 else 0) else if nat_lt n LONGEST then n + 1 else n
 
-abbrev pub elapsed_after : Stopwatch → Tracked → ℕ
+abbrev pub elapsed_after : Observer → Tracked → ℕ
 elapsed_after w s = shown_after s.2.elapsed (begins_at w s) (ends_at w s)
+
+-- ---- its marks
+
+-- true if the condition holds at a machine; the machine's input levels are ignored
+abbrev pub opens_at : Observer → Tracked → Bool
+opens_at w s = w.opens (plain s)
+
+-- the number of marks, of n, that were seen in order since the condition held last, by the count `seen`.
+-- The count is n + 1 right after the condition held: no mark has been seen since.
+abbrev pub progress : ℕ → ℕ → ℕ
+progress n seen = if nat_lt n seen then 0 else seen
+
+-- the count after a cycle, if it is `seen` before: n + 1 if the condition holds before the cycle, and
+-- otherwise one mark more if the cycle shows the next mark
+abbrev pub marks_after : ℕ → ℕ → Bool → Bool → ℕ
+marks_after n seen opens shown =
+    if opens then n + 1 else if shown then progress n seen + 1 else progress n seen
+
+-- true if there is a next mark, and the next cycle shows it if it reads this value
+abbrev pub shows_next : Observer → Tracked → ℕ → Bool
+shows_next w s value =
+    elim (slice_get w.marks (progress (length w.marks) s.2.seen)) [
+      | Some mark ↦ shows (next_op s.0 s.1) s.1 value mark
+      | None ↦ false
+    ]
+
+-- the count after the next cycle, if that reads this value (below: what the selected ROM's port gives)
+abbrev pub seen_reading : Observer → Tracked → ℕ → ℕ
+seen_reading w s value = marks_after (length w.marks) s.2.seen (opens_at w s) (shows_next w s value)
+
+abbrev pub seen_after : Observer → Tracked → ℕ
+seen_after w s = seen_reading w s (port_of s.1)
 
 -- ---- runs of a tracked machine
 
 -- the counts after one cycle
-abbrev pub counts_after : Stopwatch → Tracked → Counts
-counts_after w s = record { calls = open_after s.0 s.1 s.2.calls; elapsed = elapsed_after w s }
+abbrev pub counts_after : Observer → Tracked → Counts
+counts_after w s = record {
+  calls = open_after s.0 s.1 s.2.calls;
+  elapsed = elapsed_after w s;
+  seen = seen_after w s;
+}
 
 -- a tracked machine after one cycle; an opcode outside the instruction table does not change the machine
-abbrev pub cycled : Stopwatch → Tracked → Tracked
+abbrev pub cycled : Observer → Tracked → Tracked
 cycled w s =
     let t = unwrap_or (cycle_of s.0 s.1) (machine_in s) in
     (t.0, t.1, counts_after w s)
 
 -- a tracked machine after k cycles, with its input levels unchanged
-abbrev pub after_cycles : Stopwatch → ℕ → Tracked → Tracked
+abbrev pub after_cycles : Observer → ℕ → Tracked → Tracked
 after_cycles w zero s = s
 after_cycles w (suc k) s = cycled w (after_cycles w k s)
 
@@ -112,24 +160,24 @@ abbrev pub answer : Levels → Tracked → ℕ
 answer l s = answer_to (instruction_at s.0 s.1) l s.1
 
 -- a tracked machine after k cycles, with its inputs set to the levels f i before cycle i
-abbrev pub driven : Stopwatch → (ℕ → Levels) → ℕ → Tracked → Tracked
+abbrev pub driven : Observer → (ℕ → Levels) → ℕ → Tracked → Tracked
 driven w f zero s = s
 driven w f (suc k) s = cycled w (under (f k) (driven w f k s))
 
 -- the machine in a tracked run is the same as in the run without counts
 abbrev pub TracksMachine : Type 0
 TracksMachine =
-    (w : Stopwatch) (f : ℕ → Levels) (k : ℕ) (s : Tracked) →
+    (w : Observer) (f : ℕ → Levels) (k : ℕ) (s : Tracked) →
     machine_in (driven w f k s) ≡ driven_machine f k (machine_in s)
 
--- p is an invariant of all runs with stopwatch w: it holds at every moment, for all inputs (AG p in CTL)
-abbrev pub Holds : Stopwatch → (Tracked → Bool) → Tracked → Type 0
+-- p is an invariant of all runs with observer w: it holds at every moment, for all inputs (AG p in CTL)
+abbrev pub Holds : Observer → (Tracked → Bool) → Tracked → Type 0
 Holds w p s = (f : ℕ → Levels) → ((k : ℕ) → FitBoard s.1.board (f k)) → (k : ℕ) → p (driven w f k s) ≡ true
 
 -- a stopwatch that never exceeds a limit ends within that many cycles each time that it begins
 abbrev pub EndsWithin : Type 0
 EndsWithin =
-    (w : Stopwatch) (limit : ℕ) (s : Tracked) → limit < LONGEST → Holds w (λ t. nat_le t.2.elapsed limit) s →
+    (w : Observer) (limit : ℕ) (s : Tracked) → limit < LONGEST → Holds w (λ t. nat_le t.2.elapsed limit) s →
     (f : ℕ → Levels) → ((k : ℕ) → FitBoard s.1.board (f k)) →
     (k : ℕ) → begins_at w (driven w f k s) ≡ true →
     (d : ℕ) × (1 ≤ d) × (d ≤ limit) × (ends_at w (driven w f (k + d) s) ≡ true)

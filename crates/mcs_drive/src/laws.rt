@@ -1,6 +1,7 @@
 //! Laws of the definitions. Each law is the contract of a function with an empty body.
 ghost use Rattle.mcs_drive.specs.Asking.{AnswersDecide, ChoicesCover, LevelsRest, PulledAtMost};
 ghost use Rattle.mcs_drive.specs.Leading.{AnswersLead};
+ghost use Rattle.mcs_drive.specs.Opening.{OpensOnlyAfter};
 ghost use Rattle.mcs_drive.specs.Tracked.{EndsWithin, TracksMachine};
 
 /// Proves that a cycle that reads no input does not depend on the input levels and leaves them unchanged.
@@ -29,7 +30,7 @@ pub fn answers_lead()
     ensures { AnswersLead }
 {}
 
-/// Proves that counting calls and cycles does not change the machine of a run.
+/// Proves that counting calls, cycles and marks does not change the machine of a run.
 pub fn tracks_machine()
     ensures { TracksMachine }
 {}
@@ -37,4 +38,10 @@ pub fn tracks_machine()
 /// Proves that a stopwatch that never exceeds a limit ends within that many cycles each time that it begins.
 pub fn ends_within()
     ensures { EndsWithin }
+{}
+
+/// Proves that a condition that never holds before all marks were seen becomes true only after the keys were at these
+/// levels, one after the other.
+pub fn opens_only_after()
+    ensures { OpensOnlyAfter }
 {}

@@ -8,7 +8,7 @@ use Rattle.mcs_model.specs.Command.{after, machine_of, refusal_of_command}
 use Rattle.mcs_model.specs.Images.{by_address}
 use Rattle.mcs_source.specs.Assembly.{assembly_of_text}
 use Rattle.mcs_wiring.specs.Wiring.{board_of_text}
-use Rattle.mcs_drive.specs.Tracked.{Stopwatch, Tracked, without_calls}
+use Rattle.mcs_drive.specs.Tracked.{Observer, Tracked, without_calls}
 use Rattle.mcs_check.specs.declared.checking.Outcome.{Outcome}
 use Rattle.mcs_check.specs.Promised.{IsProved}
 
@@ -37,8 +37,8 @@ pub record IsGiven (board program : List ℕ) (rig : BusState) : Type 0 where
   pub given : without_calls (new_regs, rig) ≡ machine_given parts loaded
 
 -- holds if the promise of an outcome is true of the machine that two texts define, with a given
--- stopwatch
-pub record IsProvedOf (board program : List ℕ) (w : Stopwatch) (p : Tracked → Bool) (outcome : Outcome) : Type 0 where
+-- observer
+pub record IsProvedOf (board program : List ℕ) (w : Observer) (p : Tracked → Bool) (outcome : Outcome) : Type 0 where
   pub parts : BoardParts
   pub loaded : List (ℕ × ℕ)
   pub accepted : AreAccepted board program parts loaded

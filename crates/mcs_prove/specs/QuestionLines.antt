@@ -6,6 +6,7 @@ use Rattle.std.specs.Str.{bytes_eq}
 use Rattle.mcs_model.specs.Numerals.{number_up_to}
 use Rattle.mcs_model.specs.WordTables.{beside}
 use Rattle.mcs_search.specs.declared.searching.TheConstants.{MOST}
+use Rattle.mcs_drive.specs.declared.marks.Mark.{Mark}
 use Rattle.mcs_check.specs.declared.cells.Cell.{Cell}
 use Rattle.mcs_check.specs.declared.cells.CellList.{CellList}
 use Rattle.mcs_check.specs.declared.cells.CellList.TheVariants.{Characters, StatusCharacters, RamPorts, RomPorts, BankSrcs, Registers, Counters, Chain}
@@ -16,8 +17,8 @@ use Rattle.mcs_check.specs.declared.conditions.Part.{Part}
 use Rattle.mcs_check.specs.declared.conditions.Part.TheVariants.{Whole, Line}
 use Rattle.mcs_check.specs.Cells.{count_of}
 use Rattle.mcs_prove.specs.declared.lines.QuestionLine.{QuestionLine}
-use Rattle.mcs_prove.specs.declared.lines.QuestionLine.TheVariants.{Blank, Most, Sets, Memory, Pause, Within, Wire, Asm, Conditions, Met, Prove}
-use Rattle.mcs_prove.specs.declared.lines.Role.TheVariants.{Never, Begin, End}
+use Rattle.mcs_prove.specs.declared.lines.QuestionLine.TheVariants.{Blank, Most, Sets, Memory, Pause, Within, Wire, Asm, Conditions, Met, Seen, Prove}
+use Rattle.mcs_prove.specs.declared.lines.Role.TheVariants.{Never, Begin, End, Open}
 use Rattle.mcs_prove.specs.declared.lines.TheConstants.{LAST_INDEX, LONGEST_LIMIT, LONGEST_PAUSE, MOST_ENTRIES, MOST_MEMORY}
 
 -- ---- a comparison: `in ramport 0 line1 1 1`
@@ -103,6 +104,19 @@ abbrev pub mistakes_of : List (List ℕ) → Option Mistakes
 mistakes_of [] = None
 mistakes_of (word ∷ words) = with_mistakes no_mistakes (word ∷ words)
 
+-- ---- a mark: `up 1 0`
+
+abbrev pub levels : List (List ℕ × Bool)
+levels = (codes "up", false) ∷ (codes "down", true) ∷ []
+
+-- the mark that three words spell: a level, a row and a column
+abbrev pub mark_of : List ℕ → List ℕ → List ℕ → Option Mark
+mark_of level row column =
+    beside (bytes_eq level) levels >>= λ is_down.
+    number_up_to 255 row >>= λ r.
+    number_up_to 255 column >>= λ c.
+    Some (record { row = r; column = c; is_down = is_down })
+
 -- ---- lines
 
 abbrev pub alone : List (List ℕ × QuestionLine)
@@ -112,6 +126,7 @@ alone =
     ∷ (codes "never", Conditions Never)
     ∷ (codes "begin", Conditions Begin)
     ∷ (codes "end", Conditions End)
+    ∷ (codes "open", Conditions Open)
     ∷ (codes "prove", Prove)
     ∷ []
 
@@ -129,16 +144,21 @@ with_number name word =
     else if bytes_eq name (codes "pause") then number_up_to LONGEST_PAUSE word >>= pause_of
     else None
 
--- a line of three or more words; only a comparison, with six words, is valid
+-- a line of four or more words; only a comparison, with six words, is valid
 abbrev pub with_comparison : List ℕ → List ℕ → List ℕ → List (List ℕ) → Option QuestionLine
 with_comparison way list index (part ∷ low ∷ high ∷ []) =
     option_map (λ c. Met (condition.Compare c)) (comparison_of way list index part low high)
 with_comparison way list index words = None
 
+-- a line of three or more words: a mark has three
+abbrev pub with_more : List ℕ → List ℕ → List ℕ → List (List ℕ) → Option QuestionLine
+with_more name first second [] = option_map Seen (mark_of name first second)
+with_more name first second (word ∷ words) = with_comparison name first second (word ∷ words)
+
 abbrev pub by_words : List ℕ → List (List ℕ) → Option QuestionLine
 by_words name [] = beside (bytes_eq name) alone
 by_words name (word ∷ []) = with_number name word
-by_words name (first ∷ second ∷ words) = with_comparison name first second words
+by_words name (first ∷ second ∷ words) = with_more name first second words
 
 -- the parsed line of a question, if its words are valid
 abbrev pub line_of : List (List ℕ) → Option QuestionLine

@@ -7,7 +7,7 @@ ghost use Rattle.mcs_prove.specs.Questions.{IsAnswerTo};
 use crate::fault::Refusal;
 use crate::proving::{Goal, prove, prove_by_sets};
 use crate::question::{Question, question_of};
-use mcs_check::Outcome;
+use mcs_check::{Marks, Outcome};
 use mcs_model::refusal_numbers;
 use mcs_search::MOST;
 use std::alloc::{AllocError, Global};
@@ -114,6 +114,8 @@ fn outcome_of(alloc: Global, text: &str) -> Result<Outcome, Refusal>
         begins,
         ends,
         limit,
+        opens,
+        marks,
         most,
         sets,
         memory,
@@ -121,7 +123,9 @@ fn outcome_of(alloc: Global, text: &str) -> Result<Outcome, Refusal>
         is_whole,
         ..
     } = question;
-    let (Some(board), Some(program), true, true) = (board, program, is_whole, is_posed) else {
+    let (Some(board), Some(program), Some(marks), true, true) =
+        (board, program, Marks::of(marks), is_whole, is_posed)
+    else {
         return Err(Refusal::NotWhole);
     };
     if sets > 0 {
@@ -143,6 +147,8 @@ fn outcome_of(alloc: Global, text: &str) -> Result<Outcome, Refusal>
             begins,
             ends,
             limit,
+            opens,
+            marks,
         },
         (most as usize).min(MOST),
         memory as usize * MB,

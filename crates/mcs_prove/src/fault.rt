@@ -23,8 +23,9 @@ pub enum Refusal {
     #[error("line {0} of the question is none")]
     Line(usize),
     /// The question lacks the board's text, the program's text or its end. Or its stopwatch lacks its begin, its end or
-    /// its limit, or is combined with sets of values.
-    #[error("the question lacks a text, its end or a part of its stopwatch, or has a stopwatch by sets")]
+    /// its limit. Or it has marks without conditions that open, such conditions without marks, or more than 200 marks.
+    /// Or a stopwatch or marks are combined with sets of values.
+    #[error("the question lacks a text, its end, a part of its stopwatch or of its marks, or combines these with sets")]
     NotWhole,
 }
 

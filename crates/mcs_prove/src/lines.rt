@@ -12,15 +12,18 @@
 //!     begin                       a stopwatch begins when the conditions that follow are all met
 //!     end                         the stopwatch ends when the conditions that follow are all met
 //!     within 1000                 the stopwatch must never show more than 1000 cycles
+//!     open                        the conditions that follow must not all be met before the marks were seen, in order
+//!     up 1 0                      mark: a read shows that the key at row 1, column 0 is up
+//!     down 1 0                    mark: a read shows that the key at row 1, column 0 is down
 //!     prove                       the question is complete; without this line it is not a question
 ghost use Rattle.std.specs.Prelude.{◌≡◌};
 ghost use Rattle.std.specs.Str.{bytes_eq};
 ghost use Rattle.mcs_model.specs.Numerals.{number_up_to};
 ghost use Rattle.mcs_model.specs.TextLines.{words_of};
 ghost use Rattle.mcs_model.specs.WordTables.{beside};
-ghost use Rattle.mcs_prove.specs.QuestionLines.{alone, by_words, cell_of, comparison_of, line_of, lists, mistakes_of, no_mistakes, parts, ways, with_comparison, with_mistake, with_mistakes, with_number};
+ghost use Rattle.mcs_prove.specs.QuestionLines.{alone, by_words, cell_of, comparison_of, levels, line_of, lists, mark_of, mistakes_of, no_mistakes, parts, ways, with_comparison, with_mistake, with_mistakes, with_more, with_number};
 
-use mcs_check::{Cell, CellList, Comparison, Condition, Cycles, Mistakes, Part};
+use mcs_check::{Cell, CellList, Comparison, Condition, Cycles, Mark, Mistakes, Part};
 use mcs_lines::words::{equals, next_word};
 use mcs_model::numeral::number_within;
 use mcs_search::MOST;
@@ -49,6 +52,8 @@ pub(crate) enum Role {
     Begin,
     /// The stopwatch ends when all conditions are met.
     End,
+    /// The conditions must not all be met before the marks were seen.
+    Open,
 }
 
 /// A parsed line of a question.
@@ -74,6 +79,8 @@ pub(crate) enum QuestionLine {
     Conditions(Role),
     /// A condition of the current list.
     Met(Condition),
+    /// The next mark.
+    Seen(Mark),
     /// The question is complete.
     Prove,
 }
@@ -249,6 +256,8 @@ fn read_alone(word: &[u8]) -> Option<QuestionLine>
         Some(QuestionLine::Conditions(Role::Begin))
     } else if equals(word, b"end") {
         Some(QuestionLine::Conditions(Role::End))
+    } else if equals(word, b"open") {
+        Some(QuestionLine::Conditions(Role::Open))
     } else if equals(word, b"prove") {
         Some(QuestionLine::Prove)
     } else {
@@ -284,7 +293,34 @@ fn with_number(name: &[u8], word: &[u8]) -> Option<QuestionLine>
     None
 }
 
-/// Parses a line of three or more words. Only a comparison, with six words, is valid.
+/// Parses the level of a mark: true for `down`, false for `up`.
+fn is_down(word: &[u8]) -> Option<bool>
+    ensures { result ≡ beside (bytes_eq word.now) levels }
+{
+    if equals(word, b"up") {
+        Some(false)
+    } else if equals(word, b"down") {
+        Some(true)
+    } else {
+        None
+    }
+}
+
+/// Parses the three words of a mark.
+fn mark_of(level: &[u8], row: &[u8], column: &[u8]) -> Option<Mark>
+    ensures { result ≡ mark_of level.now row.now column.now }
+{
+    let is_down = is_down(level)?;
+    let row = byte_of(row)?;
+    let column = byte_of(column)?;
+    Some(Mark {
+        row,
+        column,
+        is_down,
+    })
+}
+
+/// Parses a line of four or more words. Only a comparison, with six words, is valid.
 fn with_comparison(way: &[u8], list: &[u8], index: &[u8], rest: &[u8]) -> Option<QuestionLine>
     ensures { result ≡ with_comparison way.now list.now index.now (words_of rest.now) }
 {
@@ -300,6 +336,16 @@ fn with_comparison(way: &[u8], list: &[u8], index: &[u8], rest: &[u8]) -> Option
     }
 }
 
+/// Parses a line of three or more words: a mark has three.
+fn with_more(name: &[u8], first: &[u8], second: &[u8], rest: &[u8]) -> Option<QuestionLine>
+    ensures { result ≡ with_more name.now first.now second.now (words_of rest.now) }
+{
+    match next_word(rest) {
+        None => Some(QuestionLine::Seen(mark_of(name, first, second)?)),
+        Some(_) => with_comparison(name, first, second, rest),
+    }
+}
+
 /// Parses a line from its first word, which is not `mistake`, and the words after it.
 fn by_words(name: &[u8], rest: &[u8]) -> Option<QuestionLine>
     ensures { result ≡ by_words name.now (words_of rest.now) }
@@ -309,7 +355,7 @@ fn by_words(name: &[u8], rest: &[u8]) -> Option<QuestionLine>
     };
     match next_word(rest) {
         None => with_number(name, first),
-        Some((second, rest)) => with_comparison(name, first, second, rest),
+        Some((second, rest)) => with_more(name, first, second, rest),
     }
 }
 

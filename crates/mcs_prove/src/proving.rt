@@ -1,16 +1,16 @@
 //! Proves, for all inputs, that the machine that two texts define never meets given conditions.
-ghost use Rattle.std.specs.Prelude.{◌≡◌, ◌≤◌, IfOk, map};
+ghost use Rattle.std.specs.Prelude.{◌≡◌, ◌≤◌, ◌&&◌, [], IfOk, map};
 ghost use Rattle.mcs_search.specs.declared.searching.TheConstants.{MOST};
-ghost use Rattle.mcs_drive.specs.Tracked.{Tracked, no_stopwatch};
-ghost use Rattle.mcs_check.specs.Conditions.{keeps_to, stopwatch_of};
+ghost use Rattle.mcs_drive.specs.Tracked.{Tracked, no_observer};
+ghost use Rattle.mcs_check.specs.Conditions.{keeps_to, observer_of};
 ghost use Rattle.mcs_prove.specs.Given.{IsGiven, IsProvedOf};
-ghost use Rattle.mcs_prove.specs.Questions.{is_kept};
+ghost use Rattle.mcs_prove.specs.Questions.{IsKeptOf, is_kept, is_within};
 
 use crate::fault::Refusal;
 use crate::machine::rig_given;
 use mcs_asm::{AsmFault, FaultKind, assemble};
 use mcs_board::BenchRig;
-use mcs_check::{Aim, Condition, Conjunction, Cycles, Outcome, Replica, add_limit, check_all};
+use mcs_check::{Aim, Condition, Conjunction, Cycles, Marks, Outcome, Replica, add_limit, add_opening, check_all, conditions_ignore_levels};
 use mcs_cpu4004::Cpu;
 use mcs_search::MOST;
 use mcs_sets::check_by_sets;
@@ -44,7 +44,7 @@ fn rig_of(alloc: Global, board: &str, program: &str) -> Result<BenchRig, Refusal
     }
 }
 
-/// The property to prove of a machine, and the stopwatch that it may refer to.
+/// The property to prove of a machine, and the stopwatch and the marks that it may refer to.
 #[derive(Drop)]
 pub struct Goal {
     /// Lists of conditions. The conditions of a list must never all be met at once.
@@ -55,6 +55,10 @@ pub struct Goal {
     pub ends: Vec<Vec<Condition>>,
     /// The maximum number of cycles that the stopwatch may show, if there is a limit.
     pub limit: Option<Cycles>,
+    /// Lists of conditions. The conditions of a list must not all be met before the marks were seen.
+    pub opens: Vec<Vec<Condition>>,
+    /// The marks, in their order.
+    pub marks: Marks,
 }
 
 /// Converts lists of conditions to the conjunctions that a search uses.
@@ -72,13 +76,13 @@ fn conjunctions_of(
 }
 
 /// Returns the conjunctions that must never be met, with those that express the stopwatch's limit, if there is one.
-fn nevers_of(
+fn with_limit(
     alloc: Global,
     nevers: Vec<Vec<Condition>>,
     limit: Option<Cycles>,
 ) -> Result<Vec<Conjunction>, AllocError>
     ensures { IfOk result (λ made. (s : Tracked) →
-        keeps_to made.items s ≡ is_kept (map (λ n. n.items) nevers.items) limit s) }
+        keeps_to made.items s ≡ (keeps_to (map (λ n. n.items) nevers.items) s && is_within limit s)) }
 {
     let mut made = conjunctions_of(alloc, nevers)?;
     if let Some(limit) = limit {
@@ -87,8 +91,26 @@ fn nevers_of(
     Ok(made)
 }
 
+/// Returns the conjunctions that must never be met, with those that express the stopwatch's limit, if there is one, and
+/// those that express that the marks come first.
+fn nevers_of(
+    alloc: Global,
+    nevers: Vec<Vec<Condition>>,
+    limit: Option<Cycles>,
+    opens: &[Conjunction],
+    marks: &Marks,
+) -> Result<Vec<Conjunction>, AllocError>
+    ensures { IfOk result (λ made. (s : Tracked) →
+        keeps_to made.items s ≡ is_kept (observer_of [] [] opens.now marks.now) (map (λ n. n.items) nevers.items) limit s) }
+{
+    let mut made = with_limit(alloc, nevers, limit)?;
+    add_opening(alloc, &mut made, opens, marks)?;
+    conditions_ignore_levels();
+    Ok(made)
+}
+
 /// Searches all runs of the machine that a board's text and a program's text define, for all levels of its keys and its
-/// TEST pin. Checks the conditions and the stopwatch's limit after each cycle. The search uses at most `most` states
+/// TEST pin. Checks the conditions, the stopwatch's limit and the marks after each cycle. The search uses at most `most` states
 /// and about `memory` bytes. It splits a stretch of cycles without reads every `pause` cycles.
 pub fn prove(
     alloc: Global,
@@ -100,18 +122,20 @@ pub fn prove(
     pause: u32,
 ) -> Result<Outcome, Refusal>
     requires { most ≤ MOST }
-    ensures { IfOk result (IsProvedOf board.now program.now
-        (stopwatch_of (map (λ n. n.items) goal.begins.items) (map (λ n. n.items) goal.ends.items))
-        (is_kept (map (λ n. n.items) goal.nevers.items) goal.limit)) }
+    ensures { IfOk result (IsKeptOf board.now program.now
+        (observer_of (map (λ n. n.items) goal.begins.items) (map (λ n. n.items) goal.ends.items)
+            (map (λ n. n.items) goal.opens.items) goal.marks)
+        (map (λ n. n.items) goal.nevers.items) goal.limit) }
 {
     let rig = rig_of(alloc, board, program)?;
-    let nevers = nevers_of(alloc, goal.nevers, goal.limit)?;
+    let opens = conjunctions_of(alloc, goal.opens)?;
+    let nevers = nevers_of(alloc, goal.nevers, goal.limit, &opens, &goal.marks)?;
     let begins = conjunctions_of(alloc, goal.begins)?;
     let ends = conjunctions_of(alloc, goal.ends)?;
     Ok(check_all(
         alloc,
         Replica::of(Cpu::new(), rig),
-        Aim::timed(nevers, begins, ends),
+        Aim::of(nevers, begins, ends, opens, goal.marks),
         most,
         memory,
         pause,
@@ -128,7 +152,7 @@ pub fn prove_by_sets(
     most: usize,
     memory: usize,
 ) -> Result<Outcome, Refusal>
-    ensures { IfOk result (IsProvedOf board.now program.now no_stopwatch (keeps_to (map (λ n. n.items) nevers.now))) }
+    ensures { IfOk result (IsProvedOf board.now program.now no_observer (keeps_to (map (λ n. n.items) nevers.now))) }
 {
     let mut rig = rig_of(alloc, board, program)?;
     let mut own = rig_of(alloc, board, program)?;

@@ -3,11 +3,11 @@ ghost use Rattle.std.specs.Prelude.{◌≡◌, Some, map, option_map, string_byt
 ghost use Rattle.std.specs.Str.Lines.{lines};
 ghost use Rattle.mcs_model.specs.TextLines.{words_of};
 ghost use Rattle.mcs_prove.specs.declared.question.Section.TheVariants.{Board, Program};
-ghost use Rattle.mcs_prove.specs.Questions.{Asked, after_line, after_line_in, after_said, after_words, asked_by, begin_board, begin_program, ended, is_posed, nothing_asked, when, with_condition, with_line};
+ghost use Rattle.mcs_prove.specs.Questions.{Asked, after_line, after_line_in, after_said, after_words, asked_by, begin_board, begin_program, ended, is_opened, is_posed, is_timed, nothing_asked, when, with_condition, with_line};
 
 use crate::fault::Refusal;
 use crate::lines::{MOST_MEMORY, QuestionLine, Role, line_of};
-use mcs_check::{Condition, Cycles};
+use mcs_check::{Condition, Cycles, Mark};
 use std::alloc::{AllocError, Global};
 use std::marker::Model;
 use std::mem;
@@ -35,6 +35,8 @@ pub(crate) struct Question {
     pub(crate) begins: Vec<Vec<Condition>>,
     pub(crate) ends: Vec<Vec<Condition>>,
     pub(crate) limit: Option<Cycles>,
+    pub(crate) opens: Vec<Vec<Condition>>,
+    pub(crate) marks: Vec<Mark>,
     pub(crate) most: u32,
     pub(crate) sets: u32,
     pub(crate) memory: u32,
@@ -58,6 +60,8 @@ impl Model for Question {
       begins = map (λ n. n.items) q.begins.items;
       ends = map (λ n. n.items) q.ends.items;
       limit = q.limit;
+      opens = map (λ n. n.items) q.opens.items;
+      marks = q.marks.items;
       role = q.role;
       conditions = option_map (λ cs. cs.items) q.conditions;
       most = q.most;
@@ -93,6 +97,8 @@ impl Question {
             begins: Vec::new(alloc),
             ends: Vec::new(alloc),
             limit: None,
+            opens: Vec::new(alloc),
+            marks: Vec::new(alloc),
             most: 0,
             sets: 0,
             memory: MOST_MEMORY,
@@ -106,13 +112,31 @@ impl Question {
 
     /// Returns whether the question has no stopwatch, or one with a begin, an end and a limit that is checked by
     /// search.
-    pub(crate) fn is_posed(&self) -> bool
-        ensures { result ≡ is_posed self.now }
+    fn is_timed(&self) -> bool
+        ensures { result ≡ is_timed self.now }
     {
         match self.limit {
             None => self.begins.is_empty() && self.ends.is_empty(),
             Some(_) => !self.begins.is_empty() && !self.ends.is_empty() && self.sets == 0,
         }
+    }
+
+    /// Returns whether the question has no marks, or marks with conditions that open, which are checked by search.
+    fn is_opened(&self) -> bool
+        ensures { result ≡ is_opened self.now }
+    {
+        if self.marks.is_empty() {
+            self.opens.is_empty()
+        } else {
+            !self.opens.is_empty() && self.sets == 0
+        }
+    }
+
+    /// Returns whether the stopwatch and the marks are complete, if there are any, and checked by search.
+    pub(crate) fn is_posed(&self) -> bool
+        ensures { result ≡ is_posed self.now }
+    {
+        self.is_timed() && self.is_opened()
     }
 
     /// Ends the current list of conditions, if there is one, and stores it by its role.
@@ -124,12 +148,13 @@ impl Question {
                 Role::Never => self.nevers.push(conditions)?,
                 Role::Begin => self.begins.push(conditions)?,
                 Role::End => self.ends.push(conditions)?,
+                Role::Open => self.opens.push(conditions)?,
             }
         }
         Ok(())
     }
 
-    /// Adds a condition to the current list. Returns false if no `never`, `begin` or `end` line precedes it.
+    /// Adds a condition to the current list. Returns false if no `never`, `begin`, `end` or `open` line precedes it.
     fn add_condition(&mut self, condition: Condition) -> Result<bool, AllocError>
         ensures { IfOk result (λ known. when known self.new
             ≡ with_condition self.old condition self.old.conditions) }
@@ -186,6 +211,7 @@ impl Question {
                 self.role = role;
             }
             QuestionLine::Met(condition) => return self.add_condition(condition),
+            QuestionLine::Seen(mark) => self.marks.push(mark)?,
             QuestionLine::Prove => {
                 self.end_conditions()?;
                 self.is_whole = true;

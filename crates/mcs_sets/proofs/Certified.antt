@@ -3,7 +3,7 @@ use Rattle.std.proofs.Common.{◌≡◌, ◌<◌, ◌∙◌, ℕ, zero, suc, Lis
 use Rattle.std.specs.List.{Contains}
 use Rattle.mcs_model.specs.declared.board.BoardParts.{BoardParts}
 use Rattle.mcs_drive.specs.Driven.{Levels, FitBoard}
-use Rattle.mcs_drive.specs.Tracked.{Tracked, under, cycled, driven, no_stopwatch}
+use Rattle.mcs_drive.specs.Tracked.{Tracked, under, cycled, driven, no_observer}
 use Rattle.mcs_sets.specs.declared.entries.Entry.{Entry}
 use Rattle.mcs_sets.specs.Entries.{accs_of, IsAmong}
 use Rattle.mcs_sets.specs.Following.{IsOf, Follows, StepsSuffice}
@@ -21,7 +21,7 @@ under-known board rom entries l s fit h = record {
   among = (h.among.0, h.among.1, record { at = h.among.2.at; calls = h.among.2.calls; ret = h.among.2.ret; acc = h.among.2.acc; places = h.among.2.places; carry = h.among.2.carry; registers = h.among.2.registers; banks = h.among.2.banks });
 }
 
-step-known : (board : BoardParts) (rom : List ℕ) (entries : List Entry) (s : Tracked) → ((e : Entry) → Contains entries e → Follows board rom entries e) → Known board rom entries s → Known board rom entries (cycled no_stopwatch s)
+step-known : (board : BoardParts) (rom : List ℕ) (entries : List Entry) (s : Tracked) → ((e : Entry) → Contains entries e → Follows board rom entries e) → Known board rom entries s → Known board rom entries (cycled no_observer s)
 step-known board rom entries s each h =
     let e = h.among.0 in
     record {
@@ -30,11 +30,11 @@ step-known board rom entries s each h =
     }
 
 driven-known : (board : BoardParts) (rom : List ℕ) (entries : List Entry) (s : Tracked) → ((e : Entry) → Contains entries e → Follows board rom entries e) → Known board rom entries s →
-    (f : ℕ → Levels) → ((k : ℕ) → FitBoard s.1.board (f k)) → (k : ℕ) → Known board rom entries (driven no_stopwatch f k s)
+    (f : ℕ → Levels) → ((k : ℕ) → FitBoard s.1.board (f k)) → (k : ℕ) → Known board rom entries (driven no_observer f k s)
 driven-known board rom entries s each h f fit zero = h
 driven-known board rom entries s each h f fit (suc k) =
-    step-known board rom entries (under (f k) (driven no_stopwatch f k s)) each
-    (under-known board rom entries (f k) (driven no_stopwatch f k s) (fit k).test (driven-known board rom entries s each h f fit k))
+    step-known board rom entries (under (f k) (driven no_observer f k s)) each
+    (under-known board rom entries (f k) (driven no_observer f k s) (fit k).test (driven-known board rom entries s each h f fit k))
 
 pub steps-suffice : StepsSuffice
 steps-suffice board rom entries s each is among = λ f fit k.

@@ -2,7 +2,7 @@
 use Rattle.std.proofs.Common.{◌≡◌, ℕ, zero, suc, List, Bool, true}
 use Rattle.std.specs.List.{Contains}
 use Rattle.mcs_drive.specs.Driven.{Levels, FitBoard}
-use Rattle.mcs_drive.specs.Tracked.{Tracked, under, driven, no_stopwatch}
+use Rattle.mcs_drive.specs.Tracked.{Tracked, under, driven, no_observer}
 use Rattle.mcs_sets.specs.declared.entries.Entry.{Entry}
 use Rattle.mcs_sets.specs.Entries.{accs_of}
 use Rattle.mcs_sets.specs.Excluding.{EntriesSuffice, HoldsIn}
@@ -11,15 +11,15 @@ use Rattle.mcs_sets.proofs.Memory.{has-lt, cycle-of_board}
 
 -- board and ROM stay, and RAM holds nibbles
 driven-of : (entries : List Entry) (s : Tracked) → IsOf s.1.board s.1.rom s.1 → StaysAmong entries s →
-    (f : ℕ → Levels) → ((k : ℕ) → FitBoard s.1.board (f k)) → (k : ℕ) → IsOf s.1.board s.1.rom (driven no_stopwatch f k s).1
+    (f : ℕ → Levels) → ((k : ℕ) → FitBoard s.1.board (f k)) → (k : ℕ) → IsOf s.1.board s.1.rom (driven no_observer f k s).1
 driven-of entries s of stays f fit zero = of
 driven-of entries s of stays f fit (suc k) =
     let was = driven-of entries s of stays f fit k in
     let among = stays f fit k in
-    cycle-of_board s.1.board s.1.rom (under (f k) (driven no_stopwatch f k s)) (has-lt (accs_of among.0 (driven no_stopwatch f k s).0.cy) (driven no_stopwatch f k s).0.acc among.2.acc)
+    cycle-of_board s.1.board s.1.rom (under (f k) (driven no_observer f k s)) (has-lt (accs_of among.0 (driven no_observer f k s).0.cy) (driven no_observer f k s).0.acc among.2.acc)
     (record { board = was.board; rom = was.rom; ram = was.ram; status = was.status; test = (fit k).test })
 
 pub entries-suffice : EntriesSuffice
 entries-suffice p entries s each of stays = λ f fit k.
     let among = stays f fit k in
-    each among.0 among.1 (driven no_stopwatch f k s) (driven-of entries s of stays f fit k) among.2
+    each among.0 among.1 (driven no_observer f k s) (driven-of entries s of stays f fit k) among.2

@@ -13,7 +13,7 @@ use Rattle.mcs_model.specs.Bus.{BusState, after_src, chips_of, src_of, has_chip,
 use Rattle.mcs_model.specs.Levels.{clock_levels, chains_clocked, with_rom_ports_at, after_ram_port, after_rom_port}
 use Rattle.mcs_model.specs.Effect.{bus_after, cycle_of, effect, instruction_at}
 use Rattle.mcs_model.specs.Running.{Machine}
-use Rattle.mcs_drive.specs.Tracked.{Tracked, machine_in, cycled, no_stopwatch}
+use Rattle.mcs_drive.specs.Tracked.{Tracked, machine_in, cycled, no_observer}
 use Rattle.mcs_sets.specs.Entries.{has}
 use Rattle.mcs_sets.specs.Following.{IsOf}
 
@@ -64,6 +64,6 @@ module _ (board : BoardParts) (rom : List ℕ) where
   cycle-when s false None small h = h
   cycle-when s false (Some op) small h = bus-of op s.0 s.1 small h
 
-  pub cycle-of_board : (s : Tracked) → s.0.acc < 16 → IsOf board rom s.1 → IsOf board rom (cycled no_stopwatch s).1
+  pub cycle-of_board : (s : Tracked) → s.0.acc < 16 → IsOf board rom s.1 → IsOf board rom (cycled no_observer s).1
   unfolding cycle_of
   cycle-of_board s small h = cycle-when (machine_in s) (eqb s.0.owed 1) (instruction_at s.0 s.1) small h

@@ -11,7 +11,7 @@ use Rattle.mcs_model.specs.Bus.{BusState, ram_of, status_of}
 use Rattle.mcs_model.specs.Effect.{effect, cycle_of, instruction_at}
 use Rattle.mcs_model.specs.Levels.{port_of}
 use Rattle.mcs_model.specs.Registers.{register_of}
-use Rattle.mcs_drive.specs.Tracked.{Tracked, machine_in, cycled, calls_after, elapsed_after, counts_after, no_stopwatch}
+use Rattle.mcs_drive.specs.Tracked.{Tracked, machine_in, cycled, calls_after, elapsed_after, seen_after, counts_after, no_observer}
 use Rattle.mcs_sets.proofs.Ports.{port-lt}
 use Rattle.mcs_sets.specs.declared.entries.Entry.{Entry}
 use Rattle.mcs_sets.specs.declared.landing.Choice.{Choice}
@@ -112,17 +112,17 @@ cycled-when b o op s e f = rw (e, f) refl
 opens-when : (b : Bool) (o : Option Op) (op : Op) (n : ℕ) → b ≡ false → o ≡ Some op → calls_after (cond b None o) n ≡ calls_after (Some op) n
 opens-when b o op n e f = rw (e, f) refl
 
-pub cycled-op : (op : Op) (s : Tracked) → eqb s.0.owed 1 ≡ false → instruction_at s.0 s.1 ≡ Some op → cycled no_stopwatch s ≡ done op s
+pub cycled-op : (op : Op) (s : Tracked) → eqb s.0.owed 1 ≡ false → instruction_at s.0 s.1 ≡ Some op → cycled no_observer s ≡ done op s
 unfolding cycle_of
 cycled-op op s free next =
     let work = cycled-when (eqb s.0.owed 1) (instruction_at s.0 s.1) op s free next in
     let opened = opens-when (eqb s.0.owed 1) (instruction_at s.0 s.1) op s.2.calls free next in
-    ap (λ (m : Regs × BusState). (m.0, m.1, counts_after no_stopwatch s)) work
-    ∙ ap (λ (n : ℕ). ((effect op s.0 s.1).0, (effect op s.0 s.1).1, record s.2 { calls = n; elapsed = elapsed_after no_stopwatch s })) opened
+    ap (λ (m : Regs × BusState). (m.0, m.1, counts_after no_observer s)) work
+    ∙ ap (λ (n : ℕ). ((effect op s.0 s.1).0, (effect op s.0 s.1).1, record s.2 { calls = n; elapsed = elapsed_after no_observer s; seen = seen_after no_observer s })) opened
 
 -- a machine after its idle cycle
 abbrev idle : Tracked → Tracked
-idle s = (record s.0 { owed = 0 }, s.1, record s.2 { elapsed = elapsed_after no_stopwatch s })
+idle s = (record s.0 { owed = 0 }, s.1, record s.2 { elapsed = elapsed_after no_observer s; seen = seen_after no_observer s })
 
 idle-when : (b : Bool) (o : Option Op) (s : Tracked) → b ≡ true →
     (unwrap_or (cond b (Some (record s.0 { owed = 0 }, s.1)) (elim o as (λ _. Option (Regs × BusState)) [ Some op ↦ Some (effect op s.0 s.1) | None ↦ None ])) (machine_in s)) ≡ machine_in (idle s)
@@ -131,11 +131,11 @@ idle-when b o s e = rw e refl
 idle-opens : (b : Bool) (o : Option Op) (n : ℕ) → b ≡ true → calls_after (cond b None o) n ≡ n
 idle-opens b o n e = rw e refl
 
-cycled-idle : (s : Tracked) → eqb s.0.owed 1 ≡ true → cycled no_stopwatch s ≡ idle s
+cycled-idle : (s : Tracked) → eqb s.0.owed 1 ≡ true → cycled no_observer s ≡ idle s
 unfolding cycle_of
 cycled-idle s owed =
-    ap (λ (m : Regs × BusState). (m.0, m.1, counts_after no_stopwatch s)) (idle-when (eqb s.0.owed 1) (instruction_at s.0 s.1) s owed)
-    ∙ ap (λ (n : ℕ). ((idle s).0, (idle s).1, record s.2 { calls = n; elapsed = elapsed_after no_stopwatch s })) (idle-opens (eqb s.0.owed 1) (instruction_at s.0 s.1) s.2.calls owed)
+    ap (λ (m : Regs × BusState). (m.0, m.1, counts_after no_observer s)) (idle-when (eqb s.0.owed 1) (instruction_at s.0 s.1) s owed)
+    ∙ ap (λ (n : ℕ). ((idle s).0, (idle s).1, record s.2 { calls = n; elapsed = elapsed_after no_observer s; seen = seen_after no_observer s })) (idle-opens (eqb s.0.owed 1) (instruction_at s.0 s.1) s.2.calls owed)
 
 idle-in : (e : Entry) (s : Tracked) → IsIn e s → IsIn e (idle s)
 idle-in e s is = record { at = is.at; calls = is.calls; ret = is.ret; acc = is.acc; places = is.places; carry = is.carry; registers = is.registers; banks = is.banks }
@@ -176,7 +176,7 @@ fits-own board rom op e s bus valid calls of is few same_rom same_board = record
   nibbles = λ k h. has-lt (slice_index e.sets k) (register_of s.0 k) (register-in e s k h is);
 }
 
-pub next-among : (board : BoardParts) (rom : List ℕ) (entries : List Entry) (op : Op) (e : Entry) (s : Tracked) → IsValidOp op → FitsCalls op e.calls → op_at rom e.at ≡ Some op → IsOf board rom s.1 → IsIn e s → eqb s.0.owed 1 ≡ false → AllTaken rom board entries e op → IsAmong entries (cycled no_stopwatch s)
+pub next-among : (board : BoardParts) (rom : List ℕ) (entries : List Entry) (op : Op) (e : Entry) (s : Tracked) → IsValidOp op → FitsCalls op e.calls → op_at rom e.at ≡ Some op → IsOf board rom s.1 → IsIn e s → eqb s.0.owed 1 ≡ false → AllTaken rom board entries e op → IsAmong entries (cycled no_observer s)
 next-among board rom entries op e s valid calls there of is free all =
     let by = own-taken board rom entries op e s valid of is all in
     let next : instruction_at s.0 s.1 ≡ Some op = instruction-in s.0 s.1 ∙ ap (λ (l : List ℕ). op_at l s.0.pc) of.rom ∙ ap (op_at rom) is.at ∙ there in

@@ -5,7 +5,7 @@ use Rattle.std.specs.List.{Contains}
 use Rattle.mcs_model.specs.declared.board.BoardParts.{BoardParts}
 use Rattle.mcs_model.specs.declared.op.Op.{Op}
 use Rattle.mcs_model.specs.declared.op.Op.TheVariants.{Jcn, Fim, Fin, Jun, Jms, Isz}
-use Rattle.mcs_drive.specs.Tracked.{Tracked, Holds, no_stopwatch}
+use Rattle.mcs_drive.specs.Tracked.{Tracked, Holds, no_observer}
 use Rattle.mcs_check.specs.declared.common_mistakes.Mistakes.{Mistakes}
 use Rattle.mcs_check.specs.declared.conditions.Condition.{Condition}
 use Rattle.mcs_check.specs.Conditions.{are_met, is_met}
@@ -32,7 +32,7 @@ abbrev pub EntriesSuffice : Type 0
 EntriesSuffice =
     (p : Tracked → Bool) (entries : List Entry) (s : Tracked) →
     ((e : Entry) → Contains entries e → HoldsIn s.1.board s.1.rom p e) →
-    IsOf s.1.board s.1.rom s.1 → StaysAmong entries s → Holds no_stopwatch p s
+    IsOf s.1.board s.1.rom s.1 → StaysAmong entries s → Holds no_observer p s
 
 -- holds if each number in a set has a property
 abbrev pub AllIn : ℕ → (ℕ → Type 0) → Type 0

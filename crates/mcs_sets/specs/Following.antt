@@ -5,7 +5,7 @@ use Rattle.std.specs.List.{Contains}
 use Rattle.mcs_model.specs.declared.board.BoardParts.{BoardParts}
 use Rattle.mcs_model.specs.Bus.{BusState}
 use Rattle.mcs_drive.specs.Driven.{Levels, FitBoard}
-use Rattle.mcs_drive.specs.Tracked.{Tracked, cycled, driven, no_stopwatch}
+use Rattle.mcs_drive.specs.Tracked.{Tracked, cycled, driven, no_observer}
 use Rattle.mcs_sets.specs.declared.entries.Entry.{Entry}
 use Rattle.mcs_sets.specs.Entries.{IsIn, IsAmong}
 
@@ -20,12 +20,12 @@ pub record IsOf (parts : BoardParts) (program : List ℕ) (m : BusState) : Type 
 -- holds if each machine that an entry covers stays in the certificate for one cycle
 abbrev pub Follows : BoardParts → List ℕ → List Entry → Entry → Type 0
 Follows board rom entries e =
-    (s : Tracked) → IsOf board rom s.1 → IsIn e s → Contains entries e → IsAmong entries (cycled no_stopwatch s)
+    (s : Tracked) → IsOf board rom s.1 → IsIn e s → Contains entries e → IsAmong entries (cycled no_observer s)
 
 -- holds if the certificate covers the machine at every moment, for all inputs
 abbrev pub StaysAmong : List Entry → Tracked → Type 0
 StaysAmong entries s =
-    (f : ℕ → Levels) → ((k : ℕ) → FitBoard s.1.board (f k)) → (k : ℕ) → IsAmong entries (driven no_stopwatch f k s)
+    (f : ℕ → Levels) → ((k : ℕ) → FitBoard s.1.board (f k)) → (k : ℕ) → IsAmong entries (driven no_observer f k s)
 
 -- the induction: if each entry stays in the certificate for one cycle, the machine stays in it at every
 -- moment

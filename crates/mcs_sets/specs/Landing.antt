@@ -10,7 +10,7 @@ use Rattle.mcs_model.specs.Effect.{after_words, registers_after, bus_after, with
 use Rattle.mcs_model.specs.Levels.{port_of}
 use Rattle.mcs_model.specs.Registers.{register_of}
 use Rattle.mcs_model.specs.Table.{instruction_of}
-use Rattle.mcs_drive.specs.Tracked.{Tracked, calls_after, elapsed_after, no_stopwatch}
+use Rattle.mcs_drive.specs.Tracked.{Tracked, calls_after, elapsed_after, seen_after, no_observer}
 use Rattle.mcs_sets.specs.declared.entries.Entry.{Entry}
 use Rattle.mcs_sets.specs.declared.landing.Choice.{Choice}
 use Rattle.mcs_sets.specs.declared.landing.Landing.{Landing}
@@ -168,7 +168,11 @@ abbrev pub done : Op → Tracked → Tracked
 done op s = (
   registers_after op (after_words op s.0) s.1,
   bus_after op s.0 s.1,
-  record { calls = calls_after (Some op) s.2.calls; elapsed = elapsed_after no_stopwatch s },
+  record {
+    calls = calls_after (Some op) s.2.calls;
+    elapsed = elapsed_after no_observer s;
+    seen = seen_after no_observer s;
+  },
 )
 
 -- the choice that consists of a machine's own values

@@ -1,6 +1,6 @@
 //! Proves with sets of values that a machine never meets given conditions, for all levels of its keys and its TEST pin.
 ghost use Rattle.std.specs.Prelude.{◌≡◌, ◌<◌, IsTrue, ℕ, length, map, slice_index_or};
-ghost use Rattle.mcs_drive.specs.Tracked.{no_stopwatch, without_calls};
+ghost use Rattle.mcs_drive.specs.Tracked.{no_observer, without_calls};
 ghost use Rattle.mcs_check.specs.Conditions.{keeps_to};
 ghost use Rattle.mcs_check.specs.Promised.{IsProved};
 ghost use Rattle.mcs_sets.specs.declared.entries.Entry.{Entry};
@@ -50,7 +50,7 @@ fn outcome_of(
     links: &[usize],
     nevers: &[Vec<Condition>],
 ) -> Outcome
-    ensures { IsProved no_stopwatch (keeps_to (map (λ n. n.items) nevers.now)) (without_calls (cpu.now, rig.old)) result }
+    ensures { IsProved no_observer (keeps_to (map (λ n. n.items) nevers.now)) (without_calls (cpu.now, rig.old)) result }
 {
     rig_is_known(rig);
     if !all_keep(rig, entries, nevers) {
@@ -121,7 +121,7 @@ pub fn check_by_sets(
     most: usize,
     memory: usize,
 ) -> Outcome
-    ensures { IsProved no_stopwatch (keeps_to (map (λ n. n.items) nevers.now)) (without_calls (cpu.now, rig.old)) result }
+    ensures { IsProved no_observer (keeps_to (map (λ n. n.items) nevers.now)) (without_calls (cpu.now, rig.old)) result }
 {
     if !can_keep(nevers) {
         return Outcome::GaveUp;

@@ -21,8 +21,8 @@ pub(crate) const FACES: [u8; 6] = [8, 1, 9, 3, 11, 7];
 /// The address of the lamp patterns.
 const FACES_AT: u16 = 42;
 
-/// Returns a board with a ROM with outputs, a ROM with inputs, a RAM chip and one key.
-fn one_key() -> Result<Board, BoardFault> {
+/// Returns a board with a ROM with outputs, a ROM with inputs, a RAM chip, and keys in one column.
+fn keys_of(rows: u8) -> Result<Board, BoardFault> {
     let mut roms = [None; ROMS];
     roms[0] = Some(OUTPUTS);
     roms[1] = Some(INPUTS);
@@ -33,7 +33,7 @@ fn one_key() -> Result<Board, BoardFault> {
         keys: Some(KeyMatrix {
             chain: 0,
             first: 0,
-            rows: 1,
+            rows,
             columns: lines(&[Line::Rom(1, 0)]),
         }),
         lamps: lines(&[]),
@@ -49,15 +49,25 @@ fn put(rig: &mut BenchRig, from: u16, bytes: &[u8]) {
     }
 }
 
-/// Returns a rig with the die's board and faces and with the given program, before its first cycle.
-pub(crate) fn rig(alloc: Global, rt: &impl Abort, program: &[u8]) -> Result<BenchRig, AllocError> {
-    let board = one_key().expect(rt, "a board");
+/// Returns a rig with such a board and with the given program, before its first cycle.
+fn rig_of(
+    alloc: Global,
+    rt: &impl Abort,
+    rows: u8,
+    program: &[u8],
+) -> Result<BenchRig, AllocError> {
+    let board = keys_of(rows).expect(rt, "a board");
     let mut rig = BenchRig::new(alloc)?;
     assert!(rt; BenchRig::fits(&board));
     rig.wire(&board);
     put(&mut rig, 0, program);
     put(&mut rig, FACES_AT, &FACES);
     Ok(rig)
+}
+
+/// Returns a rig with the die's board, which has one key, and with the given program, before its first cycle.
+pub(crate) fn rig(alloc: Global, rt: &impl Abort, program: &[u8]) -> Result<BenchRig, AllocError> {
+    rig_of(alloc, rt, 1, program)
 }
 
 /// Returns a machine with the die's board and faces and with the given program, before its first
@@ -68,6 +78,16 @@ pub(crate) fn machine(
     program: &[u8],
 ) -> Result<Replica, AllocError> {
     let rig = rig(alloc, rt, program)?;
+    Ok(Replica::of(Cpu::new(), rig))
+}
+
+/// Returns a machine whose board has two keys, in two rows of one column.
+pub(crate) fn two_keys(
+    alloc: Global,
+    rt: &impl Abort,
+    program: &[u8],
+) -> Result<Replica, AllocError> {
+    let rig = rig_of(alloc, rt, 2, program)?;
     Ok(Replica::of(Cpu::new(), rig))
 }
 

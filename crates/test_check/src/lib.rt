@@ -10,6 +10,8 @@ mod checks;
 #[cfg(test)]
 mod mistakes;
 #[cfg(test)]
+mod openings;
+#[cfg(test)]
 mod refused;
 #[cfg(test)]
 mod sets;

@@ -58,7 +58,7 @@ fn is(index: u16, n: u8) -> Condition {
 }
 
 /// Returns the condition that an instruction begins at an address of page 0.
-fn begins_at(alloc: Global, low: u8) -> Result<Vec<Conjunction>, AllocError> {
+pub(crate) fn begins_at(alloc: Global, low: u8) -> Result<Vec<Conjunction>, AllocError> {
     let mut conditions = Vec::new(alloc);
     conditions.push(is(3, 0))?;
     conditions.push(is(4, 0))?;
@@ -83,7 +83,7 @@ fn checked(
     let limit = Cycles::of(limit).expect(rt, "a limit");
     let mut nevers = Vec::new(alloc);
     add_limit(alloc, &mut nevers, limit).expect(rt, "memory");
-    let aim = Aim::timed(nevers, begins, ends);
+    let aim = Aim::timed(alloc, nevers, begins, ends);
     check_all(alloc, machine, aim, MOST, MEMORY, PAUSE).expect(rt, "memory")
 }
 

@@ -35,6 +35,11 @@ export function isReturn(code) {
   return code >> 4 === 0xC;
 }
 
+/** @param {number} code */
+export function isJin(code) {
+  return code >> 4 === 0x3 && code % 2 === 1;
+}
+
 /**
  * Returns the target of the JMS or JUN at an address.
  * @param {Uint8Array} codes
@@ -57,7 +62,7 @@ export function hasWays(code) {
  * @param {number} code
  */
 export function neverContinues(code) {
-  return code >> 4 === 0x4 || isReturn(code) || (code >> 4 === 0x3 && code % 2 === 1);
+  return code >> 4 === 0x4 || isReturn(code) || isJin(code);
 }
 
 /**

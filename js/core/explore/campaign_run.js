@@ -1,5 +1,6 @@
 // A running campaign: the search, the minimising and confirmation of counterexamples, and their report.
 
+import { leftOutOf } from "../prove/question.js";
 import { linesOfFind, testOf } from "./find_test.js";
 import { Model } from "./model.js";
 import { ProofFirst } from "./proof_first.js";
@@ -138,7 +139,7 @@ export class CampaignRun {
    */
   async take(find) {
     const { campaign, subject, search: { start } } = this;
-    const short = await new Shortening(subject, campaign, start, find, this.patience, this.yieldToMessages).shorten();
+    const short = await new Shortening(subject, campaign, start, find, this.patience, this.yieldToMessages).shorten() || find;
     const { isGoal } = campaign.properties[short.property];
     const test = testOf(subject, start.file, campaign, short);
     if (!(await this.confirm(test, isGoal))) return this.doubt(short.property, test);
@@ -187,10 +188,10 @@ export class CampaignRun {
     return {
       form: "explore 1", ...given, seeds: [this.seed], steps: search.steps, states: search.stateCount, covered: search.coverage.text,
       instructions,
-      properties: properties.map(({ text, line, isGoal, form }, at) => ({
-        text, line, isGoal, isSkipped: form === "model" && this.model === null,
-        applied: search.applied.has(at) || isGoal, chains: this.model && at === this.modelled ? this.model.chains : 0,
-        states: proof.states[at], found: this.found[at],
+      properties: properties.map((property, at) => ({
+        text: property.text, line: property.line, isGoal: property.isGoal, isSkipped: property.form === "model" && this.model === null,
+        applied: search.applied.has(at) || property.isGoal, chains: this.model && at === this.modelled ? this.model.chains : 0,
+        states: proof.states[at], leftOut: leftOutOf(property), found: this.found[at],
       })),
     };
   }

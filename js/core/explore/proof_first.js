@@ -2,7 +2,7 @@
 // prover is asked about the properties that it can decide, with a bound on the states that doubles. The rest is searched for.
 
 import { allMistakes } from "../prove/mistakes.js";
-import { askedOf, boundsUpTo, jointQuestion, mistakeQuestion, questionText, readAnswer } from "../prove/question.js";
+import { askedOf, boundsUpTo, isAskedAlone, jointQuestion, mistakeQuestion, questionText, readAnswer } from "../prove/question.js";
 
 /**
  * @typedef {import("./campaign.js").Campaign} Campaign
@@ -30,7 +30,7 @@ export class ProofFirst {
     /** The number of states of each property that is proved; 0 for the others. */
     this.states = campaign.properties.map(() => 0);
     const alone = this.left > 0 ? questionsOf(subject, campaign) : [];
-    const joint = alone.filter(({ properties: [at], question }) => !campaign.properties[at].isGoal && !question.stopwatch);
+    const joint = alone.filter(({ properties: [at], question }) => !isAskedAlone(campaign.properties[at], question));
     /** @type {Asked[]} those that are still to be asked; the first one can combine others, which are asked if it does not hold */
     this.questions = joint.length > 1 ? [joined(joint), ...alone] : alone;
     this.bounds = boundsUpTo(MOST, FIRST);
@@ -92,11 +92,11 @@ export class ProofFirst {
  * @param {Campaign} campaign
  * @returns {Asked[]}
  */
-function questionsOf({ names: { board } }, campaign) {
+function questionsOf(subject, campaign) {
   const words = new Map(allMistakes().map(({ property: { form }, word }) => [form, word]));
   return campaign.properties.flatMap((property, at) => {
     const mistake = words.get(property.form);
-    const question = mistake ? mistakeQuestion([mistake]) : askedOf(property, campaign, board).question;
+    const question = mistake ? mistakeQuestion([mistake]) : askedOf(property, campaign, subject).question;
     return question ? [{ properties: [at], question }] : [];
   });
 }

@@ -15,9 +15,10 @@ import { neverReached, proved } from "../../words/prove.js";
  * @typedef {{ test: string, steps: number, cycles: number, seed: number }} Found
  *
  * A property in a report: `isSkipped` says that it is a model whose command was not run; `applied`, that it was checked; `states` are the
- * states of the proof that it holds for all inputs, otherwise 0; `chains` are the chains of keys for which a model was asked.
- * @typedef {{ text: string, line: number, isGoal: boolean, isSkipped: boolean, applied: boolean, states: number, chains: number,
- *   found: Found | null }} PropertyResult
+ * states of the proof that it holds for all inputs, otherwise 0, and `leftOut` the guards that a proof leaves out; `chains` are the
+ * chains of keys for which a model was asked.
+ * @typedef {{ text: string, line: number, isGoal: boolean, isSkipped: boolean, applied: boolean, states: number, leftOut: string,
+ *   chains: number, found: Found | null }} PropertyResult
  *
  * @typedef {{ form: "explore 1", names: { board: string, program: string, properties: string }, sums: string, properties: PropertyResult[],
  *   seeds: number[], steps: number, states: number, seconds: number, covered: string, instructions: Instruction[],
@@ -81,9 +82,9 @@ export function isRight({ isGoal, isSkipped, found }) {
  * @param {PropertyResult} property
  * @param {Report} report
  */
-export function remarkOf({ isGoal, applied, states, chains, found }, report) {
+export function remarkOf({ isGoal, applied, states, leftOut, chains, found }, report) {
   if (found) return `${isGoal ? "reached" : "broken"}, ${stepsOf(found.steps)}`;
-  if (states > 0) return isGoal ? neverReached(counted(states, "state")) : proved(counted(states, "state"));
+  if (states > 0) return (isGoal ? neverReached : proved)(counted(states, "state"), leftOut);
   if (chains > 0) return say.chainsOfKeys(grouped(chains));
   return applied ? say.stepsAndStates(grouped(report.steps), grouped(report.states)) : say.NEVER_LOOKED_AT;
 }

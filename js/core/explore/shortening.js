@@ -39,9 +39,10 @@ export class Shortening {
     this.yieldToMessages = yieldToMessages;
   }
 
-  /** @returns {Promise<Find>} */
+  /** @returns {Promise<Find | null>} null if the given steps do not violate the property */
   async shorten() {
     let isShorter = await this.take(this.steps);
+    if (!isShorter) return null;
     while (isShorter && this.left > 0) {
       isShorter = await this.leaveOut();
       isShorter = (await this.leaveOutPairs()) || isShorter;

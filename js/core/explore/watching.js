@@ -75,6 +75,21 @@ export class Watcher {
   }
 
   /**
+   * Watches a change of an input that takes no cycle.
+   * @param {Start} start
+   * @param {WalkStep} step
+   * @param {number[]} open the numbers of properties
+   * @returns {{ broken: Broken | null, after: After[] }}
+   */
+  watchChange(start, step, open) {
+    const memories = start.memories.map((memory) => [...memory]);
+    const walk = new Walk(this, memories, open, start);
+    walk.values = new PlaceValues(this.subject.engine.ask(start.file, this.places.lines(1)).answers).changes(this.places).values;
+    walk.notifyChangeOf(step);
+    return { broken: walk.broken && { ...walk.broken, step: 0 }, after: [{ time: walk.time, down: walk.down, memories, isNew: false }] };
+  }
+
+  /**
    * @param {Uint8Array} file
    * @param {WalkStep[]} steps
    * @param {number[]} open

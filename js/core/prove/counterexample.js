@@ -6,7 +6,7 @@ import { linesOfFind, testOf } from "../explore/find_test.js";
 import { addressesOf } from "../explore/properties.js";
 import { Shortening } from "../explore/shortening.js";
 import { Watcher } from "../explore/watching.js";
-import { downAfter, downAtFirst, isSound, linesOf } from "../explore/walks.js";
+import { downAtFirst, isSound, linesOf } from "../explore/walks.js";
 import { cyclesToMistake } from "./mistakes.js";
 import { allInputs, wayOf } from "./way.js";
 
@@ -26,8 +26,8 @@ import { allInputs, wayOf } from "./way.js";
 const PATIENCE = 10e6;
 /** A longer counterexample of a property with labels is not minimised: each try lists its instructions. */
 const MOST_LISTED = 1e6;
-/** Properties whose memory begins at power-on. */
-const REMEMBERED = new Set(["calls", "returns", "never for", "every", "within"]);
+/** Forms whose memory begins at power-on, as that of guards does. */
+const REMEMBERED = new Set(["calls", "returns", "never for", "every", "within", "only after"]);
 
 /**
  * Returns a campaign in which one property is judged, and all inputs may change at any time.
@@ -104,10 +104,10 @@ class Replay {
     this.allowed = campaign;
     this.free = freeCampaign(campaign, property, allInputs(subject));
     this.down = downAtFirst(this.free);
-    const [{ form }] = this.free.properties;
+    const [{ form, guards }] = this.free.properties;
     /** True if walks receive nothing that breaks the property. */
     this.isUnseen = form === "mistake";
-    this.isRemembered = REMEMBERED.has(form);
+    this.isRemembered = REMEMBERED.has(form) || guards.length > 0;
   }
 
   /**
@@ -131,7 +131,8 @@ class Replay {
       const cycles = cyclesToMistake(subject, file, this.mistake, rest);
       return cycles < 0 ? null : { property: 0, steps, time: time + cycles };
     }
-    const waits = wholeRuns(Math.max(1, rest)).map((wait) => ({ wait, kind: /** @type {const} */ ("none"), input: -1 }));
+    // A cycle more begins the instruction at a label there.
+    const waits = wholeRuns(rest + 1).map((wait) => ({ wait, kind: /** @type {const} */ ("none"), input: -1 }));
     const broken = isRemembered ? this.timeBroken(subject.file, [...steps.flatMap(cut), ...waits]) : this.timeBroken(file, waits);
     if (broken < 0) return null;
     return isRemembered ? { property: 0, steps: stepsBefore(steps, broken), time: broken } : { property: 0, steps, time: time + broken };
@@ -149,8 +150,7 @@ class Replay {
     let start = this.start(begun.slice());
     for (const step of steps) {
       // Inputs can change together, but a run takes a cycle.
-      const { broken, after: [after] } = step.wait > 0 ? watcher.watch(start, [step], [0])
-        : { broken: null, after: [{ ...start, down: downAfter(start.down, step) }] };
+      const { broken, after: [after] } = step.wait > 0 ? watcher.watch(start, [step], [0]) : watcher.watchChange(start, step, [0]);
       if (broken) return broken.time;
       if (!after) return -1;
       engine.serve(start.file, linesOf(free, [step]), start.file);
@@ -169,7 +169,7 @@ class Replay {
     const steps = spread(find.steps);
     const isLong = find.time > MOST_LISTED && free.properties.some((property) => addressesOf(property).length > 0);
     if (!steps || this.isUnseen || isLong) return find;
-    return new Shortening(subject, free, this.start(subject.file), { ...find, steps }, PATIENCE, yieldToMessages).shorten();
+    return await new Shortening(subject, free, this.start(subject.file), { ...find, steps }, PATIENCE, yieldToMessages).shorten() || find;
   }
 
   /**

@@ -5,7 +5,7 @@
 import { stepsOf } from "../explore/report.js";
 import { counterexampleOf } from "./counterexample.js";
 import { allMistakes } from "./mistakes.js";
-import { askedOf, jointQuestion, mistakeQuestion } from "./question.js";
+import { askedOf, isAskedAlone, isCounting, jointQuestion, leftOutOf, mistakeQuestion } from "./question.js";
 import * as say from "../../words/prove.js";
 
 /**
@@ -33,6 +33,24 @@ import * as say from "../../words/prove.js";
 /** Answers that stay the same if less is asked: the search finds the same states in the same order. */
 const ENDS = new Set(["more", "full"]);
 
+/**
+ * Returns the verdict that a property holds.
+ * @param {Property} property
+ * @param {number} states
+ * @param {boolean} bySets
+ * @returns {Verdict}
+ */
+const proofOf = (property, states, bySets) => ({ kind: "proved", states, bySets, leftOut: leftOutOf(property) });
+
+/**
+ * Returns why a property is not decided if the bench does not confirm the counterexample that was found.
+ * @param {Property} property
+ */
+function unconfirmed(property) {
+  if (property.guards.length > 0) return say.failsWithout(leftOutOf(property), property.isGoal);
+  return property.form === "only after" ? say.READ_LESS : say.NOT_CONFIRMED;
+}
+
 export class Judging {
   /**
    * @param {Subject} subject
@@ -43,10 +61,9 @@ export class Judging {
     this.subject = subject;
     this.campaign = campaign;
     this.calls = calls;
-    const { names: { board } } = subject;
     /** @type {{ property: Property, asked: Asked }[]} the properties of the text, with the questions of each */
     this.all = campaign.properties.filter(({ line }) => line > 0)
-      .map((property) => ({ property, asked: askedOf(property, campaign, board) }));
+      .map((property) => ({ property, asked: askedOf(property, campaign, subject) }));
     this.mistakes = allMistakes();
     /** The number of properties that are judged. */
     this.count = 0;
@@ -72,10 +89,9 @@ export class Judging {
     return (at < all.length ? all[at] : mistakes[at - all.length]).property.text;
   }
 
-  /** The questions that are asked together: all their properties hold, or one of them fails. A question has one stopwatch at most. */
+  /** The questions that are asked together. */
   get joint() {
-    return this.all.flatMap(({ property, asked: { question } }) => (
-      property.isGoal || !question || question.stopwatch ? [] : [question]));
+    return this.all.flatMap(({ property, asked: { question } }) => (!question || isAskedAlone(property, question) ? [] : [question]));
   }
 
   /**
@@ -107,32 +123,35 @@ export class Judging {
   async judgeMistake({ property, word }) {
     const question = mistakeQuestion([word]);
     const any = mistakeQuestion(this.mistakes.map((each) => each.word));
-    if (this.count === this.all.length) this.noMistake = await this.provedBySets(any);
+    if (this.count === this.all.length) this.noMistake = await this.provedBySets(property, any);
     if (this.noMistake) return { property, verdict: this.noMistake };
     if (!this.anyMistake) this.anyMistake = await this.calls.ask(any);
     const answer = this.anyMistake.kind === "fails" ? await this.calls.ask(question) : this.anyMistake;
     const verdict = await this.verdictOf(property, answer, { ...this.campaign, properties: [property] }, word);
-    return { property, verdict: await this.decided(verdict, question) };
+    return { property, verdict: await this.decided(property, verdict, question) };
   }
 
   /**
-   * Returns the verdict that conditions are never met and mistakes never made, if sets of states show it; else null. They show no times.
+   * Returns the verdict that conditions are never met and mistakes never made, if sets of states show it; else null. They show no times
+   * and no presses.
+   * @param {Property} property
    * @param {Question} question
    * @returns {Promise<Verdict | null>}
    */
-  async provedBySets(question) {
-    if (question.stopwatch) return null;
+  async provedBySets(property, question) {
+    if (isCounting(question)) return null;
     const answer = await this.calls.askBySets(question);
-    return answer.kind === "holds" ? { kind: "proved", states: answer.states, bySets: true } : null;
+    return answer.kind === "holds" ? proofOf(property, answer.states, true) : null;
   }
 
   /**
    * Returns the verdict of a search; if it is open, the one by sets of states, if these decide it.
+   * @param {Property} property
    * @param {Verdict} verdict
    * @param {Question} question
    */
-  async decided(verdict, question) {
-    return (verdict.kind === "open" && await this.provedBySets(question)) || verdict;
+  async decided(property, verdict, question) {
+    return (verdict.kind === "open" && await this.provedBySets(property, question)) || verdict;
   }
 
   /** Judges all properties and mistakes. */
@@ -149,7 +168,7 @@ export class Judging {
    */
   async judge(property, question) {
     const verdict = await this.verdictOf(property, await this.answerTo(property, question), this.campaign, "");
-    return this.decided(verdict, question);
+    return this.decided(property, verdict, question);
   }
 
   /**
@@ -161,12 +180,13 @@ export class Judging {
    * @returns {Promise<Verdict>}
    */
   async verdictOf(property, answer, campaign, mistake) {
-    if (answer.kind === "holds") return { kind: "proved", states: answer.states, bySets: false };
+    if (answer.kind === "holds") return proofOf(property, answer.states, false);
     if (answer.kind !== "fails") return { kind: "open", words: this.calls.reason(answer) };
     const { subject, calls } = this;
     const found = await counterexampleOf(subject, campaign, campaign.properties.indexOf(property), answer.values, calls.yieldToMessages,
       mistake);
-    if (!found || !await calls.confirms(found, property.isGoal)) return { kind: "open", words: say.NOT_CONFIRMED };
+    if (!found) return { kind: "open", words: unconfirmed(property) };
+    if (!await calls.confirms(found, property.isGoal)) return { kind: "open", words: say.NOT_CONFIRMED };
     return found.isAllowed || property.isGoal ? { kind: "found", found } : { kind: "open", words: say.excluded(stepsOf(found.steps)) };
   }
 
@@ -175,8 +195,8 @@ export class Judging {
    * @param {Property} property
    * @param {Question} question
    */
-  async answerTo({ isGoal }, question) {
-    if (isGoal || question.stopwatch) return this.calls.ask(question);
+  async answerTo(property, question) {
+    if (isAskedAlone(property, question)) return this.calls.ask(question);
     const { joint } = this;
     if (!this.together) this.together = await this.calls.ask(jointQuestion(joint));
     const { together } = this;

@@ -3,6 +3,9 @@
 
 import { NotAsked, comparisonsOf } from "./decided.js";
 import { NEVER_MET, isAt } from "./cells.js";
+import { textOfKey } from "../board/key_place.js";
+import { isJin, isReturn } from "../engine/rom_codes.js";
+import { keysOf } from "../explore/explored_inputs.js";
 import { grouped } from "../explore/report.js";
 import { sentText } from "../text/text_fault.js";
 import * as say from "../../words/prove.js";
@@ -12,15 +15,22 @@ import * as say from "../../words/prove.js";
  * @typedef {import("../conditions/condition_language.js").Condition} Condition
  * @typedef {import("../explore/campaign.js").Campaign} Campaign
  * @typedef {import("../explore/properties.js").Property} Property
+ * @typedef {import("../explore/subject.js").Subject} Subject
  * @typedef {import("../bench/answers.js").Board} Board
+ * @typedef {import("../board/face.js").Face} Face
+ * @typedef {import("../board/key_place.js").MatrixKey} MatrixKey
  *
  * A stopwatch counts cycles. It begins at a moment at which one list of `begins` holds whole, and stops at the next one at which a list of
  * `ends` does.
  * @typedef {{ begins: Comparisons[], ends: Comparisons[], within: number }} Stopwatch
  *
+ * Presses that come before one list of `opens` holds whole: since one did last, the program has read each key up and then down, one key
+ * after the other.
+ * @typedef {{ opens: Comparisons[], keys: MatrixKey[] }} Presses
+ *
  * A question: `nevers` are lists of comparisons that must never hold whole; `mistakes` are the words of mistakes that must never be made;
- * the stopwatch, null for none, must never run for more than `within` cycles.
- * @typedef {{ nevers: Comparisons[], mistakes: string[], stopwatch: Stopwatch | null }} Question
+ * the stopwatch, null for none, must never run for more than `within` cycles; the presses, null for none, must come first.
+ * @typedef {{ nevers: Comparisons[], mistakes: string[], stopwatch: Stopwatch | null, presses: Presses | null }} Question
  *
  * The question about a property, or why nothing is asked.
  * @typedef {{ question: Question, words: "" } | { question: null, words: string }} Asked
@@ -44,8 +54,12 @@ export const MOST_SETS = 100000;
 const FIRST = 10000;
 /** The most cycles that a stopwatch may run. */
 export const MAX_TIME = 16777214;
+/** The most presses of a property: the prover counts that each key is up, and that it is down. */
+export const MOST_PRESSES = 100;
 /** The counter at power-on. */
 const POWER_ON = 0;
+/** A question about nothing. @type {Question} */
+const NOTHING = { nevers: [], mistakes: [], stopwatch: null, presses: null };
 
 /**
  * Returns the bounds on the states, each twice the one before it, up to the last one.
@@ -63,23 +77,43 @@ export function boundsUpTo(most, first = FIRST) {
  * @param {Comparisons[]} nevers
  * @returns {Question}
  */
-export const neverQuestion = (nevers) => ({ nevers, mistakes: [], stopwatch: null });
+export const neverQuestion = (nevers) => ({ ...NOTHING, nevers });
 
 /**
  * Returns the question whether some mistakes are ever made.
  * @param {string[]} mistakes their words
  * @returns {Question}
  */
-export const mistakeQuestion = (mistakes) => ({ nevers: [], mistakes, stopwatch: null });
+export const mistakeQuestion = (mistakes) => ({ ...NOTHING, mistakes });
 
 /**
- * Returns one question for several without a stopwatch.
+ * Returns whether a question counts something: the cycles of a stopwatch, or presses.
+ * @param {Question} question
+ */
+export const isCounting = ({ stopwatch, presses }) => stopwatch !== null || presses !== null;
+
+/**
+ * Returns whether a property has its question alone. The others are asked together: all of them hold, or one of them fails. One that is
+ * proved without its guards is more likely to fail than they are.
+ * @param {Property} property
+ * @param {Question} question
+ */
+export const isAskedAlone = ({ isGoal, guards }, question) => isGoal || guards.length > 0 || isCounting(question);
+
+/**
+ * Returns one question for several that count nothing.
  * @param {Question[]} questions
  * @returns {Question}
  */
 export function jointQuestion(questions) {
-  return { nevers: questions.flatMap(({ nevers }) => nevers), mistakes: questions.flatMap(({ mistakes }) => mistakes), stopwatch: null };
+  return { ...NOTHING, nevers: questions.flatMap(({ nevers }) => nevers), mistakes: questions.flatMap(({ mistakes }) => mistakes) };
 }
+
+/**
+ * Returns lists of comparisons of which at least one is there.
+ * @param {Comparisons[]} lists
+ */
+const someOf = (lists) => (lists.length > 0 ? lists : [NEVER_MET]);
 
 /**
  * Returns the question whether a stopwatch ever runs for longer than its limit; throws NotAsked if the limit is too long.
@@ -90,19 +124,45 @@ export function jointQuestion(questions) {
  */
 function timeQuestion(begins, ends, within) {
   if (within > MAX_TIME) throw new NotAsked(say.timeIsLong(grouped(MAX_TIME)));
-  const [someBegins, someEnds] = [begins, ends].map((lists) => (lists.length > 0 ? lists : [NEVER_MET]));
-  return { nevers: [], mistakes: [], stopwatch: { begins: someBegins, ends: someEnds, within } };
+  return { ...NOTHING, stopwatch: { begins: someOf(begins), ends: someOf(ends), within } };
 }
 
 /**
- * The questions about properties, by their forms.
- * @type {Record<string, (property: Property & { condition: Condition }, board: Board) => Question>}
+ * Returns the key of the matrix with a name; throws NotAsked for the TEST pin.
+ * @param {Face} face
+ * @param {string} name
+ */
+function keyNamed(face, name) {
+  const named = keysOf(face).find((input) => input.name === name);
+  if (!named || named.key.kind !== "matrix") throw new NotAsked(say.isNoMatrixKey(name));
+  return named.key;
+}
+
+/**
+ * Returns the question whether a condition becomes true only after some presses; throws NotAsked if the prover cannot count them. Between
+ * the two cycles of an instruction, the condition counts as after them.
+ * @param {Property} property
+ * @param {Subject} subject
+ * @returns {Question}
+ */
+function pressQuestion({ condition, address, keys }, { names: { board, face }, codes }) {
+  if (keys.length > MOST_PRESSES) throw new NotAsked(say.hasManyPresses(MOST_PRESSES));
+  // These lead from the label to itself in one cycle, so the prover would not see that the counter reaches it again.
+  if (!condition && (isJin(codes[address]) || isReturn(codes[address]))) throw new NotAsked(say.LABEL_REPEATS);
+  const opens = condition ? comparisonsOf(condition, true, board, true) : [isAt(address)];
+  return { ...NOTHING, presses: { opens: someOf(opens), keys: keys.map((name) => keyNamed(face, name)) } };
+}
+
+/**
+ * The questions about properties, by their forms. A guard that depends on the past is left out: without it, a property says more.
+ * @type {Record<string, (property: Property & { condition: Condition }, board: Board, subject: Subject) => Question>}
  */
 const FORMS = {
   never: ({ condition, address }, board) => neverQuestion(condition ? comparisonsOf(condition, true, board) : [isAt(address)]),
   always: ({ condition }, board) => neverQuestion(comparisonsOf(condition, false, board)),
   at: ({ condition, address }, board) => (
     neverQuestion(comparisonsOf(condition, false, board).map((comparisons) => [...isAt(address), ...comparisons]))),
+  "only after": (property, _board, subject) => pressQuestion(property, subject),
   reach: ({ condition, address }, board) => neverQuestion(condition ? comparisonsOf(condition, true, board) : [isAt(address)]),
   "reach at": ({ address }) => neverQuestion([isAt(address)]),
   "never for": ({ condition, limit }, board) => (
@@ -113,24 +173,29 @@ const FORMS = {
 };
 
 /**
- * Returns the question of a property to the prover.
+ * Returns the question of a property to the prover. It leaves out the guards of the property.
  * @param {Property} property
  * @param {Campaign} campaign
- * @param {Board} board
+ * @param {Subject} subject
  * @returns {Asked}
  */
-export function askedOf(property, { from }, board) {
+export function askedOf(property, { from }, subject) {
   const form = FORMS[property.form];
   if (!form) return { question: null, words: say.otherForm(property.form) };
-  if (property.guards.length > 0) return { question: null, words: say.HAS_GUARDS };
   if (from) return { question: null, words: say.BEGINS_LATER };
   try {
-    return { question: form(/** @type {Property & { condition: Condition }} */ (property), board), words: "" };
+    return { question: form(/** @type {Property & { condition: Condition }} */ (property), subject.names.board, subject), words: "" };
   } catch (thrown) {
     if (!(thrown instanceof NotAsked)) throw thrown;
     return { question: null, words: thrown.message };
   }
 }
+
+/**
+ * Returns the guards that the question about a property leaves out, by their first words; "" if there are none.
+ * @param {Property} property
+ */
+export const leftOutOf = ({ guards }) => say.guardsNamed(new Set(guards.map(({ kind }) => kind)));
 
 /**
  * Returns the lines of conditions, one of which is met if all comparisons of one list hold.
@@ -140,18 +205,25 @@ export function askedOf(property, { from }, board) {
 const linesOf = (word, lists) => lists.flatMap((all) => [word, ...all]);
 
 /**
+ * Returns the lines that a key is up, and then down.
+ * @param {MatrixKey} key
+ */
+const linesOfPress = (key) => ["up", "down"].map((level) => [level, textOfKey(key)].join(" "));
+
+/**
  * Returns the lines of a question.
  * @param {{ board: string, program: string }} texts
  * @param {Question} question
  * @param {QuestionLimits} limits
  */
-export function questionText({ board, program }, { nevers, mistakes, stopwatch }, { most, memory = 0, sets = 0, pause = PAUSE }) {
+export function questionText({ board, program }, { nevers, mistakes, stopwatch, presses }, { most, memory = 0, sets = 0, pause = PAUSE }) {
   const given = Object.entries({ memory, sets }).filter(([, number]) => number > 0);
   const limits = [["most", most], ...given, ["pause", pause]].map((words) => words.join(" "));
   const texts = [`wire\n${sentText(board, "#")}.`, `asm\n${sentText(program, ";")}.`];
   const made = mistakes.length > 0 ? ["never", ["mistake", ...mistakes].join(" ")] : [];
   const timed = stopwatch ? [`within ${stopwatch.within}`, ...linesOf("begin", stopwatch.begins), ...linesOf("end", stopwatch.ends)] : [];
-  return `${[...limits, ...texts, ...linesOf("never", nevers), ...made, ...timed, "prove"].join("\n")}\n`;
+  const pressed = presses ? [...linesOf("open", presses.opens), ...presses.keys.flatMap(linesOfPress)] : [];
+  return `${[...limits, ...texts, ...linesOf("never", nevers), ...made, ...timed, ...pressed, "prove"].join("\n")}\n`;
 }
 
 /** @type {[RegExp, NoAnswer][]} */

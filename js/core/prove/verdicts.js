@@ -9,9 +9,9 @@ import * as say from "../../words/prove.js";
  * @typedef {import("../explore/properties.js").Property} Property
  * @typedef {import("./counterexample.js").Counterexample} Counterexample
  *
- * The verdict on a property: it is proved, with the number of states, or of sets of states; there is a counterexample (for a goal: a way
- * to it); or it is not decided, for a reason.
- * @typedef {{ kind: "proved", states: number, bySets: boolean }} Proved
+ * The verdict on a property: it is proved, with the number of states, or of sets of states, and the guards that the proof leaves out; there
+ * is a counterexample (for a goal: a way to it); or it is not decided, for a reason.
+ * @typedef {{ kind: "proved", states: number, bySets: boolean, leftOut: string }} Proved
  * @typedef {Proved | { kind: "found", found: Counterexample } | { kind: "open", words: string }} Verdict
  * @typedef {{ property: Property, verdict: Verdict }} Judged
  */
@@ -32,7 +32,7 @@ export function statesOf({ states, bySets }) {
 /** @type {(judged: Judged) => string} */
 function remarkOf({ property: { isGoal }, verdict }) {
   if (verdict.kind === "open") return say.notDecided(verdict.words);
-  if (verdict.kind === "proved") return isGoal ? say.neverReached(statesOf(verdict)) : say.proved(statesOf(verdict));
+  if (verdict.kind === "proved") return (isGoal ? say.neverReached : say.proved)(statesOf(verdict), verdict.leftOut);
   return isGoal ? say.reachedBy(stepsOf(verdict.found.steps)) : say.brokenBy(stepsOf(verdict.found.steps));
 }
 

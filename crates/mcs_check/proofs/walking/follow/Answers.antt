@@ -1,4 +1,4 @@
-use Rattle.mcs_check.specs.Conditions.{keeps_to, stopwatch_in}
+use Rattle.mcs_check.specs.Conditions.{keeps_to, observer_in}
 use Rattle.mcs_check.specs.Keys.{IsOn, IsKeyOf, setting_of}
 use Rattle.mcs_check.proofs.Ignoring.{conditions-ignore}
 use Rattle.mcs_check.proofs.Keeping.{keeps-on}
@@ -18,7 +18,7 @@ returns-clause-leads c = λ _.
     let reaches = c.go_to_station.ensures.reaches c.if-not-go_to_station.false in
     let next : IsKeyOf g c.save.new.key n = record {
       on = on-kept start n c.show_state_is_valid-2.ensures.registers c.show_state_is_valid-2.ensures.bus c.requires.keys c.requires.test kept;
-      well = reaches-well (stopwatch_in c.args.aim.now) p x n reaches;
+      well = reaches-well (observer_in c.args.aim.now) p x n reaches;
       cells = c.save.ensures;
     } in
     walked-leads g c.args.key.now c.save.new.key c.args.value m x n (conditions-ignore c.args.aim.now.nevers) c.requires.complete on (c.load.ensures.loaded c.if-not-load.false) (c.read.ensures.read c.if-not-read.false) reaches next

@@ -1,7 +1,7 @@
-use Rattle.std.proofs.Common.{◌≡◌, ◌∙◌, ℕ, List, Vec, Global, map, ap, subst}
+use Rattle.std.proofs.Common.{◌≡◌, ◌∙◌, ℕ, List, [], Vec, Global, map, ap, subst}
 use Rattle.mcs_drive.specs.Tracked.{Tracked}
 use Rattle.mcs_check.specs.declared.conditions.Condition.{Condition}
-use Rattle.mcs_check.specs.Conditions.{Aimed, keeps_to, stopwatch_in, stopwatch_of}
+use Rattle.mcs_check.specs.Conditions.{Aimed, keeps_to, observer_in, observer_of}
 use Rattle.mcs_check.specs.Promised.{IsProved}
 use Rattle.mcs_prove.specs.Questions.{is_kept}
 use Rattle.mcs_prove.proofs.Proved.{proved-of}
@@ -13,13 +13,21 @@ returns c =
     let nevers = c.in_ok-nevers.nevers.items in
     let begins = lists c.args.goal.begins in
     let ends = lists c.args.goal.ends in
+    let opens = lists c.args.goal.opens in
+    let marks = c.args.goal.marks in
+    let w = observer_of begins ends opens marks in
+    let kept = is_kept w (lists c.args.goal.nevers) c.args.goal.limit in
     let found = c.in_ok-check_all.field-0 in
-    let aim : c.timed.result ≡ record { nevers = nevers; begins = begins; ends = ends } =
-    c.timed.ensures
-    ∙ ap (λ (b : List (List Condition)). record { nevers = nevers; begins = b; ends = c.in_ok-ends.ends.items }) c.in_ok-begins.ensures
-    ∙ ap (λ (e : List (List Condition)). record { nevers = nevers; begins = begins; ends = e }) c.in_ok-ends.ensures in
-    let proved : IsProved (stopwatch_of begins ends) (keeps_to nevers) c.of.result found =
-    subst (λ (a : Aimed). IsProved (stopwatch_in a) (keeps_to a.nevers) c.of.result found) aim c.in_ok-check_all.ensures in
-    proved-of c.args.board.now c.args.program.now (stopwatch_of begins ends) (keeps_to nevers) (is_kept (lists c.args.goal.nevers) c.args.goal.limit) c.new.result c.in_ok-rig.rig found
-    c.in_ok-rig.ensures c.new.ensures c.in_ok-nevers.ensures
-    (subst (λ (s : Tracked). IsProved (stopwatch_of begins ends) (keeps_to nevers) s found) c.of.ensures proved)
+    let aim : c.of-2.result ≡ record { nevers = nevers; begins = begins; ends = ends; opens = opens; marks = marks } =
+    c.of-2.ensures
+    ∙ ap (λ (b : List (List Condition)). record { nevers = nevers; begins = b; ends = c.in_ok-ends.ends.items; opens = c.in_ok-opens.opens.items; marks = marks }) c.in_ok-begins.ensures
+    ∙ ap (λ (e : List (List Condition)). record { nevers = nevers; begins = begins; ends = e; opens = c.in_ok-opens.opens.items; marks = marks }) c.in_ok-ends.ensures
+    ∙ ap (λ (o : List (List Condition)). record { nevers = nevers; begins = begins; ends = ends; opens = o; marks = marks }) c.in_ok-opens.ensures in
+    let proved : IsProved w (keeps_to nevers) c.of.result found =
+    subst (λ (a : Aimed). IsProved (observer_in a) (keeps_to a.nevers) c.of.result found) aim c.in_ok-check_all.ensures in
+    let same : (s : Tracked) → keeps_to nevers s ≡ kept s = λ s.
+    c.in_ok-nevers.ensures s
+    ∙ ap (λ (o : List (List Condition)). is_kept (observer_of [] [] o marks) (lists c.args.goal.nevers) c.args.goal.limit s) (c.deref.ensures.value ∙ c.in_ok-opens.ensures) in
+    proved-of c.args.board.now c.args.program.now w (keeps_to nevers) kept c.new.result c.in_ok-rig.rig found
+    c.in_ok-rig.ensures c.new.ensures same
+    (subst (λ (s : Tracked). IsProved w (keeps_to nevers) s found) c.of.ensures proved)

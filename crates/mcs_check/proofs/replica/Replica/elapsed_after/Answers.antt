@@ -1,13 +1,13 @@
 use Rattle.std.proofs.Common.{◌≡◌, ◌∙◌, ℕ, Bool, not, sym, ap}
 use Rattle.mcs_drive.specs.Tracked.{Tracked, begins_at, ends_at, shown_after}
-use Rattle.mcs_check.specs.Conditions.{stopwatch_in}
+use Rattle.mcs_check.specs.Conditions.{observer_in}
 use Rattle.mcs_check.proofs.Ignoring.{conditions-ignore}
 use Rattle.mcs_check.proofs.Spinning.{still-shows}
 use Rattle.mcs_check.proofs.replica.Replica.elapsed_after.Goals as goal
 
 pub returns-then-is_still : goal.returns-then-is_still
 returns-then-is_still c =
-    let w = stopwatch_in c.args.aim.now in
+    let w = observer_in c.args.aim.now in
     let s = c.args.self.now in
     let shows = ap (λ (t : Tracked). t.2.elapsed) c.self.view_is in
     let still = c.is_still.ensures c.if-is_still.true in
@@ -16,7 +16,7 @@ returns-then-is_still c =
 pub returns : goal.returns
 returns c =
     let a = c.args.aim.now in
-    let w = stopwatch_in a in
+    let w = observer_in a in
     let s = c.args.self.now in
     let shows = ap (λ (t : Tracked). t.2.elapsed) c.self.view_is in
     let begins : c.begins.result ≡ begins_at w s = c.begins.ensures ∙ ap not (conditions-ignore a.begins s) in

@@ -1,0 +1,131 @@
+//! The marks that a run is to see, and the requirement that they come first.
+ghost use Rattle.std.specs.Prelude.{◌≡◌, ◌<◌, ◌≤◌, ◌&&◌, ◌↔◌, [], ◌∷◌, ◌++◌, length, nat_lt, not, slice_get, true, IsSome, IfSome, IfOk, OnOk};
+ghost use Rattle.mcs_drive.specs.Tracked.{Tracked};
+ghost use Rattle.mcs_check.specs.Conditions.{keeps_to, sees_fewer};
+ghost use Rattle.mcs_check.specs.declared.conditions.Condition.TheVariants.{Compare};
+
+use crate::cells::{Cell, CellList};
+use crate::conditions::{Comparison, Condition, Conjunction, Part};
+use mcs_drive::Mark;
+use std::alloc::{AllocError, Global};
+use std::marker::Model;
+
+/// The most marks.
+const MOST: usize = 200;
+
+/// Marks to be seen in their order, at most 200. Contracts see their list.
+#[derive(Drop)]
+pub struct Marks {
+    marks: Vec<Mark>,
+}
+
+impl Model for Marks {
+    ghost use Rattle.std.specs.Prelude.{List, ◌≤◌, length};
+    ghost use Rattle.mcs_drive.specs.declared.marks.Mark.{Mark};
+
+    ghost Value = { List Mark };
+
+    ghost view = { λ m. m.marks.items };
+
+    ghost invariant = { λ m. length m.marks.items ≤ 200 };
+}
+
+impl Marks {
+    /// Returns no marks.
+    pub fn none(alloc: Global) -> Marks
+        ensures { result ≡ [] }
+    {
+        Marks {
+            marks: Vec::new(alloc),
+        }
+    }
+
+    /// Returns these marks, if there are at most 200.
+    pub fn of(marks: Vec<Mark>) -> Option<Marks>
+        ensures in_range { IsSome result ↔ (length marks.items ≤ 200) }
+        ensures value { IfSome result (λ m. m ≡ marks.items) }
+    {
+        if marks.len() <= MOST {
+            Some(Marks { marks })
+        } else {
+            None
+        }
+    }
+
+    /// Returns the number of marks.
+    pub(crate) fn count(&self) -> u8
+        ensures count { result ≡ length self.now }
+        ensures few { result ≤ 200 }
+    {
+        self.marks.len() as u8
+    }
+
+    /// Returns whether there is no mark.
+    pub(crate) fn is_empty(&self) -> bool
+        ensures { result ≡ true → self.now ≡ [] }
+    {
+        self.marks.is_empty()
+    }
+
+    /// Returns mark `i`, counted from 0.
+    pub(crate) fn get(&self, i: u8) -> Option<Mark>
+        ensures { result ≡ slice_get self.now i }
+    {
+        let i = usize::from(i);
+        if i < self.marks.len() {
+            Some(self.marks[i])
+        } else {
+            None
+        }
+    }
+}
+
+/// Returns the condition that fewer than `count` marks were seen.
+fn sees_fewer(count: u8) -> Condition
+    requires { 0 < count }
+    ensures { result ≡ Compare (sees_fewer count) }
+{
+    Condition::Compare(Comparison {
+        cell: Cell {
+            list: CellList::Counters,
+            index: 17,
+        },
+        part: Part::Whole,
+        low: 0,
+        high: count - 1,
+        inside: true,
+    })
+}
+
+/// Returns a conjunction with one more condition.
+fn with_condition(
+    alloc: Global,
+    conditions: &[Condition],
+    last: Condition,
+) -> Result<Conjunction, AllocError>
+    ensures { IfOk result (λ made. made ≡ conditions.now ++ last ∷ []) }
+{
+    let mut all = conditions.to_vec(alloc)?;
+    all.push(last)?;
+    Ok(Conjunction::of(all))
+}
+
+/// Adds conjunctions to `nevers` that are met if a conjunction of `opens` is met before all marks were seen.
+pub fn add_opening(
+    alloc: Global,
+    nevers: &mut Vec<Conjunction>,
+    opens: &[Conjunction],
+    marks: &Marks,
+) -> Result<(), AllocError>
+    ensures { OnOk result ((s : Tracked) → keeps_to nevers.new.items s
+        ≡ (keeps_to nevers.old.items s && not (not (keeps_to opens.now s) && nat_lt s.2.seen (length marks.now)))) }
+{
+    let count = marks.count();
+    if count == 0 {
+        return Ok(());
+    }
+    for i in 0..opens.len() {
+        nevers.push(with_condition(alloc, opens[i].conditions(), sees_fewer(count))?)?;
+    }
+    Ok(())
+}

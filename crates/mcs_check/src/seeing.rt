@@ -1,0 +1,179 @@
+//! The marks that a read of a port shows.
+ghost use Rattle.std.specs.Prelude.{◌≡◌, ◌<◌, ◌≤◌, ◌+◌, ◌==◌, ◌&&◌, Some, length, not, true};
+ghost use Rattle.std.specs.List.{list_any, range_with_len};
+ghost use Rattle.mcs_nibble.specs.Bits.{bit_of};
+ghost use Rattle.mcs_model.specs.Boards.{is_matrix_size};
+ghost use Rattle.mcs_model.specs.Levels.{is_rom_line};
+ghost use Rattle.mcs_model.specs.declared.op.Op.TheVariants.{Rdr};
+ghost use Rattle.mcs_drive.specs.Marks.{can_another_pull, column_line, is_row_driven, line_shows, port_shows};
+ghost use Rattle.mcs_drive.specs.Tracked.{marks_after, opens_at, progress, shows_next};
+ghost use Rattle.mcs_check.specs.Conditions.{observer_in};
+ghost use Rattle.mcs_check.specs.Stations.{Begins};
+
+use crate::aim::Aim;
+use crate::replica::Replica;
+use mcs_board::BenchRig;
+use mcs_drive::Mark;
+use mcs_model::board::{KeyMatrix, Line};
+use mcs_nibble::Nibble;
+
+/// Returns bit `k` of a nibble, 0 for `k` above 3.
+fn bit_at(n: Nibble, k: u8) -> u8
+    ensures { result ≡ bit_of n k }
+{
+    if k < 4 { n.bit(k).get() } else { 0 }
+}
+
+/// Returns whether a line is line `k` of a ROM.
+fn is_rom_line(line: Line, chip: u8, k: u8) -> bool
+    ensures { result ≡ is_rom_line chip k line }
+{
+    match line {
+        Line::Rom(c, j) => c == chip && j == k,
+        Line::Ram(_, _, _) | Line::Chain(_, _) => false,
+    }
+}
+
+/// Returns the line that column `j` pulls.
+fn column_line(matrix: &KeyMatrix, j: usize) -> Line
+    requires { j < length matrix.now.columns.items }
+    ensures { result ≡ column_line matrix.now j }
+{
+    matrix.columns.as_slice()[j]
+}
+
+/// Returns whether row `r` is driven.
+fn is_row_driven(rig: &BenchRig, matrix: &KeyMatrix, r: u8) -> bool
+    requires { matrix.now.first + r < 256 }
+    ensures { result ≡ is_row_driven rig.now matrix.now r }
+{
+    rig.chain_bit(matrix.chain, matrix.first + r).get() == 1
+}
+
+/// Returns whether row `r` is driven and its key of column `j` is not the mark's.
+fn is_driven_apart(rig: &BenchRig, matrix: &KeyMatrix, mark: Mark, j: usize, r: u8) -> bool
+    requires { matrix.now.first + r < 256 }
+    ensures { result ≡ (is_row_driven rig.now matrix.now r && not (r == mark.row && j == mark.column)) }
+{
+    is_row_driven(rig, matrix, r) && !(r == mark.row && j == usize::from(mark.column))
+}
+
+/// Returns whether a key of column `j` other than the mark's is in a driven row.
+fn is_another_driven(rig: &BenchRig, matrix: &KeyMatrix, mark: Mark, j: usize) -> bool
+    requires { is_matrix_size matrix.now ≡ true }
+    ensures { result ≡ list_any (λ r. is_row_driven rig.now matrix.now r && not (r == mark.row && j == mark.column))
+        (range_with_len 0 matrix.now.rows) }
+{
+    for r in 0..matrix.rows {
+        if is_driven_apart(rig, matrix, mark, j, r) {
+            return true;
+        }
+    }
+    false
+}
+
+/// Returns whether a key of column `j` other than the mark's can pull line `k` of a ROM.
+fn can_column_pull(
+    rig: &BenchRig,
+    matrix: &KeyMatrix,
+    mark: Mark,
+    j: usize,
+    chip: u8,
+    k: u8,
+) -> bool
+    requires size { is_matrix_size matrix.now ≡ true }
+    requires column { j < length matrix.now.columns.items }
+    ensures { result ≡ (is_rom_line chip k (column_line matrix.now j)
+        && list_any (λ r. is_row_driven rig.now matrix.now r && not (r == mark.row && j == mark.column))
+        (range_with_len 0 matrix.now.rows)) }
+{
+    is_rom_line(column_line(matrix, j), chip, k) && is_another_driven(rig, matrix, mark, j)
+}
+
+/// Returns whether a key other than the mark's can pull line `k` of a ROM.
+fn can_another_pull(rig: &BenchRig, matrix: &KeyMatrix, mark: Mark, chip: u8, k: u8) -> bool
+    requires { is_matrix_size matrix.now ≡ true }
+    ensures { result ≡ can_another_pull rig.now matrix.now mark chip k }
+{
+    for j in 0..matrix.columns.len() {
+        if can_column_pull(rig, matrix, mark, j, chip, k) {
+            return true;
+        }
+    }
+    false
+}
+
+/// Returns whether a value that is read at the port of the selected ROM shows a mark whose key pulls this line.
+fn line_shows(rig: &BenchRig, matrix: &KeyMatrix, value: Nibble, mark: Mark, line: Line) -> bool
+    requires size { is_matrix_size matrix.now ≡ true }
+    requires row { mark.row < matrix.now.rows }
+    ensures { result ≡ line_shows rig.now matrix.now value mark line }
+{
+    match line {
+        Line::Rom(chip, k) => {
+            if chip != rig.rom_src() / 16 {
+                return false;
+            }
+            if mark.is_down {
+                bit_at(value, k) == 1 && !can_another_pull(rig, matrix, mark, chip, k)
+            } else {
+                bit_at(value, k) == 0 && is_row_driven(rig, matrix, mark.row)
+            }
+        }
+        Line::Ram(_, _, _) | Line::Chain(_, _) => false,
+    }
+}
+
+/// Returns whether a value that is read at the port of the selected ROM shows a mark.
+fn port_shows(rig: &BenchRig, value: Nibble, mark: Mark) -> bool
+    ensures { result ≡ port_shows rig.now value mark }
+{
+    let board = rig.board();
+    if !board.has_key(mark.row, mark.column) {
+        return false;
+    }
+    match &board.parts().keys {
+        Some(matrix) => {
+            let line = column_line(matrix, usize::from(mark.column));
+            line_shows(rig, matrix, value, mark, line)
+        }
+        None => false,
+    }
+}
+
+impl Replica {
+    /// Returns the number of marks seen since a conjunction that waits for them was met last.
+    fn progress(&self, aim: &Aim) -> u8
+        ensures seen { result ≡ progress (length aim.now.marks) self.now.2.seen }
+        ensures few { result ≤ 200 }
+    {
+        if aim.mark_count() < self.seen {
+            0
+        } else {
+            self.seen
+        }
+    }
+
+    /// Returns whether the next cycle, an RDR, shows the next mark if it reads this value.
+    pub(crate) fn shows_next(&self, aim: &Aim, value: u8) -> bool
+        requires reads { Begins (λ op. op ≡ Rdr) self.now }
+        requires value { value < 16 }
+        ensures { result ≡ shows_next (observer_in aim.now) self.now value }
+    {
+        match aim.mark(self.progress(aim)) {
+            Some(mark) => port_shows(&self.rig, Nibble::low_of(value), mark),
+            None => false,
+        }
+    }
+
+    /// Returns the number of marks seen after the next cycle, by whether it shows the next mark.
+    pub(crate) fn seen_after(&self, aim: &Aim, shown: bool) -> u8
+        ensures { result ≡ marks_after (length aim.now.marks) self.now.2.seen (opens_at (observer_in aim.now) self.now) shown }
+    {
+        if aim.opens(self) {
+            return aim.mark_count() + 1;
+        }
+        let seen = self.progress(aim);
+        if shown { seen + 1 } else { seen }
+    }
+}

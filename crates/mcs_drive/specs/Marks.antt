@@ -1,0 +1,74 @@
+-- Marks: the levels of keys that an observer looks for. A read of a port shows a mark if the value that
+-- it reads is possible only with the key at that level. (Our own choice.)
+use Rattle.std.specs.Prelude.{◌≡◌, ◌<◌, ◌≤◌, ◌+◌, ◌/◌, ℕ, suc, List, [], ◌∷◌, Bool, true, false, not, ◌&&◌, ◌==◌, Option, Some, None, length, slice_index, slice_index_or, if◌then◌else◌}
+use Rattle.std.specs.List.{list_any, range_with_len}
+use Rattle.mcs_nibble.specs.Bits.{bit_of}
+use Rattle.mcs_model.specs.declared.board.BoardParts.{BoardParts}
+use Rattle.mcs_model.specs.declared.board.KeyMatrix.{KeyMatrix}
+use Rattle.mcs_model.specs.declared.board.Line.{Line}
+use Rattle.mcs_model.specs.declared.board.Line.TheVariants.{Rom}
+use Rattle.mcs_model.specs.declared.op.Op.{Op}
+use Rattle.mcs_model.specs.declared.op.Op.TheVariants.{Rdr}
+use Rattle.mcs_model.specs.Boards.{has_key, key_index}
+use Rattle.mcs_model.specs.Bus.{BusState}
+use Rattle.mcs_model.specs.Levels.{bit_when, chain_bit, is_rom_line}
+use Rattle.mcs_drive.specs.declared.marks.Mark.{Mark}
+use Rattle.mcs_drive.specs.Driven.{Levels}
+
+-- ---- what a read shows
+
+-- true if row r of a key matrix is driven: its bit of the chain is 1
+abbrev pub is_row_driven : BusState → KeyMatrix → ℕ → Bool
+is_row_driven s m r = chain_bit s m.chain (m.first + r) == 1
+
+-- the line that column j of a key matrix pulls
+abbrev pub column_line : KeyMatrix → ℕ → Line
+column_line m j = slice_index_or m.columns.items j (Rom 0 0)
+
+-- true if a key other than the mark's can pull line k of a ROM: a key in a driven row, of a column at
+-- that line
+abbrev pub can_another_pull : BusState → KeyMatrix → Mark → ℕ → ℕ → Bool
+can_another_pull s m mark chip k =
+    list_any
+    (λ j. is_rom_line chip k (column_line m j)
+    && list_any (λ r. is_row_driven s m r && not (r == mark.row && j == mark.column)) (range_with_len 0 m.rows))
+    (range_with_len 0 (length m.columns.items))
+
+-- true if a value that is read at the port of the selected ROM shows a mark whose key pulls this line.
+-- The key is up if its row is driven and the line reads 0. It is down if the line reads 1 and no other
+-- key can pull the line.
+abbrev pub line_shows : BusState → KeyMatrix → ℕ → Mark → Line → Bool
+line_shows s m value mark (Rom chip k) =
+    chip == s.rom_src / 16
+    && (if mark.is_down
+    then bit_of value k == 1 && not (can_another_pull s m mark chip k)
+    else bit_of value k == 0 && is_row_driven s m mark.row)
+line_shows s m value mark _ = false
+
+-- true if the board has a mark's key, and a value that is read at the port of the selected ROM shows the
+-- mark
+abbrev pub port_shows : BusState → ℕ → Mark → Bool
+port_shows s value mark =
+    has_key s.board mark.row mark.column
+    && elim s.board.keys [
+      | Some m ↦ line_shows s m value mark (column_line m mark.column)
+      | None ↦ false
+    ]
+
+-- true if a cycle that begins this instruction and reads this value shows a mark: only RDR reads a port
+abbrev pub shows : Option Op → BusState → ℕ → Mark → Bool
+shows (Some Rdr) s value mark = port_shows s value mark
+shows _ s value mark = false
+
+-- ---- what levels show
+
+-- holds if the board has a mark's key, and the key is at the mark's level
+pub record IsAtMark (b : BoardParts) (l : Levels) (mark : Mark) : Type 0 where
+  pub there : has_key b mark.row mark.column ≡ true
+  pub level : slice_index l.keys (key_index b mark.row mark.column) ≡ bit_when mark.is_down
+
+-- holds if the keys are at these marks one after the other, at moments from `a` on and before b
+abbrev pub Passes : BoardParts → (ℕ → Levels) → List Mark → ℕ → ℕ → Type 0
+Passes board f [] a b = Unit {0}
+Passes board f (mark ∷ marks) a b =
+    (i : ℕ) × (a ≤ i) × (i < b) × IsAtMark board (f i) mark × Passes board f marks (suc i) b

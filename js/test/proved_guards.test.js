@@ -1,0 +1,152 @@
+// Guards in proofs: a property is proved without those that depend on the past, and a counterexample must break it with them. And presses
+// that a property names: what the bench makes of a way that the prover found.
+import assert from "node:assert/strict";
+import { test } from "node:test";
+import { Engine } from "../core/engine/engine.js";
+import { readCampaign } from "../core/explore/campaign.js";
+import { ProofFirst } from "../core/explore/proof_first.js";
+import { subjectOf } from "../core/explore/subject.js";
+import { beginProving } from "../core/prove/bounded_proof.js";
+import { askedOf, leftOutOf } from "../core/prove/question.js";
+import { moduleOfPage } from "./page_session.js";
+
+// START begins to wait, the lamp `go` comes on, and PRESS, at TEST, stops it. PRESS while it waits is a foul.
+const BOARD = `# row 0: START
+# lamp 0: waiting go foul
+# test: button PRESS
+lamp = [{ line = "ram0.0.0" }, { line = "ram0.0.1" }, { line = "ram0.0.2" }]
+rom = [{ chip = 0, port = "0000" }, { chip = 1, port = "i000" }]
+ram = [{ bank = 0, chips = 1 }]
+chain = [{ clock = "rom0.0", data = "rom0.1", chips = 1 }]
+keys = { chain = 0, first = 0, rows = 1, columns = ["rom1.3"] }
+`;
+const PROGRAM = `pressed = 1             ; the condition of JCN: TEST is 0
+        FIM P0, 0
+        FIM P1, 0x10
+        SRC P0
+        LDM 2
+        WRR
+        IAC
+        WRR             ; the row of the keys is driven
+idle:   SRC P1
+        RDR
+        JCN 4, idle     ; START is up
+        SRC P0
+        LDM 1
+        WMP
+        FIM P2, 0x0F
+wait:   JCN pressed, foul
+        ISZ R4, wait
+        ISZ R5, wait
+        LDM 2
+        WMP
+go:     JCN pressed, stop
+        JUN go
+stop:   LDM 0
+        WMP
+        JUN idle
+foul:   LDM 4
+        WMP
+end:    JUN end
+`;
+const engine = new Engine(new globalThis.WebAssembly.Module(moduleOfPage));
+
+/** The module, with the answer of a test to questions about presses. */
+class Answering extends Engine {
+  /** @param {string} answer */
+  constructor(answer) {
+    super(new globalThis.WebAssembly.Module(moduleOfPage));
+    this.answer = answer;
+  }
+
+  prove(question) {
+    return /^open$/m.test(question) ? this.answer : super.prove(question);
+  }
+}
+
+/** Returns the verdicts on the properties of a text. */
+async function verdictsOn(propertiesText, own = engine, programText = PROGRAM) {
+  const texts = { boardText: BOARD, programText, testText: "", propertiesText };
+  const { proving, faults } = beginProving(own, texts, 100000, { seen: async () => {}, yieldToMessages: async () => {} });
+  assert.deepEqual(faults, []);
+  return (await proving.judgeAll()).filter(({ property: { line } }) => line > 0).map(({ verdict }) => verdict);
+}
+
+const WITHOUT_ONCE = 'without "once", which a proof leaves out';
+const WITHOUT_PRESS = 'without "after press", which a proof leaves out';
+// Each form with guards, and the verdict. The prover is asked about the property without the guard. `proved`: that holds, so the property
+// holds; of a goal, there is no way without the guard, and so none with it. `found`: a way breaks it (reaches it), and the guard is open
+// there. A reason: the guard is closed there.
+const TABLE = [
+  ["once lamp go on, never lamp waiting on and lamp go on", "proved"],
+  ["once lamp go on, never lamp foul on", `it can fail ${WITHOUT_ONCE}`],
+  ["after press START, never lamp foul on", "found"],
+  ["once lamp waiting on, never @foul", "found"],
+  ["after press PRESS, always lamps *.. or lamps .*. or lamps ..* or lamps none", "proved"],
+  ["once lamp go on, always lamp foul off", `it can fail ${WITHOUT_ONCE}`],
+  ["after press PRESS within 10, always lamp foul off", "found"],
+  ["once lamp waiting on, at @foul lamp go off", "proved"],
+  ["once lamp foul on, at @foul lamp waiting off", `it can fail ${WITHOUT_ONCE}`],
+  ["after press PRESS, at @foul lamp waiting off", "found"],
+  ["once lamp go on, never lamp waiting on for 500", "proved"],
+  ["after press START within 20, never lamp waiting on for 20", `it can fail ${WITHOUT_PRESS}`],
+  ["after press START within 50, never lamp waiting on for 20", "found"],
+  ["once lamp go on, reach lamp waiting on and lamp go on", "proved"],
+  ["once lamp foul on, reach lamp go on", `it can be reached ${WITHOUT_ONCE}`],
+  ["after press START, reach lamp go on", "found"],
+  ["after press PRESS, reach @go", `it can be reached ${WITHOUT_PRESS}`],
+  ["after press START, reach @go", "found"],
+  ["after press PRESS, after press START within 20 lamp waiting on", 'a property of the form "after press" cannot be proved yet'],
+  ["while lamp waiting on, after press PRESS within 20 lamp foul on", 'a property of the form "after press" cannot be proved yet'],
+  // A guard with `while` is part of the condition.
+  ["while lamp go on, once lamp foul on, never r15 = 1", "proved"],
+  ["once lamp go on, after press PRESS, while lamp waiting on, never lamp foul off",
+    'it can fail without "once" and "after press", which a proof leaves out'],
+];
+
+test("a property is asked without guards that depend on the past", () => {
+  const subject = subjectOf(engine, BOARD, PROGRAM);
+  const propertyOf = (text) => readCampaign(text, subject).campaign.properties[0];
+  const askedAs = (text) => askedOf(propertyOf(text), { from: null }, subject);
+  for (const [text] of TABLE) {
+    const left = text.replace(/(once|after press) [^,]*, /g, "");
+    assert.deepEqual(askedAs(text), askedAs(left), text);
+  }
+  assert.equal(leftOutOf(propertyOf("once r0 = 1, after press START within 9, once r0 = 2, never r1 = 1")), '"once" and "after press"');
+  assert.equal(leftOutOf(propertyOf("while r0 = 1, never r1 = 1")), "");
+  // Not what the text of a guard looks at.
+  assert.notEqual(askedAs("once rom1 in 8, never r1 = 1").question, null);
+  assert.equal(askedAs("while rom1 in 8, never r1 = 1").question, null);
+});
+
+test("what is proved without a guard is proved with it, and a way must break it with the guard", async () => {
+  const verdicts = await verdictsOn(TABLE.map(([text]) => `${text}\n`).join(""));
+  TABLE.forEach(([text, wanted], at) => {
+    const verdict = verdicts[at];
+    assert.equal(verdict.kind === "open" ? verdict.words : verdict.kind, wanted, text);
+    if (verdict.kind === "proved") assert.match(verdict.leftOut, text.includes("once") ? /^"once"$/ : /^"after press"$/);
+  });
+});
+
+test("a property with such a guard is asked alone, also before a search", () => {
+  const subject = subjectOf(engine, BOARD, PROGRAM);
+  const text = "never r15 = 1\nonce lamp go on, never lamp foul on\nnever r14 = 1\n@go only after press START\n";
+  const { campaign } = readCampaign(text, subject);
+  const [joint, ...alone] = new ProofFirst(subject, campaign, 1000).questions.map(({ properties }) => properties);
+  assert.deepEqual([joint.includes(0), joint.includes(1), joint.includes(2), joint.includes(3)], [true, false, true, false]);
+  assert.ok([0, 1, 2, 3].every((at) => alone.some((each) => each.length === 1 && each[0] === at)));
+});
+
+test("presses that no read sees are no counterexample", async () => {
+  // The first stretch ends at the first read, which sees START down: a press before it, of which no read sees the beginning.
+  const text = "lamp waiting on only after press START\n";
+  const [open] = await verdictsOn(text, new Answering("may fail 0 8\n"));
+  assert.deepEqual(open, { kind: "open", words: "it can become true before the program has read each key up and then down" });
+  const [proved] = await verdictsOn(text, new Answering("holds 12\n"));
+  assert.deepEqual(proved, { kind: "proved", states: 12, bySets: false, leftOut: "" });
+  const [found] = await verdictsOn("lamp go on only after press START, press START\n", new Answering(`may fail 0 8${" 1".repeat(16)}\n`));
+  assert.equal(found.kind, "found");
+  assert.match(found.found.text, /\n {2}press START\n {2}run \d+\n {2}expect not lamp go on\n$/);
+  const [pin] = await verdictsOn("lamp foul on only after press PRESS\n");
+  assert.match(pin.words, /^PRESS is at the TEST pin/);
+});
