@@ -1,4 +1,4 @@
-// Composes sessions, their files and the guides. Connects each one to other parts, so that none needs the page.
+// Creates the parts for sessions, files and guides. The callbacks passed here connect each of them to the page's other parts.
 
 import { Guide } from "./help/guide.js";
 import { forgetStory } from "./session/address.js";
@@ -82,7 +82,7 @@ export function makeSharing(page) {
 }
 
 /**
- * Returns the calls that the actions of a story make.
+ * Returns the callbacks for the links in a story.
  * @param {Page} page
  * @returns {import("../core/help/story_acts.js").ActCalls}
  */
