@@ -1,18 +1,18 @@
-// A client of `mcs4 lsp` for Visual Studio Code, without a package: the editor's requests are sent to the server.
+// A client of `mcs4 lsp` for Visual Studio Code, without third-party packages. It forwards the editor's requests to the server.
 "use strict";
 const { LanguageFeatures } = require("./language_features.js");
 
-/** The editor's capabilities that an answer depends on. */
+/** The client capabilities that affect the server's answers. */
 const CAPABILITIES = {
   textDocument: { hover: { contentFormat: ["markdown", "plaintext"] } },
   experimental: { commands: { commands: ["editor.action.showReferences"] } },
 };
-/** The languages that the server calls otherwise. */
+/** The server's ids for languages that have another id in the editor. */
 const NAMES = { "mcs4": "asm", "mcs4-board": "toml" };
 
 class LanguageClient {
   /**
-   * @param vscode the editor's own module
+   * @param vscode the editor's API module
    * @param {import("./bench_command.js").BenchCommand} bench starts the server
    * @param {string[]} languages
    */
@@ -42,7 +42,7 @@ class LanguageClient {
     this.provide(capabilities);
   }
 
-  /** Starts the server; if the command in the setting does not start, the extension's own. */
+  /** Starts the server. If the command in the setting does not start, uses the extension's own command instead. */
   async start() {
     const { bench } = this;
     const { named } = bench;
@@ -54,7 +54,7 @@ class LanguageClient {
     if (!(await this.isStarted())) throw new Error("The language server was not started.");
   }
 
-  /** Starts the server once; returns whether there is such a program. */
+  /** Tries to start the server. Resolves to true if the program could be started. */
   async isStarted() {
     const child = this.bench.start(["lsp"], "ignore");
     const isThere = await new Promise((settle) => {
@@ -168,7 +168,7 @@ class LanguageClient {
       new vscode.Diagnostic(this.rangeOf(range), message, levels[severity] ?? vscode.DiagnosticSeverity.Error))));
   }
 
-  // --- conversions between the editor's and the protocol's terms
+  // --- conversions between the types of the editor and of the protocol
 
   plainRange({ start, end }) {
     const plain = ({ line, character }) => ({ line, character });
@@ -254,11 +254,11 @@ class LanguageClient {
   }
 
   async completion(document, position, { triggerKind = 0, triggerCharacter } = {}) {
-    // The editor counts kinds of triggers from 0 on, the protocol from 1.
+    // The editor numbers trigger kinds from 0, the protocol from 1.
     const context = { triggerKind: triggerKind + 1, triggerCharacter };
     const list = (await this.ask("textDocument/completion", { ...this.at(document, position), context })) || [];
     return list.map(({ label, kind, detail, documentation, textEdit, insertTextFormat }) => {
-      // The editor counts kinds from 0 on, the protocol from 1.
+      // The editor numbers item kinds from 0, the protocol from 1.
       const item = new this.vscode.CompletionItem(label, kind - 1);
       item.detail = detail;
       item.documentation = documentation;

@@ -1,5 +1,5 @@
-// Parses the arguments of a command by the command table, runs the command, and reports errors. The exit status is 0 for success, 1 for an
-// error or a failed test, 2 for wrong arguments.
+// Parses a command's arguments as the command table describes them, runs the command, and reports errors. The exit status is 0 for success, 1 for an
+// error or a failed test, and 2 for wrong arguments.
 import { parseArgs } from "node:util";
 import * as say from "../words/commands.js";
 import { COMMANDS } from "./commands/table.mjs";
@@ -16,7 +16,7 @@ const WRONG_ARGUMENTS = 2;
 const HELP = { type: "boolean", short: "h" };
 
 /**
- * Returns the most similar words, as suggestions for a mistyped one. (The module is loaded only then.)
+ * Returns the words that are most similar to a mistyped word. (Loads the module only then.)
  * @param {string} word
  * @param {string[]} words
  */
@@ -36,11 +36,11 @@ async function unknownOption(word, options) {
   return new UsageError(say.noOption(word, meant.map((name) => `--${name}`)));
 }
 
-/** @type {(value: string | undefined, isInline: boolean) => boolean} true if an option has no value, or the next option instead of one */
+/** @type {(value: string | undefined, isInline: boolean) => boolean} true if an option has no value, or if its value is another option */
 const lacksValue = (value, isInline) => value === undefined || value === "" || (!isInline && /^-[^\d]/.test(value));
 
 /**
- * Throws a UsageError if an option is unknown, lacks its value, or has a value that it does not take.
+ * Throws a UsageError if an option is unknown, lacks its value, or has a value although it accepts none.
  * @param {{ name: string, rawName: string, value?: string, inlineValue?: boolean }} token
  * @param {Command["options"]} options
  */
@@ -54,7 +54,7 @@ async function checkOption({ name, rawName, value, inlineValue }, options) {
 }
 
 /**
- * Parses the arguments of a command.
+ * Parses a command's arguments.
  * @param {Command} command
  * @param {string[]} words
  * @returns {Promise<{ values: Values, positionals: string[] }>}
@@ -73,7 +73,7 @@ async function parsed(command, words) {
 }
 
 /**
- * Prints an error; each line starts with the command's name.
+ * Prints an error message. Each line starts with the command's name.
  * @param {string} name
  * @param {string} message
  */
@@ -82,7 +82,7 @@ function complain(name, message) {
 }
 
 /**
- * Reports an error; returns the exit status. Unexpected errors are rethrown.
+ * Reports an error and returns the exit status. Rethrows unexpected errors.
  * @param {string} name
  * @param {unknown} thrown
  */
@@ -133,7 +133,7 @@ async function rejectCommand(word) {
 }
 
 /**
- * Prints the help of a command, or of mcs4 if none is named; returns the exit status.
+ * Prints the help of a command, or of mcs4 if no command is named. Returns the exit status.
  * @param {string[]} words
  */
 async function help([name, ...others]) {
