@@ -1,8 +1,8 @@
-// Compares modules of the bench with each other: `node compare_modules.mjs EXAMPLES COUNT MODULE MODULE..`. The same COUNT random sessions run on
-// all of them. The reports of each call, its answers, and each byte of the file after it must be the same, even for files that are damaged or
-// have another size. On the first module it also checks three laws. Serving and settling in one call has the same result, byte for byte, as
-// serving and then settling. Asking gives the same answers as serving, and does not change the file. The file of a session can be settled.
-// EXAMPLES is the folder of the examples.
+// Compares bench modules with each other: `node compare_modules.mjs EXAMPLES COUNT MODULE MODULE..`. All modules run the same COUNT random sessions.
+// The reports and answers of each call, and each byte of the file after it, must be the same. This also holds for files that are damaged or have
+// another size. The first module must also satisfy three laws. Serving and settling in one call has the same result, byte for byte, as serving and
+// then settling. Asking gives the same answers as serving and does not change the file. The file of a session can be settled. EXAMPLES is the folder
+// of the examples.
 import { readFileSync } from "node:fs";
 import { join } from "node:path";
 
@@ -10,7 +10,7 @@ const [examples, count, ...paths] = process.argv.slice(2);
 const ROOM = 1n << 20n;
 const FILE_ROOM = 1n << 18n;
 
-// A module with the memory of a file, an input and the answers.
+// A module instance with buffers for a file, an input and the answers.
 class Instance {
   constructor(path) {
     this.calls = new WebAssembly.Instance(new WebAssembly.Module(readFileSync(path)), {}).exports;
@@ -104,7 +104,7 @@ function expect(name, isRight) {
 
 const instances = paths.map((path) => new Instance(path));
 
-// Checks that all modules return the same; returns the result of the first one.
+// Checks that all modules return the same result. Returns the result of the first module.
 function onAll(name, act) {
   const found = instances.map((instance) => {
     try {
@@ -118,7 +118,7 @@ function onAll(name, act) {
   return found[0];
 }
 
-// Checks the laws of the call that serves and settles, and of the call that asks.
+// Checks the laws of the calls that serve and settle, and of the call that asks.
 function tryLaws(name, text) {
   const [instance] = instances;
   const before = instance.get();

@@ -13,7 +13,7 @@ export const rowsFound = (count) => `${count} ${count === 1 ? "row has" : "rows 
 export const INSTRUCTIONS = "The 45 instructions";
 export const KEYBOARD = "The keyboard";
 export const CELLS = "What the cells show";
-/** The caption of the table of JCN's conditions in docs/MANUAL.md. */
+/** The title of the section about JCN's conditions in docs/MANUAL.md. */
 export const CONDITIONS_OF_JCN = "The sixteen conditions of JCN";
 /** The titles of the sections in docs/MANUAL.md whose table rows begin with a session line. */
 export const SECTIONS_OF_LINES = ["Commands", "Queries"];
