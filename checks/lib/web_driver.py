@@ -1,5 +1,5 @@
-"""Drives browsers by WebDriver, the protocol over HTTP, with Python's library only: Chromium by chromedriver, and WebKit, the engine of Safari
-and of all browsers on an iPhone, by WebKitWebDriver."""
+"""Drives browsers with WebDriver, a protocol over HTTP, using only Python's library: Chromium through chromedriver, and WebKit, the engine of Safari
+and of all browsers on an iPhone, through WebKitWebDriver."""
 
 import base64
 import glob
@@ -16,7 +16,7 @@ from driven import BEFORE_SCRIPTS, ELEMENT, Driven, Fault
 
 
 def free_port():
-    """Returns a free port. (Drivers that choose a port themselves do not all report it.)"""
+    """Returns a free port. (Not all drivers that choose a port themselves report it.)"""
     with socket.socket() as line:
         line.bind(("127.0.0.1", 0))
         return line.getsockname()[1]
@@ -73,7 +73,7 @@ class WebDriver(Driven):
         return self.do("GET", "/window")
 
     def new_tab(self):
-        """Opens a tab in front of this one, and switches to it."""
+        """Opens a new tab in front of this one, and switches to it."""
         self.show_tab(self.do("POST", "/window/new", {"type": "tab"})["handle"])
 
     def show_tab(self, handle):
@@ -102,7 +102,7 @@ class WebDriver(Driven):
 
 class Chromium(WebDriver):
     name = "Chromium"
-    # With these settings it stores no data of any site.
+    # With these settings, it does not store data of any site.
     blocks_data = {"profile.default_content_setting_values.cookies": 2}
 
     def __init__(self, folder, downloads, flags=(), **settings):
@@ -139,7 +139,7 @@ class WebKit(WebDriver):
     """The MiniBrowser of Debian's WebKitGTK, or the one that MINIBROWSER names. It has no headless mode, so Xvfb is its display."""
 
     name = "WebKit"
-    # It has no setting that blocks the data of sites.
+    # It has no setting that blocks site data.
     blocks_data = None
     # Its driver moves only one pointer, and its tabs are windows that do not hide each other.
     has_fingers = False
@@ -164,7 +164,7 @@ class WebKit(WebDriver):
         self.resize_back()
 
     def _display(self):
-        """Starts Xvfb with a display number that Xvfb chooses; returns the name of the display."""
+        """Starts Xvfb with a display number that Xvfb chooses. Returns the name of the display."""
         self.screen = subprocess.Popen(["Xvfb", "-displayfd", "1", "-screen", "0", "1920x1200x24"], stdout=subprocess.PIPE,
                                        stderr=subprocess.DEVNULL, text=True)
         number = self.screen.stdout.readline().strip()
