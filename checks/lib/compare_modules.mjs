@@ -87,8 +87,8 @@ const LINES = [
 ];
 
 function script() {
-  const begun = below(4) ? `wire\n${pick(BOARDS.slice(0, 3))}.\n${program()}` : "";
-  const text = begun + [...Array(2 + below(30))].map(() => `${pick(LINES)()}\n`).join("");
+  const setup = below(4) ? `wire\n${pick(BOARDS.slice(0, 3))}.\n${program()}` : "";
+  const text = setup + [...Array(2 + below(30))].map(() => `${pick(LINES)()}\n`).join("");
   // Sometimes the input ends in the middle of a line or of a text.
   return below(6) ? text : text.slice(0, below(text.length));
 }
@@ -126,8 +126,8 @@ function tryLaws(name, text) {
   expect(`${name}: its file does not settle`, !served.done || instance.settle().done);
   const settled = instance.get();
   instance.put(before);
-  const asked = instance.serve("bench_ask", text);
-  expect(`${name}: asking answers otherwise`, JSON.stringify(asked) === JSON.stringify(served));
+  const answers = instance.serve("bench_ask", text);
+  expect(`${name}: asking answers otherwise`, JSON.stringify(answers) === JSON.stringify(served));
   expect(`${name}: asking changes the file`, instance.get().equals(before));
   const both = instance.serve("bench_serve_and_settle", text);
   expect(`${name}: serving and settling answers otherwise`, JSON.stringify(both) === JSON.stringify(served));

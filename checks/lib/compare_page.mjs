@@ -222,9 +222,9 @@ function compareFiles(name, engine, file) {
   const both = new Uint8Array(file.length);
   engine.serve(file, "poke acc 1\npoke acc 2\n", both);
   checkSettled(`${name}: serving and settling`, both, seqOf(engine, file) + 2);
-  const asked = byPage(engine, file, QUESTIONS).output;
+  const output = byPage(engine, file, QUESTIONS).output;
   compare(`${name}, settled`, engine, settled, QUESTIONS);
-  verdict(`${name}: settling changed an answer`, byPage(engine, settled, QUESTIONS).output === asked);
+  verdict(`${name}: settling changed an answer`, byPage(engine, settled, QUESTIONS).output === output);
   const old = asVersion1(settled);
   if (old && isOfVersion1(engine, settled)) {
     compare(`${name}, of version 1`, engine, old, QUESTIONS);
@@ -237,9 +237,9 @@ function compareFiles(name, engine, file) {
 }
 
 function time(act) {
-  const begun = process.hrtime.bigint();
+  const start = process.hrtime.bigint();
   act();
-  return Number(process.hrtime.bigint() - begun) / 1e9;
+  return Number(process.hrtime.bigint() - start) / 1e9;
 }
 
 const fastest = (act) => Math.min(...[1, 2, 3].map(() => time(act)));

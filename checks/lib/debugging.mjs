@@ -95,7 +95,7 @@ async function tryBreakpoints(name) {
   const client = new Client(MCS4);
   await client.begin(example(name));
   await client.event("stopped");
-  const begun = await client.ask("evaluate", { expression: "state", context: "repl" });
+  const initial = await client.ask("evaluate", { expression: "state", context: "repl" });
   for (const [label, address] of labels) {
     copyFileSync(file, `${folder}/run.mcs`);
     const answers = mcs4("open", `${folder}/run.mcs`, `break ${address}\nrun 50000\nunbreak ${address}\nstate\n`);
@@ -107,7 +107,7 @@ async function tryBreakpoints(name) {
     verdict([stop.reason, await seen(client)], ["function breakpoint", same(valuesOf(answers[3]))], `${name}: a breakpoint at ${label}`);
     await client.ask("setFunctionBreakpoints", { breakpoints: [] });
   }
-  matches(begun.result, /^state seq 2 acc 0 cy 0 pc 000/, `${name}: it begins at power-on`);
+  matches(initial.result, /^state seq 2 acc 0 cy 0 pc 000/, `${name}: it begins at power-on`);
   await client.end();
 }
 
@@ -267,9 +267,9 @@ const describedTimes = (list) => `${middle(list).toFixed(1)} ms in the middle, $
 async function timed(count, act) {
   const times = [];
   for (let turn = 0; turn < count; turn++) {
-    const begun = performance.now();
+    const start = performance.now();
     await act();
-    times.push(performance.now() - begun);
+    times.push(performance.now() - start);
   }
   return times;
 }
@@ -285,9 +285,9 @@ async function trySpeed() {
   await client.event("stopped");
   console.log(`speed: a step is reported in ${describedTimes(await timed(200, () => client.move("stepIn")))}`);
   await client.ask("setFunctionBreakpoints", { breakpoints: [{ name: "far" }] });
-  const begun = performance.now();
+  const start = performance.now();
   const stop = await client.move("continue");
-  const time = (performance.now() - begun) / 1000;
+  const time = (performance.now() - start) / 1000;
   const backs = await timed(20, () => client.move("stepBack"));
   console.log(`speed: a step back after millions of cycles is reported in ${describedTimes(backs)}`);
   for (const breakpoint of [{ name: "count3" }, { name: "turn", condition: "r1 = 0 and r0 = 0" }]) {

@@ -166,8 +166,8 @@ async function tryRequests() {
     "supportsExceptionFilterOptions", "supportsDataBreakpoints", "supportsCompletionsRequest", "supportsReadMemoryRequest", "supportsWriteMemoryRequest"];
   verdict(named.filter((name) => capabilities[name] !== true), [], "what the adapter can is announced");
   verdict(filters.breakpoints.map(({ verified }) => verified), [true, true], "filters with options");
-  const begun = await look(client);
-  const { targets } = await client.ask("stepInTargets", { frameId: begun.frames[0].id });
+  const initial = await look(client);
+  const { targets } = await client.ask("stepInTargets", { frameId: initial.frames[0].id });
   verdict(targets, [], "a jump is no call");
   await client.move("stepIn");
   const ahead = await client.ask("stepInTargets", { frameId: 1 });

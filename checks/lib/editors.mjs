@@ -69,17 +69,17 @@ async function trySpeed(client) {
   await client.open(uri, text);
   const hovers = [];
   for (let turn = 0; turn < 50; turn++) {
-    const begun = performance.now();
+    const start = performance.now();
     await client.ask("textDocument/hover", at(uri, 10 + turn, 1));
-    hovers.push(performance.now() - begun);
+    hovers.push(performance.now() - start);
   }
   const faults = [];
   for (let turn = 1; turn <= 15; turn++) {
-    const begun = performance.now();
+    const start = performance.now();
     const range = { start: { line: turn, character: 4 }, end: { line: turn, character: 5 } };
     client.notify("textDocument/didChange", { textDocument: { uri, version: turn + 1 }, contentChanges: [{ range, text: "x" }] });
     verdict((await client.faults(uri)).length, turn, `${turn} faults`);
-    faults.push(performance.now() - begun);
+    faults.push(performance.now() - start);
   }
   console.log(`speed: a hover in a text of ${text.length} bytes: ${describedTimes(hovers)}`);
   console.log(`speed: 1 to 15 faults of it, after an edit: ${describedTimes(faults)}`);
@@ -113,10 +113,10 @@ async function tryWrong() {
 }
 
 async function tryEnds() {
-  const gone = new Client(MCS4);
-  await gone.begin();
-  gone.child.stdin.end();
-  verdict(await gone.ended, 1, "a client that goes away");
+  const closedClient = new Client(MCS4);
+  await closedClient.begin();
+  closedClient.child.stdin.end();
+  verdict(await closedClient.ended, 1, "a client that goes away");
   const hasty = new Client(MCS4);
   hasty.notify("exit");
   verdict(await hasty.ended, 1, "exit without shutdown");
@@ -129,10 +129,10 @@ async function tryEnds() {
 async function tryAtOnce() {
   const hasty = new Client(MCS4);
   const uri = "file:///hasty.asm";
-  const begun = hasty.answer("initialize", { processId: null, rootUri: null, capabilities: {} });
+  const initialized = hasty.answer("initialize", { processId: null, rootUri: null, capabilities: {} });
   hasty.notify("initialized", {});
   const faults = await hasty.open(uri, "JMP there\n");
-  verdict([(await begun).error, faults.length], [undefined, 1], "a text that is opened with initialize in one chunk has its faults");
+  verdict([(await initialized).error, faults.length], [undefined, 1], "a text that is opened with initialize in one chunk has its faults");
   const shut = hasty.answer("shutdown");
   hasty.notify("exit");
   verdict([(await shut).error, await hasty.ended], [undefined, 0], "shutdown and exit in one chunk");

@@ -104,17 +104,17 @@ class Kate {
 
   /** Resolves to the errors in the text. If Kate asks whether it may start the server, confirms that. */
   async answered() {
-    let asked = 0;
+    let askedAt = 0;
     const faults = await once("faults", () => {
       // Send only one key, because a second one would go into the text.
-      const window = Date.now() - asked > AGAIN && this.window(QUESTION);
+      const window = Date.now() - askedAt > AGAIN && this.window(QUESTION);
       if (window) {
-        asked = Date.now();
+        askedAt = Date.now();
         this.xdotool("windowfocus", window, "key", "Return");
       }
       return lastFaults();
     });
-    say(`${this.file}: ${asked ? "asked" : "did not ask"} before it started the server`);
+    say(`${this.file}: ${askedAt ? "asked" : "did not ask"} before it started the server`);
     return faults;
   }
 

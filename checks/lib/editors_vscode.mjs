@@ -157,14 +157,14 @@ async function speed(client) {
   };
   for (let turn = 1; turn <= 60; turn++) await edit(turn, "6");
   const times = [];
-  const begun = spent(client.child.pid);
+  const cpuBefore = spent(client.child.pid);
   for (let turn = 1; turn <= 60; turn++) {
     const before = performance.now();
     const count = await edit(turn, turn <= 15 ? "x" : "7");
     if (turn <= 15) verdict(count, turn, `${turn} errors`);
     times.push(performance.now() - before);
   }
-  const each = (spent(client.child.pid) - begun) / 60;
+  const each = (spent(client.child.pid) - cpuBefore) / 60;
   const inOrder = times.sort((one, other) => one - other);
   console.log(`speed: an edit of ${text.length} bytes: ${inOrder[30].toFixed(1)} ms in the middle, ${inOrder[59].toFixed(1)} at most, ${
     each.toFixed(1)} of the processor`);

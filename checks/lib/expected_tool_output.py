@@ -201,9 +201,9 @@ def cover_output(start: Board, cycles: int, source: Source) -> str:
         way = "{}/{}".format(*ways[i]) if i in ways else ""
         rows.append(f"{count:>10} {way:<13}  {text}".rstrip())
     never = [i for i in lines if not runs[source.spans[i][0]]]
-    gone = sum(1 for both in ways.values() for way in both if way)
+    taken_count = sum(1 for both in ways.values() for way in both if way)
     rows += ["", f"{len(lines) - len(never)} of {len(lines)} instructions were run{percent(len(lines) - len(never), len(lines))}, "
-             f"{gone} of {2 * len(ways)} branch directions{percent(gone, 2 * len(ways))}"]
+             f"{taken_count} of {2 * len(ways)} branch directions{percent(taken_count, 2 * len(ways))}"]
     one_way = [f"{i + 1} ({'always' if taken else 'never'} taken)" for i, (taken, not_taken) in ways.items() if (taken == 0) != (not_taken == 0)]
     if never:
         rows.append(f"never run: line{'s' if len(never) > 1 else ''} {spans_of(lines, never)}")

@@ -128,8 +128,8 @@ async function tryFeatures() {
   verdict(item.given.slice(0, 2), [11, "start"], "a routine");
   const [kind, name, detail, where, whole, own] = item.given;
   const plain = (given) => ({ start: { line: given[0], character: given[1] }, end: { line: given[2], character: given[3] } });
-  const asked = { kind, name, detail, uri: where, range: plain(whole.given), selectionRange: plain(own.given) };
-  verdict(await providers.registerCallHierarchyProvider.provideCallHierarchyOutgoingCalls(asked), [], "what it calls");
+  const callItem = { kind, name, detail, uri: where, range: plain(whole.given), selectionRange: plain(own.given) };
+  verdict(await providers.registerCallHierarchyProvider.provideCallHierarchyOutgoingCalls(callItem), [], "what it calls");
   verdict(await providers.registerDocumentLinkProvider.provideDocumentLinks(document), [], "a program has no links");
   const tokens = providers.registerDocumentSemanticTokensProvider;
   const { given: [, id] } = await tokens.provideDocumentSemanticTokens(document);

@@ -151,11 +151,11 @@ async function tryPanel(editor) {
   verdict(await until(() => news().board && news().boardText.includes("printer")), true, "the board is drawn");
   // Press `7` and `+`, which makes the calculator print the operand.
   for (const legend of ["7", "+"]) {
-    const place_ = placeOfKey(legend);
-    await webview.say({ place: place_, isDown: true });
-    await until(() => (news().keys || []).includes(place_.replace(" ", ".")));
+    const keyPlace = keyPlaceOf(legend);
+    await webview.say({ place: keyPlace, isDown: true });
+    await until(() => (news().keys || []).includes(keyPlace.replace(" ", ".")));
     await new Promise((resume) => { setTimeout(resume, 300); });
-    await webview.say({ place: place_, isDown: false });
+    await webview.say({ place: keyPlace, isDown: false });
     await until(() => (news().keys || []).length === 0);
     await new Promise((resume) => { setTimeout(resume, 300); });
   }
@@ -167,7 +167,7 @@ async function tryPanel(editor) {
 }
 
 /** Returns the row and column of a key on the printing calculator, by its legend in the board's text. */
-function placeOfKey(legend) {
+function keyPlaceOf(legend) {
   const rows = readFileSync(join(folder, "printer", "board.toml"), "utf8").split("\n").flatMap((line) => {
     const [, row, keys] = /^#\s*row (\d+):\s*(.*)$/.exec(line) || [];
     return row ? [[row, keys.split(/\s+/)]] : [];
@@ -197,8 +197,8 @@ async function tryTasks({ registered }, { contributes }) {
   cpSync(new URL("../../examples/pictures", import.meta.url), join(folder, "pictures"), { recursive: true });
   const proof = run(registered["tasks mcs4"].resolveTask({ definition: { type: "mcs4", command: "prove", folder: join(folder, "pictures") } }));
   verdict([proof.status, /^ok 1 - never .* # proved for all inputs \(9 states\)$/m.test(proof.stdout)], [0, true], `a proof by the module: ${proof.stderr.trim()}`);
-  const made = registered["tasks mcs4"].resolveTask({ definition: { type: "mcs4", command: "cover", folder: join(folder, "printer") } });
-  verdict(made.given[2], "cover printer", "a task of tasks.json");
+  const task = registered["tasks mcs4"].resolveTask({ definition: { type: "mcs4", command: "cover", folder: join(folder, "printer") } });
+  verdict(task.given[2], "cover printer", "a task of tasks.json");
 }
 
 makeWorkspace();

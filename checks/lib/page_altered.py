@@ -69,6 +69,6 @@ def altered(page, folder, code="", worker="", replaced=()):
         text = text.replace(old, new, 1)
     hashes = " ".join(hash_of(script) for script in re.findall("<script>(.*?)</script>", text, re.S))
     text = re.sub(r"script-src '[^']*'", f"script-src {hashes}", text, count=1)
-    made = folder / "altered.html"
-    made.write_text(text)
-    return made
+    altered_page = folder / "altered.html"
+    altered_page.write_text(text)
+    return altered_page

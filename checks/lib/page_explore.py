@@ -65,8 +65,8 @@ def found_by_tool(folder, program, mcs4):
     """Starts mcs4 explore on the same texts. Returns the process."""
     path = folder / "planted.asm"
     path.write_text(program)
-    asked = ["./mcs4", "explore", LOCK / "board.toml", path, LOCK / "lock.props", "--seconds", str(SECONDS), "--out", folder / "finds.test"]
-    return subprocess.Popen(asked, cwd=TOP, env=dict(os.environ, MCS4=str(mcs4)), stdout=subprocess.PIPE, stderr=subprocess.DEVNULL, text=True)
+    command = ["./mcs4", "explore", LOCK / "board.toml", path, LOCK / "lock.props", "--seconds", str(SECONDS), "--out", folder / "finds.test"]
+    return subprocess.Popen(command, cwd=TOP, env=dict(os.environ, MCS4=str(mcs4)), stdout=subprocess.PIPE, stderr=subprocess.DEVNULL, text=True)
 
 
 def check_found(browser, folder, mcs4):
@@ -143,10 +143,10 @@ def check_stopped(browser):
     explore(browser, 600)
     # The first tenth of the time is for a proof.
     eventually(browser, "it looks", FIGURES, re.compile("^[1-9][0-9,]* steps"), 120)
-    begun = time.monotonic()
+    start = time.monotonic()
     browser.hold("#explore", 400)
     eventually(browser, "it stops", BUTTON, "Search", 5)
-    verdict("at once", time.monotonic() - begun < 3, True)
+    verdict("at once", time.monotonic() - start < 3, True)
     verdict("and says so", browser.script(PROPERTIES_STATUS), re.compile("^Stopped. "))
     browser.script("document.querySelector('#properties-editor .cm-editor').lineEditor.focus()")
     browser.chord(CONTROL, ENTER)

@@ -53,8 +53,8 @@ def proved_by_tool(browser, folder, mcs4):
     names = [("board", "board.toml"), ("program", "program.asm"), ("properties", "some.props")]
     for name, file in names:
         (folder / file).write_text(text_of(browser, name))
-    asked = ["./mcs4", "prove", *(folder / file for _, file in names)]
-    ran = subprocess.run(asked, cwd=TOP, env=dict(os.environ, MCS4=str(mcs4)), stdout=subprocess.PIPE, text=True, check=False)
+    command = ["./mcs4", "prove", *(folder / file for _, file in names)]
+    ran = subprocess.run(command, cwd=TOP, env=dict(os.environ, MCS4=str(mcs4)), stdout=subprocess.PIPE, text=True, check=False)
     return re.findall(r"^ok \d+ - (.*) # proved for all inputs \((.*)\)$", ran.stdout, re.M)
 
 
@@ -174,10 +174,10 @@ def check_cancelled(browser):
     put(browser, "properties", "never lamp 1 on\n")
     prove(browser, 999999999)
     eventually(browser, "it searches", SO_FAR, re.compile("more than .* states so far"), LONG)
-    begun = time.monotonic()
+    start = time.monotonic()
     browser.hold("#prove", 300)
     eventually(browser, "it stops", BUTTON, "Prove", 10)
-    verdict("at once", time.monotonic() - begun < 8, True)
+    verdict("at once", time.monotonic() - start < 8, True)
     verdict("and says so", browser.script(PROPERTIES_STATUS), "It was cancelled before anything was proved.")
     verdict("with nothing left of it", browser.script("return isShown(document.getElementById('proof-results'))"), False)
     browser.script("document.querySelector('#properties-editor .cm-editor').lineEditor.focus()")

@@ -184,8 +184,8 @@ def check_example(browser):
     browser.chord(CONTROL, ENTER)
     eventually(browser, "mended, it is assembled and run", STATUS_OF.format(PROGRAM), re.compile("^Assembled .* bytes; running from 000"))
     browser.until(STATUS, re.compile("at a breakpoint"))
-    begun = "\n".join(["unbreak 8", "reset", *["run 91000"] * 10, "lamps", "run 97000", "lamps"])
-    verdict("and counts to 9, and then from 0 on", lines_answered(browser, begun), re.compile(r"lamps \*\.\.\*.*lamps \.\.\.\."))
+    script = "\n".join(["unbreak 8", "reset", *["run 91000"] * 10, "lamps", "run 97000", "lamps"])
+    verdict("and counts to 9, and then from 0 on", lines_answered(browser, script), re.compile(r"lamps \*\.\.\*.*lamps \.\.\.\."))
 
 
 def check(browser, page, folder, _mcs4):

@@ -186,8 +186,8 @@ def seeded_question(seed: int, most: int) -> Question:
     boards = [{each: cell(board, *each) for each in cells} for board in walked(question, chance)]
     question.nevers = [[comparison(chance, wiring, boards) for _each in range(chance.choice([1, 2, 2, 3]))] for _row in range(chance.choice([0, 1, 1, 1, 2]))]
     if chance.random() < 0.5:
-        asked = ("mistake", *chance.sample(MISTAKES, chance.choice([1, 1, 2, len(MISTAKES)])))
-        question.nevers.append([asked, *([comparison(chance, wiring, boards)] if chance.random() < 0.2 else [])])
+        mistake_condition = ("mistake", *chance.sample(MISTAKES, chance.choice([1, 1, 2, len(MISTAKES)])))
+        question.nevers.append([mistake_condition, *([comparison(chance, wiring, boards)] if chance.random() < 0.2 else [])])
     if seed % 4 == 1:
         timed(question, chance, wiring, boards)
     return question

@@ -152,14 +152,14 @@ class State:
 
     def run(self, cycles):
         """Runs a number of cycles, or up to a breakpoint. Returns the words about the number of cycles and the reason for the stop."""
-        begun = self.place()
+        start = self.place()
         done = left_out = 0
         while done + left_out < cycles:
             self.cycle()
             done += 1
             if not self.owed and self.counter in self.breakpoints:
                 return f" ran {done} break"
-            if self.place() == begun and left_out == 0:
+            if self.place() == start and left_out == 0:
                 # The program loops, so whole iterations are skipped.
                 left_out = (cycles - done) // done * done
         return f" ran {cycles} end"

@@ -327,10 +327,10 @@ class Run:
         """On a terminal, prints what is done, what is running, and the estimated remaining time."""
         if not sys.stdout.isatty():
             return
-        begun = {each.check.label: each.seconds() for each in self.running}
-        left = {check: max(self.usual[check.label] - begun.get(check.label, 0), 5) for check in [*self.checks, GATE] if check in self.waiting or check.label in begun}
+        spent = {each.check.label: each.seconds() for each in self.running}
+        left = {check: max(self.usual[check.label] - spent.get(check.label, 0), 5) for check in [*self.checks, GATE] if check in self.waiting or check.label in spent}
         beside = sum(seconds for check, seconds in left.items() if check is not GATE) / min(self.processors, max(len(left), 1))
-        names = ", ".join(name for name in begun if name != GATE.label)
+        names = ", ".join(name for name in spent if name != GATE.label)
         gate = f"gate {self.gate.passed} of {self.gate.crates} crates, " if self.gate and not self.gate.is_over else ""
         done = sum(check is not GATE for check in self.ended)
         line = f"{gate}checks {done} of {len(self.checks)} done, running: {names or 'none'}, about {max(beside, left.get(GATE, 0)) / 60:.0f} min left"
@@ -385,10 +385,10 @@ def times_before(mode):
 def keep_times(mode, times):
     """Stores the times for the next run, if the cache folder is writable."""
     try:
-        kept = json.loads(CACHE.read_text()) if CACHE.exists() else {}
+        stored = json.loads(CACHE.read_text()) if CACHE.exists() else {}
         CACHE.parent.mkdir(parents=True, exist_ok=True)
         other = CACHE.with_name(f"{CACHE.name}.{os.getpid()}")
-        other.write_text(json.dumps({**kept, mode: {**kept.get(mode, {}), **times}}))
+        other.write_text(json.dumps({**stored, mode: {**stored.get(mode, {}), **times}}))
         other.replace(CACHE)
     except (OSError, ValueError, TypeError, AttributeError):
         return

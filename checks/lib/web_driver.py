@@ -116,10 +116,10 @@ class Chromium(WebDriver):
                      f"--user-data-dir={folder}", *flags],
             "prefs": {"download.default_directory": downloads, "download.prompt_for_download": False, **settings},
         }
-        asked = {"capabilities": {"alwaysMatch": {"goog:chromeOptions": options, "goog:loggingPrefs": {"browser": "ALL"}}}}
-        begun = self._ask("POST", "/session", asked)
-        self.session = "/session/" + begun["sessionId"]
-        self.version = begun["capabilities"]["browserVersion"]
+        request = {"capabilities": {"alwaysMatch": {"goog:chromeOptions": options, "goog:loggingPrefs": {"browser": "ALL"}}}}
+        answer = self._ask("POST", "/session", request)
+        self.session = "/session/" + answer["sessionId"]
+        self.version = answer["capabilities"]["browserVersion"]
 
     def command(self, name, **words):
         """Sends a command of the browser's own protocol, and returns the result."""
@@ -158,9 +158,9 @@ class WebKit(WebDriver):
         self.root = f"http://127.0.0.1:{port}"
         self.driver = subprocess.Popen(["WebKitWebDriver", f"--port={port}"], env=self.world, stdout=subprocess.DEVNULL,
                                        stderr=subprocess.DEVNULL)
-        begun = self._begin()
-        self.session = "/session/" + begun["sessionId"]
-        self.version = begun["capabilities"]["browserVersion"]
+        answer = self._begin()
+        self.session = "/session/" + answer["sessionId"]
+        self.version = answer["capabilities"]["browserVersion"]
         self.resize_back()
 
     def _display(self):
@@ -175,11 +175,11 @@ class WebKit(WebDriver):
     def _begin(self):
         browser = os.environ.get("MINIBROWSER") or glob.glob("/usr/lib/*/webkit2gtk-4.*/MiniBrowser")[0]
         options = {"binary": browser, "args": ["--automation"]}
-        asked = {"capabilities": {"alwaysMatch": {"browserName": "MiniBrowser", "webkitgtk:browserOptions": options}}}
+        request = {"capabilities": {"alwaysMatch": {"browserName": "MiniBrowser", "webkitgtk:browserOptions": options}}}
         end = time.monotonic() + 60
         while True:
             try:
-                return self._ask("POST", "/session", asked)
+                return self._ask("POST", "/session", request)
             except OSError:
                 if time.monotonic() > end:
                     raise Fault("WebKitWebDriver did not start") from None

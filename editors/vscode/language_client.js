@@ -49,8 +49,8 @@ class LanguageClient {
     if (await this.isStarted()) return;
     if (named === "") throw new Error("The language server was not started.");
     bench.isGivenUp = true;
-    const words = `The command ${named} was not started; the setting mcs4.command names it. The extension's own commands take its place.`;
-    this.vscode.window.showErrorMessage(words);
+    const message = `The command ${named} was not started; the setting mcs4.command names it. The extension's own commands take its place.`;
+    this.vscode.window.showErrorMessage(message);
     if (!(await this.isStarted())) throw new Error("The language server was not started.");
   }
 
@@ -230,11 +230,11 @@ class LanguageClient {
     const { vscode } = this;
     const legend = new vscode.SemanticTokensLegend(tokenTypes, tokenModifiers);
     const tokensOf = (tokens) => new vscode.SemanticTokens(new Uint32Array(tokens ? tokens.data : []), tokens ? tokens.resultId : undefined);
-    const asked = (document, more) => ({ textDocument: { uri: document.uri.toString() }, ...more });
+    const paramsOf = (document, more) => ({ textDocument: { uri: document.uri.toString() }, ...more });
     this.disposables.push(vscode.languages.registerDocumentSemanticTokensProvider(selector, {
-      provideDocumentSemanticTokens: async (document) => tokensOf(await this.ask("textDocument/semanticTokens/full", asked(document))),
+      provideDocumentSemanticTokens: async (document) => tokensOf(await this.ask("textDocument/semanticTokens/full", paramsOf(document))),
       provideDocumentSemanticTokensEdits: async (document, previousResultId) => {
-        const tokens = await this.ask("textDocument/semanticTokens/full/delta", asked(document, { previousResultId }));
+        const tokens = await this.ask("textDocument/semanticTokens/full/delta", paramsOf(document, { previousResultId }));
         if (!tokens || !tokens.edits) return tokensOf(tokens);
         const edits = tokens.edits.map(({ start, deleteCount, data }) => (
           new vscode.SemanticTokensEdit(start, deleteCount, new Uint32Array(data))));
@@ -242,15 +242,15 @@ class LanguageClient {
       },
     }, legend), vscode.languages.registerDocumentRangeSemanticTokensProvider(selector, {
       provideDocumentRangeSemanticTokens: async (document, range) => (
-        tokensOf(await this.ask("textDocument/semanticTokens/range", asked(document, { range: this.plainRange(range) })))),
+        tokensOf(await this.ask("textDocument/semanticTokens/range", paramsOf(document, { range: this.plainRange(range) })))),
     }, legend));
   }
 
   async hover(document, position) {
     const found = await this.ask("textDocument/hover", this.at(document, position));
     if (!found) return null;
-    const words = new this.vscode.MarkdownString(found.contents.value);
-    return new this.vscode.Hover(words, found.range && this.rangeOf(found.range));
+    const markdown = new this.vscode.MarkdownString(found.contents.value);
+    return new this.vscode.Hover(markdown, found.range && this.rangeOf(found.range));
   }
 
   async completion(document, position, { triggerKind = 0, triggerCharacter } = {}) {
@@ -276,8 +276,8 @@ class LanguageClient {
 
   async actions(document, range) {
     const context = { diagnostics: [] };
-    const asked = { textDocument: { uri: document.uri.toString() }, range: this.plainRange(range), context };
-    return ((await this.ask("textDocument/codeAction", asked)) || []).map(({ title, edit }) => {
+    const params = { textDocument: { uri: document.uri.toString() }, range: this.plainRange(range), context };
+    return ((await this.ask("textDocument/codeAction", params)) || []).map(({ title, edit }) => {
       const action = new this.vscode.CodeAction(title, this.vscode.CodeActionKind.QuickFix);
       action.edit = this.editOf(edit);
       return action;

@@ -71,8 +71,8 @@ class LanguageFeatures {
 
   async selections(document, positions) {
     const plain = positions.map(({ line, character }) => ({ line, character }));
-    const made = ({ range, parent }) => new this.vscode.SelectionRange(this.client.rangeOf(range), parent && made(parent));
-    return (await this.of("textDocument/selectionRange", document, { positions: plain })).map(made);
+    const selectionOf = ({ range, parent }) => new this.vscode.SelectionRange(this.client.rangeOf(range), parent && selectionOf(parent));
+    return (await this.of("textDocument/selectionRange", document, { positions: plain })).map(selectionOf);
   }
 
   async signature(document, position) {

@@ -44,10 +44,10 @@ class Tasks {
     const { uri } = scope && scope.uri ? scope : first || { uri: null };
     const folder = definition.folder || (uri ? uri.fsPath : "");
     if (!COMMANDS.includes(definition.command) || folder === "") return undefined;
-    const made = this.task({ ...definition, folder }, uri || vscode.Uri.file(folder));
+    const task = this.task({ ...definition, folder }, uri || vscode.Uri.file(folder));
     // The editor identifies a task by the definition object that it passed in.
-    made.definition = definition;
-    return made;
+    task.definition = definition;
+    return task;
   }
 }
 

@@ -32,8 +32,8 @@ async function suggestionsFor(word, words) {
  */
 async function unknownOption(word, options) {
   const isLong = word.startsWith("--");
-  const meant = isLong ? await suggestionsFor(word.slice(2), Object.keys(options)) : [];
-  return new UsageError(say.noOption(word, meant.map((name) => `--${name}`)));
+  const suggestions = isLong ? await suggestionsFor(word.slice(2), Object.keys(options)) : [];
+  return new UsageError(say.noOption(word, suggestions.map((name) => `--${name}`)));
 }
 
 /** @type {(value: string | undefined, isInline: boolean) => boolean} true if an option has no value, or if its value is another option */

@@ -79,7 +79,7 @@ export class PanelTerminal {
    * @param {() => void} resized called when the terminal's size changes
    */
   begin(resized) {
-    const gone = () => {
+    const markGone = () => {
       this.isGone = true;
       this.wake();
     };
@@ -90,8 +90,8 @@ export class PanelTerminal {
       this.keys.push(...keysIn(String(text)));
       this.wake();
     });
-    for (const event of ["end", "error", "close"]) this.input.on(event, gone);
-    this.output.on("error", gone);
+    for (const event of ["end", "error", "close"]) this.input.on(event, markGone);
+    this.output.on("error", markGone);
     this.output.on("resize", () => {
       this.shown = [];
       resized();

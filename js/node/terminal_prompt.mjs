@@ -267,8 +267,8 @@ export class TerminalPrompt {
       output.write("^C");
       terminal.clearLine();
     }
-    const words = isEmpty ? this.prompt.drop() : "";
-    if (words !== "") this.print(words);
+    const message = isEmpty ? this.prompt.drop() : "";
+    if (message !== "") this.print(message);
     this.show();
   }
 

@@ -36,8 +36,8 @@ export function makeSessionsController(page, parts) {
       speeds.dispatchEvent(new Event("change"));
     },
     image: async (name, bytes) => {
-      const words = await page.rom.load(name, bytes);
-      if (words) page.notice.show(words, "file", { word: say.DISASSEMBLE_ROM, act: () => page.texts.takeFromRom() });
+      const message = await page.rom.load(name, bytes);
+      if (message) page.notice.show(message, "file", { word: say.DISASSEMBLE_ROM, act: () => page.texts.takeFromRom() });
     },
   });
 }

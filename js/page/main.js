@@ -165,9 +165,9 @@ async function main() {
   const notice = new Notice();
   // The block `needs` is visible only in browsers that cannot run this script.
   block("needs").hidden = true;
-  const lack = missingFeature();
-  if (lack) {
-    notice.show(say.hasNo(lack, textOf("needs")));
+  const missing = missingFeature();
+  if (missing) {
+    notice.show(say.hasNo(missing, textOf("needs")));
     return;
   }
   /** @type {Data} */

@@ -126,9 +126,9 @@ class Runner:
         for place in range(0, size, MEGA):
             blank.bytes[place:place + MEGA] = self.junk
         words = [*kind.make, blank.file]
-        made = subprocess.run(words, stdout=subprocess.PIPE, stderr=subprocess.STDOUT, text=True, check=False)
-        if made.returncode:
-            raise Fault(f"{' '.join(words)}: {made.stdout}")
+        result = subprocess.run(words, stdout=subprocess.PIPE, stderr=subprocess.STDOUT, text=True, check=False)
+        if result.returncode:
+            raise Fault(f"{' '.join(words)}: {result.stdout}")
         self.disk.bytes[:size] = blank.bytes[:]
         blank.close()
         if case.setup:

@@ -63,8 +63,8 @@ class Lamp {
  */
 function listOf({ kind, rows, columns }, lamp) {
   const cells = upTo(rows * columns).map((at) => {
-    const words = rows > 1 ? say.rowAndColumn(Math.floor(at / columns), at % columns) : say.lampOfRow(at + 1, columns);
-    return element("li", {}, lamp(at, words));
+    const defaultName = rows > 1 ? say.rowAndColumn(Math.floor(at / columns), at % columns) : say.lampOfRow(at + 1, columns);
+    return element("li", {}, lamp(at, defaultName));
   });
   const list = element("ul", { className: `group ${kind}` }, ...cells);
   list.setAttribute("aria-label", kind);

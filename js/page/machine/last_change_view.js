@@ -64,9 +64,9 @@ export class LastChangeView {
     if (this.calls.isRunning()) return;
     const request = new AbortController();
     this.request = request;
-    const words = await this.calls.wordsOf(poked, request.signal);
-    if (words === "" || request.signal.aborted || !cell.isConnected || this.calls.isRunning()) return;
-    this.tip.textContent = words;
+    const text = await this.calls.wordsOf(poked, request.signal);
+    if (text === "" || request.signal.aborted || !cell.isConnected || this.calls.isRunning()) return;
+    this.tip.textContent = text;
     this.tip.hidden = false;
     putBelow(this.tip, cell.getBoundingClientRect(), BELOW_CELL);
   }

@@ -46,8 +46,8 @@ export class Proofs {
       },
       open: ({ text, isGoal }, { before }) => {
         const { shown } = this;
-        const words = isGoal ? say.nextStepReaches(text) : say.nextStepBreaks(text);
-        if (shown) calls.open(text, before, shown.texts, words).catch(calls.failed);
+        const description = isGoal ? say.nextStepReaches(text) : say.nextStepBreaks(text);
+        if (shown) calls.open(text, before, shown.texts, description).catch(calls.failed);
       },
       add: (found) => calls.showMessage(calls.addTest(found.text)),
     });

@@ -58,12 +58,12 @@ export class ExportView {
 
   /** @param {ExportedFile} file */
   async save({ ending, what, make }) {
-    const made = await make();
-    if (made.length === 0) {
+    const contents = await make();
+    if (contents.length === 0) {
       this.status.textContent = say.nothingSaved(what);
       return;
     }
-    download(this.calls.name(), ending, new Blob([made], { type: "application/octet-stream" }));
+    download(this.calls.name(), ending, new Blob([contents], { type: "application/octet-stream" }));
     this.dialog.close();
   }
 }

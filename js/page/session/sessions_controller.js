@@ -209,9 +209,9 @@ export class SessionsController {
     const release = await this.locks.take(record.id);
     if (!release) return;
     release();
-    const words = say.notOpenedAutomatically(shortName(record.name));
+    const message = say.notOpenedAutomatically(shortName(record.name));
     const remove = () => this.remove([record]);
-    this.notice.show(words, "unended", { word: say.OPEN_IT, act: () => this.open(record.id) }, { word: say.DELETE_IT, act: remove });
+    this.notice.show(message, "unended", { word: say.OPEN_IT, act: () => this.open(record.id) }, { word: say.DELETE_IT, act: remove });
   }
 
   /** Opens the target of a changed address, unless it is already open. */

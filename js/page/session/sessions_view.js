@@ -121,8 +121,8 @@ export class SessionsView {
     const toDo = Object.entries(TO_DO).find(([name]) => name === example.name);
     const title = element("span", { className: "grow" }, toDo ? exampleWords(example.title, toDo[1]) : example.title);
     if (!example.story) return element("li", {}, open, title);
-    const words = say.newStory(example.name);
-    return element("li", {}, open, title, this.button(say.WITH_STORY, words, () => this.choose(() => this.calls.beginStory(example))));
+    const description = say.newStory(example.name);
+    return element("li", {}, open, title, this.button(say.WITH_STORY, description, () => this.choose(() => this.calls.beginStory(example))));
   }
 
   /**

@@ -116,14 +116,14 @@ export class Sharing {
   async open(link) {
     try {
       const texts = await readLink(link);
-      const tried = await this.bench.call("dryRun", [texts]);
+      const result = await this.bench.call("dryRun", [texts]);
       const isWanted = await this.ask.ask({
         title: say.openFromLink(texts.name),
-        words: this.wordsOf(texts, tried),
+        words: this.wordsOf(texts, result),
         accept: say.OPEN_AS_NEW,
         refuse: say.LEAVE_IT,
       });
-      if (isWanted) await this.calls.begin(texts, tried.file, tried.refused.length === 0 && texts.programText !== "");
+      if (isWanted) await this.calls.begin(texts, result.file, result.refused.length === 0 && texts.programText !== "");
     } catch (fault) {
       this.notice.show(say.linkNotOpened(this.words.ofFault(fault)), "session");
     } finally {

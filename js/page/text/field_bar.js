@@ -45,9 +45,9 @@ export class FieldBar {
   }
 
   finish() {
-    const words = this.done(this.field.value.trim());
-    if (words === "") this.close();
-    else this.status.set(words);
+    const message = this.done(this.field.value.trim());
+    if (message === "") this.close();
+    else this.status.set(message);
   }
 
   close() {

@@ -104,8 +104,8 @@ export class Layer {
     this.field = StateField.define({
       create: () => RangeSet.empty,
       update: (ranges, transaction) => {
-        const put = transaction.effects.find((effect) => effect.is(this.put));
-        return put ? put.value : move(ranges, transaction);
+        const putEffect = transaction.effects.find((effect) => effect.is(this.put));
+        return putEffect ? putEffect.value : move(ranges, transaction);
       },
       provide,
     });

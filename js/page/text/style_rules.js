@@ -4,7 +4,7 @@
 import { StyleModule } from "style-mod";
 
 /** @type {Set<StyleModule>} */
-const taken = new Set();
+const addedModules = new Set();
 let count = 0;
 
 /** Makes CodeMirror insert its style rules into the page's style sheet. */
@@ -12,8 +12,8 @@ export function keepRulesInSheet() {
   StyleModule.mount = (_, modules) => {
     const [sheet] = document.styleSheets;
     for (const module of [modules].flat()) {
-      if (taken.has(module)) continue;
-      taken.add(module);
+      if (addedModules.has(module)) continue;
+      addedModules.add(module);
       for (const rule of module.getRules().split("\n").filter(Boolean)) sheet.insertRule(rule, count++);
     }
   };

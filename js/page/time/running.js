@@ -193,9 +193,9 @@ export class Running {
    */
   stoodStill(time, wasHidden) {
     this.beginRate();
-    const words = say.wasPausedFor(wordsOfTime(time), wasHidden);
-    this.showMessage(words);
-    setTimeout(() => this.status.text === words && this.showMessage(say.isRunning(this.current.name, this.calls.unreadable())),
+    const message = say.wasPausedFor(wordsOfTime(time), wasHidden);
+    this.showMessage(message);
+    setTimeout(() => this.status.text === message && this.showMessage(say.isRunning(this.current.name, this.calls.unreadable())),
       MESSAGE_TIME);
   }
 

@@ -195,9 +195,9 @@ export class Scope {
     if (!choice) return;
     this.chooseNamed(choice.trigger);
     const { trigger, behind, stopsTime } = choice;
-    const begun = await this.calls.begin({ trigger, behind, stopsTime }, this.choice.values);
-    if (!begun) return;
-    const { recorded, fault } = begun;
+    const result = await this.calls.begin({ trigger, behind, stopsTime }, this.choice.values);
+    if (!result) return;
+    const { recorded, fault } = result;
     field("trigger").setAttribute("aria-invalid", String(fault !== ""));
     if (fault) this.status.set(say.triggerFault(fault));
     if (!recorded) return;
