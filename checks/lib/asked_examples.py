@@ -196,7 +196,7 @@ def nevers_in(props: str) -> list[str]:
     return [line.removeprefix("never ") for line in lines if line.startswith("never ") and " for " not in line]
 
 
-# The programs that make mistakes, with their mistakes. Lamps runs on into a ROM chip that the board lacks, and its second WRR has no output line.
+# The programs that make mistakes, with their mistakes. Lamps runs on into a missing ROM chip, and its second WRR has no output line.
 MADE = {"lamps.txt": ("rom", "wrr")}
 PROGRAM_MAX_STATES, PROGRAM_PAUSE = 60, 1000
 

@@ -107,7 +107,7 @@ class Places:
         self.at, self.rows, self.names = 0, [], {}
 
     def take(self, line):
-        """Reads the next line. Raises Refused if the line is wrong by itself or because of the lines before it."""
+        """Reads the next line. Raises Refused if the line is wrong on its own or because of the lines before it."""
         number = len(self.rows) + 1
         whole = said(line)
         if whole is None:
@@ -189,7 +189,7 @@ def assemble(lines):
 
 
 def errors_of(lines):
-    """Returns the number and line of each error. Errors in bytes are included only if no line is wrong by itself or because of earlier lines."""
+    """Returns the number and line of each error. Errors in bytes are included only if no line is wrong on its own or because of earlier lines."""
     places, found = Places(), []
     for line in lines:
         try:

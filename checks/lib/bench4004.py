@@ -211,7 +211,7 @@ def load(board: Board, text: list[str]) -> str:
 
 
 def put_key(board: Board, row: str, column: str, is_down: bool) -> str:
-    """Presses or releases a key. Rejects a key that the board lacks."""
+    """Presses or releases a key. Rejects a key that the board does not have."""
     if number(row) >= board.chips.keys["rows"] or number(column) >= len(board.chips.columns):
         return "no 41"
     (board.chips.down.add if is_down else board.chips.down.discard)((number(row), number(column)))

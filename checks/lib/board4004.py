@@ -80,7 +80,7 @@ class Chips:
         return numbers[0] < len(self.chains) and numbers[1] < len(self.chains[numbers[0]])
 
     def level(self, line: Line) -> int:
-        """Returns the level of a line, or 0 if the board lacks it."""
+        """Returns the level of a line, or 0 if the board does not have it."""
         kind, numbers = line
         if not self.has_line(line):
             return 0
@@ -248,7 +248,7 @@ class Board:
         return done, stop
 
 
-# ---- the instructions; the counter already points behind their words
+# ---- the instructions; the counter already points past their words
 
 def jump_on_page(board: Board, low: int) -> None:
     """Jumps to a word in the page of the counter."""

@@ -126,7 +126,7 @@ class BoardReading:
                 seen.add(table[key])
 
     def direction(self, name):
-        """Returns `i` for an input line, `o` for an output line, and `b` for a bit of a chain. Returns None if the board lacks the line."""
+        """Returns `i` for an input line, `o` for an output line, and `b` for a bit of a chain. Returns None if the board does not have the line."""
         kind, number, *others = numbers_of(name)
         for section, index, table in self.tables:
             if section == kind == "rom" and table["chip"] == number:

@@ -1,6 +1,6 @@
 // Compares the page's module with the program: `node compare_page.mjs MODULE MCS4 COUNT`. Both serve examples and random scripts. The answers, the
 // exit status and each byte of the session file must be the same. This also holds if a script is split into two calls, if the file was settled
-// between them or has version 1, and if the file is damaged. When lines are split in the way in which the page splits long work, the answers must be
+// between them or has version 1, and if the file is damaged. When lines are split as the page splits long work, the answers must be
 // the same as in one call.
 import { spawnSync } from "node:child_process";
 import { closeSync, existsSync, mkdtempSync, openSync, readFileSync, readdirSync, rmSync, writeFileSync } from "node:fs";
@@ -145,7 +145,7 @@ function compare(name, engine, file, input) {
   return wanted.file;
 }
 
-// Returns a settled file in version 1, which lacks the version byte and the number of watches. Returns null if the file has watches.
+// Returns a settled file in version 1, which does not have the version byte and the number of watches. Returns null if the file has watches.
 function asVersion1(file) {
   const slot = file[8] % 2 === 0 ? 16 : 81936;
   const length = new DataView(file.buffer, file.byteOffset).getUint32(slot);
@@ -202,7 +202,7 @@ function checkSettled(name, file, seq) {
 
 const seqOf = (engine, file) => Number(answersTo(engine, file, "seq\n")[0].split(" ")[1]);
 
-// Splits lines in the way in which the page splits long work, serving and settling each piece. Checks that the answers are the same as in one call.
+// Splits lines as the page splits long work, serving and settling each piece. Checks that the answers are the same as in one call.
 function compareInPieces(name, engine, file, input) {
   const bytes = Uint8Array.from(file);
   const answers = [engine.ask(file, "").opened];

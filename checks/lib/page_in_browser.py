@@ -168,7 +168,7 @@ def lamps_of(mcs4, file, keys):
 
 
 def as_version_1(file):
-    """Returns a saved session in the format of version 1, which lacks the version byte and the number of watches."""
+    """Returns a saved session in the format of version 1, which does not have the version byte and the number of watches."""
     slot = 16 if file[8] % 2 == 0 else 81936
     length = int.from_bytes(file[slot:slot + 4], "big")
     snapshot = file[slot + 4:slot + 4 + length]

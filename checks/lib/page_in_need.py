@@ -97,7 +97,7 @@ def check_worker(browser):
     dismiss(browser)
 
 
-# Fills in 20,000,000 bytes of lines, which take a while to serve. After a cancellation, none of them may be executed. The field is hidden meanwhile,
+# Fills in 20,000,000 bytes of lines, which take a while to serve. After a cancellation, none of them may be executed. The field is hidden,
 # because a browser would need minutes for its layout.
 LONG_WORK = """
 document.getElementById("lines").style.display = "none";
@@ -251,7 +251,7 @@ def reopen(browser, address):
 
 
 def hang(browser, address):
-    """Opens a session and leaves the page meanwhile. The flag gets an old time stamp, as if the page had hung."""
+    """Opens a session that never finishes opening. The flag gets an old time stamp, as if the page had hung for long."""
     browser.go("about:blank")
     browser.go(address.replace("html", "html?hang", 1))
     browser.until("return Boolean(window.hung)", True)

@@ -32,7 +32,7 @@ ALL = "seq\nstate\nram 0\nbreaks\nwatches"
 
 
 class Program:
-    """The program, which runs beside the page on separate sessions."""
+    """The program, which runs on separate sessions while the page runs."""
 
     def __init__(self, folder, mcs4):
         self.folder = folder

@@ -101,7 +101,7 @@ async function report(name, thrown) {
 }
 
 /**
- * Runs a command with its arguments; returns the exit status.
+ * Runs a command with its arguments. Returns the exit status.
  * @param {string} name
  * @param {string[]} words
  * @param {Command["load"]} [load]
@@ -123,7 +123,7 @@ export async function runCommand(name, words, load = COMMANDS[name].load) {
 }
 
 /**
- * Reports an unknown command; returns the exit status.
+ * Reports an unknown command. Returns the exit status.
  * @param {string} word
  */
 async function rejectCommand(word) {
@@ -155,7 +155,7 @@ async function help([name, ...others]) {
 }
 
 /**
- * Runs the command line of `mcs4`; returns the exit status.
+ * Runs the `mcs4` command line. Returns the exit status.
  * @param {string[]} words
  */
 export async function runLine([name = "", ...words]) {

@@ -29,7 +29,7 @@ const SLICE_TIME = 50;
 /** The maximum sizes of a test file and of a report, in bytes. */
 const MAX_TESTS = 1048576;
 const MAX_REPORT = 16777216;
-/** The environment variable that tells a job the name of its settings file. */
+/** The environment variable that contains the name of a job's settings file. */
 const JOB_VARIABLE = "MCS4_EXPLORE_JOB";
 
 let isStopped = false;

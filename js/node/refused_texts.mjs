@@ -82,7 +82,7 @@ export class RefusedTexts {
   }
 
   /**
-   * Returns the error for the first program line that puts bytes into a ROM chip that the board lacks. Returns null if there is none.
+   * Returns the error for the first program line that puts bytes into a ROM chip that the board does not have. Returns null if there is none.
    * @param {string} text
    */
   lineWithoutRom(text) {

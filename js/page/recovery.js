@@ -15,7 +15,7 @@ import * as say from "../words/page.js";
  * The callbacks of Recovery.
  * @typedef {object} RecoveryCalls
  * @property {() => KeptSession | null} session Returns the current session, or null if there is none.
- * @property {() => boolean} isRunning Returns whether time is running.
+ * @property {() => boolean} isRunning Returns true if time is running.
  * @property {() => void} stopClock Stops the page's clock without a request to the worker.
  * @property {(words: string) => void} halted Shows that time is paused, and the reason.
  * @property {(frame: Frame) => void} ran Shows the last frame of a run before the error.

@@ -29,9 +29,9 @@ import * as say from "../words/page.js";
  * The callbacks of SnapshotView.
  * @typedef {object} SnapshotOwnCalls
  * @property {(node: HTMLButtonElement, key: BoardKey) => void} listen Connects a button to its key.
- * @property {() => boolean} isRunning Returns whether time is running.
- * @property {() => boolean} isFast Returns whether the speed is too high for the disassembly to follow each instruction.
- * @property {() => boolean} isWiringShown Returns whether the Wiring tab's picture is in front.
+ * @property {() => boolean} isRunning Returns true if time is running.
+ * @property {() => boolean} isFast Returns true if the speed is too high for the disassembly to follow each instruction.
+ * @property {() => boolean} isWiringShown Returns true if the Wiring tab's picture is in front.
  * @property {(lines: string) => Promise<string[]>} ask Resolves to the bench's answers to queries.
  * @property {(line: string) => Promise<string | null>} act Serves a line. Resolves to its answer, or to null after a failure. A failure has already
  *   been reported.

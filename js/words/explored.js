@@ -75,7 +75,7 @@ export function markOf(property, goesOn) {
 }
 
 /**
- * Returns the text behind a property, or "" if the text would only repeat the amount of the search.
+ * Returns the text after a property, or "" if the text would only repeat the amount of the search.
  * @param {PropertyResult} property
  * @param {Report} report
  */

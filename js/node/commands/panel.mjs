@@ -72,7 +72,7 @@ async function readTexts(session, name, texts) {
 }
 
 /**
- * Returns a message about the first part that the front panel mentions but the board lacks, or "" if there is none.
+ * Returns a message about the first part that the front panel mentions but the board does not have, or "" if there is none.
  * @param {Awaited<ReturnType<typeof readTexts>>} known
  * @param {number} before the number of lines before the board's text in its file
  */

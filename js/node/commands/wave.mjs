@@ -40,7 +40,7 @@ async function textsFor({ folder, board, names }) {
 }
 
 /**
- * Throws an error if a board's text does not describe the session's board, or if its front panel names parts that the board lacks.
+ * Throws an error if a board's text does not describe the session's board, or if its front panel names parts that the board does not have.
  * @param {Wired["engine"]} engine
  * @param {GivenText} given
  * @param {string[]} wanted the session's answers to `board`
@@ -77,7 +77,7 @@ async function wired(session, { board: boardName, program: programName }) {
 const boardTextOf = ({ boardText }) => (boardText ? boardText.text : "");
 
 /**
- * Calls `choose` and returns its result. Throws a CommandError if the board lacks a line.
+ * Calls `choose` and returns its result. Throws a CommandError if a line does not exist on the board.
  * @template Result
  * @param {() => Result} choose
  */

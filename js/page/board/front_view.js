@@ -108,7 +108,7 @@ export class FrontView {
   }
 
   /**
-   * Lists the errors in the front panel's comments: malformed comments, and comments about parts that the board lacks.
+   * Lists the errors in the front panel's comments: malformed comments, and comments about parts that the board does not have.
    * @param {Board} board
    * @param {Face} face
    */

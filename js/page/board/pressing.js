@@ -10,8 +10,8 @@ import { textOfKey } from "../../core/board/key_place.js";
 /**
  * The callbacks of Pressing.
  * @typedef {object} PressingCalls
- * @property {() => boolean} isRunning Returns whether time is running, so that presses are queued.
- * @property {(key: Key) => boolean} isDown Returns whether a key will be down after all queued presses and releases.
+ * @property {() => boolean} isRunning Returns true if time is running, so that presses are queued.
+ * @property {(key: Key) => boolean} isDown Returns true if a key will be down after all queued presses and releases.
  * @property {(key: Key) => void} press Queues a press of a key while time is running.
  * @property {(key: Key) => void} release Queues a release of a key while time is running.
  * @property {(word: "press" | "release", key: Key) => void} change Presses or releases a key immediately while time is paused.

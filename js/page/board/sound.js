@@ -13,7 +13,7 @@ import * as say from "../../words/board.js";
  * The callbacks of Sound.
  * @typedef {object} SoundCalls
  * @property {(line: string) => void} listen Asks the bench to report the edges of a line; "" for no line.
- * @property {() => boolean} isReal Returns whether time is running at the real chip's speed. At other speeds the buzzer is silent.
+ * @property {() => boolean} isReal Returns true if time is running at the real chip's speed. At other speeds the buzzer is silent.
  */
 
 /** The number of cycles in one block of samples: 45 ms. */

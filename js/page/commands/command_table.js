@@ -24,13 +24,13 @@ import * as say from "../../words/page_commands.js";
 /**
  * The callbacks through which commands reach the page. A call that opens or sends something reports its own failure.
  * @typedef {object} CommandCalls
- * @property {() => boolean} isRunning Returns whether time is running.
+ * @property {() => boolean} isRunning Returns true if time is running.
  * @property {() => void} runOrStop Resumes or pauses time.
  * @property {() => void} step Executes one instruction.
  * @property {(goal: import("../../core/debug/goals.js").Goal) => void} goOn Runs until a goal is reached.
  * @property {(goal: import("../../core/engine/going_back.js").BackGoal) => void} goBack Goes back to a goal.
  * @property {() => void} goForward Returns to the state before the last move back.
- * @property {() => boolean} canGoForward Returns whether a move back can be undone.
+ * @property {() => boolean} canGoForward Returns true if a move back can be undone.
  * @property {() => void} runToCursor Runs to the line of the caret in the source.
  * @property {(line: string) => void} serve Serves one line of the bench and logs its answer.
  * @property {() => void} test Changes the level of the TEST pin.
@@ -39,11 +39,11 @@ import * as say from "../../words/page_commands.js";
  * @property {() => void} print Prints the page.
  * @property {(name: string) => void} show Brings a text or a panel to the front, by its name.
  * @property {(button: string, shown: string) => void} press Brings the text or panel `shown` to the front, then clicks a button by its id.
- * @property {(button: string) => boolean} isOffered Returns whether the button with an id can be used.
+ * @property {(button: string) => boolean} isOffered Returns true if the button with an id can be used.
  * @property {(field: string, shown: string) => void} enter Brings the text or panel `shown` to the front, then focuses a field by its id.
  * @property {(text: TextName) => void} send Sends a text, as the first button of its editor does.
  * @property {(box: string) => void} toggle Toggles a check box by its id.
- * @property {(isSource: boolean) => boolean} hasText Returns whether a text is in front. With `isSource`, returns whether the source is in front.
+ * @property {(isSource: boolean) => boolean} hasText Returns true if a text is in front. With `isSource`, returns whether the source is in front.
  * @property {(what: TextAct) => void} inText Performs an editing action in the text that is in front.
  * @property {(what?: import("../machine/breakpoint_row.js").BreakpointField) => void} breakpoint Toggles the breakpoint at the caret's line. With a
  *   field, opens that field of the breakpoint.
@@ -54,9 +54,9 @@ import * as say from "../../words/page_commands.js";
  * @property {() => void} projects Opens the list of projects.
  * @property {() => void} share Creates a link to the session.
  * @property {() => void} notices Opens the list of notices.
- * @property {() => boolean} hasNotices Returns whether the list of notices has entries.
+ * @property {() => boolean} hasNotices Returns true if the list of notices has entries.
  * @property {() => void} scanKeys Inserts a key scan routine into the source.
- * @property {() => boolean} hasKeys Returns whether the board has a key matrix.
+ * @property {() => boolean} hasKeys Returns true if the board has a key matrix.
  * @property {(id: string) => void} togglePanel Shows or hides a panel by its id.
  * @property {(id: string) => void} fullPanel Maximises a panel, or restores its size.
  * @property {() => void} resetLayout Restores the initial layout.

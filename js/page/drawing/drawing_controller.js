@@ -19,7 +19,7 @@ import { PictureZoom } from "./picture_zoom.js";
 /**
  * The callbacks through which the picture reaches the page.
  * @typedef {object} PictureOwnCalls
- * @property {() => boolean} isInFront Returns whether the picture is in front. Otherwise it is drawn when it comes to the front.
+ * @property {() => boolean} isInFront Returns true if the picture is in front. Otherwise it is drawn when it comes to the front.
  * @property {() => void} putInFront Brings the picture to the front.
  * @property {() => Promise<string>} wire Applies the text as the board. Resolves to the message about the result.
  * @property {(board: Board) => void} scanKeys Inserts a key scan routine for a board into the source.

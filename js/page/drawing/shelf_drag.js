@@ -12,7 +12,7 @@ import { element } from "../ui/dom.js";
  *
  * The callbacks of the shelf.
  * @typedef {object} ShelfCalls
- * @property {(place: Place) => boolean} isSheet Returns whether a point of the window is on the sheet.
+ * @property {(place: Place) => boolean} isSheet Returns true if a point of the window is on the sheet.
  * @property {(part: Shelved, place: Place) => void} dropped Adds a part that was dropped on the sheet.
  * @property {(part: Shelved) => void} goTo Adds a part and focuses it on the sheet.
  * @property {(isOver: boolean) => void} over Shows whether a dragged part is over the sheet.

@@ -20,7 +20,7 @@ import * as say from "../../words/help.js";
 /**
  * The callbacks through which the guide reaches the page.
  * @typedef {object} GuideOwnCalls
- * @property {(example: Example) => Promise<boolean>} begin Begins a new session from an example. Resolves to whether it was created.
+ * @property {(example: Example) => Promise<boolean>} begin Begins a new session from an example. Resolves to true if it was created.
  * @property {() => void} showSource Brings the source to the front.
  * @property {() => string} program Returns the text of the source.
  * @property {(program: string) => void} edit Replaces the source with a program, as one edit.

@@ -15,11 +15,11 @@ import * as say from "../../words/help.js";
 /**
  * The callbacks of the tour panel.
  * @typedef {object} TourCalls
- * @property {(example: Example) => Promise<boolean>} begin Begins a new session from an example. Resolves to whether it was created.
+ * @property {(example: Example) => Promise<boolean>} begin Begins a new session from an example. Resolves to true if it was created.
  * @property {(program: string) => void} put Puts a program into the source.
  * @property {(act: import("../../core/help/story.js").Act) => Promise<string>} act Executes the action of a story's link. Resolves to the reason why
  *   the action failed, or to "".
- * @property {(program: string) => boolean} isPut Returns whether the source is `program`.
+ * @property {(program: string) => boolean} isPut Returns true if the source is `program`.
  * @property {(target: Target) => void} reveal Scrolls the target of a step into view.
  * @property {() => void} left Handles the end of the tour.
  */

@@ -33,7 +33,7 @@ import { stoppedAt } from "../../words/stops.js";
  * @property {() => Promise<string>} keep Saves the session. Resolves to the reason why it could not be saved, or to "".
  * @property {(entries: Answered[], fault: string) => void} log Logs lines with their answers, and the reason if the session could not be saved.
  * @property {(tally: Tally) => void} counted Shows the hit counts and log messages of breakpoints.
- * @property {() => boolean} isRunning Returns whether time is running.
+ * @property {() => boolean} isRunning Returns true if time is running.
  * @property {() => void} forgetGoal Forgets the goal of the run, because the bench was reset.
  * @property {(stop: Stop) => string} reasonOf Returns the message with the reason why a run stopped.
  * @property {(words: string) => void} showMessage Shows a message in the status line.

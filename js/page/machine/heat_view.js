@@ -17,7 +17,7 @@ import * as say from "../../words/machine.js";
 /**
  * The callbacks of the heat map.
  * @typedef {object} HeatCalls
- * @property {() => boolean} isRunning Returns whether time is running.
+ * @property {() => boolean} isRunning Returns true if time is running.
  * @property {(cycles: number, signal: AbortSignal) => Promise<Heat | null>} count Counts the changes in the last `cycles` cycles. Resolves to null if
  *   `signal` is aborted or if the count fails. A failure has already been reported.
  * @property {(isOn: boolean) => void} watch Switches the bench's reports of RAM changes on or off.

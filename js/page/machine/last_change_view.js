@@ -11,7 +11,7 @@ import { putBelow } from "../ui/popup_message.js";
 /**
  * The callbacks of the tooltip.
  * @typedef {object} LastChangeCalls
- * @property {() => boolean} isRunning Returns whether time is running. The tooltip appears only while time is paused.
+ * @property {() => boolean} isRunning Returns true if time is running. The tooltip appears only while time is paused.
  * @property {(poked: Poked, signal: AbortSignal) => Promise<string>} wordsOf Resolves to a text about the last change of a place, or to "" if
  *   `signal` is aborted or the search fails.
  * @property {(cell: HTMLElement) => Poked | undefined} pokedAt Returns the place whose value a cell shows, or undefined if the cell shows none.

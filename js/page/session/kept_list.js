@@ -12,7 +12,7 @@ import * as say from "../../words/session.js";
 /**
  * The callbacks of the list. Sessions are identified by id.
  * @typedef {object} ListCalls
- * @property {(id: string) => boolean} isShown Returns whether a session is the current one.
+ * @property {(id: string) => boolean} isShown Returns true if a session is the current one.
  * @property {(id: string) => Promise<boolean>} open Opens a session. Resolves to false after a failure. The failure has already been reported.
  * @property {(id: string) => Promise<boolean>} copy Copies a session and opens the copy. Resolves to false if that fails.
  * @property {(records: SessionRecord[]) => Promise<void>} remove Deletes sessions. Deleted sessions can be restored.

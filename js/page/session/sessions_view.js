@@ -17,7 +17,7 @@ import * as say from "../../words/session.js";
  * The callbacks of the sessions dialog. A call that opens something resolves to false if that fails.
  * @typedef {object} SessionsCalls
  * @property {() => Promise<SessionRecord[]>} kept Resolves to the saved sessions.
- * @property {(id: string) => boolean} isShown Returns whether a session, by its id, is the current one.
+ * @property {(id: string) => boolean} isShown Returns true if a session, by its id, is the current one.
  * @property {(id: string) => Promise<boolean>} open Opens a session by its id.
  * @property {(id: string) => Promise<boolean>} copy Copies a session, by its id, and opens the copy.
  * @property {(records: SessionRecord[]) => Promise<void>} remove Deletes sessions. Deleted sessions can be restored.

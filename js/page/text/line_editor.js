@@ -34,7 +34,7 @@ import { descendant } from "../ui/dom.js";
  * @property {() => void} moved Handles a caret move.
  * @property {(line: number) => void} clickedGutter Handles a click on a gutter at a line, from 0.
  * @property {(line: number, event: Event) => void} askedGutter Handles a right click on a gutter at a line, from 0.
- * @property {(size: number) => boolean} takes Returns whether the editor accepts an edit by pasting or dropping that makes the text `size` characters
+ * @property {(size: number) => boolean} takes Returns true if the editor accepts an edit by pasting or dropping that makes the text `size` characters
  *   long.
  * @property {(position: Position) => Completion} complete Returns the completions for the word at a position.
  */
@@ -294,7 +294,7 @@ export class LineEditor {
   }
 
   /**
-   * Replaces the selection with a text and puts the caret behind the text.
+   * Replaces the selection with a text and puts the caret after the text.
    * @param {string} text
    * @param {string} [event] the name of the user event; with it, one undo step can include text typed before
    */

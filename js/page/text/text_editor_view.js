@@ -26,9 +26,9 @@ import * as say from "../../words/text.js";
  * @typedef {import("../machine/breakpoint_row.js").BreakpointField} BreakpointField
  *
  * The language of a text. `mark` begins a comment. `indent` is the indentation of a new line, by default that of the previous line. `folds` are its
- * foldable parts. `isInstruction` returns whether a word in upper case is an instruction; texts without names lack it. `isUnsent` is true for a text
- * that is never sent to the bench. `wordsAt` describes the word at an offset in a line, both from 0. `valuesAt` returns the current values of that
- * word, and `offer` makes a value editable. `complete` returns the completions for the word.
+ * foldable parts. `isInstruction` returns true if a word in upper case is an instruction. It is missing for texts without names. `isUnsent` is true
+ * for a text that is never sent to the bench. `wordsAt` describes the word at an offset in a line, both from 0. `valuesAt` returns the current values
+ * of that word, and `offer` makes a value editable. `complete` returns the completions for the word.
  * @typedef {{ mark: import("../../core/text/text_fault.js").CommentMark, colours: import("./line_colours.js").Colours, gutters: string[],
  *   indent?: string,
  *   folds?: import("../../core/text/folding.js").Parts, isInstruction?: (word: string) => boolean,

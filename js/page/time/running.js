@@ -33,7 +33,7 @@ import * as say from "../../words/time.js";
  * @property {(frame: Frame) => void} took Shows, logs and counts the contents of a frame.
  * @property {() => void} drawRest Updates the views that are updated less often while time is running.
  * @property {() => void} drawListing Updates the disassembly, which follows the program counter only at slow speeds.
- * @property {() => boolean} isOwed Returns whether the second cycle of an instruction is pending.
+ * @property {() => boolean} isOwed Returns true if the second cycle of an instruction is pending.
  * @property {() => number} cycles Returns the total number of cycles in the session.
  * @property {() => string} where Returns a text with the program counter, its name and its source line.
  * @property {(id: number) => string} when Returns a text with the condition of a breakpoint, by its id.
@@ -58,7 +58,7 @@ export class Running {
     this.bench = bench;
     this.current = current;
     this.calls = calls;
-    /** @type {(why: string) => void} called with the reason when a run has stopped by itself */
+    /** @type {(why: string) => void} called with the reason when a run has stopped on its own */
     this.ended = () => {};
     /** @type {(isRunning: boolean) => void} called when time starts or pauses */
     this.showRunning = () => {};
@@ -310,7 +310,7 @@ export class Running {
   }
 
   /**
-   * Returns whether a key will be down after all queued changes. If changes are not queued, returns `isDown`.
+   * Returns true if a key will be down after all queued changes. If changes are not queued, returns `isDown`.
    * @param {Key} key
    * @param {boolean} isDown true if the bench reports the key as down
    */

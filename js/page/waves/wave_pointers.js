@@ -9,9 +9,9 @@
  * The callbacks of the pointer input. Points are in pixels from the top left corner.
  * @typedef {object} PointerCalls
  * @property {(point: Point, isOther: boolean) => void} click Places the active cursor at a point; the other cursor if `isOther` (with Shift).
- * @property {(point: Point) => boolean} holdsCursor Returns whether a drag from this point moves the cursor.
+ * @property {(point: Point) => boolean} holdsCursor Returns true if a drag from this point moves the cursor.
  * @property {(point: Point) => void} drag Moves the dragged cursor to a point.
- * @property {(point: Point) => boolean} isName Returns whether a point is on the row names.
+ * @property {(point: Point) => boolean} isName Returns true if a point is on the row names.
  * @property {(from: Point, to: Point) => void} dragRow Moves the row whose name is at `from` to the position `to`.
  * @property {(point: Point | null) => void} hover Handles a pointer that hovers at a point; null if the pointer has left or is pressed.
  * @property {(pixels: number) => void} pan Moves the visible part; positive numbers move to later moments.
