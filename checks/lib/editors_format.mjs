@@ -1,4 +1,4 @@
-// Tests of checks/editors for the program formatter. The server formats random programs, alternately with blanks and with tabs. The bench must give
+// Tests of checks/editors for the program formatter. The server formats random programs, alternately with spaces and with tabs. The bench must give
 // the same answers to both texts, byte for byte, and formatting twice must give the same result as formatting once. Prints `ok WORDS` or `fault:
 // WORDS`.
 import { execFileSync } from "node:child_process";

@@ -1,5 +1,5 @@
-"""Mutants that checks/time and checks/prove must detect: second readings with one error each, as a program could have it, and answers with one wrong
-line.
+"""Mutants that checks/time and checks/prove must detect: second implementations, each with one error that a program could have, and
+answers with one wrong line.
 """
 
 from __future__ import annotations

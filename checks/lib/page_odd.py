@@ -8,7 +8,7 @@ from page_in_browser import ENTER, ESCAPE, NOTICE, PUT_INTO_EDITOR, STATUS, TEXT
 from verdicts import eventually, verdict
 
 MARKUP = "<img src=x onerror=\"window.injected=1\"><script>window.injected=1</script>"
-# Markup without blanks and quotes, for use as a name.
+# Markup without spaces and quotes, for use as a name.
 NAME = "<img/src=x/onerror=injected=1>"
 # The editor's own images have no address.
 HARMLESS = "return !window.injected && document.querySelectorAll('img[src], body script[src], iframe, object').length === 0"

@@ -59,7 +59,7 @@ def proved_by_tool(browser, folder, mcs4):
 
 
 def check_example(browser, folder, mcs4):
-    """Checks the stopwatch, which has one state more than the first question may search."""
+    """Checks the stopwatch example, which has one more state than the first question may search."""
     choose_example(browser, "stopwatch")
     properties = [line for line in text_of(browser, "properties").splitlines() if line.startswith(("never", "every"))]
     proved = proved_by_tool(browser, folder, mcs4)

@@ -37,7 +37,7 @@ def chain_line(chain, bit):
 
 
 def name_of(line):
-    """Returns the name of a line in texts."""
+    """Returns the name of a line in texts, for example rom0.3."""
     kind, *numbers = line
     return ("rom{}.{}", "ram{}.{}.{}", "chain{}.{}")[kind].format(*numbers)
 

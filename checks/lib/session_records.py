@@ -1,4 +1,4 @@
-"""Valid and invalid records of session files, written by hand from docs/FORMAT.md ("Bytes of commands")."""
+"""Valid and invalid records of session files, written manually from docs/FORMAT.md ("Bytes of commands")."""
 
 from session_file import Board, Command, State, load, ram_line, rom_line, run, step, wire
 from session_states import LARGEST, chained

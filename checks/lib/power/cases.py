@@ -36,7 +36,7 @@ def ext(name: str, options: str = "", *more: str) -> Kind:
 
 
 def btrfs(name: str, options: str = "") -> Kind:
-    """Returns btrfs with mount options."""
+    """Returns the file system kind for btrfs with these mount options."""
     return Kind(name, 128, MAKE_BTRFS, "btrfs-progs", "btrfs", options, "commit=1", ("btrfs",), whole_blocks=True)
 
 

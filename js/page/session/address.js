@@ -33,7 +33,7 @@ export function forgetStory() {
 }
 
 /**
- * Returns the target of an address. Removes trailing blanks, which users can copy with an address.
+ * Returns the target of an address. Removes trailing spaces, which users can copy with an address.
  * @param {string} hash
  * @returns {{ kind: AddressKind | "", value: string }}
  */

@@ -49,7 +49,7 @@ export class TextEditor {
     this.top = 0;
     /** @type {number | null} the scroll position to restore as soon as the text can be measured; null if there is none */
     this.due = null;
-    /** The line to reveal after that; 0 for none. */
+    /** The line to reveal as soon as the text can be measured, or 0 for none. */
     this.awaited = 0;
     /** True if Tab moves the focus out of the editor. This is the case after Escape, and after Tab has moved the focus in. */
     this.tabLeaves = true;
