@@ -1,10 +1,9 @@
-// Generates the editors' grammars from the page's lists of words: `node editors/make.mjs [FOLDER]`. It writes the grammars for programs and
-// for boards to the folder (by default this one), for Visual Studio Code (TextMate, which GitHub also reads), Vim, Emacs and Kate. In the
-// Emacs modes it replaces only the lists of words.
+// Generates the editors' grammars from the page's word lists: `node editors/make.mjs [FOLDER]`. Writes the grammars for programs and boards to the
+// folder, by default to this one. The grammars are for Visual Studio Code (TextMate, which GitHub also reads), Vim, Emacs and Kate. In the Emacs
+// modes, only the word lists are replaced.
 //
-// In programs the grammars distinguish labels and defined names, instructions, directives, registers, numbers and names. In boards they
-// distinguish tables, keys, strings, numbers, comments, and the comments that describe the front panel. checks/grammars compares the
-// grammars with the page.
+// In programs, the grammars distinguish labels and defined names, instructions, directives, registers, numbers and names. In boards, they distinguish
+// tables, keys, strings, numbers, comments, and the comments that describe the front panel. checks/grammars compares the grammars with the page.
 import { mkdirSync, readFileSync, writeFileSync } from "node:fs";
 import { dirname } from "node:path";
 import { fileURLToPath } from "node:url";
@@ -24,13 +23,13 @@ const NUMBER = "(?:0x[0-9A-Fa-f]+|[0-9]+)";
 const REGISTER = "(?:[Rr](?:1[0-5]|[0-9])|[Pp][0-7])";
 const STRING = "(?:\"(?:\\\\.|[^\"\\\\])*\"|'[^']*')";
 const KEY = "[A-Za-z0-9_-]+";
-/** The end and the beginning of a word in an operand. */
+/** Lookarounds for the end and the beginning of a word in an operand. */
 const AFTER = "(?![A-Za-z0-9_])";
 const BEFORE = "(?<![A-Za-z0-9_])";
 
-/** Returns a regular expression for a word in upper or lower case. */
+/** Returns a regular expression that matches a word in upper and lower case. */
 const inAnyCase = (word) => [...word].map((letter) => (/[A-Z]/.test(letter) ? `[${letter}${letter.toLowerCase()}]` : letter)).join("");
-/** Returns a regular expression for any of some words. */
+/** Returns a regular expression that matches any word of a list. */
 const anyOf = (words, written = (word) => word) => words.map(written).join("|");
 const WARNING = "Made by editors/make.mjs out of the words that the page knows; edits here are lost.";
 
@@ -149,7 +148,7 @@ autocmd BufRead,BufNewFile *.4004 setfiletype mcs4
 
 // --- Emacs
 
-/** Returns the text of the Emacs modes, with the lists of words replaced. */
+/** Returns the source of the Emacs modes with new word lists. */
 function modesOfEmacs() {
   const lists = { instructions: INSTRUCTIONS, directives: DIRECTIVES, face: FACE, tables: TABLES };
   return Object.entries(lists).reduce(
@@ -214,7 +213,7 @@ ${rules.join("\n")}
 
 const json = (value) => `${JSON.stringify(value, null, 2)}\n`;
 
-/** The texts of all files, by their names. */
+/** The contents of all generated files, by file name. */
 export const FILES = {
   "vscode/mcs4.tmLanguage.json": json(programOfTextMate()),
   "vscode/mcs4-board.tmLanguage.json": json(boardOfTextMate()),

@@ -1,7 +1,7 @@
-// Joins the modules of each command into one file: `node join_commands.mjs FOLDER [NAME ..]`. Without names it joins all commands. For each
-// command it makes two files. FOLDER/NAME.cjs has the command and the modules that it uses. FOLDER/sources/NAME has a checksum, and the
-// list of the sources that it covers, together with the joined file. js/node/joined.cjs compares the checksum before it uses a joined file.
-// tools/ship calls this script, which needs esbuild.
+// Joins the modules of each command into one file: `node join_commands.mjs FOLDER [NAME ..]`. Without names, it joins all commands. For each command,
+// it writes two files. FOLDER/NAME.cjs contains the command and the modules that it uses. FOLDER/sources/NAME contains a checksum and a list of
+// sources; the checksum covers these sources and the joined file. js/node/joined.cjs verifies the checksum before it uses a joined file. tools/ship
+// calls this script, which needs esbuild.
 import { execFileSync } from "node:child_process";
 import { mkdirSync, readFileSync, rmSync, writeFileSync } from "node:fs";
 import { join, resolve } from "node:path";
@@ -17,13 +17,13 @@ if (folderName === "" || folderName.startsWith("-") || commandNames.some((name) 
 const folder = resolve(folderName);
 const names = commandNames.length > 0 ? commandNames : Object.keys(COMMANDS);
 const ESBUILD = ["--bundle", "--platform=node", "--format=cjs", "--target=node18", "--minify", "--legal-comments=none", "--log-level=error",
-  // Dynamic imports become calls of `require`, which are faster than Node's loader of ES modules.
+  // Dynamic imports become calls of `require`, which are faster than Node's ES module loader.
   "--supported:dynamic-import=false",
-  // CommonJS has no import.meta, so a variable replaces it.
+  // CommonJS has no import.meta, so this variable replaces it.
   "--define:import.meta.url=ownUrl", '--banner:js=const ownUrl=require("node:url").pathToFileURL(__filename).href;'];
 const META = join(folder, "meta.json");
 
-/** Returns the source of the entry module of a command. The command's own modules are loaded only after its arguments are parsed. */
+/** Returns the source of a command's entry module. The command's own modules are loaded only after its arguments have been parsed. */
 const entryModule = (name) => `import { runCommand } from "./js/node/command_line.mjs";
 export const run = (words) => runCommand("${name}", words, () => import("./js/node/commands/${name}.mjs"));
 `;

@@ -19,7 +19,7 @@ MUTANT_MAX_STATES, MUTANT_PAUSE = 120, 1000
 
 
 def texts_of(props: str) -> tuple[list[str], list[str]]:
-    """Returns the board and the program for a properties file."""
+    """Returns the board and the program that belong to a properties file."""
     path = EXAMPLE_FILES / props
     if path.with_name("board.toml").exists():
         texts = path.with_name("board.toml"), path.with_name(f"{path.parent.name}.asm")
@@ -35,7 +35,7 @@ def texts_of(props: str) -> tuple[list[str], list[str]]:
 
 
 def comparisons_of(words: str, names: dict[str, int]) -> list[Comparison]:
-    """Returns the comparisons that `&` joins. `@label` compares the counter between two instructions."""
+    """Returns the comparisons in a list joined with `&`. `@label` compares the counter between two instructions."""
     rows: list[Comparison] = []
     for each in words.split(" & "):
         if each.startswith("@"):
@@ -61,8 +61,7 @@ GREEN, AMBER, WALK = "in ramport 0 line2 1 1", "in ramport 0 line1 1 1", "in ram
 
 @dataclass
 class Example:
-    """The nevers of a properties file, as written there, each with its comparisons. Also the answer to all of them together, the end of the
-    search, and the end of a shortened search."""
+    """The nevers of a properties file with their comparisons. Also the answer to all of them together, and the limits of the search."""
 
     props: str
     answer: str
@@ -74,7 +73,7 @@ class Example:
 EXAMPLES = [
     Example("a_fault_to_find.props", "may fail after 1 values", {"lamp 8 on and lamp 2 on": "in ramport 0 line3 1 1 & in ramport 0 line1 1 1"}),
     Example("counter.props", "too many", {never: DIGITS[never] for never in ("ram.0.0 > 9", "ram.0.64 > 9")}, most=20000),
-    # The maximum time for which something is pressed is not given here.
+    # These comparisons do not include the maximum time of a key press.
     Example("counter_bounces.props", "may fail after 113 values", {"@count": "@count"}),
     Example("die.props", "holds 13", {
         "not lamps ...*... and not lamps *.....* and not lamps *..*..* and not lamps **...** and not lamps **.*.** and not lamps ***.*** "
@@ -103,9 +102,9 @@ EXAMPLES = [
         "lamp left on and lamp middle on": "in ramport 0 line2 1 1 & in ramport 0 line1 1 1",
         "lamp middle on and lamp right on": "in ramport 0 line1 1 1 & in ramport 0 line0 1 1"}),
 ]
-# The answers at the end of longer searches, which take a gigabyte of memory. (The search of the clock takes minutes.)
+# The answers of longer searches, which need a gigabyte of memory. (The search of the clock takes minutes.)
 LONGER = {"counter.props": "holds 2240113"}
-# The outputs of RAM chips, by their index, in the examples whose mutants are searched. The lock, the traffic light and the three lamps show no
+# The possible outputs of RAM ports, by index, in the examples whose mutants are searched. The lock, the traffic light and the three lamps never show
 # other values, whatever is pressed.
 SHOWN = {
     "die.props": {0: (0, 1, 3, 7, 8, 9, 11)},
@@ -116,14 +115,14 @@ SHOWN = {
 }
 
 
-# The counter at power-on.
+# The comparisons that describe the counter at power-on.
 AT_FIRST = "in counter 3 whole 0 0 & in counter 4 whole 0 0 & in counter 5 whole 0 0"
 
 
 @dataclass
 class Timed:
-    """A line of a file of properties that limits a time: what begins the time, and what ends it, in comparisons; the limit in cycles, and the
-    answer. `longest` is the longest time that there is, -1 if there are too many states to know it."""
+    """A line of a properties file that limits a time: the comparisons that begin and end the time, the limit in cycles, and the answer. `longest` is
+    the longest possible time, or -1 if there are too many states to know it."""
 
     props: str
     line: str
@@ -144,14 +143,14 @@ class Timed:
 
 
 def lasting(props: str, line: str, condition: str, limit: int, answer: str, longest: int = -1, most: int = 1000000) -> Timed:
-    """Returns the time for which comparisons hold together: it ends when one of them does not."""
+    """Returns the question how long comparisons hold together. The time ends when any of them no longer holds."""
     comparisons = [each.split(" ", 1) for each in condition.split(" & ")]
     ends = [f"{'out' if word == 'in' else 'in'} {rest}" for word, rest in comparisons]
     return Timed(props, line, [condition], ends, limit, answer, longest, most)
 
 
 def all_off(name: str, indexes: Iterable[int]) -> str:
-    """Returns the comparisons that hold if these cells of a list are 0."""
+    """Returns the comparisons that hold if the given cells of a list are 0."""
     return " & ".join(f"in {name} {index} whole 0 0" for index in indexes)
 
 
@@ -181,7 +180,7 @@ TIMES = [
     lasting(THREE, "never lamps none for 1 ms", all_off("ramport", [0]), 93, "holds 2", 7),
     Timed(THREE, "every 6 ms @next", [AT_FIRST, "@next"], ["@next"], 556, "holds 2", 538),
 ]
-# Lines with a time that are not asked: their conditions need the digits of a display, or several rows, and their programs have too many states.
+# Time limits that are not tested. Their conditions need the digits of a display or several rows, and their programs have too many states.
 NOT_TIMED = {"never display -0 and st.0.0.2 3 for 20 ms", "never not ram.0.8 0 and not ram.0.8 9 for 200 ms"}
 
 
@@ -216,30 +215,30 @@ def pressed_in(props: str) -> list[str]:
 
 
 def times_in(props: str) -> list[str]:
-    """Returns the lines of a file of properties that limit a time, except those of a press."""
+    """Returns the lines of a properties file that limit a time, except the limits of key presses."""
     lines = (EXAMPLE_FILES / props).read_text().splitlines()
     return [line for line in lines if re.match(r"never .* for \d|every |@\S+ to ", line) and line not in NOT_TIMED]
 
 
 def nevers_in(props: str) -> list[str]:
-    """Returns the nevers of a properties file, except those with a time and those with a guard."""
+    """Returns the nevers of a properties file, except those with a time or a guard."""
     lines = (EXAMPLE_FILES / props).read_text().splitlines()
     return [line.removeprefix("never ") for line in lines if line.startswith("never ") and " for " not in line]
 
 
-# The programs that make mistakes, with the mistakes. Lamps runs on into a ROM that the board lacks, and its second WRR has no output line.
+# The programs that make mistakes, with their mistakes. Lamps runs on into a missing ROM chip, and its second WRR has no output line.
 MADE = {"lamps.txt": ("rom", "wrr")}
 PROGRAM_MAX_STATES, PROGRAM_PAUSE = 60, 1000
 
 
 def programs() -> list[str]:
-    """Returns the names of the examples with a program: files or folders."""
+    """Returns the names of the examples with a program, which are files or folders."""
     texts = [path.name for path in EXAMPLE_FILES.glob("*") if path.suffix in (".txt", ".mcsp") and "asm" in path.read_text().splitlines()]
     return sorted([*texts, *(path.parent.name for path in EXAMPLE_FILES.glob("*/board.toml"))])
 
 
 def mistakes_of(name: str, asked: tuple[str, ...] = MISTAKES) -> Question:
-    """Returns the question whether an example's program makes one of these mistakes."""
+    """Returns the question whether an example's program makes any of these mistakes."""
     path = EXAMPLE_FILES / name
     board, program = texts_of(f"{name}/{name}.props" if path.is_dir() else str(path.with_suffix(".props").name))
     return Question(board, program, [[("mistake", *asked)]], PROGRAM_MAX_STATES, PROGRAM_PAUSE)
@@ -256,7 +255,7 @@ def program_of(image: dict[int, int]) -> list[str]:
 
 
 def mutant(seed: int) -> tuple[str, Question]:
-    """Returns an example in which one instruction is replaced by another one of the same size."""
+    """Returns a question about an example with one instruction replaced by another one of the same size."""
     chance = random.Random(seed)
     props, ports = chance.choice([*SHOWN.items()])
     others = [" & ".join(f"out ramport {port} whole {value} {value}" for value in values) for port, values in ports.items()]

@@ -1,18 +1,18 @@
-"""Wrong input for mcs4-prove, with its answers: lines that are not questions, texts that are rejected, and texts at the limits that are not."""
+"""Wrong input for mcs4-prove, with the expected answers: invalid lines, rejected texts, and texts at the limits that are accepted."""
 
 from __future__ import annotations
 
 BOARD = ["wire", "[[rom]]", "chip = 0", 'port = "0000"', "."]
 PROGRAM = ["asm", "next: RDR", " JUN next", "."]
 BEGUN = ["most 9", "pause 9", *BOARD, *PROGRAM]
-# Lines that are not questions, after BEGUN.
+# Invalid lines after BEGUN.
 NO_LINES = [
     "most", "most x", "most -1", "most 1 2", "most 4000000001", f"most {'9' * 5000}", "most 0x", "most 1.5", "Most 1", "pause", "pause 0", "pause 1000000001",
     "pause 0x", "memory", "memory x", "memory 1000001", "wire", "wire x", "asm", "asm x", ".", "[[rom]]", "never x", "nevermore", "prove it", "proved",
     "within", "within x", "within -1", "within 1 2", "within 16777215", "begin x", "begins", "end x", "ended",
     "open x", "opens", "up", "up 0", "up 0 0 0", "up x 0", "up 0 256", "up 0 -1", "Up 0 0", "ups 0 0", "down", "down 256 0", "in 0 0",
     "\0", "most 1\0", "\x7f", "x" * 100000, "in register 0 whole 0 0", "out register 0 whole 0 0", "mistake code"]
-# Texts that are not comparisons.
+# Invalid comparisons.
 NO_COMPARISONS = [
     "in", "in register 0 whole 0", "in register 0 whole 0 0 0", "at register 0 whole 0 0", "In register 0 whole 0 0", "in registers 0 whole 0 0",
     "in register 16 whole 0 0", "in character 2048 whole 0 0", "in status 512 whole 0 0", "in ramport 32 whole 0 0", "in romport 16 whole 0 0",
@@ -20,9 +20,9 @@ NO_COMPARISONS = [
     "in register 65536 whole 0 0", "in register 4294967296 whole 0 0", "in register -1 whole 0 0", "in register x whole 0 0", "in register 0 line4 0 0",
     "in register 0 line 0 0", "in register 0 0 0 0", "in register 0 whole 256 0", "in register 0 whole 0 256", "in register 0 whole 0 99999999999",
     "in register 0 whole 0x100 0", "in register 0 whole a b", "mistake", "mistake x", "mistake code x", "mistake code,call", "Mistake code", "mistakes code"]
-# A condition that is never met.
+# A condition that never begins.
 NEVER_BEGUN = ["begin", "in register 0 whole 9 3"]
-# A question, the exit status, and the answer.
+# Each entry has a question, the exit status, and the answer.
 ANSWERS: list[tuple[list[str], int, str]] = [
     ([], 2, "no question"), ([""], 2, "no question"), (["prove"], 2, "no question"), ([*BOARD, "prove"], 2, "no question"),
     ([*PROGRAM, "prove"], 2, "no question"), (BEGUN, 2, "no question"), ([*BEGUN, "never"], 2, "no question"),
@@ -40,7 +40,7 @@ ANSWERS: list[tuple[list[str], int, str]] = [
     *(([*BEGUN, "never", f"mistake {kind}", "prove"], 0, "holds 1") for kind in ("code", "call", "return", "ram", "rom", "wrr", "code code")),
     *(([*BEGUN, "never", line, "prove"], 0, "may fail") for line in ("mistake rdr", "mistake wrr code rdr")),
     ([*BEGUN, "never", "mistake rdr", "in register 0 whole 1 1", "prove"], 0, "holds 1"),
-    # A stopwatch has a limit, and conditions that begin and end it; sets of states show no times.
+    # A stopwatch needs a limit and conditions that begin and end it. It cannot be combined with sets of states.
     *(([*BEGUN, *lines, "prove"], 2, "no question") for lines in (
         ["within 5"], ["within 5", "begin"], ["within 5", "end"], ["begin", "end"], ["sets 9", "within 5", "begin", "end"])),
     *(([*BEGUN, "within 5", "begin", "end", line, "prove"], 2, f"wrong line {len(BEGUN) + 4}") for line in NO_COMPARISONS),

@@ -1,4 +1,4 @@
-"""An assembler written from the manual's chapter alone: the bytes of a program, or its first refusal. It shares no code with the bench."""
+"""An assembler written only from the manual's chapter. It returns a program's bytes or the first refusal. It shares no code with the bench."""
 
 import re
 
@@ -7,8 +7,7 @@ ALONE = {"NOP": 0x00, "WRM": 0xE0, "WMP": 0xE1, "WRR": 0xE2, "WR0": 0xE4, "WR1":
          "CMA": 0xF4, "RAL": 0xF5, "RAR": 0xF6, "TCC": 0xF7, "DAC": 0xF8, "TCS": 0xF9, "STC": 0xFA, "DAA": 0xFB, "KBP": 0xFC, "DCL": 0xFD}
 ON_REGISTER = {"INC": 0x60, "ADD": 0x80, "SUB": 0x90, "LD": 0xA0, "XCH": 0xB0}
 ON_PAIR = {"SRC": 0x21, "FIN": 0x30, "JIN": 0x31}
-# The instructions with values: the kind of register before the values (P for a pair, R for a register), the code, and the maxima of the
-# values.
+# The instructions with values: the register kind before the values (P for a pair, R for a register), the code, and the maximum of each value.
 WITH_VALUES = {"LDM": ("", 0xD0, [15]), "BBL": ("", 0xC0, [15]), "JUN": ("", 0x40, [4095]), "JMS": ("", 0x50, [4095]),
                "FIM": ("P", 0x20, [255]), "ISZ": ("R", 0x70, [4095]), "JCN": ("", 0x10, [15, 4095])}
 REGISTERS = {f"R{k}": k for k in range(16)}
@@ -21,7 +20,7 @@ MAX_ERRORS = 100
 
 
 class Refused(Exception):
-    """The number of a refusal and the line that it names, from 1, or 0."""
+    """A refusal: its number, and the line that it names, from 1 (0 if it names none)."""
 
 
 def number_of(word):
@@ -35,19 +34,19 @@ def is_name(word):
 
 
 def tokens(line):
-    """Returns words, the three signs, and `?` for each other character."""
+    """Returns the tokens of a line: words, the three signs, and `?` for any other character."""
     return [token if re.match("[A-Za-z0-9_,:=]", token) else "?" for token in re.findall(r"[A-Za-z0-9_]+|[^ \t]", line.split(";")[0])]
 
 
 def values_of(words):
-    """Returns numbers as they are, and names as text; None if a word is neither."""
+    """Returns the values of words: a number for a number, and the text for a name. Returns None if any word is neither."""
     values = [number if (number := number_of(word)) is not None else word if is_name(word) else None for word in words]
     return None if None in values else values
 
 
 def statement(words):
-    """Returns a parsed statement: its kind (`ORG`, `DB`, a row of WITH_VALUES or `CODE`) and its values. Returns None if the words have no
-    form."""
+    """Returns a parsed statement: its kind (`ORG`, `DB`, a row of WITH_VALUES, or `CODE`) and its values. Returns None if the words are not a
+    statement."""
     name, rest = words[0].upper(), words[1:]
     if name in ALONE:
         return ("CODE", ALONE[name]) if not rest else None
@@ -78,7 +77,7 @@ def statement(words):
 
 
 def said(line):
-    """Parses a line into a name with a number, or a label and a statement, each of which can be None. Returns None if the line has no form."""
+    """Parses a line into a name with a number, or into a label and a statement, each of which can be None. Returns None if the syntax is wrong."""
     words = tokens(line)
     if len(words) == 3 and words[1] == "=":
         return ("=", words[0], number_of(words[2])) if is_name(words[0]) and number_of(words[2]) is not None else None
@@ -102,13 +101,13 @@ def size_of(parsed):
 
 
 class Places:
-    """The addresses and statements of the lines read so far, and the names."""
+    """The statements of the lines so far with their addresses, and the names."""
 
     def __init__(self):
         self.at, self.rows, self.names = 0, [], {}
 
     def take(self, line):
-        """Reads the next line, unless it is rejected by itself or because of the lines before it."""
+        """Reads the next line. Raises Refused if the line is wrong on its own or because of the lines before it."""
         number = len(self.rows) + 1
         whole = said(line)
         if whole is None:
@@ -163,7 +162,7 @@ def bytes_of(at, parsed, names, number):
 
 
 class Image:
-    """The bytes by address, and for each line its address and its number of bytes."""
+    """The bytes by address. For each line, also its address and its number of bytes."""
 
     def __init__(self, names):
         self.bytes, self.spans, self.names = {}, [], names
@@ -179,7 +178,7 @@ class Image:
 
 
 def assemble(lines):
-    """Returns the bytes by address, the address and the number of bytes of each line, and the names with their values."""
+    """Returns the bytes by address, each line's address and number of bytes, and the names with their values."""
     places = Places()
     for line in lines:
         places.take(line)
@@ -190,7 +189,7 @@ def assemble(lines):
 
 
 def errors_of(lines):
-    """Returns the number and the line of each error. Errors in the bytes are returned only if no line is wrong by itself or by earlier lines."""
+    """Returns the number and line of each error. Errors in bytes are included only if no line is wrong on its own or because of earlier lines."""
     places, found = Places(), []
     for line in lines:
         try:
@@ -211,7 +210,7 @@ def errors_of(lines):
 
 
 def judge(lines):
-    """Rejects a text for errors that do not depend on its statements."""
+    """Raises Refused for errors that do not depend on the statements."""
     if sum(len(line) + 1 for line in lines) > 16384:
         raise Refused(13, 0)
     if any(len(line) > 255 for line in lines):

@@ -1,6 +1,7 @@
-"""The bench's answers to lines, by docs/MANUAL.md ("Lines"), over the board of board4004.py. It is a second implementation of the commands, of `regs`,
-`state`, `lamps`, `ram`, `list`, `breaks` and `seq`, and of `count` and `trace`, which run a copy. Python's TOML parser reads the texts of boards,
-assembler.py those of programs. Of the rejected lines it supports only those for keys, places and ROMs that the board lacks.
+"""The bench's answers to lines as docs/MANUAL.md ("Lines") defines them, with the board of board4004.py. It is a second implementation of the
+commands, of `regs`, `state`, `lamps`, `ram`, `list`, `breaks` and `seq`, and of `count` and `trace`, which run a copy. Python's TOML parser reads
+the texts of boards, and assembler.py reads the programs. The only rejections it supports are those of keys, places and ROM chips that the board
+lacks.
 """
 
 from __future__ import annotations
@@ -14,7 +15,7 @@ from board4004 import CODES, TWO_WORDS, Board, line_of
 
 # The conditional jumps.
 BRANCHES = ("JCN", "ISZ")
-# The values of the places of `trace` that are one word, by the form of the place.
+# How `trace` shows the places that have a single word, by the pattern of the place.
 PLACES: list[tuple[str, Callable[..., str]]] = [
     (r"acc", lambda board: f"{board.acc:X}"),
     (r"cy", lambda board: f"{board.cy}"),
@@ -34,12 +35,12 @@ PLACES: list[tuple[str, Callable[..., str]]] = [
 
 
 def number(word: str) -> int:
-    """Parses a number of a session line."""
+    """Parses a number in a session line."""
     return int(word, 16 if word.startswith("0x") else 10)
 
 
 def reader_of(place: str) -> Callable[[Board], str]:
-    """Returns the function that reads the value of a place, or of a line of the board."""
+    """Returns a function that reads the value of a place or of a board line."""
     if re.fullmatch(r"(rom|chain)\w+\.\w+|ram\w+\.\w+\.\w+", place):
         line = line_of(place)
         return lambda board: str(board.chips.level(line))
@@ -51,8 +52,8 @@ def reader_of(place: str) -> Callable[[Board], str]:
 
 
 def counted(board: Board, most: int) -> tuple[Counter[int], Counter[int], int, str]:
-    """Runs a board; returns how often an instruction began at each address, how often the next one was not at the following address, the number
-    of cycles, and why the run ended."""
+    """Runs a board. Returns how often an instruction began at each address, how often the next instruction was not at the following address, the
+    number of cycles, and the reason for the stop."""
     runs: Counter[int] = Counter()
     jumps: Counter[int] = Counter()
 
@@ -64,15 +65,15 @@ def counted(board: Board, most: int) -> tuple[Counter[int], Counter[int], int, s
 
 
 def count_answer(board: Board, most: int) -> list[str]:
-    """Returns the answer to `count n`: the addresses at which a run would begin instructions, how often, and how often JCN and ISZ would jump."""
+    """Returns the answer to `count n`: the addresses at which a run would begin instructions and how often, and how often JCN and ISZ would jump."""
     runs, jumps, done, stop = counted(board.copy(), most)
     lines = [f"{at:03X} {runs[at]}" + (f" {jumps[at]}" if CODES[board.rom[at]][0] in BRANCHES else "") for at in sorted(runs)]
     return [f"count ran {done} {stop} lines {len(lines)}", *lines]
 
 
 def trace_answer(board: Board, most: int, places: list[str]) -> list[str]:
-    """Returns the answer to `trace n PLACE ..`: the instructions that a run would begin and that would change one of the places. Without places
-    it has all instructions."""
+    """Returns the answer to `trace n PLACE ..`: the instructions that a run would begin and that would change one of the places. Without places,
+    returns all instructions."""
     ahead, readers = board.copy(), [reader_of(place) for place in places]
     lines: list[str] = []
 
@@ -104,7 +105,7 @@ def ram_answer(board: Board, bank: int) -> list[str]:
 
 
 def instruction_text(board: Board, at: int) -> str:
-    """Returns an instruction as `list` shows it: address, bytes and text."""
+    """Returns an instruction in the format of `list`: address, bytes and text."""
     byte, second = board.rom[at], board.rom[(at + 1) % ADDRESSES]
     if byte not in CODES:
         return f"{at:03X} {byte:02X}    DB 0x{byte:02X}"
@@ -117,7 +118,7 @@ def instruction_text(board: Board, at: int) -> str:
 
 
 def list_answer(board: Board, at: int, most: int) -> list[str]:
-    """Returns the answer to `list a n`. (An instruction of two words at FFF is not supported.)"""
+    """Returns the answer to `list a n`. (A two-word instruction at FFF is not supported.)"""
     lines: list[str] = []
     while at < ADDRESSES and len(lines) < most:
         lines.append(instruction_text(board, at))
@@ -150,14 +151,14 @@ def state_answer(board: Board, seq: int) -> str:
 
 
 class Bench:
-    """A session: a board, and the number of commands that it has accepted."""
+    """A session: a board, and the number of accepted commands."""
 
     def __init__(self) -> None:
         self.board = Board()
         self.seq = 0
 
     def dialogue(self, script: Iterable[str]) -> Iterator[tuple[str, list[str]]]:
-        """Yields the answered lines of a script, each with its answer, starting with the `session` line."""
+        """Yields the lines of a script that have an answer, each with its answer. Starts with the `session` line."""
         yield "", [f"session {self.seq}"]
         lines = iter(script)
         for line in lines:
@@ -168,7 +169,7 @@ class Bench:
                 yield line, self.answer(*words)
 
     def answer(self, word: str, *rest: object) -> list[str]:
-        """Returns the answer to a line, or to a word with a text."""
+        """Returns the answer to a line, or to a text that a word opens."""
         if word in QUERIES:
             return QUERIES[word](self, *rest)
         reply = COMMANDS[word](self.board, *rest)
@@ -191,10 +192,10 @@ QUERIES: dict[str, Callable[..., list[str]]] = {
 }
 
 
-# ---- commands: they return the words after `ok N`, or a refusal
+# ---- commands: each returns the words after `ok N`, or a refusal
 
 def wire(board: Board, text: list[str]) -> str:
-    """Wires another board."""
+    """Replaces the board."""
     board.wire("\n".join(text))
     return ""
 
@@ -210,7 +211,7 @@ def load(board: Board, text: list[str]) -> str:
 
 
 def put_key(board: Board, row: str, column: str, is_down: bool) -> str:
-    """Presses or releases a key, if the board has it."""
+    """Presses or releases a key. Rejects a key that the board does not have."""
     if number(row) >= board.chips.keys["rows"] or number(column) >= len(board.chips.columns):
         return "no 41"
     (board.chips.down.add if is_down else board.chips.down.discard)((number(row), number(column)))
@@ -218,7 +219,7 @@ def put_key(board: Board, row: str, column: str, is_down: bool) -> str:
 
 
 def put(items: set, item: object, is_there: bool) -> str:
-    """Adds an item to a set, or removes it: a breakpoint or a watch."""
+    """Adds or removes an item of a set (a breakpoint or a watch)."""
     (items.add if is_there else items.discard)(item)
     return ""
 
@@ -259,7 +260,7 @@ def poke(board: Board, place: str, text: str) -> str:
 
 
 def ran(cycles_and_stop: tuple[int, str]) -> str:
-    """Returns the text after `ok N` for a run or a step."""
+    """Returns the words after `ok N` for a run or a step."""
     return " ran {} {}".format(*cycles_and_stop)
 
 

@@ -16,12 +16,12 @@ from assembler import ALONE, ON_PAIR, ON_REGISTER, WITH_VALUES
 ADDRESSES = 4096
 TWO_WORDS = {"JCN", "FIM", "JUN", "JMS", "ISZ"}
 TWO_CYCLES = TWO_WORDS | {"FIN"}
-# A line of the board: `rom` with chip and number, `ram` with bank, chip and number, or `chain` with its number and a bit.
+# A line of the board: `rom` with chip and line number, `ram` with bank, chip and line number, or `chain` with its number and a bit.
 Line = tuple[str, tuple[int, ...]]
 
 
 def table() -> dict[int, tuple[str, int]]:
-    """Returns the instruction of each valid code, with the number in its lower half: of a register, of a pair, or a value."""
+    """Returns the instruction for each valid code, with the number in the code's lower half: a register, a pair or a value."""
     codes = {code: (name, 0) for name, code in ALONE.items()}
     for name, code in [*ON_REGISTER.items(), *((name, WITH_VALUES[name][1]) for name in ("JCN", "JUN", "JMS", "ISZ", "BBL", "LDM"))]:
         codes.update({code + low: (name, low) for low in range(16)})
@@ -40,16 +40,16 @@ def line_of(name: str) -> Line:
 
 
 class Chips:
-    """The chips of a board, its keys and its lamps, from the text of the board."""
+    """The chips, keys and lamps that a board's text describes."""
 
     def __init__(self, text: str = "") -> None:
         wiring = tomllib.loads(text)
-        # Line 0 first.
+        # The masks have line 0 first.
         self.masks = {part["chip"]: part["port"][::-1] for part in wiring.get("rom", [])}
         self.chips = {part["bank"]: part["chips"] for part in wiring.get("ram", [])}
         self.clocks = [(line_of(part["clock"]), line_of(part["data"])) for part in wiring.get("chain", [])]
         self.chain_bits = [10 * part["chips"] for part in wiring.get("chain", [])]
-        # A board without keys has no rows and no columns.
+        # Without keys, there are no rows and columns.
         self.keys = wiring.get("keys", {"chain": 0, "first": 0, "rows": 0, "columns": []})
         self.columns = [line_of(name) for name in self.keys["columns"]]
         self.lamps = [line_of(part["line"]) for part in wiring.get("lamp", [])]
@@ -67,7 +67,7 @@ class Chips:
         self.chains = [[0] * bits for bits in self.chain_bits]
 
     def has_ram(self, bank: int, src: int) -> bool:
-        """Returns true if a bank has the chip that an SRC byte selects by its upper two bits."""
+        """Returns true if a bank has the chip that the upper two bits of an SRC byte select."""
         return src >> 6 < self.chips.get(bank, 0)
 
     def has_line(self, line: Line) -> bool:
@@ -80,7 +80,7 @@ class Chips:
         return numbers[0] < len(self.chains) and numbers[1] < len(self.chains[numbers[0]])
 
     def level(self, line: Line) -> int:
-        """Returns the level of a line; 0 if the board lacks it."""
+        """Returns the level of a line, or 0 if the board does not have it."""
         kind, numbers = line
         if not self.has_line(line):
             return 0
@@ -92,32 +92,32 @@ class Chips:
         return self.is_pulled(line) if self.masks[chip][k] == "i" else self.rom_latch[chip] >> k & 1
 
     def levels(self, kind: str, *chip: int) -> int:
-        """Returns the levels of the four lines of a port, line k as bit k."""
+        """Returns the levels of a port's four lines; line k is bit k."""
         return sum(self.level((kind, (*chip, k))) << k for k in range(4))
 
     def is_pulled(self, line: Line) -> int:
-        """Returns the level of an input line: 1 if a key in its column is down and the row of the key is driven."""
+        """Returns the level of an input line: 1 if a pressed key connects the line to a driven row."""
         return int(any(self.columns[column] == line and self.chains[self.keys["chain"]][self.keys["first"] + row] for row, column in self.down))
 
     def marks(self) -> str:
-        """Returns a mark for each lamp."""
+        """Returns the lamps in the format of `lamps`: `*` for on, `.` for off."""
         return "".join("*" if self.level(lamp) else "." for lamp in self.lamps)
 
-    # ---- what the processor does with the chips
+    # ---- what the chips do for the processor
 
     def send_src(self, bank: int, byte: int) -> None:
-        """SRC: all ROMs store the byte, and so does the selected bank, if it has chips."""
+        """SRC: all ROM chips store the byte, and so does the selected bank if it has chips."""
         self.rom_src = byte
         if bank in self.chips:
             self.bank_src[bank] = byte
 
     def read_port(self, chip: int) -> int:
-        """RDR: reads the input lines from the keys, and the output lines as the port's letters say."""
+        """RDR: reads the input lines from the keys. Output lines read as the port's letters define."""
         mask = self.masks.get(chip, "0000")
         return sum((self.is_pulled(("rom", (chip, k))) if mask[k] == "i" else int(mask[k])) << k for k in range(4))
 
     def write_rom_port(self, value: int) -> None:
-        """WRR: writes the output lines of the selected ROM."""
+        """WRR: writes the output lines of the selected ROM chip."""
         chip = self.rom_src >> 4
         if chip in self.masks:
             outputs = sum(1 << k for k in range(4) if self.masks[chip][k] != "i")
@@ -129,7 +129,7 @@ class Chips:
             self.write_latch(self.ram_latch, (bank, self.bank_src[bank] >> 6), value)
 
     def write_latch(self, latches: dict, port: object, value: int) -> None:
-        """Writes a port: each chain whose clock rises shifts in the present level of its data line."""
+        """Writes a port. Each chain whose clock rises shifts in the current level of its data line."""
         before = [self.level(clock) for clock, _data in self.clocks]
         latches[port] = value
         for n, (clock, data) in enumerate(self.clocks):
@@ -141,12 +141,12 @@ class Chips:
         return self.ram[bank][self.bank_src[bank]]
 
     def write_character(self, bank: int, src: int, value: int) -> None:
-        """Writes a RAM nibble; a write to a missing chip is lost."""
+        """Writes a RAM nibble. A write to a missing chip has no effect."""
         if self.has_ram(bank, src):
             self.ram[bank][src] = value
 
     def write_status(self, bank: int, register: int, k: int, value: int) -> None:
-        """Writes a status nibble; the upper half of an SRC byte selects its register."""
+        """Writes a status nibble. The upper half of an SRC byte selects the nibble's register."""
         if self.has_ram(bank, register << 4):
             self.status[bank][register][k] = value
 
@@ -170,7 +170,7 @@ class Board:
         self.chips.power_on()
 
     def wire(self, text: str) -> None:
-        """Wires another board; the ROM bytes of missing chips become 0."""
+        """Replaces the board. The ROM bytes of missing chips become 0."""
         self.chips = Chips(text)
         self.power_on()
         for page in range(16):
@@ -178,11 +178,11 @@ class Board:
                 self.rom[256 * page:256 * (page + 1)] = bytes(256)
 
     def copy(self) -> Board:
-        """Returns an independent copy, much faster than `copy.deepcopy`."""
+        """Returns an independent copy, much faster than `copy.deepcopy` does."""
         return pickle.loads(pickle.dumps(self))
 
     def pair(self, k: int) -> int:
-        """Returns a pair of registers, the even one in the upper half."""
+        """Returns the value of a register pair. The even register is the upper half."""
         return 16 * self.r[2 * k] + self.r[2 * k + 1]
 
     def set_pair(self, k: int, byte: int) -> None:
@@ -190,7 +190,7 @@ class Board:
         self.r[2 * k:2 * k + 2] = divmod(byte, 16)
 
     def put_sum(self, total: int) -> None:
-        """Writes a sum to the accumulator, and its part above 15 to the carry."""
+        """Stores a sum in the accumulator, and its overflow in the carry."""
         self.cy, self.acc = divmod(total, 16)
 
     # ---- cycles
@@ -200,7 +200,7 @@ class Board:
         return self.rom[self.pc] not in CODES
 
     def cycle(self) -> None:
-        """Does one cycle: the work of an instruction, or the second cycle of one."""
+        """Executes one cycle: the work of an instruction, or its pending second cycle."""
         if self.owed:
             self.owed = 0
             return
@@ -211,7 +211,7 @@ class Board:
         WORK[name](self, low, second)
 
     def step(self) -> tuple[int, str]:
-        """Runs an instruction, or the second cycle of one; returns the number of cycles, and the reason for the stop."""
+        """Executes an instruction, or its pending second cycle. Returns the number of cycles, and the reason for the stop."""
         if not self.owed and self.is_outside():
             return 0, "code"
         cycles = 1 if self.owed else 1 + (CODES[self.rom[self.pc]][0] in TWO_CYCLES)
@@ -220,8 +220,8 @@ class Board:
         return cycles, "end"
 
     def stops(self, done: int, most: int, changed: bool) -> str:
-        """Returns the reason why a run ends after a number of cycles, "" if it continues. `changed` is true if the last cycle changed a watched
-        nibble."""
+        """Returns the reason why a run ends after `done` cycles, or "" if it continues. `changed` is true if the last cycle changed a watched nibble.
+        """
         if not self.owed and self.is_outside():
             return "code"
         if done and not self.owed and self.pc in self.breaks:
@@ -235,8 +235,8 @@ class Board:
         return [self.chips.ram[bank][src] for bank, src in self.watches]
 
     def run(self, most: int, begun: Callable[[int, int], None] | None = None) -> tuple[int, str]:
-        """Runs at most a number of cycles; returns their number, and the reason for the stop. `begun` is called after the work of each
-        instruction, with the number of cycles before it and its address."""
+        """Runs at most `most` cycles. Returns their number, and the reason for the stop. Calls `begun` after the work of each instruction, with the
+        number of cycles before it and its address."""
         done, changed = 0, False
         while not (stop := self.stops(done, most, changed)):
             at, begins, watched = self.pc, not self.owed, self.watched()
@@ -248,10 +248,10 @@ class Board:
         return done, stop
 
 
-# ---- the instructions; the counter is already after their words
+# ---- the instructions; the counter already points past their words
 
 def jump_on_page(board: Board, low: int) -> None:
-    """Jumps to a word of the page that the counter is in."""
+    """Jumps to a word in the page of the counter."""
     board.pc = board.pc & 0xF00 | low
 
 
@@ -260,7 +260,7 @@ def nop(_board: Board, _low: int, _second: int) -> None:
 
 
 def jcn(board: Board, condition: int, second: int) -> None:
-    """Jump conditional: bit 2 asks for ACC 0, bit 1 for a carry, bit 0 for TEST 0; bit 3 inverts."""
+    """Jump conditional: bit 2 tests for ACC 0, bit 1 for a carry, bit 0 for TEST 0; bit 3 inverts the condition."""
     holds = condition & 4 and board.acc == 0 or condition & 2 and board.cy == 1 or condition & 1 and board.test == 0
     if bool(holds) != bool(condition & 8):
         jump_on_page(board, second)
@@ -277,7 +277,7 @@ def src(board: Board, pair: int, _second: int) -> None:
 
 
 def fin(board: Board, pair: int, _second: int) -> None:
-    """Fetch indirect, by pair 0."""
+    """Fetch indirect through pair 0."""
     board.set_pair(pair, board.rom[board.pc & 0xF00 | board.pair(0)])
 
 
@@ -303,7 +303,7 @@ def inc(board: Board, k: int, _second: int) -> None:
 
 
 def isz(board: Board, k: int, second: int) -> None:
-    """Increment, and skip the jump if zero."""
+    """Increment, and skip the jump if the result is zero."""
     inc(board, k, second)
     if board.r[k]:
         jump_on_page(board, second)
@@ -315,7 +315,7 @@ def add(board: Board, k: int, _second: int) -> None:
 
 
 def sub(board: Board, k: int, _second: int) -> None:
-    """Subtract: the complement of the register and of the carry are added."""
+    """Subtract: adds the complements of the register and the carry."""
     board.put_sum(board.acc + (15 - board.r[k]) + (1 - board.cy))
 
 
@@ -330,7 +330,7 @@ def xch(board: Board, k: int, _second: int) -> None:
 
 
 def bbl(board: Board, value: int, _second: int) -> None:
-    """Branch back and load; the freed place of the stack keeps the address after BBL."""
+    """Branch back and load. The freed stack entry keeps the address after BBL."""
     board.acc = value
     board.pc, board.ret = board.ret[0], [*board.ret[1:], board.pc]
 
@@ -388,14 +388,14 @@ def adm(board: Board, _low: int, _second: int) -> None:
 
 
 def accumulator(change: Callable[[int, int], tuple[int, int]]) -> Callable[[Board, int, int], None]:
-    """Returns an instruction on accumulator and carry. `change` returns their new values, the carry first."""
+    """Returns an instruction that changes accumulator and carry. `change` returns their new values, carry first."""
     def work(board: Board, _low: int, _second: int) -> None:
         board.cy, board.acc = change(board.acc, board.cy)
     return work
 
 
 def dcl(board: Board, _low: int, _second: int) -> None:
-    """Designate command line: the lower three bits."""
+    """Designate command line: uses the lower three bits."""
     board.dcl = board.acc % 8
 
 

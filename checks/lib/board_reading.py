@@ -1,5 +1,5 @@
-"""A reader of board texts, written from the manual's chapter alone: the first error, and the part that it is in. It shares no code with the
-bench."""
+"""A reader of board texts, written only from the manual's chapter. It finds the first error, and the part that contains it. It shares no code with
+the bench."""
 
 import re
 import tomllib
@@ -8,7 +8,7 @@ SECTIONS = ("rom", "ram", "chain", "keys", "lamp")
 MAX_TABLES = {"rom": 16, "ram": 8, "chain": 4, "lamp": 64}
 MAX_COLUMNS = 8
 BITS_OF_CHIP = 10
-# The keys whose values must differ between the tables of a section.
+# The keys whose values must be unique within a section.
 NUMBERED = {"rom": "chip", "ram": "bank"}
 
 
@@ -17,7 +17,7 @@ def is_within(first, last):
 
 
 def numbers_of(name):
-    """Returns the kind of a line and the numbers in its name; None if it is not the name of a line."""
+    """Returns the kind and numbers in a line's name, or None if the text is not a line's name."""
     if not isinstance(name, str):
         return None
     found = re.fullmatch(r"(rom|ram|chain)(0|[1-9]\d?)\.(0|[1-9]\d?)(?:\.(0|[1-9]))?", name, re.ASCII)
@@ -34,7 +34,7 @@ def is_line(value):
     return numbers_of(value) is not None
 
 
-# The required values of the keys of a table, in the order of the manual.
+# The keys that each table must have, with a test for their values, in the manual's order.
 KEYS = {
     "rom": {"chip": is_within(0, 15), "port": lambda value: isinstance(value, str) and re.fullmatch("[i01]{4}", value, re.ASCII) is not None},
     "ram": {"bank": is_within(0, 7), "chips": is_within(1, 4)},
@@ -46,7 +46,7 @@ KEYS = {
 
 
 def longest_toml(lines, count):
-    """Returns the number of lines in the longest TOML text at the beginning, up to `count` lines, and its contents."""
+    """Returns the number of lines in the longest prefix (up to `count` lines) that is valid TOML, and its contents."""
     while True:
         try:
             return count, tomllib.loads("".join(f"{line}\n" for line in lines[:count]))
@@ -56,7 +56,7 @@ def longest_toml(lines, count):
 
 
 def tables_of(document):
-    """Returns the tables of each section with their numbers from 1, or 0 for the key matrix; values that are not tables are left out."""
+    """Yields the tables of each section, with their numbers from 1 (0 for the key matrix). Skips values that are not tables."""
     for section in SECTIONS:
         whole = document.get(section, [])
         whole = [whole] if section == "keys" and "keys" in document else whole if isinstance(whole, list) else []
@@ -65,14 +65,14 @@ def tables_of(document):
 
 
 class BoardReading:
-    """Finds the first wrong part of a board text that is TOML."""
+    """Finds the first wrong part of a board text that is valid TOML."""
 
     def __init__(self, document):
         self.document = document
         self.tables = list(tables_of(document))
 
     def first(self):
-        """Returns the number of the refusal, the section, the number of the table and the key, as far as they apply; None if the board is
+        """Returns the number of the refusal, the section, the number of the table and the key, as far as they apply. Returns None if the board is
         valid."""
         for find in (self.unknown, self.missing, self.badly_formed, self.too_many, self.twice):
             for part in find():
@@ -126,7 +126,7 @@ class BoardReading:
                 seen.add(table[key])
 
     def direction(self, name):
-        """Returns `i` for an input line, `o` for an output line, `b` for a bit of a chain; None if the board lacks the line."""
+        """Returns `i` for an input line, `o` for an output line, and `b` for a bit of a chain. Returns None if the board does not have the line."""
         kind, number, *others = numbers_of(name)
         for section, index, table in self.tables:
             if section == kind == "rom" and table["chip"] == number:
@@ -168,7 +168,7 @@ def is_there(document, section, index, key):
 
 
 def line_of(lines, part):
-    """Returns the first line, counted from 1, from which on all beginnings that are TOML have a part."""
+    """Returns the first line, from 1, after which every TOML prefix of the text has a part."""
     _number, section, index, key = part
     first, last = 0, len(lines)
     while last - first > 1:

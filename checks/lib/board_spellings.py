@@ -1,4 +1,4 @@
-"""Random boards, reproducible by a seed, and their texts in the many spellings that TOML allows for one board."""
+"""Seeded random boards, and their texts in the many spellings that TOML allows."""
 
 import re
 
@@ -10,18 +10,18 @@ ENDS = ("\n", "\n", "\n\n", " # one\n", "\t\n# one more\n")
 
 
 class Raw:
-    """A value with one fixed spelling."""
+    """A value with a fixed spelling."""
 
     def __init__(self, text):
         self.text = text
 
 
 def seeded_board(chance):
-    """Returns a random board: any ROMs and banks, up to four chains, mostly keys if they are possible, up to 64 lamps."""
+    """Returns a random board: any ROM chips and banks, up to four chains, usually keys if they are possible, up to 64 lamps."""
     share = chance.choice([0, 0.5, 0.5, 0.5, 1])
     roms = {chip: "".join(chance.choices("i01", k=4)) for chip in range(16) if chance.random() < share}
     banks = {bank: chips for bank in range(8) if share and (chips := chance.randrange(5))}
-    # The text of a port begins with line 3.
+    # A port's text begins with line 3.
     lines = [(rom_line(chip, 3 - at), mark) for chip, port in roms.items() for at, mark in enumerate(port)]
     inputs = [line for line, mark in lines if mark == "i"]
     outputs = [line for line, mark in lines if mark != "i"]
@@ -38,13 +38,13 @@ def seeded_board(chance):
 
 
 def key_text(chance, key):
-    """Returns a key, bare or in quotes."""
+    """Returns a key with or without quotes."""
     bare = key if re.fullmatch("[A-Za-z0-9_-]+", key) else f'"{key}"'
     return chance.choice([bare, bare, f'"{key}"', f"'{key}'"])
 
 
 def value_text(chance, value):
-    """Returns the text of a number in some base, of a string in some quotes, or of a list of strings on one or more lines."""
+    """Returns the text of a value: a number in any base, a string in any quotes, or a list of strings on one or more lines."""
     if isinstance(value, Raw) or isinstance(value, int) and value < 0:
         return value.text if isinstance(value, Raw) else str(value)
     if isinstance(value, list):
@@ -58,19 +58,19 @@ def value_text(chance, value):
 
 
 def pairs_of(chance, table, before=""):
-    """Returns the keys of a table with their values, in any order."""
+    """Returns the keys of a table with their values, in random order."""
     pairs = list(table.items())
     chance.shuffle(pairs)
     return [f"{before}{key_text(chance, key)}{chance.choice(EQUALS)}{value_text(chance, value)}" for key, value in pairs]
 
 
 def inline(chance, table):
-    """Returns an inline table; only its lists can have several lines."""
+    """Returns an inline table. Only its lists can span several lines."""
     return f"{{ {', '.join(pairs_of(chance, table))} }}"
 
 
 def top_lines(chance, below, tables):
-    """Returns the lines for tables that are written before all headers."""
+    """Returns the lines for tables that are before all headers."""
     key = key_text(chance, below)
     if below != "keys":
         rows = [f"  {inline(chance, table)},\n" for table in tables]
@@ -87,7 +87,9 @@ def headed(chance, below, table):
 
 
 def spelled(chance, board):
-    """Returns a text of a board. ROMs, banks and the kinds of tables can be in any order; chains and lamps cannot, because they are numbered."""
+    """Returns a random text for a board. ROM chips, banks and the kinds of tables are in any order. Chains and lamps keep their order, because it
+    numbers them.
+    """
     tables = {below: [table for kind, table in board.tables() if kind == below] for below in KINDS}
     chance.shuffle(tables["rom"])
     chance.shuffle(tables["ram"])

@@ -1,7 +1,7 @@
-// Runs the view of lamps and keys of the extension for Visual Studio Code with stand-ins for the editor: `node board_view.mjs FOLDER`, with
-// FOLDER the unpacked extension. It uses the extension's module and the real debug adapter, which debugs the lock in real time. Lines of standard
-// input are JSON: { said } is a message of the view's page, { ask, args } a request to the adapter, { end } the end. Lines of standard output are
-// { html } of the view, { post } with a message for the page, { asked, body } with the answer to a request, { stopped }, and { error }.
+// Runs the lamps and keys view of the Visual Studio Code extension with stand-ins for the editor: `node board_view.mjs FOLDER`. FOLDER is the
+// unpacked extension. The script uses the extension's module and the real debug adapter, which debugs the lock in real time. Each line of standard
+// input is JSON: { said } is a message from the view's page, { ask, args } is a request to the adapter, { end } ends the script. Lines of standard
+// output are { html } of the view, { post } with a message for the page, { asked, body } with the answer to a request, { stopped }, and { error }.
 import { createRequire } from "node:module";
 import { createInterface } from "node:readline";
 import { Client } from "./dap_client.mjs";

@@ -1,6 +1,6 @@
-"""Checks the view of lamps and keys of the extension for Visual Studio Code: `python3 board_view.py FOLDER`, with FOLDER the extension, unpacked from
-its .vsix. Its page is opened in Chromium with a stand-in for the editor's interface (acquireVsCodeApi). Its messages go to the extension's module,
-on the real debug adapter (board_view.mjs), and back. Prints `ok WORDS` or `fault: WORDS` for each check."""
+"""Checks the lamps and keys view of the Visual Studio Code extension: `python3 board_view.py FOLDER`. FOLDER is the extension, unpacked from its
+.vsix. The view's page runs in Chromium with a stand-in for the editor's interface (acquireVsCodeApi). Its messages go to the extension's module,
+which runs with the real debug adapter (board_view.mjs), and back. Prints `ok WORDS` or `fault: WORDS` for each check."""
 
 import json
 import pathlib
@@ -35,7 +35,7 @@ def verdict(found, wanted, what):
 
 
 class Bridge:
-    """The page in the browser, and the extension in node. Passes the messages of each one to the other."""
+    """The page in the browser, and the extension in Node. Passes the messages of each to the other."""
 
     def __init__(self, folder, browser):
         self.browser = browser
@@ -60,7 +60,7 @@ class Bridge:
                 self.messages.append(message)
 
     def until(self, code, wanted, what):
-        """Waits until a script returns this value, and passes messages on meanwhile."""
+        """Waits until a script returns a value. Passes messages on in the meantime."""
         end = time.monotonic() + WAIT
         found = None
         while time.monotonic() < end:

@@ -1,4 +1,4 @@
-"""The programs that the checks run."""
+"""Finds the programs that the checks run."""
 
 import os
 import pathlib
@@ -10,15 +10,15 @@ FIND_PROVER = 'top=$0; . "$top/tools/lib/start.sh"; find_prover; printf "%s\\n%s
 
 
 def built_prover():
-    """Returns the program that `mcs4 prove` starts: the one that MCS4_PROVE names, or that tools/lib/start.sh finds. If there is none, returns
-    the reason."""
+    """Returns the program that `mcs4 prove` starts: the program that MCS4_PROVE names, or the one that tools/lib/start.sh finds. Also returns the
+    reason if there is none."""
     if named := os.environ.get("MCS4_PROVE"):
         return named, ""
     return subprocess.run(["/bin/sh", "-c", FIND_PROVER, TOP], stdout=subprocess.PIPE, text=True, check=True).stdout.split("\n")
 
 
 def built_program():
-    """Returns the name of the program, as checks/lib/program prints it. If there is none, that script has printed why, and the check ends."""
+    """Returns the program's path, as checks/lib/program prints it. If there is none, that script prints the reason, and the check ends."""
     ran = subprocess.run([pathlib.Path(__file__).resolve().parent / "program"], stdout=subprocess.PIPE, text=True, check=False)
     if ran.returncode != 0:
         sys.exit(1)

@@ -1,8 +1,8 @@
-// Compares modules of the bench with each other: `node compare_modules.mjs EXAMPLES COUNT MODULE MODULE..`. The same COUNT random sessions run on
-// all of them. The reports of each call, its answers, and each byte of the file after it must be the same, even for files that are damaged or
-// have another size. On the first module it also checks three laws. Serving and settling in one call has the same result, byte for byte, as
-// serving and then settling. Asking gives the same answers as serving, and does not change the file. The file of a session can be settled.
-// EXAMPLES is the folder of the examples.
+// Compares bench modules with each other: `node compare_modules.mjs EXAMPLES COUNT MODULE MODULE..`. All modules run the same COUNT random sessions.
+// The reports and answers of each call, and each byte of the file after it, must be the same. This also holds for files that are damaged or have
+// another size. The first module must also satisfy three laws. Serving and settling in one call has the same result, byte for byte, as serving and
+// then settling. Asking gives the same answers as serving and does not change the file. The file of a session can be settled. EXAMPLES is the folder
+// of the examples.
 import { readFileSync } from "node:fs";
 import { join } from "node:path";
 
@@ -10,7 +10,7 @@ const [examples, count, ...paths] = process.argv.slice(2);
 const ROOM = 1n << 20n;
 const FILE_ROOM = 1n << 18n;
 
-// A module with the memory of a file, an input and the answers.
+// A module instance with buffers for a file, an input and the answers.
 class Instance {
   constructor(path) {
     this.calls = new WebAssembly.Instance(new WebAssembly.Module(readFileSync(path)), {}).exports;
@@ -87,8 +87,8 @@ const LINES = [
 ];
 
 function script() {
-  const begun = below(4) ? `wire\n${pick(BOARDS.slice(0, 3))}.\n${program()}` : "";
-  const text = begun + [...Array(2 + below(30))].map(() => `${pick(LINES)()}\n`).join("");
+  const setup = below(4) ? `wire\n${pick(BOARDS.slice(0, 3))}.\n${program()}` : "";
+  const text = setup + [...Array(2 + below(30))].map(() => `${pick(LINES)()}\n`).join("");
   // Sometimes the input ends in the middle of a line or of a text.
   return below(6) ? text : text.slice(0, below(text.length));
 }
@@ -104,7 +104,7 @@ function expect(name, isRight) {
 
 const instances = paths.map((path) => new Instance(path));
 
-// Checks that all modules return the same; returns the result of the first one.
+// Checks that all modules return the same result. Returns the result of the first module.
 function onAll(name, act) {
   const found = instances.map((instance) => {
     try {
@@ -118,7 +118,7 @@ function onAll(name, act) {
   return found[0];
 }
 
-// Checks the laws of the call that serves and settles, and of the call that asks.
+// Checks the laws of the calls that serve and settle, and of the call that asks.
 function tryLaws(name, text) {
   const [instance] = instances;
   const before = instance.get();
@@ -126,8 +126,8 @@ function tryLaws(name, text) {
   expect(`${name}: its file does not settle`, !served.done || instance.settle().done);
   const settled = instance.get();
   instance.put(before);
-  const asked = instance.serve("bench_ask", text);
-  expect(`${name}: asking answers otherwise`, JSON.stringify(asked) === JSON.stringify(served));
+  const answers = instance.serve("bench_ask", text);
+  expect(`${name}: asking answers otherwise`, JSON.stringify(answers) === JSON.stringify(served));
   expect(`${name}: asking changes the file`, instance.get().equals(before));
   const both = instance.serve("bench_serve_and_settle", text);
   expect(`${name}: serving and settling answers otherwise`, JSON.stringify(both) === JSON.stringify(served));

@@ -1,7 +1,7 @@
-// Compares the page's module with the program: `node compare_page.mjs MODULE MCS4 COUNT`. Both serve examples and random scripts. The answers,
-// the exit status and each byte of the session file must be the same. This must also be so if a script is split into two calls, if the file was
-// settled between them or has version 1, and if the file is damaged. Lines that are split as the page splits long work must have the same answers
-// as in one call.
+// Compares the page's module with the program: `node compare_page.mjs MODULE MCS4 COUNT`. Both serve examples and random scripts. The answers, the
+// exit status and each byte of the session file must be the same. This also holds if a script is split into two calls, if the file was settled
+// between them or has version 1, and if the file is damaged. When lines are split as the page splits long work, the answers must be
+// the same as in one call.
 import { spawnSync } from "node:child_process";
 import { closeSync, existsSync, mkdtempSync, openSync, readFileSync, readdirSync, rmSync, writeFileSync } from "node:fs";
 import { tmpdir } from "node:os";
@@ -12,7 +12,7 @@ import { endOfInputs, matchAnswers, readInputs } from "../../js/core/bench/input
 import { sourceOfRom } from "../../js/core/engine/texts_of_file.js";
 
 const [modulePath, mcs4, count] = process.argv.slice(2);
-// The files are in memory if possible: the program waits for its disk after each command.
+// The files are in memory if possible, because the program waits for its disk after each command.
 const work = mkdtempSync(join(existsSync("/dev/shm") ? "/dev/shm" : tmpdir(), "compare_page."));
 process.on("exit", () => rmSync(work, { recursive: true, force: true }));
 
@@ -81,11 +81,11 @@ function script() {
 const path = join(work, "s.mcs");
 const inputPath = join(work, "input");
 
-// Returns the program's result for a script, on a new session (null) or on the bytes of a session file.
+// Returns the program's result for a script, in a new session (null) or in a session file.
 function byProgram(file, input) {
   rmSync(path, { force: true });
   if (file) writeFileSync(path, file);
-  // From a file, because a program that rejects its session does not read its input.
+  // The input comes from a file, because a program that rejects its session does not read its input.
   writeFileSync(inputPath, input);
   const from = openSync(inputPath);
   const ran = spawnSync(mcs4, [file ? "open" : "new", path], { stdio: [from, "pipe", "pipe"], maxBuffer: 1 << 28 });
@@ -94,7 +94,7 @@ function byProgram(file, input) {
   return { output: ran.stdout.toString("latin1"), status: ran.status, file: readFileSync(path) };
 }
 
-// Returns the result of the page's call; `bench_serve` serves without settling.
+// Returns the result of the page's call. `bench_serve` serves without settling.
 function byPage(engine, file, input, call = "bench_serve") {
   try {
     const { status, opened, answers } = engine.callForAnswers(call, file || engine.begin(), input);
@@ -113,14 +113,14 @@ function settle(engine, file) {
   return instance.view(instance.file, file.length).slice();
 }
 
-// The patterns for the beginning of the answer to an input, by its kind.
+// Matches the beginning of the answer to an input, by the input's kind.
 const BEGINNINGS = {
   regs: /^acc /, list: /^[0-9A-F]{3} /, lamps: /^lamps /, ram: /^ram /, board: /^board$/,
   map: /^map lines /, wiring: /^wiring valid$/, errors: /^errors [0-9]+$/, breaks: /^breaks /, watches: /^watches /, seq: /^seq /, state: /^state seq /,
   count: /^count ran /, trace: /^trace ran /,
 };
 
-// Returns whether the page assigns the answers to the right inputs.
+// Returns true if the page assigns the answers to the right inputs.
 function isSplit(input, output) {
   const answers = output.split("\n").slice(1, -1);
   const inputs = readInputs(Buffer.from(input).toString("latin1"));
@@ -145,7 +145,7 @@ function compare(name, engine, file, input) {
   return wanted.file;
 }
 
-// Returns a settled file in version 1: without the byte for the version and the number of watches.
+// Returns a settled file in version 1, which does not have the version byte and the number of watches. Returns null if the file has watches.
 function asVersion1(file) {
   const slot = file[8] % 2 === 0 ? 16 : 81936;
   const length = new DataView(file.buffer, file.byteOffset).getUint32(slot);
@@ -158,7 +158,7 @@ function asVersion1(file) {
   return old;
 }
 
-// Returns whether version 1 can store the board: at most two chains, none of them longer than four 4003s.
+// Returns true if version 1 can store the board: at most two chains, each of at most four 4003s.
 function isOfVersion1(engine, file) {
   const chains = answersTo(engine, file, "board\n").join("\n").split("[[").filter((part) => part.startsWith("chain]]"));
   return chains.length <= 2 && chains.every((chain) => !/^chips = [5-8]$/m.test(chain));
@@ -168,7 +168,7 @@ const QUESTIONS = "seq\nstate\nregs\nlamps\nports\nwatches\nbreaks\nboard\nram 0
 
 const ALL_ROM = [...Array(16).keys()].map((page) => `list ${page * 256} 256\n`).join("");
 
-// Counts a check that concerns only the page.
+// Counts a check that does not involve the program.
 function verdict(name, isRight) {
   passed += isRight ? 1 : 0;
   failed += isRight ? 0 : 1;
@@ -177,7 +177,7 @@ function verdict(name, isRight) {
 
 const answersTo = (engine, file, lines) => engine.ask(file, lines).answers;
 
-// Checks that the source text that the page makes from ROM gives the same bytes again in an empty ROM.
+// Checks that the source text that the page generates from ROM reproduces the same bytes in an empty ROM.
 function compareSource(name, engine, file) {
   const board = answersTo(engine, file, "board\n").slice(1).map((line) => `${line}\n`).join("");
   const source = sourceOfRom(engine, file);
@@ -185,7 +185,7 @@ function compareSource(name, engine, file) {
   verdict(`${name}: the source text made of ROM gives other bytes`, again.join() === answersTo(engine, file, ALL_ROM).join());
 }
 
-// Returns the contents of the active slot of a file, by docs/FORMAT.md: the number of commands and the version in its snapshot, and whether
+// Returns the contents of a file's active slot, as docs/FORMAT.md defines them: the number of commands and the version in its snapshot, and whether
 // records follow.
 function held(file) {
   const slot = file[8] % 2 === 0 ? 16 : 81936;
@@ -193,7 +193,7 @@ function held(file) {
   return { seq, version: file[slot + 8], hasRecords: file[slot + 16384] === 1 };
 }
 
-// Checks that a settled file has a snapshot of all commands, and no records.
+// Checks that a settled file has a snapshot of all commands and no records.
 function checkSettled(name, file, seq) {
   const found = held(file);
   const isRight = found.version === 2 && !found.hasRecords && found.seq === seq;
@@ -202,7 +202,7 @@ function checkSettled(name, file, seq) {
 
 const seqOf = (engine, file) => Number(answersTo(engine, file, "seq\n")[0].split(" ")[1]);
 
-// Checks that lines that are split as the page splits long work, each piece served and settled, have the same answers as in one call.
+// Splits lines as the page splits long work, serving and settling each piece. Checks that the answers are the same as in one call.
 function compareInPieces(name, engine, file, input) {
   const bytes = Uint8Array.from(file);
   const answers = [engine.ask(file, "").opened];
@@ -222,9 +222,9 @@ function compareFiles(name, engine, file) {
   const both = new Uint8Array(file.length);
   engine.serve(file, "poke acc 1\npoke acc 2\n", both);
   checkSettled(`${name}: serving and settling`, both, seqOf(engine, file) + 2);
-  const asked = byPage(engine, file, QUESTIONS).output;
+  const output = byPage(engine, file, QUESTIONS).output;
   compare(`${name}, settled`, engine, settled, QUESTIONS);
-  verdict(`${name}: settling changed an answer`, byPage(engine, settled, QUESTIONS).output === asked);
+  verdict(`${name}: settling changed an answer`, byPage(engine, settled, QUESTIONS).output === output);
   const old = asVersion1(settled);
   if (old && isOfVersion1(engine, settled)) {
     compare(`${name}, of version 1`, engine, old, QUESTIONS);
@@ -237,14 +237,14 @@ function compareFiles(name, engine, file) {
 }
 
 function time(act) {
-  const begun = process.hrtime.bigint();
+  const start = process.hrtime.bigint();
   act();
-  return Number(process.hrtime.bigint() - begun) / 1e9;
+  return Number(process.hrtime.bigint() - start) / 1e9;
 }
 
 const fastest = (act) => Math.min(...[1, 2, 3].map(() => time(act)));
 
-// Returns the cycles per second of both, on the calculator.
+// Returns the cycles per second of the page's module and of the program, with the calculator.
 function speeds(engine) {
   const board = `wire\n${calculator}.\nasm\n${readFileSync(join(examples, "calculator/calculator.asm"), "utf8")}.\n`;
   const runs = "run 100000\n".repeat(300);
@@ -259,7 +259,7 @@ const engine = await Engine.load(readFileSync(modulePath));
 for (const name of readdirSync(examples, { recursive: true })) {
   if (name.endsWith(".txt")) compare(name, engine, null, readFileSync(join(examples, name), "utf8"));
 }
-// Texts that are longer than a chunk, longer than the module's initial memory, and longer than the bench reads.
+// Texts that are longer than a chunk, longer than the module's initial memory, and longer than the bench accepts.
 for (const size of [70000, 1100000, 16777300]) compare(`an input of ${size} bytes`, engine, null, `poke acc 1\n${"\n".repeat(size)}seq\n`);
 for (let number = 1; number <= Number(count); number++) {
   const file = compare(`script ${number}`, engine, null, script());

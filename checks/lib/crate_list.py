@@ -1,5 +1,7 @@
 #!/usr/bin/env python3
-"""Prints crates/README.md, a list of the crates, from crates.txt and the first sentence of each crate: `checks/lib/crate_list.py > crates/README.md`."""
+"""Prints crates/README.md, a list of the crates, generated from crates.txt and from the first sentence of each crate: `checks/lib/crate_list.py >
+crates/README.md`.
+"""
 
 import pathlib
 import re
@@ -13,7 +15,7 @@ lowest first. What a crate has in it, and where to change what, is in [docs/MAP.
 
 
 def first_sentence(crate):
-    """Returns the first sentence of the head of a crate's root file: `lib.rt`, or `main.rt` for a program."""
+    """Returns the first sentence of the comment at the top of a crate's root file: `lib.rt`, or `main.rt` for a program."""
     sources = [TOP / "crates" / crate / "src" / name for name in ("lib.rt", "main.rt")]
     text = next(source for source in sources if source.exists()).read_text()
     said = " ".join(line[4:] for line in text.splitlines() if line.startswith("//! "))
@@ -21,9 +23,9 @@ def first_sentence(crate):
 
 
 def crates_by_heading():
-    """Returns the headings in crates.txt, each with its crates."""
+    """Returns the headings in crates.txt with their crates."""
     headings = {}
-    # `lines_of` in tools/lib/sums.sh reads the same file, and skips the headings. The first two lines describe the format.
+    # `lines_of` in tools/lib/sums.sh reads the same file and skips the headings. The first two lines describe the format.
     for line in (TOP / "crates.txt").read_text().splitlines()[2:]:
         if line.startswith("# "):
             crates = headings.setdefault(line[2:], [])
@@ -33,7 +35,7 @@ def crates_by_heading():
 
 
 def crate_list():
-    """Returns the whole text: for each heading a list of its crates."""
+    """Returns the whole text, which has a list of crates for each heading."""
     lines = [HEAD.rstrip("\n")]
     for heading, crates in crates_by_heading().items():
         lines += ["", f"## {heading.capitalize()}", "", *(f"- [{crate}]({crate}/src): {first_sentence(crate)}" for crate in crates)]

@@ -1,16 +1,16 @@
-// A client of debug adapters, as the protocol describes them. It starts `mcs4 dap`, sends requests, and waits for events.
+// A debug adapter client that follows the protocol. It starts `mcs4 dap`, sends requests, and waits for events.
 import { MessageClient } from "./message_client.mjs";
 
 export class Client extends MessageClient {
-  /** @param {string} command mcs4, or a command that starts it with some words before and another environment */
+  /** @param {string} command mcs4, or a command that starts mcs4 with extra arguments and another environment */
   constructor(command, folder = ".", words = [], { before = [], env = process.env } = {}) {
     super(command, folder, [...before, "dap", ...words], env);
-    /** The violations of the protocol in the messages that the adapter has sent. */
+    /** The protocol violations in the adapter's messages. */
     this.faults = [];
     this.expected = 0;
   }
 
-  /** Checks a message of the adapter against the rules of the protocol. */
+  /** Checks a message from the adapter against the rules of the protocol. */
   check(message) {
     this.expected += 1;
     if (message.seq !== this.expected) this.faults.push(`seq ${message.seq}, not ${this.expected}`);
@@ -20,7 +20,7 @@ export class Client extends MessageClient {
     if (!isResponse && !isEvent) this.faults.push(`neither a response nor an event: ${JSON.stringify(message)}`);
   }
 
-  /** Returns the response to a request, successful or not. */
+  /** Resolves to the response to a request, successful or not. */
   answer(command, args) {
     this.number += 1;
     const seq = this.number;
@@ -28,7 +28,7 @@ export class Client extends MessageClient {
     return this.next((message) => message.type === "response" && message.request_seq === seq);
   }
 
-  /** Returns the body of the response; throws an error if the request failed. */
+  /** Resolves to the body of the response. Throws an error if the request failed. */
   async ask(command, args) {
     const response = await this.answer(command, args);
     if (!response.success) throw new Error(`${command}: ${response.message}`);
@@ -39,7 +39,7 @@ export class Client extends MessageClient {
     return this.next((message) => message.type === "event" && message.event === name);
   }
 
-  /** Sends the requests from initialize to launch; `configure` sets breakpoints. */
+  /** Sends the requests from initialize to configurationDone. `configure` sets breakpoints. */
   async begin(args, configure = async () => {}) {
     const capabilities = await this.ask("initialize", { adapterID: "mcs4", linesStartAt1: true, columnsStartAt1: true, pathFormat: "path" });
     await this.ask("launch", args);
@@ -49,7 +49,7 @@ export class Client extends MessageClient {
     return capabilities;
   }
 
-  /** Sends a request that moves the machine, and waits for its stop. */
+  /** Sends a request that runs the machine, and waits until it stops. */
   async move(command, args = {}) {
     await this.ask(command, { threadId: 1, ...args });
     return (await this.event("stopped")).body;
@@ -59,7 +59,7 @@ export class Client extends MessageClient {
     return (await this.ask("stackTrace", { threadId: 1 })).stackFrames;
   }
 
-  /** Returns the variables of a scope by their names. */
+  /** Resolves to the variables of a scope, also by name. */
   async scope(name) {
     const { scopes } = await this.ask("scopes", { frameId: 1 });
     const { variablesReference } = scopes.find((each) => each.name === name);

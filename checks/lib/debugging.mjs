@@ -1,4 +1,4 @@
-// The main trials of checks/debugging with a separate client. Prints `ok WORDS` or `fault: WORDS` for each check, `speed: WORDS` for a
+// The main tests of checks/debugging, with a separate client. Prints `ok WORDS` or `fault: WORDS` for each check, and `speed: WORDS` for a
 // measurement.
 import { execFileSync, spawn } from "node:child_process";
 import { copyFileSync, readFileSync, readdirSync, writeFileSync } from "node:fs";
@@ -8,7 +8,7 @@ const TOP = new URL("../..", import.meta.url).pathname;
 const MCS4 = `${TOP}mcs4`;
 const [folder] = process.argv.slice(2);
 const STEPS = 200;
-/** The number of cycles that the program runs for a measurement. */
+/** The number of cycles that the program of the speed measurement runs. */
 const FAR = [1, 2, 3, 4, 5].reduce((sum, each) => sum + 2 * 12 * 16 ** (5 - each), 3 * 12 * 16 ** 5);
 
 function verdict(is, wanted, words) {
@@ -18,10 +18,10 @@ function verdict(is, wanted, words) {
 
 const matches = (words, pattern, what) => console.log(pattern.test(words) ? `ok ${what}` : `fault: ${what}: ${words}`);
 
-/** Returns the program's answers to lines on a session file. */
+/** Returns the program's answers to lines in a session file. */
 const mcs4 = (word, file, input) => execFileSync(process.env.MCS4, [word, file], { input, encoding: "utf8" }).split("\n").slice(1, -1);
 
-/** Returns the contents of a session file, from a copy: a file in use cannot be opened. */
+/** Returns the state in a session file. Reads a copy, because a file in use cannot be opened. */
 function stateIn(file) {
   copyFileSync(file, `${folder}/copy.mcs`);
   return mcs4("open", `${folder}/copy.mcs`, "state\n")[0];
@@ -38,7 +38,7 @@ const example = (name) => ({
   board: `${TOP}examples/${name}/board.toml`, program: `${TOP}examples/${name}/${name}.asm`, project: `${TOP}examples/${name}`,
 });
 
-/** Makes a session file of an example, with the native program only. */
+/** Creates a session file for an example with the native program only. */
 function fileOf(name, lines = "") {
   const file = `${folder}/${name}.mcs`;
   execFileSync("rm", ["-f", file]);
@@ -51,7 +51,7 @@ function fileOf(name, lines = "") {
   return { file, lineAt, names };
 }
 
-/** Returns the machine's state as the client sees it, in the form of `state`. */
+/** Returns the machine's state as the client sees it, with the keys of `state`. */
 async function seen(client) {
   const { values } = await client.scope("Registers");
   const digits = (name) => values[name].replace(/^0x/, "");
@@ -61,7 +61,7 @@ async function seen(client) {
 
 const same = ({ acc, cy, pc, dcl, test, r }) => ({ acc, cy, pc, dcl, test, r });
 
-/** Compares the steps of an example, forward and back, with those of the program. */
+/** Compares an example's steps, forward and back, with the program's steps. */
 async function trySteps(name) {
   const { lineAt, file } = fileOf(name);
   const wanted = mcs4("open", file, "state\nstep\n".repeat(STEPS)).filter((each) => each.startsWith("state ")).map(valuesOf);
@@ -87,7 +87,7 @@ async function trySteps(name) {
   verdict(await client.end(), 0, `${name}: it ends`);
 }
 
-/** Compares breakpoints at the labels of an example with the program's `break` and `run`. */
+/** Compares breakpoints at an example's labels with the program's `break` and `run`. */
 async function tryBreakpoints(name) {
   const { file, lineAt, names } = fileOf(name);
   const text = readFileSync(example(name).program, "utf8");
@@ -95,7 +95,7 @@ async function tryBreakpoints(name) {
   const client = new Client(MCS4);
   await client.begin(example(name));
   await client.event("stopped");
-  const begun = await client.ask("evaluate", { expression: "state", context: "repl" });
+  const initial = await client.ask("evaluate", { expression: "state", context: "repl" });
   for (const [label, address] of labels) {
     copyFileSync(file, `${folder}/run.mcs`);
     const answers = mcs4("open", `${folder}/run.mcs`, `break ${address}\nrun 50000\nunbreak ${address}\nstate\n`);
@@ -107,13 +107,13 @@ async function tryBreakpoints(name) {
     verdict([stop.reason, await seen(client)], ["function breakpoint", same(valuesOf(answers[3]))], `${name}: a breakpoint at ${label}`);
     await client.ask("setFunctionBreakpoints", { breakpoints: [] });
   }
-  matches(begun.result, /^state seq 2 acc 0 cy 0 pc 000/, `${name}: it begins at power-on`);
+  matches(initial.result, /^state seq 2 acc 0 cy 0 pc 000/, `${name}: it begins at power-on`);
   await client.end();
 }
 
 /**
- * Compares going back from arrival to arrival at a label with the program's stops on its way there. With a condition, only the arrivals at which
- * it holds are compared.
+ * Compares going back from arrival to arrival at a label with the program's stops on the way there. With a condition, only the arrivals at which the
+ * condition holds are compared.
  */
 async function tryArrivals(name, label, register) {
   const { file, names } = fileOf(name);
@@ -150,7 +150,7 @@ async function tryArrivals(name, label, register) {
   await client.end();
 }
 
-/** Compares setting values and pressing keys with `poke`, `press` and `test`. */
+/** Compares set values and pressed keys with `poke`, `press` and `test`. */
 async function trySetting() {
   const { file } = fileOf("lock");
   const wanted = valuesOf(mcs4("open", file, "poke r4 7\npoke acc 9\npoke pc 0x2E\npoke ram.0.0x13 5\npress 1 1\ntest 0\nstate\n").pop());
@@ -170,7 +170,7 @@ async function trySetting() {
   await client.end();
 }
 
-/** Checks that at each stop a session file contains the reported state, and that its breakpoints stay. */
+/** Checks that a session file contains the reported state at each stop, and that its breakpoints stay. */
 async function trySession() {
   const { file } = fileOf("lock", "break 0x031\n");
   const client = new Client(MCS4);
@@ -207,7 +207,7 @@ async function trySession() {
   verdict(readdirSync(folder).filter((name) => name.startsWith("lock.mcs.") || name.startsWith(".")), [], "no other file is left");
 }
 
-/** Checks that files that are not sessions are rejected, and stay unchanged. */
+/** Checks that files that are not sessions are rejected and stay unchanged. */
 async function tryFiles() {
   const { file } = fileOf("lock");
   const damaged = readFileSync(file);
@@ -267,17 +267,17 @@ const describedTimes = (list) => `${middle(list).toFixed(1)} ms in the middle, $
 async function timed(count, act) {
   const times = [];
   for (let turn = 0; turn < count; turn++) {
-    const begun = performance.now();
+    const start = performance.now();
     await act();
-    times.push(performance.now() - begun);
+    times.push(performance.now() - start);
   }
   return times;
 }
 
-/** Measures the time of a step, of a step back after ten million cycles, and the speed of a run to a distant breakpoint. */
+/** Measures the time of a step, the time of a step back after ten million cycles, and the speed of a run to a distant breakpoint. */
 async function trySpeed() {
   const program = `${folder}/far.asm`;
-  // R0 counts 12 * 16 ** 5 times, with NOP and ISZ in 3 cycles. Each of R1 to R5 counts after 16 turns of the one before it, in 2 cycles.
+  // R0 counts 12 * 16 ** 5 times, with NOP and ISZ in 3 cycles. Each of R1 to R5 counts after 16 turns of the previous register, in 2 cycles.
   const count = [0, 1, 2, 3, 4, 5].map((each) => `count${each}: ISZ R${each}, turn\n`).join("");
   writeFileSync(program, `        FIM P0, 0\n        FIM P1, 0\n        FIM P2, 0x04\nturn:   NOP\n${count}far:    JUN far\n`);
   const client = new Client(MCS4);
@@ -285,9 +285,9 @@ async function trySpeed() {
   await client.event("stopped");
   console.log(`speed: a step is reported in ${describedTimes(await timed(200, () => client.move("stepIn")))}`);
   await client.ask("setFunctionBreakpoints", { breakpoints: [{ name: "far" }] });
-  const begun = performance.now();
+  const start = performance.now();
   const stop = await client.move("continue");
-  const time = (performance.now() - begun) / 1000;
+  const time = (performance.now() - start) / 1000;
   const backs = await timed(20, () => client.move("stepBack"));
   console.log(`speed: a step back after millions of cycles is reported in ${describedTimes(backs)}`);
   for (const breakpoint of [{ name: "count3" }, { name: "turn", condition: "r1 = 0 and r0 = 0" }]) {

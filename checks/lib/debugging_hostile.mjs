@@ -1,6 +1,6 @@
-// The trials of checks/debugging with wrong messages: frames with wrong lengths, requests in the wrong order, unknown ones, and some 2,000 with
-// wrong arguments. The adapter answers each once and continues; or it prints an error and ends. Prints `ok WORDS` or `fault: WORDS` for each
-// check.
+// Tests of checks/debugging with wrong messages: frames with wrong lengths, requests in the wrong order, unknown requests, and some 2,000 requests
+// with wrong arguments. The adapter must answer each request once and continue, or print an error and end. Prints `ok WORDS` or `fault: WORDS` for
+// each check.
 import { Client } from "./dap_client.mjs";
 
 const TOP = new URL("../..", import.meta.url).pathname;
@@ -22,7 +22,7 @@ const framed = (text, size = Buffer.byteLength(text)) => `Content-Length: ${size
 const request = (seq, command, args) => JSON.stringify({ seq, type: "request", command, arguments: args });
 const INITIALIZE = framed(request(1, "initialize", {}));
 
-/** Bytes after which no message can follow, with the printed error. With `isOpen`, no more bytes arrive, and the stream stays open. */
+/** Byte sequences after which no message can follow, with the expected error. With `isOpen`, the stream stays open, but no more bytes arrive. */
 const LOST = [
   { name: "the rest of a message never comes", bytes: framed("{\"seq\":", 50), words: /^only 7 of the 50 bytes/, isOpen: true },
   { name: "the rest of a head never comes", bytes: "Content-Le", words: /^only a part of the head/, isOpen: true },
@@ -49,7 +49,7 @@ async function tryLost({ name, bytes, words, isOpen = false }) {
 // --- requests ---
 
 let state = 20261128;
-/** Returns a random number from 0 to `count`, exclusive. */
+/** Returns a random integer from 0 to `count` - 1. */
 function upTo(count) {
   state = (Math.imul(state, 1664525) + 1013904223) >>> 0;
   return Math.floor((state / 2 ** 32) * count);
@@ -80,7 +80,7 @@ function given(depth = 0) {
   return Object.fromEntries(Array.from({ length: upTo(7) }, () => [oneOf(NAMES), value(depth)]));
 }
 
-/** Returns arguments that are nearly right, so that later checks are reached, too. */
+/** Returns arguments that are nearly right, so that the later checks of the adapter are reached, too. */
 function nearlyRight(command) {
   const right = { threadId: 1, frameId: 1, variablesReference: 1 + upTo(7), name: oneOf(["acc", "R4", "lamp 0"]), value: oneOf(TEXTS), expression: oneOf(TEXTS),
     context: oneOf(["repl", "watch", "hover", "clipboard"]), memoryReference: oneOf(["0x000", "0x10000", "ram.0"]), offset: upTo(300) - 20, count: upTo(5000),
@@ -96,7 +96,7 @@ function argumentsFor(command) {
   return oneOf([() => undefined, () => null, () => value(0), () => given(), () => nearlyRight(command), () => nearlyRight(command)])();
 }
 
-/** Sends requests in batches, without waiting inside a batch; returns the numbers of those that were not answered exactly once. */
+/** Sends requests in batches, without waiting within a batch. Resolves to the numbers of the requests that were not answered exactly once. */
 async function sendAll(client, count) {
   const answered = new Map();
   for (let done = 0; done < count; done += BATCH) {
@@ -107,7 +107,7 @@ async function sendAll(client, count) {
       batch.push(client.number);
       client.send({ seq: client.number, type: "request", command, arguments: argumentsFor(command) });
     }
-    // A running machine is paused, so that the next batch begins in a paused session.
+    // Pause a running machine, so that the next batch begins in a paused session.
     await client.answer("pause", { threadId: 1 });
     for (const seq of batch) {
       await client.next((message) => message.type === "response" && message.request_seq === seq);

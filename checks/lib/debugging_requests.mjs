@@ -1,5 +1,5 @@
-// The trials of checks/debugging with the sequence of requests that Visual Studio Code sends. Prints `ok WORDS` or `fault: WORDS` for each check.
-// The adapter's answers are compared with those of the program mcs4 on a separate session file.
+// Tests of checks/debugging with the sequence of requests that Visual Studio Code sends. Prints `ok WORDS` or `fault: WORDS` for each check. The
+// adapter's answers are compared with the answers of the program mcs4 on a separate session file.
 import { execFileSync, spawn } from "node:child_process";
 import { chmodSync, copyFileSync, readFileSync, writeFileSync } from "node:fs";
 import { Client } from "./dap_client.mjs";
@@ -23,14 +23,14 @@ function verdict(is, wanted, words) {
 
 const matches = (words, pattern, what) => console.log(pattern.test(words) ? `ok ${what}` : `fault: ${what}: ${words}`);
 
-/** Returns the program's answers to lines on a copy of a session file. */
+/** Returns the program's answers to lines in a copy of a session file. */
 function answersOf(file, input) {
   copyFileSync(file, `${folder}/asked.mcs`);
   chmodSync(`${folder}/asked.mcs`, 0o600);
   return execFileSync(process.env.MCS4, ["open", `${folder}/asked.mcs`], { input, encoding: "utf8" }).split("\n").slice(1, -1);
 }
 
-/** Makes a session file of the lock with the native program only, and serves some lines. */
+/** Creates a session file for the lock with the native program only, and serves lines in it. */
 function sessionFile(name, lines) {
   const file = `${folder}/${name}.mcs`;
   const bare = (text, mark) => text.split("\n").map((line) => line.replace(new RegExp(`${mark}.*`), "").trimEnd()).join("\n");
@@ -40,7 +40,7 @@ function sessionFile(name, lines) {
   return file;
 }
 
-/** Sends the requests of Visual Studio Code up to the first stop. */
+/** Sends the requests that Visual Studio Code sends up to the first stop. */
 async function begin(client, command, args, { watches = [], filterOptions = [], functions = [] } = {}) {
   const capabilities = await client.ask("initialize", VSCODE);
   const launched = client.answer(command, { name: "MCS-4", type: "mcs4", request: command, __sessionId: "1", ...args });
@@ -54,7 +54,7 @@ async function begin(client, command, args, { watches = [], filterOptions = [], 
   return { capabilities, data, filters, stopped: (await client.event("stopped")).body };
 }
 
-/** Sends the requests that Visual Studio Code sends at each stop; returns their results. */
+/** Sends the requests that Visual Studio Code sends at each stop. Resolves to their results. */
 async function look(client) {
   await client.ask("threads");
   const top = await client.ask("stackTrace", { threadId: 1, startFrame: 0, levels: 1 });
@@ -65,7 +65,7 @@ async function look(client) {
   return { frames, scopes };
 }
 
-/** Checks that a session file stays unchanged while the client is attached to it, byte for byte, even if it is read-only. */
+/** Checks that a session file stays unchanged, byte for byte, while the client is attached to it, even if the file is read-only. */
 async function tryAttach() {
   const file = sessionFile("attached", "run 5000\npress 1 1\nbreak 0x031\n");
   chmodSync(file, 0o444);
@@ -100,7 +100,9 @@ async function tryAttach() {
   await other.end();
 }
 
-/** Checks that a session file in use is rejected with the name of the program that uses it, and that files that are not sessions are rejected. */
+/**
+ * Checks that a session file in use is rejected with the name of the program that uses it. Also checks that files that are not sessions are rejected.
+ */
 async function tryRefused() {
   const file = sessionFile("held", "");
   const holder = spawn(process.env.MCS4, ["open", file], { stdio: ["pipe", "pipe", "ignore"] });
@@ -128,7 +130,7 @@ async function tryRefused() {
   await client.end();
 }
 
-/** Checks that changes of places stop where the program's trace shows them. */
+/** Checks that data breakpoints stop where the program's trace shows a change of the place. */
 async function tryWatches() {
   const file = sessionFile("watched", "run 400\n");
   for (const [dataId, probe] of [["r0", "r0"], ["acc", "acc"], ["chain0", "chain0"], ["rom0", "rom0"], ["cy", "cy"]]) {
@@ -154,7 +156,7 @@ async function tryWatches() {
   }
 }
 
-/** Compares targets, frames, formats, memory and completion with the program. */
+/** Compares step targets, frames, formats, memory and completion with the program. */
 async function tryRequests() {
   const file = sessionFile("lock", "");
   const client = new Client(ADAPTER);
@@ -164,8 +166,8 @@ async function tryRequests() {
     "supportsExceptionFilterOptions", "supportsDataBreakpoints", "supportsCompletionsRequest", "supportsReadMemoryRequest", "supportsWriteMemoryRequest"];
   verdict(named.filter((name) => capabilities[name] !== true), [], "what the adapter can is announced");
   verdict(filters.breakpoints.map(({ verified }) => verified), [true, true], "filters with options");
-  const begun = await look(client);
-  const { targets } = await client.ask("stepInTargets", { frameId: begun.frames[0].id });
+  const initial = await look(client);
+  const { targets } = await client.ask("stepInTargets", { frameId: initial.frames[0].id });
   verdict(targets, [], "a jump is no call");
   await client.move("stepIn");
   const ahead = await client.ask("stepInTargets", { frameId: 1 });
@@ -209,7 +211,7 @@ async function tryRequests() {
   verdict(await client.end(), 0, "it ends");
 }
 
-/** Checks that long work reports its progress, and ends if the client cancels it. */
+/** Checks that long work reports its progress, and that it ends if the client cancels it. */
 async function tryLong() {
   const program = `${folder}/long.asm`;
   writeFileSync(program, " FIM P0, 0\nturn: ISZ R0, turn\n ISZ R1, turn\n JUN turn\n");
@@ -222,7 +224,7 @@ async function tryLong() {
   await client.event("progressEnd");
   verdict((await client.event("stopped")).body.reason, "pause", "a long run is reported, and pauses where it is cancelled");
   const { result: before } = await client.ask("evaluate", { expression: "seq", context: "repl" });
-  // A search through the whole past for an event that never happened.
+  // Search the whole past for an event that never happened.
   await client.ask("evaluate", { expression: "back r9 = 9", context: "repl" });
   verdict((await client.event("stopped")).body.reason !== "", true, "a search in the past ends");
   const lines = `poke r4 7\n${"run 100000\n".repeat(990)}`;
@@ -230,7 +232,7 @@ async function tryLong() {
   const seq = client.number;
   client.send({ seq, type: "request", command: "evaluate", arguments: { expression: lines, context: "repl" } });
   const isAnswer = (message) => message.type === "response" && message.request_seq === seq;
-  // The request has begun when its progress is reported. A fast machine can be done before that.
+  // When its progress is reported, the request has begun. A fast machine can finish before that.
   const first = await client.next((message) => isAnswer(message) || (message.type === "event" && message.event === "progressStart"));
   const isDone = isAnswer(first);
   if (!isDone) await client.ask("cancel", { requestId: seq });

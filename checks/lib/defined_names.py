@@ -1,5 +1,5 @@
-"""The names that the crates define. checks/documents looks for them when a document says that a name is a definition, a function or a module. A name
-that only occurs somewhere is not enough: after a renaming, comments and other languages can still contain the old name.
+"""The names that the crates define. checks/documents uses them when a document says that a name is a definition, a function or a module. It is not
+enough that a name occurs somewhere, because comments and other languages can still contain an old name after a renaming.
 """
 
 import functools
@@ -7,12 +7,12 @@ import pathlib
 import re
 
 CRATES = pathlib.Path(__file__).resolve().parent.parent.parent / "crates"
-# The ways in which a source defines a name: an item, a clause, a field, a variant, or an implementation of a trait.
+# The patterns with which a source defines a name: an item, a clause, a field, a variant, or a trait implementation.
 IN_SOURCES = (r"\b(?:fn|struct|enum|trait|const|static|mod|type|macro_rules!|ensures|invariant)\s+(\w+)", r"^\s+(?:pub(?:\(\w+\))? |ghost )?(\w+):",
               r"^\s+([A-Z]\w*)", r"\bimpl\b[^{;]*?(\w+)(?:<[^<>]*>)?\s+for\s")
-# The ways in which a module of definitions defines a name: at the beginning of a line, or as a field or a constructor below it.
+# The patterns with which a specs module defines a name: at the beginning of a line, or as a field or constructor below it.
 IN_SPECS = (r"^(?:(?:abbrev|unfoldable|pub|record|data|mod) )*([A-Za-z_]\w*)", r"^  (?:pub )?([A-Za-z_]\w*)(?: \w+)* :")
-# The form of a name of several words, or of a definition. An example of a text (`romC.K`) does not match.
+# Matches a name with several words, or the name of a definition. Does not match placeholders such as `romC.K`.
 NAME = r"\b(?:[a-z]\w*_\w+|[A-Z][a-z]\w+)\b"
 
 
@@ -30,7 +30,7 @@ def names_of_file(path):
 
 
 def defined_in(crate, module=None):
-    """Returns the names that a crate defines, including its modules; or that one of its modules defines."""
+    """Returns the names that a crate defines, including its modules, or the names that one of its modules defines."""
     files = [path for path in files_of(crate) if module in (None, path.stem)]
     own = {path.stem for path in files} if module is None else set()
     return own.union(*(names_of_file(path) for path in files))
@@ -54,7 +54,7 @@ def crate_files():
 
 
 def unknown_in_comments():
-    """Yields the names in backticks in comments of the crates that are nowhere outside of comments: the file, the line and the name."""
+    """Yields each name that is in backticks in a comment of the crates, but nowhere outside of comments: its file, line and name."""
     known = {word for path in crate_files() for line in path.read_text().splitlines() if not is_comment(line) for word in re.findall(r"\w+", line)}
     for path in crate_files():
         for number, line in enumerate(path.read_text().splitlines(), 1):

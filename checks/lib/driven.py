@@ -1,4 +1,4 @@
-"""The actions on a page that all drivers share; web_driver.py and marionette.py drive the browsers."""
+"""The page actions that all browser drivers share. web_driver.py and marionette.py implement the drivers."""
 
 import re
 import time
@@ -6,7 +6,7 @@ import time
 ELEMENT = "element-6066-11e4-a52e-4f735466cecf"
 # The pause between one finger and the next.
 PAUSE = {"type": "pause", "duration": 10}
-# A function that is put before every script. It returns true if an element is visible. (The oldest browsers have no call for it.)
+# A function that precedes every script. It returns true if an element is visible. (The oldest browsers have no call for this.)
 BEFORE_SCRIPTS = "const isShown = (element) => element.getClientRects().length > 0;\n"
 PLACE_AND_TEXT = """
 const element = document.querySelector(arguments[0]);
@@ -14,21 +14,21 @@ return `${element.getBoundingClientRect().top} ${element.textContent}`"""
 
 
 class Fault(Exception):
-    """An error that the driver or the page has returned instead of a value."""
+    """An error that the driver or the page returned instead of a value."""
 
 
 def matches(found, wanted):
-    """Returns true if a value is the expected one; a pattern must be found in it."""
+    """Returns true if a value equals the expected value, or if it matches the expected pattern."""
     return bool(wanted.search(str(found))) if isinstance(wanted, re.Pattern) else found == wanted
 
 
 class Driven:
-    # The abilities of the driver: several fingers at once, and whether a background tab counts as hidden.
+    # The driver's abilities: touches with several fingers, and whether a background tab is hidden.
     has_fingers = True
     hides_tabs = True
-    # Whether a page that receives only `pagehide` when it is left can still run its functions.
+    # True if a page that receives only `pagehide` when the user leaves it can still run its functions.
     runs_at_pagehide = True
-    # The seconds after a scroll in which the page is drawn again.
+    # The seconds after a scroll until the page has been drawn again.
     settles = 0
 
     def show(self, selector):
@@ -41,7 +41,7 @@ class Driven:
         self.click_element(self.find(selector))
 
     def click_at_rest(self, selector):
-        """Clicks on an element that can be moving, such as a row of the listing, once it has not moved for a third of a second."""
+        """Clicks an element that may be moving, such as a row of the disassembly, once it has not moved for a third of a second."""
         self.show(selector)
         seen = None
         end = time.monotonic() + 10
@@ -51,7 +51,7 @@ class Driven:
         self.click_element(self.find(selector))
 
     def hold(self, selector, time_down):
-        """Presses the mouse on an element for some milliseconds."""
+        """Presses the mouse button on an element for a time in milliseconds."""
         self.show(selector)
         time.sleep(self.settles)
         self.actions({
@@ -71,8 +71,7 @@ class Driven:
         return self.script("return document.querySelector(arguments[0]).textContent", selector)
 
     def fingers(self, selectors, time_down):
-        """Touches several elements, each with one finger: the fingers go down one after the other, stay down together for some milliseconds, and
-        go up."""
+        """Touches several elements, one finger each. The fingers go down in sequence, stay down together for a time in milliseconds, and go up."""
         self.show(selectors[0])
         self.actions(*[{
             "type": "pointer", "id": f"finger{number}", "parameters": {"pointerType": "touch"},
@@ -87,7 +86,7 @@ class Driven:
         } for number, selector in enumerate(selectors)])
 
     def keys(self, keys, time_down=70, time_up=60):
-        """Types keys of the keyboard, one after the other."""
+        """Types keys on the keyboard in sequence."""
         steps = []
         for key in keys:
             steps += [{"type": "keyDown", "value": key}, {"type": "pause", "duration": time_down},
@@ -95,7 +94,7 @@ class Driven:
         self.actions({"type": "key", "id": "keyboard", "actions": steps})
 
     def chord(self, held, typed):
-        """Types a key while another one is held."""
+        """Types a key while another key is held."""
         self.actions({"type": "key", "id": "keyboard", "actions": [
             {"type": "keyDown", "value": held}, {"type": "keyDown", "value": typed},
             {"type": "keyUp", "value": typed}, {"type": "keyUp", "value": held}]})
@@ -115,8 +114,8 @@ class Driven:
         self.set_window_size(1280, 900)
 
     def until(self, code, wanted, seconds=30):
-        """Waits until a script returns the expected value, or a text that matches a pattern; returns the last result. A script that fails, as it
-        does while the page is left, is tried again."""
+        """Waits until a script returns the expected value, or a text that matches a pattern. Returns the last result. Repeats a script that fails,
+        because scripts fail while the page is being left."""
         end = time.monotonic() + seconds
         while True:
             try:

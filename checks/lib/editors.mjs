@@ -1,4 +1,4 @@
-// The main trials of checks/editors with a separate client. Prints `ok WORDS` or `fault: WORDS` for each check, `speed: WORDS` for a measurement.
+// The main tests of checks/editors, with a separate client. Prints `ok WORDS` or `fault: WORDS` for each check, and `speed: WORDS` for a measurement.
 import { execFileSync } from "node:child_process";
 import { readFileSync, readdirSync } from "node:fs";
 import { Client } from "./lsp_client.mjs";
@@ -14,7 +14,7 @@ function verdict(is, wanted, words) {
   console.log(one === other ? `ok ${words}` : `fault: ${words}: ${one}, not ${other}`);
 }
 
-/** Returns the proved program's report on a text: addresses and sizes of its lines, and its names. */
+/** Returns what the proved program reports about a text: the addresses and sizes of its lines, and its names. */
 function bySession(board, program) {
   const file = `${folder}/session.mcs`;
   const input = `wire\n${board}.\nasm\n${program}.\nmap\n${program}.\n`;
@@ -29,12 +29,12 @@ function bySession(board, program) {
   return { lines, names };
 }
 
-/** Returns the examples that are texts in a folder. */
+/** Returns the names of the examples that are folders with texts. */
 function examples() {
   return readdirSync(`${TOP}examples`, { withFileTypes: true }).filter((each) => each.isDirectory()).map(({ name }) => name);
 }
 
-/** Compares addresses, sizes and values in the hovers of an example with those that the program reports. */
+/** Compares the addresses, sizes and values in an example's hovers with the program's report. */
 async function compare(client, name) {
   const uri = `file://${TOP}examples/${name}/${name}.asm`;
   const [text, board] = [read(`examples/${name}/${name}.asm`), read(`examples/${name}/board.toml`)];
@@ -62,24 +62,24 @@ async function compare(client, name) {
 const middle = (list) => [...list].sort((one, other) => one - other)[Math.floor(list.length / 2)];
 const describedTimes = (list) => `${middle(list).toFixed(1)} ms in the middle, ${Math.max(...list).toFixed(1)} at most`;
 
-/** Measures the time of errors and hovers in a text of maximum length; each edit adds an error. */
+/** Measures the time of diagnostics and hovers in a text of maximum length. Each edit adds an error. */
 async function trySpeed(client) {
   const uri = "file:///long.asm";
   const text = `start:\n${"LDM 5\n".repeat(2728)}NOP`;
   await client.open(uri, text);
   const hovers = [];
   for (let turn = 0; turn < 50; turn++) {
-    const begun = performance.now();
+    const start = performance.now();
     await client.ask("textDocument/hover", at(uri, 10 + turn, 1));
-    hovers.push(performance.now() - begun);
+    hovers.push(performance.now() - start);
   }
   const faults = [];
   for (let turn = 1; turn <= 15; turn++) {
-    const begun = performance.now();
+    const start = performance.now();
     const range = { start: { line: turn, character: 4 }, end: { line: turn, character: 5 } };
     client.notify("textDocument/didChange", { textDocument: { uri, version: turn + 1 }, contentChanges: [{ range, text: "x" }] });
     verdict((await client.faults(uri)).length, turn, `${turn} faults`);
-    faults.push(performance.now() - begun);
+    faults.push(performance.now() - start);
   }
   console.log(`speed: a hover in a text of ${text.length} bytes: ${describedTimes(hovers)}`);
   console.log(`speed: 1 to 15 faults of it, after an edit: ${describedTimes(faults)}`);
@@ -113,10 +113,10 @@ async function tryWrong() {
 }
 
 async function tryEnds() {
-  const gone = new Client(MCS4);
-  await gone.begin();
-  gone.child.stdin.end();
-  verdict(await gone.ended, 1, "a client that goes away");
+  const closedClient = new Client(MCS4);
+  await closedClient.begin();
+  closedClient.child.stdin.end();
+  verdict(await closedClient.ended, 1, "a client that goes away");
   const hasty = new Client(MCS4);
   hasty.notify("exit");
   verdict(await hasty.ended, 1, "exit without shutdown");
@@ -125,14 +125,14 @@ async function tryEnds() {
   verdict([await other.ended, other.stderr.split(",")[0]], [1, "lsp: a message begins with one line Content-Length: N"], "another protocol");
 }
 
-/** Checks that input is served in order if a client writes it before it reads anything. */
+/** Checks that input is served in order if a client writes everything before it reads anything. */
 async function tryAtOnce() {
   const hasty = new Client(MCS4);
   const uri = "file:///hasty.asm";
-  const begun = hasty.answer("initialize", { processId: null, rootUri: null, capabilities: {} });
+  const initialized = hasty.answer("initialize", { processId: null, rootUri: null, capabilities: {} });
   hasty.notify("initialized", {});
   const faults = await hasty.open(uri, "JMP there\n");
-  verdict([(await begun).error, faults.length], [undefined, 1], "a text that is opened with initialize in one chunk has its faults");
+  verdict([(await initialized).error, faults.length], [undefined, 1], "a text that is opened with initialize in one chunk has its faults");
   const shut = hasty.answer("shutdown");
   hasty.notify("exit");
   verdict([(await shut).error, await hasty.ended], [undefined, 0], "shutdown and exit in one chunk");
@@ -143,8 +143,8 @@ async function tryAtOnce() {
 }
 
 /**
- * Checks wrong sizes of messages, which must cause an error and the end: if the rest is missing, if it belongs to the next message, and at the
- * end.
+ * Checks messages with wrong lengths, which must cause an error and the end of the server. The rest of the message is missing, belongs to the next
+ * message, or is missing at the end of the stream.
  */
 async function tryWrongSizes() {
   const body = JSON.stringify({ jsonrpc: "2.0", id: 1, method: "initialize", params: {} });

@@ -1,12 +1,13 @@
-// The trials of checks/editors about the layout of programs. The server formats random programs, with blanks and with tabs in turn. The bench
-// must give the same answers to both, byte for byte, and formatting twice must be the same as once. Prints `ok WORDS` or `fault: WORDS`.
+// Tests of checks/editors for the program formatter. The server formats random programs, alternately with spaces and with tabs. The bench must give
+// the same answers to both texts, byte for byte, and formatting twice must give the same result as formatting once. Prints `ok WORDS` or `fault:
+// WORDS`.
 import { execFileSync } from "node:child_process";
 import { mkdirSync, readFileSync, rmSync } from "node:fs";
 import { Client } from "./lsp_client.mjs";
 
 const TOP = new URL("../..", import.meta.url).pathname;
 const [folder] = process.argv.slice(2);
-/** The number of valid programs, and of those with errors. */
+/** The number of valid programs, and the number of programs with errors. */
 const ACCEPTED = 500;
 const REFUSED = 60;
 const COUNT = ACCEPTED + REFUSED;
@@ -17,7 +18,7 @@ const LISTS = [...Array(16).keys()].map((page) => `list ${page * 256} 256\n`).jo
 
 const verdict = (isRight, words) => console.log(isRight ? `ok ${words}` : `fault: ${words}`);
 
-/** Returns the text after edits, each of them in one line. */
+/** Applies edits to a text. Each edit is within one line. */
 function edited(text, edits) {
   const lines = text.split("\n");
   for (const { range: { start, end }, newText } of edits) {
@@ -26,7 +27,7 @@ function edited(text, edits) {
   return lines.join("\n");
 }
 
-/** Returns the program's answers to texts: the map of each, the answer to its load, and the whole ROM after it. */
+/** Returns the program's answers to texts: for each text the map, the answer to loading it, and the whole ROM afterwards. */
 function answers(texts) {
   const input = ALL_ROMS + texts.map((text) => `map\n${text}.\nasm\n${text}.\n${LISTS}`).join("");
   const file = `${folder}/formatted.mcs`;

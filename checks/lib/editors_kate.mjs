@@ -1,23 +1,23 @@
-// Drives Kate's language client on a virtual display: `node editors_kate.mjs FOLDER`. FOLDER/home has Kate's settings, as the manual describes
-// them. FOLDER/bin has an `mcs4` that writes everything that Kate sends to FOLDER/sent, and everything that it receives to FOLDER/received.
-// Standard output has a line for each observation. The script waits for the contents of these files, and for the screen, never for a fixed time.
+// Drives Kate's language client on a virtual display: `node editors_kate.mjs FOLDER`. FOLDER/home has Kate's settings as the manual describes them.
+// FOLDER/bin has an `mcs4` that writes everything that Kate sends to FOLDER/sent, and everything that Kate receives to FOLDER/received. Standard
+// output has a line for each observation. The script waits for the contents of these files and for the screen, never for a fixed time.
 import { spawn, spawnSync } from "node:child_process";
 import { cpSync, existsSync, mkdirSync, readFileSync, rmSync, writeFileSync } from "node:fs";
 import { MessageClient } from "./message_client.mjs";
 
-/** The milliseconds to wait for each result. */
+/** The time in milliseconds to wait for each result. */
 const TIMEOUT = 90000;
-/** The milliseconds until a key without effect is pressed again, and until a command for the display is stopped. */
+/** The time in milliseconds after which a key without effect is pressed again, and after which a display command is stopped. */
 const AGAIN = 20000;
-/** The title of Kate's question. */
+/** The window title of Kate's question about starting the server. */
 const QUESTION = "LSP server start requested";
 const folder = process.argv[2];
-/** Functions that end the processes that this script started. */
+/** Functions that end the processes that this script has started. */
 const ends = new Set();
 const say = (line) => process.stdout.write(`${line}\n`);
 const shortly = () => new Promise((resume) => setTimeout(resume, 100));
 
-/** Waits until `look` returns a value. */
+/** Waits until `look` returns a truthy value, and resolves to it. */
 async function once(what, look) {
   for (const end = Date.now() + TIMEOUT; Date.now() < end;) {
     const found = look();
@@ -27,7 +27,7 @@ async function once(what, look) {
   throw new Error(`${what}: not after ${TIMEOUT} ms`);
 }
 
-/** Returns the messages in one of the two files. */
+/** Returns the messages in one of the two files, by the file's name. */
 function messagesOf(name) {
   const file = `${folder}/${name}`;
   return existsSync(file) ? MessageClient.messagesIn(readFileSync(file)).messages : [];
@@ -36,9 +36,9 @@ function messagesOf(name) {
 const sent = (method) => messagesOf("sent").filter((each) => each.method === method);
 const lastFaults = () => messagesOf("received").filter((each) => each.method === "textDocument/publishDiagnostics").at(-1)?.params.diagnostics;
 
-// --- a display and its screenshot
+// --- the display and its screenshot
 
-/** Starts a virtual display, with its screenshots in FOLDER. */
+/** Starts a virtual display. Its screenshots are in FOLDER. */
 async function startDisplay() {
   const server = spawn("Xvfb", ["-displayfd", "3", "-screen", "0", "1280x800x24", "-nolisten", "tcp", "-fbdir", folder],
     { stdio: ["ignore", "ignore", "ignore", "pipe"] });
@@ -52,8 +52,8 @@ async function startDisplay() {
 }
 
 /**
- * Returns the number of pixels in the colour that Kate's theme gives to a line with an error: #FFE5E5, or a shade of it at the cursor. The
- * screenshot is an XWD picture: its first word is the length of its header, and its twentieth word the number of its colours.
+ * Returns the number of pixels with the colour that Kate's theme uses for a line with an error: #FFE5E5, or a shade of it at the cursor. The
+ * screenshot is an XWD picture: its first word is the length of its header, and its twentieth word is the number of its colours.
  */
 function marked() {
   const picture = readFileSync(`${folder}/Xvfb_screen0`);
@@ -66,7 +66,7 @@ function marked() {
   return count;
 }
 
-/** Returns whether a line is marked: it is many hundred pixels wide and some high. */
+/** Returns true if a line is marked. A marked line is many hundred pixels wide and several pixels high. */
 const isMarked = () => marked() > 2000;
 
 // --- Kate
@@ -80,7 +80,7 @@ class Kate {
     }
     for (const name of ["sent", "received"]) rmSync(`${folder}/${name}`, { force: true });
     this.file = file;
-    // It has its own process group, so that ending it also ends its children.
+    // Kate has its own process group, so that ending the group also ends Kate's children.
     this.child = spawn("dbus-run-session", ["--", "kate", "-n", ...more, file],
       { cwd: `${folder}/lock`, env: this.environment, stdio: "ignore", detached: true });
     this.child.on("error", () => {});
@@ -91,30 +91,30 @@ class Kate {
     return spawnSync("xdotool", words, { env: this.environment, encoding: "utf8", timeout: AGAIN }).stdout ?? "";
   }
 
-  /** Returns the window with these words in its title, if it exists. */
+  /** Returns the window whose title contains a text, or undefined if there is none. */
   window(title) {
     return this.xdotool("search", "--onlyvisible", "--name", title).trim().split("\n").at(-1);
   }
 
-  /** Sends keys to the window with these words in its title. */
+  /** Sends keys to the window whose title contains a text. */
   async keys(title, ...keys) {
     const window = await once(`the window ${title}`, () => this.window(title));
     this.xdotool("windowfocus", window, "key", "--delay", "100", ...keys);
   }
 
-  /** Returns the errors in the text; if Kate asks whether it may start the server, answers yes. */
+  /** Resolves to the errors in the text. If Kate asks whether it may start the server, confirms that. */
   async answered() {
-    let asked = 0;
+    let askedAt = 0;
     const faults = await once("faults", () => {
-      // Sends a single key, because a second one would go into the text.
-      const window = Date.now() - asked > AGAIN && this.window(QUESTION);
+      // Send only one key, because a second one would go into the text.
+      const window = Date.now() - askedAt > AGAIN && this.window(QUESTION);
       if (window) {
-        asked = Date.now();
+        askedAt = Date.now();
         this.xdotool("windowfocus", window, "key", "Return");
       }
       return lastFaults();
     });
-    say(`${this.file}: ${asked ? "asked" : "did not ask"} before it started the server`);
+    say(`${this.file}: ${askedAt ? "asked" : "did not ask"} before it started the server`);
     return faults;
   }
 
@@ -132,7 +132,7 @@ function printFaults(faults) {
   if (faults.length === 0) say("no fault");
 }
 
-/** Opens a program with an error. The error is marked; typing corrects it, and the mark disappears. */
+/** Opens a program with an error. Checks that the error is marked, and that the mark disappears after typing corrects the error. */
 async function program(display) {
   const kate = new Kate(display, "wrong.asm", ["-l", "39", "-c", "9"]);
   try {
@@ -155,7 +155,10 @@ async function program(display) {
   }
 }
 
-/** Opens a text with the grammars, and a server only for their kinds of texts. If Kate asks for the server, it has recognised the grammar. */
+/**
+ * Opens a text with the generated grammars, and a server that is configured only for the grammar's file type. If Kate asks about the server, it has
+ * recognised the grammar.
+ */
 async function grammar(display, file) {
   const settings = `${folder}/home/.config/kate/lspclient/settings.json`;
   const own = JSON.parse(readFileSync(settings, "utf8"));

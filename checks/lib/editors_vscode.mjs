@@ -1,5 +1,5 @@
-// The trials of checks/editors with the order of requests of Visual Studio Code, over the lock as a project on disk. Prints `ok WORDS` or `fault:
-// WORDS` for each check, `speed: WORDS` for a measurement.
+// Tests of checks/editors with the sequence of requests that Visual Studio Code sends, on the lock as a project on disk. Prints `ok WORDS` or `fault:
+// WORDS` for each check, and `speed: WORDS` for a measurement.
 import { copyFileSync, mkdirSync, readFileSync, symlinkSync, writeFileSync } from "node:fs";
 import { execFileSync } from "node:child_process";
 import { Client } from "./lsp_client.mjs";
@@ -17,7 +17,7 @@ function verdict(is, wanted, words) {
   console.log(one === other ? `ok ${words}` : `fault: ${words}: ${one}, not ${other}`);
 }
 
-/** The editor's capabilities, as far as a server reads them. */
+/** The editor's capabilities that a server reads. */
 const CAPABILITIES = {
   workspace: {
     applyEdit: true, configuration: true, workspaceFolders: true, didChangeWatchedFiles: { dynamicRegistration: true },
@@ -56,7 +56,7 @@ async function begin(client) {
 const open = (client, name, languageId) => client.notify("textDocument/didOpen", {
   textDocument: { uri: uriOf(name), languageId, version: 1, text: readFileSync(`${folder}/${name}`, "utf8") } });
 
-/** Sends the editor's requests when a program is shown, all at once. */
+/** Sends the requests that the editor sends when it shows a program, all at once. */
 async function show(client) {
   open(client, "lock.asm", "mcs4");
   const [symbols, folds, actions, links, colours, visible, hints, lenses, marks, diagnostics] = await Promise.all([
@@ -75,7 +75,7 @@ async function show(client) {
   return { colours, resultId: diagnostics.resultId };
 }
 
-/** Sends an edit and the requests after it, and a request that is cancelled. */
+/** Sends an edit and the requests that follow it, and a request that is cancelled. */
 async function change(client, { colours, resultId }) {
   const range = { start: { line: 38, character: 8 }, end: { line: 38, character: 11 } };
   client.notify("textDocument/didChange", { textDocument: { uri, version: 2 }, contentChanges: [{ range, rangeLength: 3, text: "JMP" }] });
@@ -101,7 +101,7 @@ async function change(client, { colours, resultId }) {
   verdict((await client.ask("textDocument/diagnostic", { textDocument })).items.length, 0, "the text as it was");
 }
 
-/** Opens the other texts of the project, runs a test, and changes a board, which leads to a refresh. */
+/** Opens the other texts of the project, runs a test, and changes a board, which causes a refresh. */
 async function others(client) {
   for (const [name, language] of [["lock.test", "mcs4-test"], ["lock.props", "mcs4-props"], ["board.toml", "toml"], ["mcs4.toml", "toml"]]) {
     open(client, name, language);
@@ -119,7 +119,7 @@ async function others(client) {
   verdict((await client.ask("workspace/symbol", { query: "several" })).length > 0, true, "names of the workspace");
 }
 
-/** Checks devices and pipes in place of texts: all requests are answered. */
+/** Checks devices and pipes in place of texts. All requests must be answered. */
 async function devices(client) {
   const other = `${process.argv[2]}/devices`;
   mkdirSync(other);
@@ -145,7 +145,7 @@ function spent(pid) {
   return (Number(fields[11]) + Number(fields[12])) * 10;
 }
 
-/** Measures the time of edits in a program of 16 KB with 0 to 15 errors: the time of the answer to `diagnostic` after each. */
+/** Measures edits in a 16 KB program with 0 to 15 errors: the time of the answer to `diagnostic` after each edit. */
 async function speed(client) {
   const long = { uri: uriOf("long.asm") };
   const text = `start:\n${"LDM 5\n".repeat(2728)}NOP`;
@@ -157,14 +157,14 @@ async function speed(client) {
   };
   for (let turn = 1; turn <= 60; turn++) await edit(turn, "6");
   const times = [];
-  const begun = spent(client.child.pid);
+  const cpuBefore = spent(client.child.pid);
   for (let turn = 1; turn <= 60; turn++) {
     const before = performance.now();
     const count = await edit(turn, turn <= 15 ? "x" : "7");
     if (turn <= 15) verdict(count, turn, `${turn} errors`);
     times.push(performance.now() - before);
   }
-  const each = (spent(client.child.pid) - begun) / 60;
+  const each = (spent(client.child.pid) - cpuBefore) / 60;
   const inOrder = times.sort((one, other) => one - other);
   console.log(`speed: an edit of ${text.length} bytes: ${inOrder[30].toFixed(1)} ms in the middle, ${inOrder[59].toFixed(1)} at most, ${
     each.toFixed(1)} of the processor`);

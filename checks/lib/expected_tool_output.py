@@ -1,5 +1,5 @@
-"""The expected output of the tools `trace`, `wave`, `cover`, `profile` and `cycles` for a session, computed with the board of board4004.py. It follows
-docs/MANUAL.md ("The workbench", "Testing a program") and the heads of the tools. The functions do not change the board that they get.
+"""The expected output of the tools `trace`, `wave`, `cover`, `profile` and `cycles` for a session, computed with the board of board4004.py, following
+docs/MANUAL.md ("The workbench", "Testing a program") and the header comments of the tools. The functions do not change the board that they get.
 """
 
 from __future__ import annotations
@@ -10,15 +10,15 @@ from assembler import ADDRESSES, assemble
 from bench4004 import BRANCHES, counted, instruction_text
 from board4004 import CODES, TWO_CYCLES, Board, Line
 
-# The changes in a wave: by time, then by the name of the line.
+# The changes in a wave: by time, then by line name.
 Changes = dict[int, dict[str, str]]
 
 
 class Source:
-    """A program's text, its path, and its names."""
+    """A program's text, labels and names."""
 
     def __init__(self, lines: list[str]) -> None:
-        """Assembles a program by the second assembler. If an address has two labels, the first one counts."""
+        """Assembles a program with the second assembler. If an address has two labels, the first one is used."""
         self.lines = lines
         _image, self.spans, names = assemble(lines)
         self.labels: dict[int, str] = {}
@@ -31,11 +31,11 @@ class Source:
         self.line_of = {at + i: number for number, (at, size) in enumerate(self.spans) for i in range(size)}
 
     def label_below(self, at: int) -> tuple[int, str]:
-        """Returns the label at an address or nearest below it, with its address; -1 if there is none."""
+        """Returns the label at an address, or the nearest one below it, with its address. Returns -1 and "" if there is none."""
         return max((pair for pair in self.labels.items() if pair[0] <= at), default=(-1, ""))
 
     def is_data(self, number: int) -> bool:
-        """Returns true if a line has bytes that are not an instruction."""
+        """Returns true if a line has bytes that are data."""
         return self.code(number).split(":")[-1].split()[:1] == ["DB"]
 
     def code(self, number: int) -> str:
@@ -47,11 +47,11 @@ class Source:
         return at in self.line_of and self.spans[self.line_of[at]][0] == at and not self.is_data(self.line_of[at])
 
     def place(self, at: int) -> str:
-        """Returns an address with its name and the line that fills it."""
+        """Returns an address with its name and its source line."""
         if at not in self.line_of:
             return f"{at:03X}, which the source does not fill"
         there, name = self.label_below(at)
-        # A label is not used for an address after a gap in the source.
+        # After a gap in the source, labels before the gap are not used.
         if any(between not in self.line_of for between in range(there, at)):
             name = ""
         named = f" ({name}{f' + {at - there}' if at > there else ''})" if name else ""
@@ -61,7 +61,7 @@ class Source:
 # ---- trace
 
 def written(before: Board, after: Board) -> list[str]:
-    """Returns the changes by an instruction, in the order of the manual's list."""
+    """Returns the changes that an instruction has made, in the order of the manual's list."""
     old, new = before.chips, after.chips
     changes = [f"r{k} {after.r[k]:X}" for k in range(16) if before.r[k] != after.r[k]]
     if before.dcl != after.dcl:
@@ -81,7 +81,9 @@ def written(before: Board, after: Board) -> list[str]:
 
 
 def trace_row(board: Board, cycle: int, rest: str, source: Source | None, with_lines: bool) -> str:
-    """Returns the row of an instruction, with its label above it and the label of its target, or with its source line, as far as they exist."""
+    """Returns the row of an instruction. It has the instruction's label above it and the label of its target, or its source line, as far as these
+    exist.
+    """
     at, text = board.pc, "(the second cycle)" if board.owed else instruction_text(board, board.pc)
     if source is None or board.owed:
         return f"{cycle:8}  {text:<{42 if with_lines else 25}}  {rest}".rstrip()
@@ -97,7 +99,7 @@ def trace_row(board: Board, cycle: int, rest: str, source: Source | None, with_l
 
 
 def trace_output(start: Board, cycles: int, last: int = 0, source: Source | None = None, with_lines: bool = False) -> str:
-    """Returns the output of `mcs4 trace`: the next cycles, or the last instructions before the first stop."""
+    """Returns the output of `mcs4 trace` for the next cycles, or for the last instructions before the first stop."""
     board, why, done, rows = start.copy(), "end", 0, []
     if last:
         cycles, why = start.copy().run(cycles)
@@ -119,7 +121,7 @@ def trace_output(start: Board, cycles: int, last: int = 0, source: Source | None
 # ---- wave
 
 def levels(board: Board, source: Source) -> dict[str, str]:
-    """Returns the names of all lines of a board with their levels, in the order of `mcs4 wave --lines`."""
+    """Returns the levels of all lines of a board by name, in the order of `mcs4 wave --lines`."""
     chips = board.chips
     lines: dict[str, Line] = {f"rom{chip}.{k}": ("rom", (chip, k)) for chip in chips.rom_latch for k in range(4)}
     lines |= {f"ram{bank}.{chip}.{k}": ("ram", (bank, chip, k)) for bank, chip in chips.ram_latch for k in range(4)}
@@ -132,8 +134,8 @@ def levels(board: Board, source: Source) -> dict[str, str]:
 
 
 def wave_output(start: Board, cycles: int, names: list[str], source: Source) -> tuple[Changes, int]:
-    """Returns the result of `mcs4 wave`: for each cycle the changes of the named lines, starting with their levels at 0, and the last cycle. The
-    counter and its label change when an instruction is done."""
+    """Returns the expected result of `mcs4 wave`: the changes of the named lines by cycle, starting with their levels at 0, and the last cycle. The
+    counter and its label change when an instruction is complete."""
     board = start.copy()
     now = levels(board, source)
     changes, done = {0: {name: now[name] for name in names}}, 0
@@ -149,7 +151,7 @@ def wave_output(start: Board, cycles: int, names: list[str], source: Source) -> 
 
 
 def read_vcd(text: str) -> tuple[list[str], Changes, int]:
-    """Parses a VCD file; returns the names of its lines, their changes, and its end, in cycles. A time within a cycle is -1."""
+    """Parses a VCD file. Returns the names of its lines, their changes, and its end in cycles. A time within a cycle is -1."""
     names: dict[str, str] = {}
     changes: Changes = {}
     cycle = 0
@@ -170,12 +172,12 @@ def read_vcd(text: str) -> tuple[list[str], Changes, int]:
 # ---- cover and profile
 
 def percent(part: int, whole: int) -> str:
-    """Returns a percentage in brackets, or "" if the whole is 0."""
+    """Returns a percentage in parentheses, or "" if the whole is 0."""
     return f" ({100 * part / whole:.1f} %)" if whole else ""
 
 
 def spans_of(lines: list[int], chosen: list[int]) -> str:
-    """Returns the numbers of the chosen lines, with consecutive ones as a range."""
+    """Returns the numbers of the chosen lines. Consecutive lines become a range."""
     spans: list[list[int]] = []
     before = None
     for line in lines:
@@ -188,7 +190,7 @@ def spans_of(lines: list[int], chosen: list[int]) -> str:
 
 
 def cover_output(start: Board, cycles: int, source: Source) -> str:
-    """Returns the output of `mcs4 cover`: how often each line was run, how often its jump was taken, and the lines that were never run."""
+    """Returns the output of `mcs4 cover`: how often each line ran, how often its jump was taken, and the lines that never ran."""
     runs, jumps, _done, _stop = counted(unstopped(start), cycles)
     lines = [i for i, (at, size) in enumerate(source.spans) if size and (not source.is_data(i) or runs[at])]
     ways = {i: (jumps[at], runs[at] - jumps[at]) for i, (at, size) in enumerate(source.spans)
@@ -199,9 +201,9 @@ def cover_output(start: Board, cycles: int, source: Source) -> str:
         way = "{}/{}".format(*ways[i]) if i in ways else ""
         rows.append(f"{count:>10} {way:<13}  {text}".rstrip())
     never = [i for i in lines if not runs[source.spans[i][0]]]
-    gone = sum(1 for both in ways.values() for way in both if way)
+    taken_count = sum(1 for both in ways.values() for way in both if way)
     rows += ["", f"{len(lines) - len(never)} of {len(lines)} instructions were run{percent(len(lines) - len(never), len(lines))}, "
-             f"{gone} of {2 * len(ways)} branch directions{percent(gone, 2 * len(ways))}"]
+             f"{taken_count} of {2 * len(ways)} branch directions{percent(taken_count, 2 * len(ways))}"]
     one_way = [f"{i + 1} ({'always' if taken else 'never'} taken)" for i, (taken, not_taken) in ways.items() if (taken == 0) != (not_taken == 0)]
     if never:
         rows.append(f"never run: line{'s' if len(never) > 1 else ''} {spans_of(lines, never)}")
@@ -218,7 +220,7 @@ def unstopped(start: Board) -> Board:
 
 
 class Calls:
-    """The open calls of routines, and the time of each routine."""
+    """The open subroutine calls, and the time spent in each subroutine."""
 
     def __init__(self) -> None:
         self.open: list[tuple[int, int]] = []
@@ -226,19 +228,19 @@ class Calls:
         self.times: dict[int, list[int]] = {}
 
     def enter(self, target: int, time: int) -> None:
-        """Enters a routine at a JMS. At a fourth nested JMS, the return address of the first one is lost."""
+        """Enters a subroutine at a JMS. A fourth nested JMS loses the first return address."""
         self.open = [*self.open[-2:], (target, time)]
         self.counts[target] = self.counts.get(target, 0) + 1
 
     def leave(self, time: int) -> None:
-        """Leaves a routine at a BBL, or at the end. A routine that calls itself counts once."""
+        """Leaves a subroutine at a BBL or at the end. The time of recursive calls is counted only once."""
         target, entered = self.open.pop()
         if all(other != target for other, _entered in self.open):
             self.times.setdefault(target, []).append(time - entered)
 
 
 def profile_output(start: Board, cycles: int, source: Source) -> str:
-    """Returns the output of `mcs4 profile`: where the cycles are spent."""
+    """Returns the output of `mcs4 profile`: where the cycles were spent."""
     own: Counter[tuple[int, str]] = Counter()
     calls = Calls()
     begins: list[tuple[int, int]] = []
@@ -268,12 +270,12 @@ def profile_output(start: Board, cycles: int, source: Source) -> str:
 # ---- cycles
 
 def microseconds(cycles: int) -> str:
-    """Returns a number of cycles, and the time that a 4004 needs for them, as text."""
+    """Returns a text with a number of cycles and the time that a 4004 needs for them."""
     tenths = 108 * cycles
     return f"{cycles} cycle{'' if cycles == 1 else 's'}, {tenths // 10}.{tenths % 10} microseconds"
 
 
 def cycles_output(runs: list[tuple[int, int]], source: Source | None) -> str:
-    """Returns the output of `mcs4 cycles` for runs, each with its cycles and the counter after it."""
+    """Returns the output of `mcs4 cycles` for runs. Each run has its number of cycles and the counter at its end."""
     rows = [f"{microseconds(cycles)}, to {source.place(at)}" for cycles, at in runs] if source else []
     return "".join(f"{row}\n" for row in [*rows, microseconds(sum(cycles for cycles, _at in runs))])

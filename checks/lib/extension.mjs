@@ -1,5 +1,5 @@
-// Starts the extension of editors/vscode with a stand-in for the editor's module, on the real `mcs4 lsp`. A text with an error is opened, and the
-// results of the providers are checked. Prints `ok WORDS` or `fault: WORDS` for each check.
+// Starts the extension of editors/vscode with a stand-in for the editor's module and the real `mcs4 lsp`. Opens a text with an error and checks the
+// results of the providers. Prints `ok WORDS` or `fault: WORDS` for each check.
 import { createRequire } from "node:module";
 import { mkdirSync, mkdtempSync, readFileSync, rmSync, writeFileSync } from "node:fs";
 import { tmpdir } from "node:os";
@@ -103,7 +103,7 @@ const vscode = {
     "DocumentLink", "SymbolInformation", "CallHierarchyItem", "CallHierarchyIncomingCall", "CallHierarchyOutgoingCall"].map((name) => [name, class extends Plain {}])),
 };
 
-/** Checks the requests other than help, names and errors, with the text `start:  JUN start` and a line below it. */
+/** Checks the requests beyond help, names and errors, with the text `start:  JUN start` and a line below it. */
 async function tryFeatures() {
   const [formatted] = await providers.registerDocumentRangeFormattingEditProvider
     .provideDocumentRangeFormattingEdits(document, { start: { line: 1, character: 0 }, end: { line: 1, character: 3 } }, { tabSize: 4, insertSpaces: true })
@@ -128,8 +128,8 @@ async function tryFeatures() {
   verdict(item.given.slice(0, 2), [11, "start"], "a routine");
   const [kind, name, detail, where, whole, own] = item.given;
   const plain = (given) => ({ start: { line: given[0], character: given[1] }, end: { line: given[2], character: given[3] } });
-  const asked = { kind, name, detail, uri: where, range: plain(whole.given), selectionRange: plain(own.given) };
-  verdict(await providers.registerCallHierarchyProvider.provideCallHierarchyOutgoingCalls(asked), [], "what it calls");
+  const callItem = { kind, name, detail, uri: where, range: plain(whole.given), selectionRange: plain(own.given) };
+  verdict(await providers.registerCallHierarchyProvider.provideCallHierarchyOutgoingCalls(callItem), [], "what it calls");
   verdict(await providers.registerDocumentLinkProvider.provideDocumentLinks(document), [], "a program has no links");
   const tokens = providers.registerDocumentSemanticTokensProvider;
   const { given: [, id] } = await tokens.provideDocumentSemanticTokens(document);
@@ -162,7 +162,7 @@ verdict(data.length % 5 === 0 && data.length > 0, true, "colours by what a word 
 await tryFeatures();
 verdict(factories.mcs4.createDebugAdapterDescriptor().given, [`${TOP}mcs4`, ["dap"], { env: {} }], "the debug adapter");
 verdict(factories.provider.resolveDebugConfiguration(undefined, {}).program, "/tmp/a.asm", "F5 debugs the program that is shown");
-// The extension claims an .asm file only in a folder with board.toml or below mcs4.toml, once each; it does not claim other programs.
+// The extension claims an .asm file only in a folder with board.toml or below mcs4.toml, and only once. It does not claim other programs.
 const folder = mkdtempSync(join(tmpdir(), "extension."));
 for (const name of ["board", "project/deep/er", "other"]) mkdirSync(join(folder, name), { recursive: true });
 for (const name of ["board/board.toml", "project/mcs4.toml"]) writeFileSync(join(folder, name), "");

@@ -1,5 +1,5 @@
-// Starts the packed extension for Visual Studio Code, with nothing else installed: `node extension_alone.mjs EXTENSION FOLDER`. EXTENSION is the
-// unpacked extension, FOLDER a folder for a workspace. The script does what the editor does, with a stand-in for its module: it activates the
+// Starts the packed extension for Visual Studio Code with nothing else installed: `node extension_alone.mjs EXTENSION FOLDER`. EXTENSION is the
+// unpacked extension, and FOLDER is a folder for a workspace. The script acts like the editor, with a stand-in for its module: it activates the
 // extension, opens a text, waits for errors, runs and debugs a test, opens the front panel, prints, and runs a task. Prints `ok WORDS` or `fault:
 // WORDS` for each check.
 import { spawnSync } from "node:child_process";
@@ -12,7 +12,7 @@ import { standIn } from "./vscode_stand_in.mjs";
 const TOP = new URL("../..", import.meta.url).pathname;
 const [extensionFolder, place] = process.argv.slice(2);
 const folder = join(place, "a board, and its program");
-/** The milliseconds to wait for each result; the editor also waits, however busy the machine is. */
+/** The time in milliseconds to wait for each result. It is long, because the editor also waits, however busy the machine is. */
 const TIMEOUT = 60000;
 
 function verdict(is, wanted, words) {
@@ -20,7 +20,7 @@ function verdict(is, wanted, words) {
   console.log(one === other ? `ok ${words}` : `fault: ${words}: ${one}, not ${other}`);
 }
 
-/** Waits until `find` returns a value; returns null after a timeout. */
+/** Waits until `find` returns a truthy value. Resolves to that value, or to null after a timeout. */
 async function until(find) {
   for (const end = Date.now() + TIMEOUT; Date.now() < end;) {
     const found = find();
@@ -43,7 +43,7 @@ function makeWorkspace() {
   writeFileSync(join(folder, "lone", "three_lamps.test"), "test it begins\n  run 10\n\ntest it fails\n  run 10\n  expect acc 9\n");
 }
 
-/** Makes an environment in which nothing of the bench is on the PATH or named by a variable. */
+/** Sets up an environment in which nothing of the bench is on the PATH or named by a variable. */
 function makeBare() {
   const bare = join(place, "nothing");
   mkdirSync(bare);
@@ -64,7 +64,7 @@ async function tryTexts(editor) {
   verdict(await diagnosticsOf(editor, editor.open("lone/three_lamps.test", "plaintext")), [], "its tests");
 }
 
-/** Runs a test profile on items; returns the results. */
+/** Runs a test profile on items. Resolves to the results. */
 async function runTests(editor, name, include) {
   const { registered: { tests }, shown } = editor;
   await tests.profiles[name]({ include, exclude: [] }, { isCancellationRequested: false, onCancellationRequested: () => ({ dispose: () => {} }) });
@@ -96,7 +96,9 @@ async function tryTests(editor) {
   return shown.launched.pop();
 }
 
-/** Debugs as the editor does, with what the extension provides; returns the client, and passes its events to the extension. */
+/**
+ * Debugs like the editor, with the debug adapter that the extension provides. Passes the adapter's events to the extension. Resolves to the client.
+ */
 async function debug(editor, configuration) {
   const { registered, events } = editor;
   const { given: [command, words, { env }] } = registered["adapter mcs4"].createDebugAdapterDescriptor();
@@ -147,13 +149,13 @@ async function tryPanel(editor) {
   const { end } = await debug(editor, { ...configuration, realTime: false });
   const news = () => Object.assign({}, ...webview.posted.map((each) => each.news || {}));
   verdict(await until(() => news().board && news().boardText.includes("printer")), true, "the board is drawn");
-  // `7` `+`: the calculator prints the operand.
+  // Press `7` and `+`, which makes the calculator print the operand.
   for (const legend of ["7", "+"]) {
-    const place_ = placeOfKey(legend);
-    await webview.say({ place: place_, isDown: true });
-    await until(() => (news().keys || []).includes(place_.replace(" ", ".")));
+    const keyPlace = keyPlaceOf(legend);
+    await webview.say({ place: keyPlace, isDown: true });
+    await until(() => (news().keys || []).includes(keyPlace.replace(" ", ".")));
     await new Promise((resume) => { setTimeout(resume, 300); });
-    await webview.say({ place: place_, isDown: false });
+    await webview.say({ place: keyPlace, isDown: false });
     await until(() => (news().keys || []).length === 0);
     await new Promise((resume) => { setTimeout(resume, 300); });
   }
@@ -164,8 +166,8 @@ async function tryPanel(editor) {
   verdict(webview.posted[webview.posted.length - 1].news, null, "the panel after the end");
 }
 
-/** Returns the row and column of a key of the printing calculator, by its legend in the board's text. */
-function placeOfKey(legend) {
+/** Returns the row and column of a key on the printing calculator, by its legend in the board's text. */
+function keyPlaceOf(legend) {
   const rows = readFileSync(join(folder, "printer", "board.toml"), "utf8").split("\n").flatMap((line) => {
     const [, row, keys] = /^#\s*row (\d+):\s*(.*)$/.exec(line) || [];
     return row ? [[row, keys.split(/\s+/)]] : [];
@@ -174,7 +176,7 @@ function placeOfKey(legend) {
   return `${row} ${keys.indexOf(legend)}`;
 }
 
-/** Returns the matches of a problem matcher of package.json in a text. */
+/** Returns the matches of the problem matchers of package.json in a text. */
 function matchesOf(text, matchers) {
   return text.split("\n").flatMap((line) => matchers.flatMap(({ pattern: { regexp, file, line: at, message } }) => {
     const found = new RegExp(regexp).exec(line);
@@ -195,8 +197,8 @@ async function tryTasks({ registered }, { contributes }) {
   cpSync(new URL("../../examples/pictures", import.meta.url), join(folder, "pictures"), { recursive: true });
   const proof = run(registered["tasks mcs4"].resolveTask({ definition: { type: "mcs4", command: "prove", folder: join(folder, "pictures") } }));
   verdict([proof.status, /^ok 1 - never .* # proved for all inputs \(9 states\)$/m.test(proof.stdout)], [0, true], `a proof by the module: ${proof.stderr.trim()}`);
-  const made = registered["tasks mcs4"].resolveTask({ definition: { type: "mcs4", command: "cover", folder: join(folder, "printer") } });
-  verdict(made.given[2], "cover printer", "a task of tasks.json");
+  const task = registered["tasks mcs4"].resolveTask({ definition: { type: "mcs4", command: "cover", folder: join(folder, "printer") } });
+  verdict(task.given[2], "cover printer", "a task of tasks.json");
 }
 
 makeWorkspace();
@@ -217,7 +219,7 @@ await tryPanel(editor);
 await tryTasks(editor, own);
 await extension.deactivate();
 
-// The command in the setting does not exist: the extension's own mcs4 replaces it, and a message reports that.
+// The command in the setting does not exist. The extension's own mcs4 replaces it, and a message says so.
 const other = standIn(folder, { command: join(place, "none", "mcs4") });
 Module._load = (name, ...more) => (name === "vscode" ? other.vscode : load(name, ...more));
 for (const name of Object.keys(require.cache)) if (name.startsWith(extensionFolder)) delete require.cache[name];

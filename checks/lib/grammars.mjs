@@ -1,6 +1,6 @@
-// Prints the colours that a grammar gives to a text, for comparison with the page's: `node grammars.mjs page|textmate|kate NAME.asm|board.toml`.
-// For each line of the text it prints a letter for each character, by the page or by a grammar that is interpreted as its editor does: c comment,
-// l label, k name that = defines, i instruction, d directive, r register, n number, v name, t table, p key, s string, . nothing.
+// Prints the syntax colours that a grammar gives to a text, for comparison with the page: `node grammars.mjs page|textmate|kate NAME.asm|board.toml`.
+// Prints a letter for each character of the text, as the page or the grammar's editor would colour it. The letters are: c comment, l label, k name
+// that = defines, i instruction, d directive, r register, n number, v name, t table, p key, s string, . nothing.
 import { readFileSync } from "node:fs";
 import { instructionsOf } from "../../js/core/help/manual.js";
 import { BoardLanguage } from "../../js/core/server/board_language.js";
@@ -13,7 +13,7 @@ const isBoard = name.endsWith(".toml");
 const text = readFileSync(name, "utf8");
 const lines = text.split("\n");
 
-/** Returns a line of letters, with the letters of some ranges. */
+/** Returns a line of letters that marks some ranges of a text line. */
 function marked(line, stretches) {
   const letters = Array(line.length).fill(".");
   for (const { from, to, letter } of stretches) letters.fill(letter, from, to);
@@ -36,7 +36,7 @@ function byPage() {
   });
 }
 
-// --- TextMate: at each position the earliest match; of several matches there, the first rule.
+// --- TextMate: the earliest match at each position; if several rules match there, the first rule.
 
 const OF_TEXTMATE = [[/^comment/, "c"], [/^entity.name.function/, "l"], [/^entity.name.constant/, "k"], [/^keyword.mnemonic/, "i"],
   [/^keyword.control/, "d"], [/^variable.language/, "r"], [/^constant.numeric/, "n"], [/^variable.other/, "v"], [/^entity.name.section/, "t"],
@@ -68,7 +68,7 @@ function byTextMate() {
   });
 }
 
-// --- Kate: at each position the first rule of the context that matches. A rule can change the context.
+// --- Kate: the first rule of the context that matches at each position. A rule can change the context.
 
 const OF_KATE = { Comment: "c", Face: "c", Label: "l", Constant: "k", Instruction: "i", Directive: "d", Register: "r", Number: "n", Name: "v",
   Table: "t", Key: "p", String: "s", Normal: "." };

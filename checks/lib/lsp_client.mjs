@@ -1,8 +1,8 @@
-// A client of language servers, for requests that editors lack. It starts `mcs4 lsp`, sends requests, and waits for notifications.
+// A language server client that can send requests that editors do not have. It starts `mcs4 lsp`, sends requests, and waits for notifications.
 import { MessageClient } from "./message_client.mjs";
 
 export class Client extends MessageClient {
-  /** @param {string} command that starts mcs4 */
+  /** @param {string} command the command that starts mcs4 */
   constructor(command, folder = ".", words = []) {
     super(command, folder, ["lsp", ...words]);
   }
@@ -15,7 +15,7 @@ export class Client extends MessageClient {
     this.send({ method, params });
   }
 
-  /** Returns the response to a request, with a result or an error. */
+  /** Resolves to the response to a request, which has a result or an error. */
   answer(method, params) {
     this.number += 1;
     const id = this.number;
@@ -35,7 +35,7 @@ export class Client extends MessageClient {
     return answer;
   }
 
-  /** Opens a text; returns its errors, once they are reported. */
+  /** Opens a text. Resolves to its errors when the server has reported them. */
   async open(uri, text, languageId = "asm") {
     this.notify("textDocument/didOpen", { textDocument: { uri, languageId, version: 1, text } });
     return this.faults(uri);

@@ -1,4 +1,4 @@
-"""Drives Firefox by its own protocol (Marionette) over TCP, with Python's library only."""
+"""Drives Firefox with its own protocol (Marionette) over TCP, using only Python's standard library."""
 
 import base64
 import json
@@ -14,7 +14,7 @@ SECONDS_TO_ANSWER = 120
 
 
 def preferences(downloads):
-    """Returns the preferences of a profile: a free port, and downloads without a dialog."""
+    """Returns the preferences of a profile, which select a free port and downloads without a dialog."""
     return {
         "marionette.port": 0,
         "browser.download.folderList": 2,
@@ -27,9 +27,9 @@ def preferences(downloads):
 
 class Firefox(Driven):
     name = "Firefox"
-    # Firefox 153 often runs no function then. It sends `beforeunload` as well, every time.
+    # Firefox 153 often runs no functions at `pagehide`. It always sends `beforeunload` as well.
     runs_at_pagehide = False
-    # With these settings Firefox stores no data of any site.
+    # With these settings, Firefox stores no site data.
     blocks_data = {"network.cookie.cookieBehavior": 2}
 
     def __init__(self, folder, downloads, **settings):
@@ -59,7 +59,7 @@ class Firefox(Driven):
         raise Fault("Firefox did not start")
 
     def _read(self):
-        """Reads the next message: its length in digits, a colon, and that number of bytes of JSON."""
+        """Reads the next message: its length in digits, a colon, and as many bytes of JSON."""
         digits = b""
         while (digit := self.read_from.read(1)) not in (b":", b""):
             digits += digit
@@ -111,7 +111,7 @@ class Firefox(Driven):
         return self.do("WebDriver:GetWindowHandle")
 
     def new_tab(self):
-        """Opens a tab in front of this one, and switches to it."""
+        """Opens a new tab in the foreground and switches to it."""
         handle = self.do("WebDriver:NewWindow", type="tab", focus=True)["handle"]
         self.show_tab(handle)
 
@@ -119,7 +119,7 @@ class Firefox(Driven):
         self.do("WebDriver:SwitchToWindow", handle=handle, focus=True)
 
     def close_tab(self, handle):
-        """Closes this tab, and shows the other one."""
+        """Closes this tab and switches to the other one."""
         self.do("WebDriver:CloseWindow")
         self.show_tab(handle)
 
@@ -127,7 +127,7 @@ class Firefox(Driven):
         return base64.b64decode(self.do("WebDriver:TakeScreenshot", full=False))
 
     def process(self):
-        """Returns the process id of the browser."""
+        """Returns the browser's process id."""
         return self.program.pid
 
     def end(self):

@@ -1,4 +1,4 @@
-"""The memory that a program and its child processes use."""
+"""Measures the memory of a program and its child processes."""
 
 import pathlib
 import statistics
@@ -9,7 +9,7 @@ EVERY = 2
 
 
 def tree(root):
-    """Returns the ids of a process and of all its descendants."""
+    """Returns the ids of a process and all its descendants."""
     parents = {}
     for stat in pathlib.Path("/proc").glob("[0-9]*/stat"):
         try:
@@ -26,7 +26,7 @@ def tree(root):
 
 
 def resident(root):
-    """Returns the sum of the resident bytes of all of them; shared bytes count for each process."""
+    """Returns the total resident bytes of a process and all its descendants. Shared bytes count once for each process."""
     total = 0
     for each in tree(root):
         try:
@@ -37,7 +37,7 @@ def resident(root):
 
 
 def grown(root, seconds):
-    """Returns the size at the end relative to the size at the beginning; each is the median of a third of the time."""
+    """Returns the ratio of the memory at the end to the memory at the beginning. Each value is the median over a third of the time."""
     sizes = []
     end = time.monotonic() + seconds
     while time.monotonic() < end:

@@ -1,11 +1,11 @@
-// The common part of the clients of language servers and debug adapters: a process, and messages with a header that gives their length.
+// The common part of the language server and debug adapter clients: a process, and messages with a header that has their length.
 import { spawn } from "node:child_process";
 
-/** The milliseconds to wait for an answer. */
+/** The time in milliseconds to wait for an answer. */
 const TIMEOUT = 60000;
 
 export class MessageClient {
-  /** @param {string} command that starts the server */
+  /** @param {string} command the command that starts the server */
   constructor(command, folder = ".", words = [], env = process.env) {
     this.child = spawn(command, words, { stdio: ["pipe", "pipe", "pipe"], cwd: folder, env });
     this.input = Buffer.alloc(0);
@@ -24,7 +24,7 @@ export class MessageClient {
     });
   }
 
-  /** Returns the complete messages in some bytes, and the bytes after them. */
+  /** Splits bytes into the complete messages at their beginning and the remaining bytes. */
   static messagesIn(bytes) {
     const messages = [];
     let rest = bytes;
@@ -49,10 +49,10 @@ export class MessageClient {
     this.wake();
   }
 
-  /** Checks a message of the server against the rules of the protocol. */
+  /** Checks a message from the server against the rules of the protocol. Subclasses override this method. */
   check() {}
 
-  /** Sends bytes as they are. */
+  /** Sends bytes unchanged. */
   raw(bytes) {
     this.child.stdin.write(bytes);
   }
@@ -63,7 +63,7 @@ export class MessageClient {
     this.raw(body);
   }
 
-  /** Waits for the first message that matches, removes it from the list, and returns it. */
+  /** Waits for the first message that matches, removes it from the list, and resolves to it. */
   async next(matches) {
     const end = Date.now() + TIMEOUT;
     for (;;) {

@@ -1,5 +1,5 @@
-"""Mutants that checks/time and checks/prove must detect: second readings that each have one error, as a program could have it, and answers with
-one wrong line.
+"""Mutants that checks/time and checks/prove must detect: second implementations, each with one error that a program could have, and
+answers with one wrong line.
 """
 
 from __future__ import annotations
@@ -18,41 +18,41 @@ from second_search import Comparison, Condition, Levels, Mark
 
 
 def instruction(name: str, work: Callable[[Board, int, int], None]) -> Callable[[], AbstractContextManager]:
-    """Returns a mutant in which an instruction does something else."""
+    """Returns a mutant with another implementation of an instruction."""
     return lambda: mock.patch.dict(board4004.WORK, {name: work})
 
 
 def method(owner: Any, name: str, call: Callable[..., Any]) -> Callable[[], AbstractContextManager]:
-    """Returns a mutant in which a method of the board, or a function, does something else."""
+    """Returns a mutant with another implementation of a method or a function."""
     return lambda: mock.patch.object(owner, name, call)
 
 
 def without_carry(board: Board, _low: int, _second: int) -> None:
-    """Runs a DAA that clears a carry."""
+    """DAA, but it clears the carry."""
     board.cy, board.acc = divmod(board.acc + (6 if board.cy or board.acc > 9 else 0), 16)
 
 
 def on_own_page(board: Board, k: int, second: int) -> None:
-    """Runs an ISZ that jumps on the page of its own first word."""
+    """ISZ, but it jumps in the page of its own first word."""
     board.r[k] = (board.r[k] + 1) % 16
     if board.r[k]:
         board.pc = (board.pc - 2) % 4096 & 0xF00 | second
 
 
 def forgets(board: Board, value: int, _second: int) -> None:
-    """Runs a BBL that leaves 0 in the freed place of the stack."""
+    """BBL, but it leaves 0 in the freed stack entry."""
     board.acc, board.pc, board.ret = value, board.ret[0], [*board.ret[1:], 0]
 
 
 def to_all_banks(chips: Chips, _bank: int, byte: int) -> None:
-    """Runs an SRC that all banks store."""
+    """SRC, but all banks store the byte."""
     chips.rom_src = byte
     for bank in chips.chips:
         chips.bank_src[bank] = byte
 
 
 def clocks(is_edge: Callable[[int, int], bool], data_is_new: bool) -> Callable[[Chips, dict, object, int], None]:
-    """Returns a port write that clocks chains at the wrong edge, or shifts in the old level of the data line."""
+    """Returns a port write that clocks chains at the wrong edge, or that shifts in the old level of the data line."""
     def write(chips: Chips, latches: dict, port: object, value: int) -> None:
         before = [(chips.level(clock), chips.level(data)) for clock, data in chips.clocks]
         latches[port] = value
@@ -63,21 +63,21 @@ def clocks(is_edge: Callable[[int, int], bool], data_is_new: bool) -> Callable[[
 
 
 def stops_at_once(board: Board, done: int, most: int, changed: bool) -> str:
-    """Stops a run at a breakpoint at its first instruction."""
+    """Stops a run also at a breakpoint at its first instruction."""
     return "break" if not board.owed and not board.is_outside() and board.pc in board.breaks else RIGHT_STOPS(board, done, most, changed)
 
 
 def stops_inside(board: Board, done: int, most: int, changed: bool) -> str:
-    """Stops a run at a breakpoint before a pending second cycle."""
+    """Stops a run also at a breakpoint before a pending second cycle."""
     return "break" if done and board.pc in board.breaks else RIGHT_STOPS(board, done, most, changed)
 
 
 def ends_first(board: Board, done: int, most: int, changed: bool) -> str:
-    """Ends a run before its other reasons to stop."""
+    """Checks the end of a run before the other reasons to stop."""
     return "end" if done == most else RIGHT_STOPS(board, done, most, changed)
 
 
-# The instructions that are left out, one at a time.
+# The instructions that the mutants skip, one per mutant.
 NOTHING = ("JCN", "FIM", "SRC", "FIN", "JIN", "JUN", "JMS", "INC", "ISZ", "ADD", "SUB", "LD", "XCH", "BBL", "LDM", "WRM", "WMP", "WRR", "SBM", "RDM",
            "RDR", "ADM", "DCL")
 RIGHT_STOPS = Board.stops
@@ -98,15 +98,15 @@ WRONG_BOARDS: dict[str, Callable[[], AbstractContextManager]] = {
 }
 
 
-# ---- results of a tool that compares texts as numbers if they look like numbers
+# ---- tools that compare texts as numbers if the texts look like numbers
 
 def as_number(text: str) -> object:
-    """Returns a text, or the number that it looks like."""
+    """Converts a text to the number that it looks like, or returns the text."""
     return float(text) if re.fullmatch(r"[0-9]+(E[0-9]+)?", text) else text
 
 
 def written_by_number(before: Board, after: Board) -> list[str]:
-    """Returns the changes of an instruction, without those between texts of chains that are equal as numbers."""
+    """Returns the changes by an instruction, except changes of chains whose texts are equal as numbers."""
     chains = ["".join(str(bit) for bit in chain) for chain in before.chips.chains]
     return [change for change in RIGHT_WRITTEN(before, after)
             if not change.startswith("chain") or as_number(change.split()[1]) != as_number(chains[int(change[5])])]
@@ -127,7 +127,7 @@ WRONG_TOOLS: dict[str, Callable[[], AbstractContextManager]] = {
 # ---- answers with one wrong line
 
 def one_more(words: list[str], at: int) -> str:
-    """Returns a line in which one number is larger by one."""
+    """Returns a line in which one number is one too large."""
     return " ".join([*words[:at], str(int(words[at]) + 1), *words[at + 1:]])
 
 
@@ -145,12 +145,12 @@ WRONG_ANSWERS: dict[str, tuple[str, Callable[[list[str]], list[str]]]] = {
 # ---- searches
 
 def blank(held: Any) -> Any:
-    """Returns a structure of numbers with all of them 0."""
+    """Replaces all numbers in a structure with 0."""
     return type(held)(map(blank, held)) if isinstance(held, (tuple, bytes)) else 0
 
 
 def without(place: int) -> Callable[[Board], tuple]:
-    """Returns a function that leaves out one part of a machine's state."""
+    """Returns a function that saves a machine's state without one of its parts."""
     def save(board: Board) -> tuple:
         state = RIGHT_SAVED(board)
         return (*state[:place], blank(state[place]), *state[place + 1:])
@@ -158,7 +158,7 @@ def without(place: int) -> Callable[[Board], tuple]:
 
 
 def but_the_largest(board: Board) -> dict[int, Levels]:
-    """Leaves out the largest of several values."""
+    """Omits the largest of several values."""
     values = RIGHT_VALUES(board)
     return {value: values[value] for value in sorted(values)[:max(len(values) - 1, 1)]}
 
@@ -169,7 +169,7 @@ def at_constant_test(board: Board) -> dict[int, Levels]:
 
 
 def looked_at_at_the_end(board: Board, levels: Levels, is_bad: Condition, pause: int) -> tuple[int, bool]:
-    """Tests conditions only at states."""
+    """Tests conditions only at states, not in the cycles between them."""
     cycles, _bad = RIGHT_GO_ON(board, levels, lambda _board: False, pause)
     return cycles, is_bad(board)
 
@@ -181,7 +181,7 @@ def not_between(nevers: list[list[Comparison]]) -> Condition:
 
 
 def from_left(board: Board, comparison: Comparison) -> bool:
-    """Makes line 0 of a number its highest bit."""
+    """Reverses the bits of a number, so that line 0 is the highest bit."""
     if comparison[0] == "mistake":
         return RIGHT_MET(board, comparison)
     way, name, index, part, low, high = comparison
@@ -189,20 +189,20 @@ def from_left(board: Board, comparison: Comparison) -> bool:
 
 
 def never_closed(board: Board) -> None:
-    """Opens calls, and closes none."""
+    """Opens calls but never closes any."""
     calls = second_search.calls_of(board)
     RIGHT_CYCLE(board)
     second_search.set_calls(board, max(calls, second_search.calls_of(board)))
 
 
 def restarted(board: Board) -> int:
-    """Begins a stopwatch again although it runs."""
+    """Restarts a stopwatch that is already running."""
     stopwatch = second_search.stopwatch_of(board)
     return 1 if stopwatch and stopwatch.begins(board) else RIGHT_ELAPSED(board)
 
 
 def ended_at_once(board: Board) -> int:
-    """Lets a stopwatch that ends begin only after the next cycle."""
+    """Lets a stopwatch that has ended begin only after the next cycle."""
     stopwatch = second_search.stopwatch_of(board)
     return 0 if stopwatch and second_search.elapsed_of(board) and stopwatch.ends(board) else RIGHT_ELAPSED(board)
 

@@ -1,5 +1,5 @@
-"""What checks/page checks for users who do not see the page, or see it badly: the names, roles and states that the browser reports to a screen
-reader (its accessibility tree), the order of the Tab key, and the contrast of all letters, borders, marks and lamps in both colour schemes."""
+"""The part of checks/page about users who cannot see the page or see it badly. Checks the names, roles and states that the browser reports to a
+screen reader (its accessibility tree), the order of the Tab key, and the contrast of all letters, borders, marks and lamps in both colour schemes."""
 
 import re
 
@@ -8,12 +8,12 @@ from page_in_browser import (AT_COUNTER, ESCAPE, PUT_INTO_EDITOR, TAB, TEXT_OF_E
 from verdicts import eventually, verdict
 from web_driver import Chromium
 
-# The roles of controls in the tree.
+# The roles of controls in the accessibility tree.
 CONTROLS = {"button", "textbox", "searchbox", "combobox", "checkbox", "slider", "tab", "option", "link", "spinbutton", "DisclosureTriangle",
             "radio", "switch"}
-# Roles that need a name, so that users know where they are.
+# Roles that need a name for orientation.
 PLACES = {"region", "group", "tablist", "tabpanel", "dialog", "table", "log", "complementary", "image", "alertdialog"}
-# Characters that mean nothing when they are read aloud.
+# Characters without meaning when a screen reader reads them aloud.
 SIGNS = re.compile("[\u25b2-\u25cf\u2713]")
 
 
@@ -26,7 +26,9 @@ def check(browser, page, _folder, _mcs4):
 
 
 def check_answers_announced(browser):
-    """Checks that the answer to a line that was sent is announced, a refusal with its message, and that changes by time are not announced."""
+    """Checks that the answer to a sent line is announced, that a refusal is announced with its message, and that changes while time is running are
+    not announced.
+    """
     choose_example(browser, "three lamps")
     stop_time(browser)
     status = "return document.getElementById('answer-status').textContent"
@@ -36,13 +38,13 @@ def check_answers_announced(browser):
     eventually(browser, "and a refusal in words", status, re.compile(r"^no \d+.*: [a-z]"))
 
 
-# The panels that the focus goes through with the Tab key, from the session's name on. Escape and then Tab leave a text.
+# The panels in the order in which the Tab key reaches them, starting at the session's name. Escape and then Tab leave an editor.
 PLACE = """
 const at = document.activeElement;
 const place = at.closest("#session-bar, #clock, #tools, #front, #texts, #dock, #side > section, #statusbar, #notice, .splitter");
 return place ? place.id : at.id"""
 IN_EDITOR = "return document.activeElement.closest('.cm-editor') !== null"
-# In Firefox, a column that scrolls is a stop of its own, since the arrow keys scroll it.
+# In Firefox, a scrollable column is a tab stop of its own, because the arrow keys scroll it.
 SCROLLED = "side"
 SIDE = ["processor", "calls", "watched", "breakpoints", "memory", "ports"]
 ORDER = ["session-bar", "clock", "tools", "front", "front-splitter", "texts", "dock-splitter", "dock", "side-splitter",
@@ -50,7 +52,7 @@ ORDER = ["session-bar", "clock", "tools", "front", "front-splitter", "texts", "d
 
 
 def check_tab_key(browser):
-    """Checks that Tab goes through the panels in their order, and is trapped nowhere."""
+    """Checks that Tab goes through the panels in order and is never trapped."""
     show_text(browser, "program")
     browser.script("document.getElementById('name').focus()")
     seen = []
@@ -71,14 +73,14 @@ def check_tab_key(browser):
     verdict("which is as it was", browser.script(TEXT_OF_EDITOR, "#program-editor"), before)
 
 
-# --- the accessibility tree, and colours, by Chromium's driver ---
+# --- the accessibility tree and colours, through Chromium's driver ---
 
 def value(node, key):
     return (node.get(key) or {}).get("value", "")
 
 
 def nodes_of(browser):
-    """Yields the nodes that a screen reader gets, each with its properties."""
+    """Yields the nodes that a screen reader receives: role, name and properties."""
     nodes = browser.command("Accessibility.getFullAXTree")["nodes"]
     for node in nodes:
         if not node.get("ignored"):
@@ -87,7 +89,7 @@ def nodes_of(browser):
 
 
 def check_names(browser, view):
-    """Checks that every control, and each role that needs one, has a name made of words."""
+    """Checks that each control has a name made of words, and so has each other role that needs one."""
     nodes = list(nodes_of(browser))
     without = [role for role, name, _ in nodes if role in CONTROLS and not name]
     verdict(f"{view}: all that can be used has a name", without, [])
@@ -117,7 +119,7 @@ OPEN_ALL = "for (const each of document.querySelectorAll(`${arguments[0]} detail
 
 def check_views(browser):
     browser.command("Accessibility.enable")
-    # Without transitions, so that the final colours are measured.
+    # Switch off transitions, so that the final colours are measured.
     browser.script("const still = new CSSStyleSheet(); still.replaceSync('* { transition: none !important }'); "
                    "document.adoptedStyleSheets = [still]")
     check_board(browser)
@@ -166,7 +168,7 @@ def check_other_views(browser):
 
 
 def check_tests(browser):
-    """Checks results of tests, one of which fails, with their counts next to the source."""
+    """Checks test results, one of which is a failure, and the counts beside the source."""
     show_text(browser, "tests")
     browser.script(PUT_INTO_EDITOR, "#tests-editor", "test it is dark\n  expect display 0\n  keys 5\n  expect display 6\n")
     browser.click("#tests-editor .send")
@@ -181,7 +183,7 @@ def check_tests(browser):
 
 
 def check_properties(browser):
-    """Checks rows of properties, one of which is broken, with the coverage."""
+    """Checks rows of properties, one of which is broken, and the coverage."""
     show_text(browser, "properties")
     browser.script(PUT_INTO_EDITOR, "#properties-editor", "press 1\nwait 10 ms to 40 ms\nnever display 1\nreach display 8\n")
     browser.script("document.getElementById('explore-seconds').value = '60'")
@@ -211,7 +213,7 @@ def check_dialogs(browser):
     eventually(browser, "Escape leaves it", "return document.querySelectorAll('#ask[open]').length", 0)
 
 
-# The contrast of two colours, as defined by WCAG. A transparent colour is blended with the background.
+# Computes the contrast of two colours as WCAG defines it. A transparent colour is blended with its background.
 CONTRAST = """
 const parts = (text) => (text.match(/[\\d.]+/g) || []).map(Number);
 const over = (text, ground) => {

@@ -1,5 +1,5 @@
-"""Makes a copy of the built page with additional scripts before its own. They make the browser lack something, or make the module and the worker
-fail on request. The page's content security policy is changed to allow them."""
+"""Copies the built page and adds scripts before its own. These scripts remove a browser feature, or make the module or the worker fail on request.
+The page's content security policy is changed to allow them."""
 
 import base64
 import hashlib
@@ -7,7 +7,7 @@ import re
 
 from page_module import with_worker_code
 
-# Stores the worker in a variable, so that FAULTS can receive messages.
+# Stores the worker in a variable, so that tests can send messages to FAULTS.
 SHOW_WORKER = """
 const made = Worker;
 window.Worker = function (...words) {
@@ -15,7 +15,7 @@ window.Worker = function (...words) {
   return window.benchWorker;
 };"""
 
-# In the worker: a fault that is sent happens at the next call of the module, or at once.
+# In the worker: a fault that is requested by a message occurs at the next call of the module, or immediately.
 FAULTS = """
 (() => {
   const made = WebAssembly.Instance;
@@ -56,8 +56,8 @@ def hash_of(script):
 
 
 def altered(page, folder, code="", worker="", replaced=()):
-    """Writes a copy of a page, with `code` before its script and `worker` before the worker's script, and with some texts replaced; returns the
-    file."""
+    """Writes a copy of a page with `code` before the page's script, `worker` before the worker's script, and some texts replaced. Returns the file.
+    """
     text = page.read_text()
     if code:
         text = text.replace("<body>", f"<body><script>{code}</script>", 1)
@@ -69,6 +69,6 @@ def altered(page, folder, code="", worker="", replaced=()):
         text = text.replace(old, new, 1)
     hashes = " ".join(hash_of(script) for script in re.findall("<script>(.*?)</script>", text, re.S))
     text = re.sub(r"script-src '[^']*'", f"script-src {hashes}", text, count=1)
-    made = folder / "altered.html"
-    made.write_text(text)
-    return made
+    altered_page = folder / "altered.html"
+    altered_page.write_text(text)
+    return altered_page

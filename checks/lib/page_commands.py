@@ -1,5 +1,5 @@
-"""What checks/page checks about the page's commands: the palette, which reaches all of them, their keys, the toolbar with its menus and tooltips,
-the theme, the notes on examples, and the first visit with its cards and its tour."""
+"""The part of checks/page about the page's commands: the palette, which reaches all of them, their keys, the toolbar with its menus and tooltips, the
+theme, the notes on examples, and the first visit with its cards and its tour."""
 
 import re
 
@@ -11,7 +11,7 @@ from web_driver import Chromium
 
 CONTROL, SHIFT, UP = "\ue009", "\ue008", "\ue013"
 F1, F5, F8, F9, F10, F11 = "\ue031", "\ue035", "\ue038", "\ue039", "\ue03a", "\ue03b"
-# F5 can pause inside a subroutine or before a call: that depends on the time.
+# F5 can pause time inside a subroutine or before a call, depending on the timing.
 STEPPED_OVER = re.compile(f"{STEPPED.pattern}|^Returned to [0-9A-F]{{3}}, after ")
 STEPPED_OUT = re.compile("^Returned to |no call is open here")
 OPEN = "const palette = document.getElementById('palette'); return palette !== null && palette.open"
@@ -24,7 +24,7 @@ return option && option.getAttribute('aria-selected') === 'true' ? [...option.pa
 FOCUS = "return document.activeElement.id"
 TIP = "const tip = document.getElementById('tooltip'); return tip.hidden ? '' : tip.textContent"
 FRONT = "return document.querySelector('#text-tabs [aria-selected=true]').id"
-# Buttons that have no command: they answer, close or choose something in an open dialog, or belong to a field next to them.
+# Buttons without a command. They answer, close or choose something in an open dialog, or belong to a field beside them.
 OF_WHAT_IS_OPEN = {
     "menu-button": "opens the menu of files", "view-button": "opens the menu of panels", "cancel": "of work that goes on",
     "tour-close": "of the tour", "tour-back": "of the tour", "tour-put": "of the tour", "tour-next": "of the tour", "first-program": "as help.tour",
@@ -35,7 +35,7 @@ OF_WHAT_IS_OPEN = {
 
 
 def chord(browser, *keys):
-    """Presses some keys one after the other, and then releases them."""
+    """Presses keys one after the other, then releases them all."""
     browser.actions({"type": "key", "id": "keyboard", "actions": [
         *({"type": "keyDown", "value": each} for each in keys), *({"type": "keyUp", "value": each} for each in reversed(keys))]})
 
@@ -48,14 +48,14 @@ def open_palette(browser, words=""):
 
 
 def do(browser, words):
-    """Runs the first command that the palette finds for some words."""
+    """Executes the first command that the palette finds for a query."""
     open_palette(browser, words)
     browser.keys([ENTER])
     browser.until(OPEN, False)
 
 
 def check_reach(browser):
-    """Checks that the palette has each command of the table, and that the table has a command for each button of the page."""
+    """Checks that the palette has every command of the table, and that the table has a command for every button of the page."""
     choose_example(browser, "calculator")
     stop_time(browser)
     open_palette(browser)
@@ -63,7 +63,7 @@ def check_reach(browser):
     source = (TOP / "js/words/page_commands.js").read_text()
     table = re.search(r"export const COMMANDS = \{(.*?)\n\};", source, re.S).group(1)
     names = dict(re.findall(r'^  "([\w.]+)": "(.*)",$', table, re.M))
-    # The label of the run button while running is not the name of a command.
+    # The run button's label while time is running is not a command name.
     names.pop("time.pause")
     verdict("the palette has each command", sorted(set(names.values()) - listed), [])
     verdict("and each text, panel, theme, speed and example", {"Show Source", "Show RAM", "Theme: dark", "Speed: full speed",
@@ -81,7 +81,7 @@ def check_reach(browser):
 
 
 def check_listbox(browser):
-    """Checks ARIA's pattern for a combobox: the field keeps the focus, and names the active option."""
+    """Checks the ARIA combobox pattern: the field keeps the focus and names the active option."""
     browser.script("document.getElementById('name').focus()")
     chord(browser, CONTROL, SHIFT, "p")
     eventually(browser, "Control, Shift and P open the palette", OPEN, True)
@@ -116,7 +116,7 @@ def check_disabled(browser):
 
 
 def check_keys(browser):
-    """Checks that each key runs its command, and that the browser's own action does not happen."""
+    """Checks that each key executes its command and that the browser's own action is suppressed."""
     choose_example(browser, "three lamps")
     browser.until(STATUS, re.compile("^Running"))
     browser.script("document.activeElement.blur()")
@@ -149,7 +149,7 @@ def check_keys(browser):
 
 
 def check_places(browser):
-    """Checks Ctrl+P: labels, addresses, lines, texts, examples."""
+    """Checks Ctrl+P: labels, addresses, lines, texts and examples."""
     chord(browser, CONTROL, "p")
     eventually(browser, "Control and P open the palette for places", OPEN, True)
     verdict("its name", browser.script("return document.getElementById('palette').getAttribute('aria-label')"), "Go to")
@@ -178,7 +178,7 @@ KEY_ROWS = "return [...document.querySelectorAll('#help-sections tr')].map((each
 
 
 def check_acts(browser):
-    """Checks commands of each kind, through the palette."""
+    """Checks one command of each kind through the palette."""
     do(browser, "show tests")
     eventually(browser, "a text is shown", FRONT, "tests-tab")
     size = "return document.getElementById('texts').style.getPropertyValue('--text-size')"
@@ -210,7 +210,7 @@ PAPER = "return getComputedStyle(document.body).backgroundColor"
 
 
 def check_theme(browser):
-    """Checks a theme that the user chose, also after a reload. By default the theme follows the system."""
+    """Checks that a theme that the user chose stays after a reload, and that the theme follows the system by default."""
     light = browser.script(PAPER)
     do(browser, "theme dark")
     eventually(browser, "the theme is dark", f"{PAPER} !== {light!r}", True)
@@ -233,7 +233,7 @@ HOVER = {"type": "pointer", "id": "mouse", "parameters": {"pointerType": "mouse"
 
 
 def check_tooltips(browser):
-    """Checks the tooltip of a button, with its key: on focus, under a resting pointer, and under a resting finger."""
+    """Checks a button's tooltip with its key: on focus, under a resting pointer, and on a long touch."""
     browser.script("document.getElementById('back-instruction').focus()")
     browser.keys([TAB, TAB])
     eventually(browser, "it is shown where the focus is", TIP, "Step over: one instruction; a subroutine that it calls runs whole F10")
@@ -265,7 +265,7 @@ MENU = "return document.getElementById('menu-button').getAttribute('aria-expande
 
 
 def check_toolbar(browser):
-    """Checks the toolbar: one row of 44 pixels; each button has an icon, a name and at least 24 pixels; exactly one button is filled; the
+    """Checks the toolbar. It is one row of 44 pixels. Each button has an icon, a name and at least 24 pixels. Exactly one button is filled. The
     keyboard opens the menus."""
     verdict("the toolbar is one row", browser.script("return document.getElementById('toolbar').offsetHeight"), 44)
     tools = browser.script(TOOLS)
@@ -294,7 +294,7 @@ def check_toolbar(browser):
 
 
 def check_looks(browser):
-    """Checks names, roles and contrast of the palette, a menu and the cards, in light and dark."""
+    """Checks the names, roles and contrast of the palette, a menu and the welcome cards, in light and dark."""
     browser.command("Accessibility.enable")
     open_palette(browser)
     look_at(browser, "the palette")
@@ -313,8 +313,8 @@ LIT = "return document.querySelectorAll('.bulb.lit').length"
 
 
 def check_first_visit(browser, page):
-    """Checks that a browser without stored data shows six cards, and that the first card turns a lamp on by three clicks. After that the cards
-    are not shown again."""
+    """Checks that a browser without stored data shows six cards, that the first card turns a lamp on with three clicks, and that the cards do not
+    appear again."""
     browser.script("localStorage.clear()")
     browser.go("about:blank")
     browser.go(page.as_uri())
@@ -323,7 +323,7 @@ def check_first_visit(browser, page):
         return
     do_without_cards = "return document.getElementById('welcome').open"
     if not browser.script(do_without_cards):
-        # Other topics have stored sessions, so the command shows the cards.
+        # Earlier checks have stored sessions, so a command must show the cards.
         do(browser, "first steps")
     cards = browser.script(CARDS)
     verdict("six cards", len(cards), 6)
@@ -348,7 +348,7 @@ def check_first_visit(browser, page):
     verdict("the cards were seen", browser.script(do_without_cards), False)
 
 
-# The elements that the tour's highlight surrounds.
+# The element inside the tour's ring.
 RING = """
 const ring = document.getElementById('tour-ring');
 if (ring.hidden) return '';
@@ -367,7 +367,7 @@ EMPTY = "return isShown(document.querySelector('#watched-list + .empty'))"
 
 
 def check_empty(browser):
-    """Checks that an empty panel has a button that adds to it, until it is not empty."""
+    """Checks that an empty panel has a button that adds to it, and that the button disappears when the panel has contents."""
     choose_example(browser, "three lamps")
     eventually(browser, "an empty watch says what it is for", EMPTY, True)
     browser.click("#watched-list + .empty button")

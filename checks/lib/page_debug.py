@@ -1,7 +1,7 @@
-"""The debugger on the page: breakpoints that stay at their lines while the source is edited, conditions, hit counts, notes, what is saved, and
+"""The debugger on the page: breakpoints that stay at their lines while the source is edited, conditions, hit counts, log messages, saving, and
 the speed.
 
-With this program, breakpoints once moved away from their lines. The addresses of its lines were counted manually.
+An earlier version moved breakpoints of this program away from their lines. The addresses of the program's lines were counted manually.
 """
 
 import re
@@ -33,7 +33,7 @@ JUN, WMP, INC = (LINES.index(next(line for line in LINES if text in line)) + 1 f
 
 SHOW_PROGRAM = """
 document.querySelector("#program-editor .cm-editor").lineEditor.setValue(arguments[0])"""
-# Inserts a line before another one, as a keyboard does.
+# Inserts a line before another line, like an edit from the keyboard.
 INSERT = """
 const editor = document.querySelector("#program-editor .cm-editor").lineEditor;
 editor.replaceRange(`        ${arguments[1]}\\n`, { line: arguments[0] - 1, ch: 0 }, undefined, "paste")"""
@@ -44,21 +44,21 @@ HITS = "return [...document.querySelectorAll('#breakpoint-list .hits')].map((eac
 FAULTS = "return [...document.querySelectorAll('#breakpoint-list .fault')].map((each) => each.textContent).join('')"
 NOTES = "return [...document.querySelectorAll('#breakpoint-notes p')].map((each) => each.textContent).slice(0, 3).join('; ')"
 WORDS = 'return [...document.querySelectorAll("#breakpoint-list .words")].map((each) => each.textContent).join("; ")'
-# The lines of the source with a breakpoint in the margin, even if they are out of view.
+# The source lines that have a breakpoint in the margin, including lines that are out of view.
 LINES_IN_MARGIN = """
 return document.querySelector("#program-editor .cm-editor").lineEditor.marksIn("breakpoints").map((line) => line + 1).join(" ")"""
 UNDO_EDIT = "document.querySelector('#program-editor .cm-editor').lineEditor.undo()"
-# The row below a line that edits its breakpoint: its error, and its text.
+# The form below a line that edits its breakpoint: its error and its contents.
 ROW_FAULT = "const shown = document.querySelector('.breakpoint-row .fault'); return shown ? shown.textContent : 'no row'"
 ROW_VALUES = "return [...document.querySelectorAll('.breakpoint-row input')].map((each) => each.value).join('; ')"
-# Fills a field of the first breakpoint in the list: its condition, its hit count or its note.
+# Fills in a field of the first breakpoint in the list: its condition, hit count or log message.
 FILL = """
 document.querySelector("#breakpoint-list .edit").click();
 const row = document.querySelector(".breakpoint-row");
 row.querySelectorAll("input")[arguments[0]].value = arguments[1];
 row.requestSubmit()"""
 CONDITION, FROM, NOTE = range(3)
-# Changes the condition of the first breakpoint three times, and starts running, within one task of the page.
+# Changes the condition of the first breakpoint three times and starts time, all in one task of the page.
 CHANGE_AND_RUN = """
 for (const words of arguments) {
   document.querySelector("#breakpoint-list .edit").click();
@@ -66,18 +66,18 @@ for (const words of arguments) {
   document.querySelector(".breakpoint-row").requestSubmit();
 }
 document.getElementById("run").click()"""
-# Shift+F9 at a line of the source, and the position of the caret after it.
+# Presses Shift+F9 at a source line.
 ASK_FOR_WORDS = """
 const editor = document.querySelector("#program-editor .cm-editor").lineEditor;
 editor.setCursor({ line: arguments[0], ch: 0 });
 editor.getInputField().dispatchEvent(new KeyboardEvent("keydown", { key: "F9", keyCode: 120, shiftKey: true, bubbles: true }))"""
 ASKED = "const row = document.activeElement.closest('.breakpoint-row'); return row ? row.previousElementSibling.textContent : ''"
 ROW_LINE = re.compile("INC R9")
-# The line above that row.
+# The line above the breakpoint form.
 ROW_AFTER = "const row = document.querySelector('.breakpoint-row'); return row ? row.previousElementSibling.textContent : ''"
 IN_SOURCE = "return document.activeElement.closest('#program-editor .cm-content') !== null"
 FOCUSED = "return document.activeElement.textContent"
-# The secondary mouse button at the margin of a line.
+# Clicks the margin of a line with the secondary mouse button.
 MARGIN_MENU = """
 const number = [...document.querySelectorAll("#program-editor .cm-lineNumbers .cm-gutterElement")].find((each) => each.textContent === String(arguments[0]));
 const { x, y } = number.getBoundingClientRect();
@@ -89,7 +89,7 @@ SEND = "#program-editor .send"
 
 
 def begin(browser):
-    """Starts the program on the first board, paused."""
+    """Loads the program on the first board and pauses time."""
     choose_example(browser, "empty bench")
     browser.click("#first-board")
     browser.until("return document.querySelectorAll('#keys button').length", 2)
@@ -101,7 +101,7 @@ def begin(browser):
 
 
 def check_holds(browser):
-    """Checks that a breakpoint stays at its line when one or two bytes are inserted before it. It stops there immediately after each assembly."""
+    """Checks that a breakpoint stays at its line when one or two bytes are inserted before it, and that time stops there after each assembly."""
     browser.script(CLICK_MARGIN, JUN)
     eventually(browser, "a breakpoint in the margin", MARGIN, str(JUN))
     browser.script(INSERT, 2, "NOP")
@@ -124,7 +124,7 @@ def check_holds(browser):
 
 
 def check_no_instruction(browser):
-    """Checks that a breakpoint at a line without bytes, or inside an instruction, moves to the next instruction, with a message."""
+    """Checks that a breakpoint at a line without bytes, or inside an instruction, moves to the next instruction, and that a message says so."""
     begin(browser)
     browser.script(INSERT, JUN, "; what comes next")
     browser.click(SEND)
@@ -145,7 +145,7 @@ def check_no_instruction(browser):
 
 
 def check_condition(browser):
-    """Checks a condition, a hit count, a note, a breakpoint with an error, and a disabled one."""
+    """Checks a condition, a hit count, a log message, a breakpoint with an error, and a disabled breakpoint."""
     begin(browser)
     browser.script(ASK_FOR_WORDS, INC - 1)
     eventually(browser, "Shift and F9 sets one, and the caret is in its condition, below the line", ASKED, ROW_LINE)
@@ -196,7 +196,7 @@ def check_condition(browser):
 
 
 def check_typed(browser):
-    """Checks that a run that is typed also ends at a breakpoint, with a message."""
+    """Checks that a typed run also stops at a breakpoint, with a message."""
     browser.script(FILL, CONDITION, "r9 = 9")
     lines_answered(browser, "reset")
     verdict("a line's run ends where the condition holds", lines_answered(browser, "run 100000"), re.compile(r"run (\d+)ok \d+ ran \1 end$"))
@@ -206,8 +206,8 @@ def check_typed(browser):
 
 
 def check_back(browser):
-    """Checks that back leads to the last arrival at which a condition holds, however the machine ran; and to the beginning, if there is none."""
-    # To the next arrival, and onwards: R9 counts 16 more times, every 11 cycles.
+    """Checks that going back leads to the last arrival at which a condition holds, however time was run, and to the beginning if there is none."""
+    # Run to the next arrival and beyond. R9 counts 16 more times, every 11 cycles.
     for cycles in (150, 26, 77):
         lines_answered(browser, f"run {cycles}")
     browser.click("#back-breakpoint")
@@ -248,7 +248,7 @@ def check_kept(browser):
 
 
 def check_replaced(browser, folder):
-    """Checks that a replaced source gets its breakpoints and their details back when it is restored, by the notice and by Ctrl+Z."""
+    """Checks that restoring a replaced source also restores its breakpoints with their details, through the notice and through Ctrl+Z."""
     begin(browser)
     browser.script(ASK_FOR_WORDS, INC - 1)
     browser.until(ASKED, ROW_LINE)
@@ -282,7 +282,7 @@ def check_replaced(browser, folder):
 
 
 def check_row(browser):
-    """Checks that a breakpoint's details are edited below its line. Enter applies them, Escape cancels, and an error stays with its field."""
+    """Checks that a breakpoint's details are edited below its line. Enter applies them, Escape cancels, and an error stays at its field."""
     begin(browser)
     browser.script(ASK_FOR_WORDS, INC - 1)
     browser.until(ASKED, ROW_LINE)
@@ -321,7 +321,7 @@ def check_row(browser):
 
 
 def check_menu(browser):
-    """Checks the menu of a line's margin, and that a breakpoint without a line is edited in the list."""
+    """Checks the margin menu of a line, and that a breakpoint without a line is edited in the list."""
     begin(browser)
     browser.script(MARGIN_MENU, INC)
     eventually(browser, "the menu of the margin has the keyboard", FOCUSED, "Add breakpointF9")

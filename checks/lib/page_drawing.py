@@ -1,5 +1,5 @@
-"""Drawing boards in a browser: by mouse, by keyboard and by touch, from an empty bench to four keys, four lamps and a running program. Each
-action edits the board's text, and can be undone like any edit. Also the zoom of the picture."""
+"""Drawing a board in a browser, by mouse, keyboard and touch: from an empty bench to four keys, four lamps and a running program. Each action edits
+the board's text and can be undone like any edit. Also checks the zoom of the picture."""
 
 import re
 import time
@@ -14,7 +14,7 @@ STATE = "return document.getElementById('drawing-state').textContent"
 BULBS = "return [...document.querySelectorAll('#front .bulb')].map((bulb) => (bulb.classList.contains('lit') ? '*' : '.')).join('')"
 KEYS = "return document.querySelectorAll('#keys .key').length"
 HIGH = "return document.querySelectorAll('#wiring-picture .high').length"
-# The label of the button for the sound of a buzzer, if there is one.
+# The label of the buzzer's sound button, or "" if there is none.
 SOUND = "return document.getElementById('sound').hidden ? '' : document.getElementById('sound-button').textContent"
 FOCUS = "return document.activeElement.getAttribute('aria-label')"
 TITLE = "return document.querySelector('#chosen > b').textContent"
@@ -27,9 +27,9 @@ PLACE_OF_KEYS = """
 const box = document.querySelector("#wiring-picture .of-keys rect");
 return [box.getAttribute("x"), box.getAttribute("y")].map(Number)"""
 MIDDLE = "const box = document.querySelector(arguments[0]).getBoundingClientRect(); return [box.x + box.width / 2, box.y + box.height / 2]"
-# The parts and wires in the picture, in words.
+# The descriptions of the parts and wires in the picture.
 LINES = "return [...document.querySelectorAll('#wiring-words li')].map((each) => each.textContent).join(' ')"
-# A program that shows on the lamps which keys are down.
+# A program whose lamps show which keys are down.
 PROGRAM = """        FIM P0, 0x00    ; ROM 0 and RAM chip 0
         FIM P1, 0x10    ; ROM 1
         SRC P0
@@ -79,7 +79,7 @@ line = "ram0.0.3"
 
 
 def pin(label):
-    """Returns the selector of the pin in the picture whose label begins with a text."""
+    """Returns the selector of the picture's pin whose label begins with a text."""
     return f"#wiring-picture .at-pin[aria-label^='{label}']"
 
 
@@ -88,7 +88,7 @@ def text_of(browser):
 
 
 def drag(browser, one, other, kind="mouse"):
-    """Drags from the middle of one element to the middle of another, or by a number of pixels."""
+    """Drags from the centre of one element to the centre of another, or by a distance in pixels."""
     browser.show("#wiring-picture")
     time.sleep(browser.settles)
     begin = browser.script(MIDDLE, one)
@@ -100,12 +100,12 @@ def drag(browser, one, other, kind="mouse"):
 
 
 def press(browser, selector):
-    """Clicks at the middle of an element. (A driver's click would require that it is the topmost element there.)"""
+    """Clicks at the centre of an element. (A driver's click would require that the element is the topmost one there.)"""
     drag(browser, selector, (0, 0))
 
 
 def check_by_mouse(browser):
-    """Checks drawing from an empty bench to a running program, without a word of TOML."""
+    """Checks drawing from an empty bench to a running program without writing TOML."""
     choose_example(browser, "empty bench")
     browser.click("#first-drawing")
     eventually(browser, "an empty bench leads to the shelf", "return isShown(document.getElementById('shelf'))", True)
@@ -142,7 +142,7 @@ def check_by_mouse(browser):
 
 
 def check_wires(browser):
-    """Checks wires by dragging and by clicks, and impossible wires."""
+    """Checks wires that are drawn by dragging and by clicks, and wires that are not possible."""
     choose_example(browser, "lock")
     show_text(browser, "wiring")
     before = text_of(browser)
@@ -175,7 +175,7 @@ def check_wires(browser):
 
 
 def check_buzzer(browser):
-    """Checks that a buzzer is added by mouse, wired, named, deleted and undone, also by keyboard and by touch."""
+    """Checks that a buzzer can be added by mouse, wired, named, deleted and restored by undo, also by keyboard and by touch."""
     choose_example(browser, "empty bench")
     show_text(browser, "wiring")
     verdict("a board without a buzzer has no sound", browser.script(SOUND), "")
@@ -223,8 +223,7 @@ def check_part_is_dragged(browser):
 
 
 def check_chain_keeps_its_place(browser):
-    """Checks that a chain gets another number when one before it is deleted. Its position in the picture stays, as long as its text is the
-    same."""
+    """Checks that a chain gets another number when an earlier chain is deleted. Its position in the picture stays as long as its text is the same."""
     choose_example(browser, "calculator")
     show_text(browser, "wiring")
     eventually(browser, "a board has two chains", LINES, re.compile("Chain 0 .*Chain 1 "))
@@ -244,7 +243,7 @@ def check_chain_keeps_its_place(browser):
 
 
 def check_by_keyboard(browser):
-    """Checks the same by keyboard alone: a part, a wire, its end, a deletion, and undo."""
+    """Checks the same by keyboard alone: adding a part, drawing a wire and ending it, deleting, and undo."""
     choose_example(browser, "lock")
     browser.script("document.getElementById('wiring-tab').click(); document.getElementById('wiring-tab').focus()")
     before = text_of(browser)
@@ -305,7 +304,8 @@ return found && found.getAttribute("class")"""
 
 
 def check_zoom(browser):
-    """Checks that buttons, keys and the wheel zoom the picture. The point under the pointer stays in place, and wires can still be drawn."""
+    """Checks that buttons, keys and the wheel zoom the picture, that the point under the pointer stays in place, and that wires can still be drawn.
+    """
     choose_example(browser, "lock")
     browser.script("document.getElementById('wiring-tab').click()")
     browser.show("#wiring-picture")
@@ -351,7 +351,7 @@ def check_zoom(browser):
 
 
 def check_by_fingers(browser):
-    """Checks that a wire can be drawn by touching one pin after the other."""
+    """Checks that touching one pin and then another draws a wire."""
     browser.fingers([f"{pin('RAM 0.0 · 4002, out 3')} circle"], 60)
     eventually(browser, "a finger begins a wire", DRAWING_STATUS, re.compile("^Wire from line ram0.0.3"))
     browser.fingers([f"{pin('Lamps · 3, alarm')} circle"], 60)
@@ -360,7 +360,7 @@ def check_by_fingers(browser):
     eventually(browser, "a button undoes it", DRAWING_STATUS, "Undone.")
 
 
-# The position of a screen point on the sheet, and of the middle of a part's head there.
+# Converts a screen point to sheet coordinates. HEAD_OF returns the centre of a part's head in sheet coordinates.
 ON_SHEET = """
 const [x, y] = arguments;
 const at = new DOMPoint(x, y).matrixTransform(document.querySelector("#wiring-picture svg").getScreenCTM().inverse());
@@ -374,7 +374,7 @@ SHEET = "const { left, top } = document.getElementById('wiring-picture').getBoun
 
 
 def pull(browser, part, place, kind="mouse", key=""):
-    """Drags a part from the shelf to a point of the window. A key can be pressed before the drop."""
+    """Drags a part from the shelf to a point of the window. Can press a key before the drop."""
     begin = [round(each) for each in browser.script(MIDDLE, f"#shelf-{part}")]
     places = [[round(begin[each] + step * (place[each] - begin[each])) for each in (0, 1)] for step in (0, 0.3, 0.7, 1)]
     first, *way = [{"type": "pointerMove", "duration": 60, "x": x, "y": y} for x, y in places]
@@ -416,7 +416,7 @@ def check_pulled(browser, kind):
 
 
 def check_shelf(browser):
-    """Checks that parts go from the shelf to the point of the drop, by mouse and by touch, and to the sheet by keyboard."""
+    """Checks that parts move from the shelf to the drop point, by mouse and touch, and to the sheet by keyboard."""
     for kind in ("mouse", "touch") if browser.has_fingers else ("mouse",):
         check_pulled(browser, kind)
     browser.script("document.getElementById('shelf-chain').focus()")
@@ -429,7 +429,7 @@ def check_shelf(browser):
 
 
 def check_scan_at_caret(browser):
-    """Checks that, with a caret in the source, the routine is inserted after the caret's line, as one undo step."""
+    """Checks that the key scan routine is inserted after the caret's line if the source has a caret, as one undo step."""
     choose_example(browser, "lock")
     source = browser.script(SOURCE)
     show_text(browser, "program")
@@ -447,7 +447,7 @@ def check_scan_at_caret(browser):
 
 
 def check_scan(browser):
-    """Checks a key matrix that was just drawn: its scan routine is inserted into the source, which assembles and finds the key."""
+    """Checks that the scan routine for a newly drawn key matrix is inserted into the source, assembles, and finds the key."""
     choose_example(browser, "empty bench")
     show_text(browser, "wiring")
     browser.click("#shelf-keys")
@@ -471,7 +471,7 @@ def check_scan(browser):
 
 
 def check_faults(browser):
-    """Checks that a text with errors is not drawn: the picture stays, and is updated when the errors are gone."""
+    """Checks that a text with errors is not drawn: the picture stays, and is updated when the errors are corrected."""
     text = text_of(browser)
     browser.script(PUT_INTO_EDITOR, BOARD, f"{text}\n[[lamp]]\n")
     eventually(browser, "a text with faults says so", STATE, re.compile("^The bench rejects the board's text"))
@@ -485,7 +485,7 @@ def check_faults(browser):
 
 
 def check_other_boards(browser):
-    """Checks that sessions with more chips or fewer can be opened while the picture is shown."""
+    """Checks that sessions with more or fewer chips can be opened while the picture is visible."""
     for example, parts in (("calculator", "ROM 3 · 4001"), ("die", "ROM 0 · 4001"), ("calculator", "ROM 3 · 4001"), ("lock", "Keys · 4 × 3")):
         choose_example(browser, example)
         verdict(f"{example} is opened", "No session was made" in browser.script(NOTICE), False)

@@ -1,4 +1,4 @@
-"""What checks/page checks in the editors of the page: typing, errors, completion, help, undo, limits, assembling and running."""
+"""The part of checks/page about the editors: typing, errors, completion, help, undo, limits, assembling and running."""
 
 import re
 import time
@@ -9,7 +9,7 @@ from verdicts import eventually, verdict
 CONTROL, SHIFT, ALT, ENTER, ESCAPE, TAB = "\ue009", "\ue008", "\ue00a", "\ue007", "\ue00c", "\ue004"
 END, DOWN, F2, F9, F12, BACKSPACE = "\ue010", "\ue015", "\ue032", "\ue039", "\ue03c", "\ue003"
 PROGRAM, BOARD = "#program-editor", "#board-editor"
-# A text at the limit: 16,381 bytes without its comments and indentation, and 36,497 with them.
+# A text at the limit: 16,381 bytes without comments and indentation, 36,497 bytes with them.
 LONGEST = "; a line of a comment, with words in it, and then some more of them\n" * 240 + "\tNOP\n" * 4035 + ";\n"
 
 SCROLLED = "return document.querySelector('#program-editor .cm-editor').lineEditor.getScrollInfo().top"
@@ -32,7 +32,7 @@ const numbers = shown(".cm-lineNumbers .cm-gutterElement");
 const apart = numbers.map((number) => Math.min(...lines.map((line) => Math.abs(number.getBoundingClientRect().top - line))));
 const last = numbers[numbers.length - 1].textContent;
 return [last, editor.getScrollInfo().width > editor.getScrollInfo().clientWidth, Math.max(...apart) < 2]"""
-# The time of a key, from the key event to the end of all work for it; the median of some.
+# The time of a key, from the key event to the end of all its work. The result is the median of some keys.
 KEY_TIMES = f"""{EDITOR}
 editor.setCursor({{ line: arguments[1], ch: 0 }});
 const times = [];
@@ -44,7 +44,7 @@ for (let key = 0; key < 100; key++) {{
 editor.undo();
 times.sort((one, other) => one - other);
 return times[50]"""
-# How much other work slows down the browser: the mean time of many short loops, divided by the least time.
+# The factor by which other work slows the browser down: the mean time of many short loops, divided by the shortest time.
 SLOWNESS = """
 const times = [];
 let sum = 0;
@@ -79,7 +79,7 @@ def put(browser, editor, text):
 
 
 def check_faults(browser):
-    """Checks that all errors of a program are shown while it is typed."""
+    """Checks that all errors of a program are shown while the user types."""
     put(browser, PROGRAM, "")
     browser.script(SET_CARET, PROGRAM, 0, 0)
     put(browser, PROGRAM, FAULTY)
@@ -107,7 +107,7 @@ def check_typing(browser):
     """Checks Tab, completion, help, search and undo."""
     put(browser, PROGRAM, "loop:\tNOP\n")
     browser.script(SET_CARET, PROGRAM, 1, 0)
-    # Types a key, so that Tab indents.
+    # Type a key first, so that Tab indents.
     browser.keys([DOWN, TAB, "l", "d"], 5, 5)
     browser.chord(CONTROL, " ")
     eventually(browser, "what begins so can be chosen", "return [...document.querySelectorAll('.cm-tooltip-autocomplete li')]"
@@ -130,7 +130,7 @@ def check_typing(browser):
 
 
 def check_names(browser):
-    """Checks going to the definition of a name, finding its uses, renaming, going to a line, replacing, and commenting."""
+    """Checks going to a name's definition, finding its references, renaming, going to a line, replacing, and commenting."""
     text = TEXT_OF_EDITOR.replace("arguments[0]", f"'{PROGRAM}'")
     caret = CARET.replace("arguments[0]", f"'{PROGRAM}'")
     put(browser, PROGRAM, "loop:\tNOP ; loop\n\tFIM P0, loop\n\tJUN loop")
@@ -178,7 +178,7 @@ other:  NOP
 
 
 def check_folding(browser):
-    """Checks that parts fold by the margin and by keys, that their contents stay, and that a part that must be visible unfolds."""
+    """Checks that parts fold with the margin and with keys, that their contents stay, and that a part unfolds when it must be visible."""
     put(browser, PROGRAM, FOLDING)
     browser.until("return document.querySelectorAll('#program-editor .fold-open').length", 4)
     browser.click(f"{PROGRAM} .fold-open")
@@ -200,7 +200,7 @@ def check_folding(browser):
     browser.click(f"{PROGRAM} .send")
     eventually(browser, "it is assembled as it is", STATUS, re.compile("^Running"))
     stop_time(browser)
-    # The machine is at the loop's label, below which a line stays folded, or at the line after it.
+    # Time is paused at the loop's label, where the line below stays folded, or at the next line.
     eventually(browser, "and the line at which time stands still is unfolded", FOLDED, re.compile("^\u2026 1 line(,\u2026 1 line){1,2}$"))
 
 
@@ -222,7 +222,7 @@ def check_hidden(browser):
 
 
 def check_opened(browser, page):
-    """Checks that an opened text begins at its first line, however the previous one was scrolled, and that the visible part has its colours."""
+    """Checks that an opened text starts at its first line, however the previous text was scrolled, and that its visible part has colours."""
     open_anew(browser, page)
     choose_example(browser, "calculator")
     show_text(browser, "program")
@@ -251,7 +251,7 @@ def check_limits(browser):
 
 
 def check_sessions(browser):
-    """Checks that each session has its own undo history of its texts."""
+    """Checks that each session has its own undo history for its texts."""
     choose_example(browser, "die")
     before = browser.script(TEXT_OF_EDITOR, PROGRAM)
     browser.click("#from-rom")
@@ -266,7 +266,7 @@ def check_sessions(browser):
 
 
 def check_running(browser):
-    """Checks that one button assembles and runs, and that the message of the other one says what it leaves unchanged."""
+    """Checks that one button assembles and runs, and that the message of the other button says what stays unchanged."""
     choose_example(browser, "traffic light")
     browser.until(STATUS, re.compile("^Running"))
     put(browser, PROGRAM, "\tLDM 7\nstop:\tJUN stop\n")
@@ -289,7 +289,7 @@ def check_running(browser):
 
 
 def check_empty(browser):
-    """Checks that an empty bench offers a board, and that a program on a board without its ROM has an error at its line."""
+    """Checks that an empty bench offers a board, and that a program without its ROM chip has an error at its line."""
     choose_example(browser, "empty bench")
     put(browser, PROGRAM, "; nothing yet\n\tLDM 1\n")
     eventually(browser, "a ROM that is lacking is reported at its line", FAULTS.format(PROGRAM), re.compile(r"^line 2: this line is at 000, and the board has no ROM 0: wire a \[\[rom\]\]"))
@@ -310,14 +310,14 @@ size = 3
 [[lamp]]
 lime = "rom0.0"
 """
-# The corrections, word by word, each with the error before it and the underlined text.
+# The corrections in order, each with the error before it and the underlined text.
 MENDED_BOARD = [("size = 3\n", "", "line 4: size is not a key of rom, which has chip, port", "size"),
                 ("lime", "line", "line 6: lime is not a key of lamp; line?", "lime"),
                 ("77", "7", "line 2: chip must be a unique number from 0 to 15", "77")]
 
 
 def check_board(browser):
-    """Checks the error of a board while it is typed."""
+    """Checks the error in a board's text while the user types."""
     show_text(browser, "board")
     text = FAULTY_BOARD
     for wrong, right, words, underlined in MENDED_BOARD:
@@ -344,17 +344,17 @@ def check_board(browser):
 
 
 def compose(browser, *words, replacing=None):
-    """Enters a word as a phone's keyboard does: as a composition that grows, in place of existing text if that is given."""
+    """Enters words like a phone's keyboard: as a composition that grows, in place of existing text if `replacing` is given."""
     place = {"replacementStart": replacing[0], "replacementEnd": replacing[1]} if replacing else {}
     for word in words:
         browser.command("Input.imeSetComposition", text=word, selectionStart=len(word), selectionEnd=len(word), **place)
-        # Errors are marked meanwhile.
+        # Errors are marked during this time.
         time.sleep(0.4)
     browser.command("Input.insertText", text=words[-1])
 
 
 def check_phone(browser, page):
-    """Checks, by Chromium's driver, words that a phone's keyboard composes and corrects while errors are marked, and typing over lines."""
+    """Checks words that a phone's keyboard composes and corrects while errors are marked, and typing over lines. Uses Chromium's driver."""
     open_anew(browser, page)
     choose_example(browser, "calculator")
     show_text(browser, "program")

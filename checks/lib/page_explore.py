@@ -1,7 +1,7 @@
-"""What checks/page checks about properties. An example has its properties. An error that is put into its program is found, as mcs4 explore finds
-it with the same seed, while the session keeps running. The counterexample opens as a session that shows what it says. It is added to the tests,
-where it fails. A search can be stopped. Errors in properties, seconds and boards are reported. Also: a program whose states are all reached, a
-search from a state that a test saves, the keyboard, a phone's width, and that the text is saved with the session and in a project."""
+"""The part of checks/page about properties. An example has its properties. An error in its program is found with the same counterexample as by mcs4
+explore with the same seed, while the session keeps running. The counterexample opens as a session in the described state. Its test is added to the
+tests and fails there. A search can be stopped. Errors in properties, seconds and boards are reported. Also: a program whose states are all reached, a
+search from a state that a test saves, the keyboard, a phone's width, and saving the text with the session and in a project."""
 
 import os
 import re
@@ -29,7 +29,7 @@ CYCLES = "return Number(document.getElementById('cycles').textContent.match(/[\\
 TEST_OF_FIND = "return document.querySelector('#property-list pre').textContent"
 CONTROL, ENTER = "\ue009", "\ue007"
 LOCK = TOP / "examples/lock"
-# The page gets the same time as the tool: minimising a counterexample uses a fifth of it.
+# The page gets the same time as the tool, because minimising a counterexample uses a fifth of it.
 SECONDS = 10
 
 
@@ -42,7 +42,7 @@ def put(browser, name, text):
 
 
 def ask_for(browser, seconds, seed=1):
-    """Fills the fields of the tab with these numbers."""
+    """Fills in the number fields of the tab."""
     for name, number in (("seconds", seconds), ("seed", seed)):
         browser.script("document.getElementById(arguments[0]).value = arguments[1]", f"explore-{name}", str(number))
 
@@ -54,7 +54,7 @@ def explore(browser, seconds, seed=1):
 
 
 def planted():
-    """Returns the lock's program with an error: it accepts any digit for one digit of the code."""
+    """Returns the lock's program with a planted error: it accepts any digit for one digit of the code."""
     program = (LOCK / "lock.asm").read_text()
     changed = re.sub(r"^        JCN nonzero, wrong$", "        NOP", program, flags=re.M)
     verdict("the fault is put into the program", changed == program, False)
@@ -62,11 +62,11 @@ def planted():
 
 
 def found_by_tool(folder, program, mcs4):
-    """Returns the result of mcs4 explore on the same texts."""
+    """Starts mcs4 explore on the same texts. Returns the process."""
     path = folder / "planted.asm"
     path.write_text(program)
-    asked = ["./mcs4", "explore", LOCK / "board.toml", path, LOCK / "lock.props", "--seconds", str(SECONDS), "--out", folder / "finds.test"]
-    return subprocess.Popen(asked, cwd=TOP, env=dict(os.environ, MCS4=str(mcs4)), stdout=subprocess.PIPE, stderr=subprocess.DEVNULL, text=True)
+    command = ["./mcs4", "explore", LOCK / "board.toml", path, LOCK / "lock.props", "--seconds", str(SECONDS), "--out", folder / "finds.test"]
+    return subprocess.Popen(command, cwd=TOP, env=dict(os.environ, MCS4=str(mcs4)), stdout=subprocess.PIPE, stderr=subprocess.DEVNULL, text=True)
 
 
 def check_found(browser, folder, mcs4):
@@ -96,7 +96,7 @@ def check_found(browser, folder, mcs4):
 
 
 def check_left(browser):
-    """Checks that a line that was never run is marked in the source."""
+    """Checks that a line that never ran is selected in the source."""
     line = browser.script("return Number(document.querySelector('#never-run button').textContent)")
     browser.click("#never-run button")
     verdict("a line that was never run is shown", browser.script("""
@@ -106,7 +106,7 @@ return [isShown(editor.getWrapperElement()), editor.getCursor('from').line + 1]"
 
 
 def check_added(browser):
-    """Checks that the counterexample's test is added to the tests, once. It fails there, and can be removed again."""
+    """Checks that the counterexample's test is added to the tests once, that it fails there, and that it can be removed again."""
     add = "#property-list .bar button:nth-of-type(2)"
     before = text_of(browser, "tests")
     test = browser.script(TEST_OF_FIND)
@@ -139,14 +139,14 @@ def check_opened(browser):
 
 
 def check_stopped(browser):
-    """Checks that a search of ten minutes can be stopped at once, also by the keyboard."""
+    """Checks that a search of ten minutes can be stopped immediately, also by keyboard."""
     explore(browser, 600)
-    # A tenth of the time is for a proof first.
+    # The first tenth of the time is for a proof.
     eventually(browser, "it looks", FIGURES, re.compile("^[1-9][0-9,]* steps"), 120)
-    begun = time.monotonic()
+    start = time.monotonic()
     browser.hold("#explore", 400)
     eventually(browser, "it stops", BUTTON, "Search", 5)
-    verdict("at once", time.monotonic() - begun < 3, True)
+    verdict("at once", time.monotonic() - start < 3, True)
     verdict("and says so", browser.script(PROPERTIES_STATUS), re.compile("^Stopped. "))
     browser.script("document.querySelector('#properties-editor .cm-editor').lineEditor.focus()")
     browser.chord(CONTROL, ENTER)
@@ -191,7 +191,7 @@ PROGRAM = "look: JCN 1, lit\n LDM 0\n JUN put\nlit: LDM 1\nput: WMP\n JUN look\n
 
 
 def check_proof_first(browser):
-    """Checks a board and a program that reach few states: what holds in all of them is proved."""
+    """Checks a board and a program that reach few states: properties that hold in all of them are proved."""
     choose_example(browser, "empty bench")
     explore(browser, 5)
     eventually(browser, "without a board nothing may change", PROPERTIES_STATUS, re.compile("^Nothing was run: Properties, line 1: nothing may change"))
@@ -205,7 +205,7 @@ def check_proof_first(browser):
 
 
 def check_from_a_state(browser):
-    """Checks a search that begins at a state that a test saves; the lines of that test precede a counterexample."""
+    """Checks a search that begins at a state that a test saves. The lines of that test precede a counterexample."""
     put(browser, "tests", "test it is lit\n  set test 1\n  run 40\n  save lit\n")
     put(browser, "properties", "from lit\ntest\nwait 1 to 20\nnever lamp 0 on\nfrom dark\n")
     show_text(browser, "properties")
@@ -231,7 +231,7 @@ def check_phone(browser):
 
 
 def check_kept(browser, folder):
-    """Checks that the text of properties is saved with its session, is in a project, and can be read from a file."""
+    """Checks that the properties text is saved with its session, is in a project, and can be read from a file."""
     put(browser, "properties", "never lamp 1 on")
     time.sleep(1)
     browser.reload()

@@ -1,5 +1,5 @@
-"""The front panel of a board in a browser: names, colours and positions of lamps, digits, TEST as a button or a switch, and wrong
-descriptions."""
+"""A board's front panel in a browser: names, colours and positions of lamps, digits, TEST as a button or a switch, and errors in the front panel's
+comments."""
 
 import base64
 import re
@@ -10,7 +10,7 @@ from picture import write_picture
 from verdicts import eventually, verdict
 
 TAB = "\ue004"
-# The heading also has the buttons of its panel.
+# The heading also contains the panel's buttons.
 TITLE = """const heading = document.getElementById('front-title');
 return (heading.querySelector('.fold') || heading).textContent"""
 NAMES = "return [...document.querySelectorAll('#front .bulb')].map((bulb) => bulb.getAttribute('aria-label')).join('; ')"
@@ -18,12 +18,12 @@ PRESSED = "return document.querySelector(arguments[0]).getAttribute('aria-presse
 TEST_KEY = "#keys .at-test"
 TEST_PRESSED = f"return document.querySelector('{TEST_KEY}').getAttribute('aria-pressed')"
 FAULTS = "return [...document.querySelectorAll('#face-faults li')].map((line) => line.textContent).join('; ')"
-# The message of the board's editor, up to the first half of a sentence.
+# The error messages of the board's editor, each up to its first semicolon.
 AT_LINES = """
 return [...document.querySelectorAll("#board-editor .fault-list li")].map((line) => line.textContent.split(";")[0])
   .filter((words) => words.includes("colour")).join(" | ");
 """
-# The middle of each lamp by its name, as distances from the left and from the top.
+# The centre of each lamp by name, as distances from the left and top edges.
 PLACES = """
 const places = {};
 for (const bulb of document.querySelectorAll("#front .bulb")) {
@@ -41,15 +41,15 @@ return [...document.querySelectorAll("#front .bulb")].map((bulb) => {
   return filled === bulb.getAttribute("aria-label").endsWith(", lit");
 }).every(Boolean)
 """
-# The digits, and the number of lit segments in each.
+# The text of the display, and the number of lit segments in each digit.
 SHOWN = """
 return [document.getElementById("digits").textContent,
   [...document.querySelectorAll("#glass svg")].map((digit) => digit.querySelectorAll(".lit").length)];
 """
-# The number of lit segments in each digit.
+# The number of lit segments of each digit's shape.
 SEGMENTS_OF = {"0": 6, "1": 2, "2": 5, "3": 5, "4": 4, "5": 5, "6": 6, "7": 3, "8": 7, "9": 6}
-# Records the announcements, and those that were made less than half a second after a change of the display. The page announces a display that has
-# not changed for a second. On a busy machine the digits can stay for that long while the stopwatch is running.
+# Records the announcements, and separately the announcements less than half a second after a change of the display. The page announces a display that
+# has not changed for a second. On a busy machine, the digits can stay that long while the stopwatch is running.
 WATCH_SAID = """
 const watch = (id, then) => new MutationObserver(then)
   .observe(document.getElementById(id), { childList: true, characterData: true, attributes: true, subtree: true });
@@ -68,7 +68,7 @@ SAID_EARLY = "return window.saidEarly.join(' ')"
 
 
 def lamps_are(wanted):
-    """Returns a pattern for the lamps' names with their states."""
+    """Returns a pattern that matches the lamps' names with their states."""
     return re.compile("^" + re.escape(wanted) + "$")
 
 
@@ -193,7 +193,7 @@ def check_bad_faces(browser):
     browser.script(PUT_INTO_EDITOR, "#board-editor", "# title: Another\n" + board_of_lamps(16))
     eventually(browser, "a face that is written is shown without wiring", TITLE, "Another")
     eventually(browser, "and no fault is left", FAULTS, "")
-    # Texts are read 600 ms after the last edit.
+    # The page reads texts 600 ms after the last edit.
     for what, text in (("of another board", board_of_lamps(15)), ("with a fault", board_of_lamps(16) + "[[lamp\n")):
         browser.script(PUT_INTO_EDITOR, "#board-editor", "# title: Third\n# lamp 16: nobody\n" + text)
         time.sleep(1.5)
@@ -238,7 +238,7 @@ def check(browser, page, _folder, _mcs4):
 
 
 def take_pictures(browser, page, folder):
-    """Takes screenshots of three boards on the page, for the documents."""
+    """Takes screenshots of three boards on the page for the documents."""
     browser.go(page.as_uri())
     until_ready(browser)
     browser.command("Emulation.setDeviceMetricsOverride", width=1280, height=1400, deviceScaleFactor=1, mobile=False)
@@ -248,7 +248,7 @@ def take_pictures(browser, page, folder):
         time.sleep(0.5)
         browser.keys(list(typed), 50, 60)
         time.sleep(0.5)
-        # The hints below the keys are not part of the board.
+        # Hide the hints below the keys, which are not a part of the board.
         browser.script("for (const id of ['typing-label', 'keys-hint']) document.getElementById(id).hidden = true")
         box = browser.script("""
             const front = document.getElementById("front").getBoundingClientRect();

@@ -1,5 +1,5 @@
-"""The story of an example in a browser: `?story=` opens it, and each of its links shows what it says, by pointer and by keyboard, also on a
-phone. Also an unknown story, and links to things that no longer exist."""
+"""The story of an example in a browser. `?story=` opens the story, and each of its links shows what its text says, by pointer and keyboard, also on a
+phone. Also: an unknown story, and links to things that no longer exist."""
 
 import re
 import time
@@ -27,7 +27,7 @@ REGISTER = "return document.getElementById(`value-${arguments[0]}`).textContent"
 
 
 def place(browser, words, time_after=0.2):
-    """Clicks on the link with these words. A number after them distinguishes links with the same words."""
+    """Clicks the link with these words. A number after `#` selects one of several links with the same words."""
     words, _, number = words.partition("#")
     found = [at for at, each in enumerate(browser.script(PLACES)) if each == words]
     if not found:

@@ -1,4 +1,4 @@
-"""What checks/page checks in the page's help: the manual's tables, the box for lines, the picture of the wiring, the first program."""
+"""The part of checks/page about the page's help: the manual's tables, the console input, the wiring picture, and the first program."""
 
 import re
 import time
@@ -79,7 +79,7 @@ def check_wiring(browser):
 
 
 def run_program(browser):
-    """Puts the program of a step into the source, and assembles and runs it by its button."""
+    """Puts a step's program into the source with its button, then assembles and runs the program."""
     browser.click("#tour-put")
     browser.script("document.querySelector('#program-editor .status-text').firstChild.data = ''")
     browser.click("#program-editor .send")
@@ -88,7 +88,7 @@ def run_program(browser):
 
 
 def check_tour(browser):
-    """Checks the five steps as they are described."""
+    """Checks the five steps of the tour as they are described."""
     browser.click("#help-button")
     browser.click("#tour-begin")
     eventually(browser, "the first program begins", TITLE, "1 of 5: A lamp")

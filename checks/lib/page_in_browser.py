@@ -1,4 +1,4 @@
-"""What checks/page checks in the browser: keys, clicks and files have the same effects as the program's lines."""
+"""The basic part of checks/page in the browser: keys, clicks and files must have the same effects as the program's lines."""
 
 import os
 import pathlib
@@ -13,18 +13,18 @@ from verdicts import eventually, verdict
 
 TOP = pathlib.Path(__file__).resolve().parent.parent.parent
 DIGITS = "return document.getElementById('digits').textContent"
-# The status text, without the names that follow an address.
+# The status text without the names after an address.
 STATUS = "return document.getElementById('status').textContent.replace(/ \\([^()]*line \\d+\\)/g, '')"
 WHOLE_STATUS = "return document.getElementById('status').textContent"
 STEPPED = re.compile("^At [0-9A-F]{3}, after [12] cycles?, ")
 NOTICE = "return [...document.querySelectorAll('#notice p')].map((shown) => shown.textContent).join(' ')"
-# All notices so far, the newest first, as the list shows them.
+# All notices so far, newest first, as the list shows them.
 ALL_NOTICES = """
 document.getElementById("notices-button").click();
 const all = [...document.querySelectorAll("#notices li .grow")].map((shown) => shown.textContent);
 document.querySelector("#notices .bar button").click();
 return all"""
-# The cards of a first visit cover everything else.
+# Closes the cards of a first visit, which cover everything else.
 CLOSE_CARDS = "const cards = document.getElementById('welcome'); if (cards && cards.open) cards.close()"
 READY = "return Boolean(document.body.dataset.ready)"
 KEYS_DOWN = "return document.querySelectorAll(\"#keys [aria-pressed='true']\").length"
@@ -39,7 +39,7 @@ WITHOUT_NAMES = """
 return [...document.querySelectorAll("button, input, select, textarea")].filter((each) => !each.textContent.trim()
   && !each.getAttribute("aria-label") && !each.labels?.length && !each.getAttribute("aria-labelledby")).length"""
 
-# Records the saved session while the page is hidden, and when it is shown again.
+# Records the saved session while the page is hidden and when it is shown again.
 WATCH_HIDDEN = """
 window.keptWhenHidden = [];
 const id = location.hash.slice("#session=".length);
@@ -52,20 +52,20 @@ indexedDB.open("fethsaim", 1).onsuccess = (opened) => {
 }"""
 KEPT_WHEN_HIDDEN = "const kept = window.keptWhenHidden; return [kept.length, new Set(kept).size]"
 
-# The text of an editor, and its replacement. Each editor's element has a line editor (js/page/text/line_editor.js).
+# The text of an editor, and its replacement. Each editor's element has a LineEditor (js/page/text/line_editor.js).
 TEXT_OF_EDITOR = "return document.querySelector(`${arguments[0]} .cm-editor`).lineEditor.getValue()"
 PUT_INTO_EDITOR = "document.querySelector(`${arguments[0]} .cm-editor`).lineEditor.setValue(arguments[1])"
 
 # Blocks the page's thread for a number of milliseconds.
 BLOCK = "const end = performance.now() + arguments[0]; while (performance.now() < end);"
 
-# The rows of the listing move with the counter; a click before that would hit another line.
+# True if the disassembly shows the counter. Its rows move with the counter, so an earlier click would hit another line.
 AT_COUNTER = """const next = document.querySelector('#lines-of-program .next');
 return next !== null && next.textContent.includes(document.getElementById('value-pc').textContent)"""
 
 RATE = "return Number(document.getElementById('rate').textContent.replace(/\\D/g, ''))"
 
-# The actions that the page's policy forbids: each is tried, and reported by an event.
+# Tries the actions that the page's content security policy forbids. An event reports each of them.
 FORBIDDEN = """
 window.violations = new Set();
 document.addEventListener("securitypolicyviolation", (event) => window.violations.add(event.effectiveDirective));
@@ -85,20 +85,20 @@ VIOLATIONS = "return [...window.violations].sort().join(' ') + (window.injected 
 
 
 def until_ready(browser):
-    """Waits until the page is ready; other work on the machine can make it much slower."""
+    """Waits until the page is ready, which can take much longer on a busy machine."""
     eventually(browser, "the page is ready", READY, True, 90)
     browser.script(CLOSE_CARDS)
 
 
 def open_anew(browser, page):
-    """Opens the page in a browser without stored data."""
+    """Opens the page again from a blank page."""
     browser.go("about:blank")
     browser.go(page.as_uri())
     until_ready(browser)
 
 
 def stop_time(browser):
-    """Pauses the running page."""
+    """Pauses time."""
     browser.click("#run")
     browser.until(STATUS, re.compile("^Paused"))
 
@@ -110,7 +110,7 @@ def of_file_menu(browser, selector):
 
 
 def key(legend):
-    """Returns the selector of a key of the board."""
+    """Returns the selector of a key on the board."""
     return f"#keys button[aria-label^='key {legend},']"
 
 
@@ -122,7 +122,7 @@ def choose_example(browser, name):
 
 
 def step_with_marks(browser):
-    """Checks the lit lamps, pausing, and the marks of changes by a step, with the traffic light."""
+    """Checks the lamps that are on, pausing, and the marks of changes after a step, with the traffic light."""
     choose_example(browser, "traffic light")
     eventually(browser, "a lamp is lit", "return document.querySelectorAll('.bulb.lit').length > 0", True)
     stop_time(browser)
@@ -143,7 +143,7 @@ def check_calculator(browser):
     eventually(browser, "7 - 9 by the keyboard", DIGITS, "-2")
     browser.keys([ESCAPE, "6", "*", "9", ENTER], 1, 1)
     eventually(browser, "6 * 9, typed faster than a hand can", DIGITS, "54")
-    # Pressed again before its release is reported, which is 43 ms after the press, in the next frame.
+    # Each key is pressed again before its release is reported in the next frame, 43 ms after the press.
     for down, up in ((20, 50), (50, 20), (90, 25)):
         browser.keys([ESCAPE, *"11111111"], down, up)
         eventually(browser, f"one key eight times, {down} ms down and {up} ms up", DIGITS, "11111111")
@@ -159,7 +159,7 @@ def check_two_keys(browser):
 
 
 def lamps_of(mcs4, file, keys):
-    """Returns the program's answer to `lamps` for a session file after some keys."""
+    """Returns the program's display text for a session file after some keys."""
     board = TOP / "examples/calculator/board.toml"
     environment = dict(os.environ, MCS4=str(mcs4))
     lines = subprocess.run([TOP / "mcs4", "keys", board, keys], stdout=subprocess.PIPE, check=True, env=environment).stdout
@@ -168,7 +168,7 @@ def lamps_of(mcs4, file, keys):
 
 
 def as_version_1(file):
-    """Returns a saved session as version 1 would store it: without the byte for the version and the number of watches."""
+    """Returns a saved session in the format of version 1, which does not have the version byte and the number of watches."""
     slot = 16 if file[8] % 2 == 0 else 81936
     length = int.from_bytes(file[slot:slot + 4], "big")
     snapshot = file[slot + 4:slot + 4 + length]
@@ -179,13 +179,13 @@ def as_version_1(file):
 def check_files(browser, folder, mcs4):
     browser.keys([ESCAPE, "6", "*", "7", ENTER])
     browser.until(DIGITS, "42")
-    # A typed key stays down for a moment; a key that is down when the machine pauses is down in the file.
+    # A typed key stays down for a moment. A key that is down when time pauses is down in the file.
     browser.until(KEYS_DOWN, 0)
     stop_time(browser)
     of_file_menu(browser, "#save-session-button")
     saved = folder / "downloads/calculator.mcs"
     end = time.monotonic() + 20
-    # Some browsers create an empty file first.
+    # Some browsers first create an empty file.
     while not (saved.exists() and saved.stat().st_size > 0) and time.monotonic() < end:
         time.sleep(0.05)
     old = folder / "old.mcs"
@@ -241,7 +241,7 @@ def check_stops(browser):
 
 
 def focused(browser, key, code, most=40):
-    """Moves the focus by a key until a script on the focused element returns true; returns whether it does."""
+    """Presses a key until a script about the focused element returns true. Returns false if it never does."""
     for _ in range(most):
         browser.keys([key], 1, 1)
         if browser.script(f"const e = document.activeElement; return {code}"):
@@ -250,7 +250,7 @@ def focused(browser, key, code, most=40):
 
 
 def check_keyboard_alone(browser):
-    # After the last element of the page, the focus goes to the browser.
+    # After the page's last element, the focus moves to the browser.
     browser.script("document.getElementById('name').focus()")
     verdict("Tab comes to Step", focused(browser, TAB, "e.id === 'step'"), True)
     browser.keys([ENTER])
@@ -270,8 +270,8 @@ def check_narrow(browser):
 
 
 def check_hidden(browser):
-    """Checks that a hidden page is paused, and so is a page that the browser does not run."""
-    # An example is saved from the first key on.
+    """Checks that time pauses in a hidden page, and in a page that the browser suspends."""
+    # An example is saved after the first key.
     browser.keys([ESCAPE])
     browser.until("return location.hash", re.compile("#session="))
     browser.script(WATCH_HIDDEN)
@@ -290,7 +290,7 @@ def check_hidden(browser):
 
 
 def check_hidden_at_full_speed(browser):
-    """Checks that at full speed a hidden page keeps running, and is saved."""
+    """Checks that at full speed a hidden page keeps running and is saved."""
     browser.script(SPEED, "full")
     eventually(browser, "full speed is faster", RATE, re.compile("[1-9]......"))
     browser.script("window.keptWhenHidden = []")
@@ -305,24 +305,24 @@ def check_hidden_at_full_speed(browser):
 
 
 def check_speed_field(browser):
-    """Checks that the speed of the machine is the one in its field. Some browsers restore the field after a reload, others when the user returns
-    to the page. The driver goes back: Chromium ignores a page without user input when a script goes back."""
+    """Checks that time runs at the speed in the speed field. Some browsers restore the field after a reload, others when the user returns to the
+    page. The driver itself goes back, because Chromium ignores a page without user input when a script goes back."""
     for what, come_again in {"a reload": lambda: browser.script("setTimeout(() => location.reload(), 50)"),
                              "coming back": lambda: (browser.go("about:blank"), browser.back())}.items():
         browser.type_into("#speed", "full")
-        # A page that the browser has cached is ready as soon as it is shown again.
+        # A page from the browser's cache is ready as soon as it is shown again.
         browser.script("const { dataset } = document.body; delete dataset.ready; addEventListener('pageshow', () => { dataset.ready = 'again'; })")
         come_again()
         until_ready(browser)
         is_full = browser.until("const field = document.getElementById('speed'); return field ? field.value : ''", re.compile("^(full|real)$")) == "full"
-        # The first rate that is reported at full speed can still be low.
+        # The first rate reported at full speed can still be low.
         eventually(browser, f"the speed after {what} is the one in its field", RATE, re.compile("^[2-9].{5}$|^.{7,}$" if is_full else "^[1-9].{4}$"))
     browser.script(SPEED, "real")
 
 
 def show_text(browser, name):
-    """Selects a tab of the texts (`program`, `board`, `wiring`) or of the dock (`console`, `disassembly`). On a slow machine, redrawing can move
-    the tab from under the pointer; a user would click again."""
+    """Selects a tab of the texts (`program`, `board`, `wiring`) or of the dock (`console`, `disassembly`). On a slow machine, redrawing can move the
+    tab away from the pointer. Then clicks again, as a user would."""
     selected = f"return document.getElementById('{name}-tab').getAttribute('aria-selected')"
     end = time.monotonic() + 30
     while time.monotonic() < end:
@@ -361,7 +361,7 @@ def check_texts(browser):
 def lines_answered(browser, lines):
     browser.script("document.getElementById('lines').value = arguments[0]", lines)
     before = len(browser.text("#log"))
-    # A notice can cover the button.
+    # Click through a script, because a notice can cover the button.
     browser.script("document.getElementById('send').click()")
     browser.until("return document.getElementById('lines').value", "")
     return browser.text("#log")[before:]
@@ -383,7 +383,7 @@ def check_two_tabs(browser):
 
 
 def check_use(browser, page, folder, mcs4):
-    """Checks the page in a browser that has all features."""
+    """Checks the page in a browser with all features."""
     browser.go(page.as_uri())
     until_ready(browser)
     verdict("without a notice", browser.script(NOTICE), "")
@@ -402,11 +402,11 @@ def check_use(browser, page, folder, mcs4):
 
 
 def check_by_chromium(browser, page):
-    """Checks what only Chromium's driver can show."""
+    """Checks that only Chromium's driver can make."""
     browser.go(page.as_uri())
     until_ready(browser)
     check_narrow(browser)
-    # A waiting script of a check can fail until its result is there; such an error is not the page's.
+    # A waiting script of a check can fail until its result is there. Such an error does not come from the page.
     own = ("javascript ", "Script error", "favicon")
     verdict("no fault in the browser's log", [line for line in browser.log() if not any(word in line for word in own)], [])
 
@@ -419,7 +419,7 @@ def check_policy(browser, page):
 
 
 def figures(browser, page):
-    """Returns the sizes of the page and the time of its start, for the documents."""
+    """Returns the sizes of the page and its startup time, for the documents."""
     open_anew(browser, page)
     start = browser.script("return Number(document.body.dataset.ready)")
     return f"the page has {page.stat().st_size} bytes, its module {len(module_of_page(page))}; it starts in {start} ms in {browser.name}"

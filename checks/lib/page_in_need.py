@@ -1,4 +1,4 @@
-"""What checks/page checks if something fails or the browser lacks something: a message describes it, and nothing is lost."""
+"""The part of checks/page about failures and missing browser features: a message describes each problem, and nothing is lost."""
 
 import re
 import time
@@ -9,7 +9,7 @@ from page_in_browser import (DIGITS, ENTER, ESCAPE, NOTICE, PUT_INTO_EDITOR, REA
 from verdicts import eventually, verdict
 from web_driver import Chromium
 
-# The ways in which a browser can have no store.
+# The ways in which a browser can lack a store.
 NO_STORE = {
     "no IndexedDB": "Object.defineProperty(window, 'indexedDB', { value: undefined })",
     "IndexedDB and locks are refused": "IDBFactory.prototype.open = () => { throw new DOMException('', 'SecurityError'); };"
@@ -18,7 +18,7 @@ NO_STORE = {
 }
 NO_READING = "IDBObjectStore.prototype.getAll = () => { throw new DOMException('', 'UnknownError'); }"
 
-# The browser's store is full.
+# Makes the browser's store full.
 FULL_STORE = """
 window.put = IDBObjectStore.prototype.put;
 IDBObjectStore.prototype.put = () => { throw new DOMException("", "QuotaExceededError"); }"""
@@ -38,7 +38,7 @@ def dismiss(browser):
 
 
 def check_failures(browser, page, folder):
-    """Checks a trap, no memory, a worker that dies or hangs, and a full store; the session stays."""
+    """Checks a trap, a lack of memory, a worker that dies or hangs, and a full store. The session stays in each case."""
     browser.go(altered(page, folder, SHOW_WORKER, FAULTS).as_uri())
     until_ready(browser)
     choose_example(browser, "calculator")
@@ -74,7 +74,7 @@ def check_full_store(browser):
 
 
 def check_worker(browser):
-    """Checks a worker that dies while the machine is running, and one that hangs when its work is cancelled."""
+    """Checks a worker that dies while time is running, and a worker that hangs when its work is cancelled."""
     browser.click("#run")
     browser.until(STATUS, re.compile("^Running \""))
     fail(browser, "die")
@@ -97,8 +97,8 @@ def check_worker(browser):
     dismiss(browser)
 
 
-# 20,000,000 bytes of lines that take a while to serve: after a cancellation, none of them may be done. The field is hidden meanwhile, because its
-# layout would take a browser minutes.
+# Fills in 20,000,000 bytes of lines, which take a while to serve. After a cancellation, none of them may be executed. The field is hidden,
+# because a browser would need minutes for its layout.
 LONG_WORK = """
 document.getElementById("lines").style.display = "none";
 document.getElementById("lines").value = "run 100000".padEnd(249).concat("\\n").repeat(80000);
@@ -108,8 +108,8 @@ window.ticking = setInterval(() => {
   window.longest = Math.max(window.longest, performance.now() - before);
   before = performance.now();
 }, 20)"""
-# Opened with `?hang`, the page never finishes opening a session, nor its work when it is left. Opened with `?deaf=EVENT`, it does not receive
-# that event.
+# With `?hang`, the page never finishes opening a session, nor the work for leaving the page. With `?deaf=EVENT`, the page does not receive that
+# event.
 HANG = """
 const deaf = (name) => addEventListener(name, (event) => event.stopImmediatePropagation(), true);
 if (location.search.startsWith("?deaf=")) deaf(location.search.slice(6));
@@ -124,7 +124,7 @@ if (location.search === "?hang") {
 }"""
 FLAGS = "return Object.keys(localStorage).filter((key) => key.startsWith('fethsaim.opening')).length"
 LONG_AGO = "for (const key of Object.keys(localStorage)) if (key.startsWith('fethsaim.opening')) localStorage.setItem(key, '1')"
-# Pages that were left while they were busy can have left some.
+# Pages that the user left while they were busy can have left some flags.
 WITHOUT_FLAGS = "for (const key of Object.keys(localStorage)) if (key.startsWith('fethsaim.opening')) localStorage.removeItem(key)"
 UNENDED = 'The session "die" was not opened automatically: the last time, opening it did not finish.'
 LAST_ENTRY = "return document.getElementById('log').lastElementChild.textContent"
@@ -133,11 +133,11 @@ LONGEST = "clearInterval(window.ticking); return window.longest"
 
 
 def check_long_work(browser, page):
-    """Checks that long work shows its progress and does not block the page. If it is cancelled, none of it is done."""
+    """Checks that long work shows its progress and does not block the page, and that a cancellation undoes all of it."""
     open_anew(browser, page)
     choose_example(browser, "calculator")
     stop_time(browser)
-    # The line about runs is added to the log before the first of the sent lines.
+    # The log gets an entry about runs before the first of the sent lines.
     lines_answered(browser, "seq")
     before = lines_answered(browser, "seq")
     browser.script(LONG_WORK)
@@ -163,8 +163,8 @@ window.setTimeout = (act, time, ...rest) => wait(act, time === 10000 ? 300 : tim
 
 
 def poor(page, folder, code):
-    """Returns a copy of the page for a browser that lacks something. It waits for a store, normally ten seconds, for a short time
-    only."""
+    """Returns a copy of the page for a browser that lacks something. This copy waits only briefly for a store, where the page would wait ten seconds.
+    """
     return altered(page, folder, f"{SHORT_WAIT}{code}")
 
 
@@ -197,7 +197,7 @@ def check_poor_browsers(browser, page, folder):
 
 
 def check_no_locks(browser, page, folder):
-    """Checks two tabs on one session in a browser without locks: neither overwrites the other one's changes."""
+    """Checks two tabs with the same session in a browser without locks: neither overwrites the other's changes."""
     notice_at_start(browser, altered(page, folder, "Object.defineProperty(Navigator.prototype, 'locks', { value: undefined })"), READY, True)
     address = browser.script("return location.href")
     first = browser.tab()
@@ -215,7 +215,7 @@ def check_no_locks(browser, page, folder):
 
 
 def check_blocked(kind, page, folder):
-    """Checks the page in a browser whose settings block the data of all sites."""
+    """Checks the page in a browser whose settings block all site data."""
     browser = kind(folder / f"blocked{kind.name}", str(folder / "downloads"), **kind.blocks_data)
     try:
         verdict("blocked data of sites", notice_at_start(browser, page), re.compile("blocked by the settings"))
@@ -225,13 +225,13 @@ def check_blocked(kind, page, folder):
 
 
 def check_little_memory(page, folder):
-    """Checks a browser that gives the module 80 pages of memory, 5 MB. A text that needs more is rejected, and the session is unchanged."""
+    """Checks a browser that gives the module only 80 pages of memory (5 MB). A text that needs more is rejected, and the session stays unchanged."""
     browser = Chromium(folder / "little", str(folder / "downloads"), ["--js-flags=--wasm-max-mem-pages=80"])
     try:
         browser.go(page.as_uri())
         until_ready(browser)
         stop_time(browser)
-        # The line about runs can be added to the log meanwhile.
+        # The log can get an entry about runs in the meantime.
         before = lines_answered(browser, "seq").split()[-1]
         browser.script("document.getElementById('lines').value = 'poke r5 9\\nasm\\n' + '; a comment of so many letters\\n'.repeat(150000)")
         browser.script("document.getElementById('send').click()")
@@ -243,7 +243,7 @@ def check_little_memory(page, folder):
 
 
 def reopen(browser, address):
-    """Leaves the page and opens it again; returns its notice."""
+    """Leaves the page and opens it again. Returns its notice."""
     browser.go("about:blank")
     browser.go(address)
     until_ready(browser)
@@ -251,7 +251,7 @@ def reopen(browser, address):
 
 
 def hang(browser, address):
-    """Opens a session and leaves the tab meanwhile, with an old time stamp, as if the page had hung."""
+    """Opens a session that never finishes opening. The flag gets an old time stamp, as if the page had hung for long."""
     browser.go("about:blank")
     browser.go(address.replace("html", "html?hang", 1))
     browser.until("return Boolean(window.hung)", True)
@@ -259,7 +259,7 @@ def hang(browser, address):
 
 
 def check_left_soon(browser, address, session):
-    """Checks that a page that is left within a second does not count as hung, whichever event of its end it gets."""
+    """Checks that a page that is left within a second does not count as hung, whichever event announces its end."""
     for query in ("", *(["?deaf=beforeunload"] if browser.runs_at_pagehide else []), "?deaf=pagehide"):
         browser.go("about:blank")
         browser.go(address.replace(".html", f".html{query}") + session)
@@ -267,7 +267,7 @@ def check_left_soon(browser, address, session):
         text = f"; left {query}\n"
         browser.script(PUT_INTO_EDITOR, "#program-editor", text)
         browser.go("about:blank")
-        # Waits, because another tab could be opening the session just then.
+        # Wait, because another tab could still be opening the session at this time.
         time.sleep(2.1)
         verdict(f"a session of a page that is left at once is opened by itself again ({query})",
                 [reopen(browser, address), browser.script("return location.hash")], ["", session])
@@ -275,8 +275,8 @@ def check_left_soon(browser, address, session):
 
 
 def check_unended(browser, page, folder):
-    """Checks that a session whose opening hung the page is not opened automatically again. A message reports that, and the session can be opened
-    or deleted."""
+    """Checks that a session that has hung the page is not opened automatically again. A message reports that, and the session can be opened or
+    deleted."""
     hanging = altered(page, folder, HANG).as_uri()
     reopen(browser, hanging)
     browser.script(WITHOUT_FLAGS)
@@ -305,7 +305,7 @@ def check_unended(browser, page, folder):
 
 
 def check_lacks(browser, page, folder):
-    """Checks the page if something fails or is missing."""
+    """Checks the page when something fails or is missing."""
     check_long_work(browser, page)
     check_unended(browser, page, folder)
     check_failures(browser, page, folder)

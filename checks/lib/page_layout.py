@@ -1,4 +1,4 @@
-"""What checks/page checks about the layout: positions at each window size, the listing's scrolling, marks, cells, print, names."""
+"""The part of checks/page about the layout: positions at each window size, the scrolling of the disassembly, marks, cells, print, names."""
 
 import re
 import time
@@ -52,7 +52,7 @@ SHOWN = "return [...document.querySelectorAll('#texts [role=tabpanel]')].filter(
 
 
 def check_tabs(browser):
-    """Checks tabs by ARIA's pattern, and that no typed text is lost when another tab is selected."""
+    """Checks the tabs' ARIA pattern, and that no typed text is lost when another tab is selected."""
     show_text(browser, "board")
     verdict("a click shows the board's text", browser.script(SHOWN), "board-editor")
     browser.script("document.getElementById('board-tab').focus()")
@@ -82,7 +82,7 @@ def check_folds(browser):
     show_text(browser, "disassembly")
 
 
-# --- the listing ---
+# --- the disassembly ---
 
 ROWS = "return [...document.querySelectorAll('#lines-of-program button')].filter((each) => !each.hidden).map((each) => each.textContent)"
 FOCUSED = "return document.activeElement.closest('#lines-of-program') ? document.activeElement.textContent.replace(/\\W/g, '').slice(0, 3) : ''"
@@ -99,7 +99,7 @@ def focus_row(browser, at):
 
 
 def check_listing(browser):
-    """Checks that all 4,096 bytes can be reached by keys, wheel and scroll bar."""
+    """Checks that keys, wheel and scroll bar reach all 4,096 bytes."""
     stop_time(browser)
     focus_row(browser, 3)
     browser.keys([HOME])
@@ -133,7 +133,7 @@ def check_listing(browser):
 
 
 def lines_of_program(browser):
-    """Returns the addresses up to 2FF at which instructions begin, from a list that begins at 000."""
+    """Returns the addresses up to 2FF at which instructions begin in a list that starts at 000."""
     answers = lines_answered(browser, "list 0 256\nlist 0x100 256\nlist 0x200 256")
     return {found for found in re.findall(r"(?<![0-9A-F])([0-2][0-9A-F]{2}) (?:[0-9A-F]{2} ){1,2}", answers) if found <= "23F"} - {"list"}
 
@@ -179,12 +179,12 @@ COUNT_MARKS = """
 window.marks = 0;
 new MutationObserver((all) => { window.marks += all.filter((each) => each.target.classList.contains("changed")).length; })
   .observe(document.body, { subtree: true, attributes: true, attributeFilter: ["class"] })"""
-# Sets R5, and then waits for about two seconds.
+# Sets R5, then waits for about two seconds.
 SLOW = "FIM P0, 0x00\\nLDM 7\\nXCH R5\\nwait: ISZ R0, wait\\nISZ R1, wait\\nISZ R2, wait\\nISZ R3, wait\\nend: IAC\\nJUN end\\n"
 
 
 def check_marks(browser):
-    """Checks that the marks at a pause are the differences from the previous pause, however long ago the values changed."""
+    """Checks that the marks at a pause show the differences from the previous pause, however long ago the values changed."""
     choose_example(browser, "three lamps")
     stop_time(browser)
     lines_answered(browser, f"asm\n{SLOW}.\nreset\nbreak 12".replace("\\n", "\n"))
@@ -220,7 +220,7 @@ def double_click(browser, selector):
 
 
 def check_cells(browser):
-    """Checks that registers and RAM are edited in place, that a refusal is shown at the cell, and that a cell that cannot be set says so."""
+    """Checks that registers and RAM are edited in place, that a refusal appears at the cell, and that a read-only cell shows a message."""
     edit(browser, "#value-R5", F2, ["b", ENTER])
     eventually(browser, "F2 and a digit poke a register", "return document.getElementById('value-R5').textContent", "B")
     verdict("the focus is back at the cell", browser.script("return document.activeElement.id"), "value-R5")
@@ -249,7 +249,7 @@ def check_cells(browser):
 
 
 def check_pressed(browser):
-    """Checks that a press on an element works even if its text changes meanwhile. (WebKit forgets the press if the text node is replaced.)"""
+    """Checks that a click on an element works even if its text changes during the click. (WebKit loses the click if the text node is replaced.)"""
     browser.until(STATUS, re.compile("^Running"))
     browser.script("window.pressed = 0; document.getElementById('value-acc').addEventListener('click', () => { window.pressed++; })")
     browser.hold("#value-acc", 400)
@@ -260,7 +260,7 @@ AT = "const shown = document.querySelector('.popup-message'); return shown.hidde
 
 
 def check_refusals(browser):
-    """Checks that the ninth watch and the thirty-third breakpoint are rejected at the point of the click."""
+    """Checks that the rejections of the ninth watch and the thirty-third breakpoint appear at the click."""
     lines_answered(browser, "\n".join(f"watch 7 {at}" for at in range(8)))
     browser.click(".ram button:nth-child(5)")
     eventually(browser, "a watch too many is refused at its cell", AT, re.compile("8 characters"))
@@ -273,12 +273,12 @@ def check_refusals(browser):
     lines_answered(browser, "\n".join(f"unbreak {0x300 + at}" for at in range(32)))
 
 
-# --- for everyone ---
+# --- accessibility ---
 
 NAMED = """
 return [...document.querySelectorAll(".ram button")].filter((each) => !/^[0-9A-F]$/.test(each.textContent)
   || each.getAttribute("aria-label") || !/bank \\d, chip \\d, register \\d, (character \\d+: SRC byte [0-9A-F]{2}|status character \\d)/.test(each.title)).length"""
-# Counts the announcements while running: changes in live regions within a number of seconds.
+# Counts the announcements while time is running: changes in live regions within a number of seconds.
 SAID = """
 window.said = 0;
 const places = [...document.querySelectorAll("output, [aria-live], [role=status], [role=alert], [role=log]")];
@@ -309,7 +309,7 @@ DOWN_KEYS = "return document.querySelectorAll(\"#keys [aria-pressed='true']\").l
 
 
 def check_swipe(browser):
-    """Checks that a swipe that begins on a key, fast or slow, leaves no key down, while running and while paused."""
+    """Checks that a fast or slow swipe that begins on a key leaves no key down, while time is running and while it is paused."""
     choose_example(browser, "calculator")
     browser.until(STATUS, re.compile("^Running"))
     before = lines_answered(browser, "seq")
@@ -345,7 +345,7 @@ def check_letters(browser):
     show_text(browser, "program")
 
 
-# --- sizes, print and colours, by Chromium's driver ---
+# --- sizes, print and colours, through Chromium's driver ---
 
 def at_size(browser, width, height, mobile=False):
     browser.resize(width, height, mobile)
@@ -361,14 +361,14 @@ return Object.fromEntries(ids.map((id) => {
   const box = element.getBoundingClientRect();
   return [id, isShown(element) ? { left: box.left, right: box.right, top: box.top, bottom: box.bottom } : null];
 }))"""
-# Controls of the toolbar that overlap.
+# The toolbar controls that overlap.
 COVERED = """
 const shown = [...document.querySelectorAll("#toolbar :is(button, input, select, h1):not([role=menu] *)")].filter(isShown);
 const boxes = shown.map((each) => [each.id, each.getBoundingClientRect()]);
 return boxes.flatMap(([id, a], k) => boxes.slice(k + 1)
   .filter(([, b]) => Math.min(a.right, b.right) - Math.max(a.left, b.left) > 1 && Math.min(a.bottom, b.bottom) - Math.max(a.top, b.top) > 1)
   .map(([other]) => `${id} ${other}`))"""
-# Controls of the toolbar and the status bar that are not completely in the window, while there is a notice.
+# The controls of the toolbar and the status bar that are partly outside the window while there is a notice.
 OUTSIDE = """
 document.getElementById("notices-button").hidden = false;
 return [...document.querySelectorAll("#toolbar :is(button, input, select):not([role=menu] *), #statusbar button")].filter(isShown).filter((each) => {
@@ -376,7 +376,7 @@ return [...document.querySelectorAll("#toolbar :is(button, input, select):not([r
   return left < Math.max(0, room.left) || right > Math.min(innerWidth, room.right);
 }).map(({ id }) => id)"""
 SIDEWAYS = "return document.documentElement.scrollWidth - document.documentElement.clientWidth"
-# The distances by which the page itself can be scrolled, vertically and horizontally.
+# The distances by which the page itself can scroll, vertically and horizontally.
 SCROLLS = """
 const { scrollHeight, clientHeight, scrollWidth, clientWidth } = document.documentElement;
 scrollTo(1000, 1000);
@@ -386,7 +386,7 @@ return [scrollWidth - clientWidth, scrollHeight - clientHeight, ...moved]"""
 
 
 def check_sizes(browser):
-    """Checks that the page itself never scrolls. From 1,000 pixels on, front panel, texts and the debugger's panels are next to each other."""
+    """Checks that the page itself never scrolls. From 1,000 pixels, the front panel, the texts and the debugger's panels are side by side."""
     choose_example(browser, "traffic light")
     for width, height in ((1024, 640), (1200, 720), (1280, 720), (1440, 900), (1920, 1080)):
         at_size(browser, width, height)
@@ -408,7 +408,7 @@ def check_sizes(browser):
 
 
 def check_narrow_sizes(browser):
-    """Checks sizes that no browser window has: the driver sets them for the page."""
+    """Checks widths that browser windows do not allow. The driver sets them for the page."""
     check_not_covered(browser, 699, 320)
     browser.resize_back()
 
@@ -421,7 +421,7 @@ def check_not_covered(browser, *widths):
         verdict(f"and each one is whole at {width}", browser.script(OUTSIDE), [])
 
 
-# Errors in the visible rows of controls: a control that its row cuts off, or that overlaps another one.
+# Errors in the visible control rows: controls that are cut off or that overlap.
 WRONG_CONTROLS = """
 const rows = [...document.querySelectorAll("#wave-bar, .editor > .bar, #wiring > .bar, #statusbar")].filter(isShown);
 return rows.flatMap((row) => {
@@ -437,7 +437,7 @@ return rows.flatMap((row) => {
 
 
 def check_controls(browser):
-    """Checks that in narrower windows the controls of waves, texts and status are complete and do not overlap."""
+    """Checks that in narrow windows the controls of waves, texts and status bar are complete and do not overlap."""
     choose_example(browser, "traffic light")
     show_text(browser, "waves")
     record(browser, 20000)
@@ -457,7 +457,7 @@ DRAWER = "return isShown(document.getElementById('processor'))"
 
 
 def check_drawer(browser):
-    """Checks that in a narrower window the debugger's panels are a drawer."""
+    """Checks that in a narrow window the debugger's panels are a drawer."""
     at_size(browser, 820, 1180)
     verdict("the drawer is shut", browser.script(DRAWER), False)
     browser.click("#drawer-button")
@@ -473,7 +473,7 @@ return box.top >= -1 && box.bottom <= innerHeight + 1 && box.height > 0"""
 
 
 def swipe_up(browser, x, y):
-    """Moves a finger up by 180 pixels, as for the browser's own scrolling."""
+    """Swipes up by 180 pixels at the browser's own pace of scrolling."""
     moves = [{"type": "pointerMove", "duration": 16, "x": int(x), "y": int(y) - 18 * step} for step in range(11)]
     browser.actions({"type": "pointer", "id": "swipe", "parameters": {"pointerType": "touch"},
                      "actions": [moves[0], {"type": "pointerDown", "button": 0}, *moves[1:], {"type": "pointerUp", "button": 0}]})
@@ -507,7 +507,7 @@ PHONE_PANELS = "return ['front', 'texts', 'side', 'dock'].filter((id) => isShown
 
 
 def check_phone(browser):
-    """Checks that on a phone one region is shown at a time, selected by the tabs at the bottom, and that a swipe that begins on a key scrolls."""
+    """Checks that a phone shows one region at a time, selected with the tabs at the bottom, and that a swipe that begins on a key scrolls."""
     choose_example(browser, "calculator")
     at_size(browser, 375, 667, True)
     browser.command("Emulation.setTouchEmulationEnabled", enabled=True)

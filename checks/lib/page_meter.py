@@ -1,7 +1,7 @@
-"""Scripts that measure a page from outside, without changing its own scripts."""
+"""Scripts that measure a page from outside without changing its own scripts."""
 
-# Runs before the page's script: `frames` gets the milliseconds of work in each frame in real time. The work of a handler continues in its
-# promises, so the script waits for some of them.
+# Runs before the page's script. `frames` gets the milliseconds of work in each real-time frame. A handler's work continues in its promises, so the
+# script waits for some of them.
 PAGE_METER = """
 window.frames = [];
 let spent = 0;
@@ -28,7 +28,7 @@ Worker.prototype.addEventListener = function (kind, act) {
 };"""
 FRAMES = "return window.frames"
 
-# Runs before the worker's script: each reply has the milliseconds since its request.
+# Runs before the worker's script. Adds to each reply the milliseconds since its request.
 WORKER_METER = """
 let begun = 0;
 addEventListener("message", () => { begun = performance.now(); });
@@ -36,7 +36,7 @@ const post = postMessage.bind(self);
 self.postMessage = (message, transfer) => post({ ...message, took: performance.now() - begun }, transfer);
 """
 
-# At full speed, the worker sends the page twice a second the fraction of that time that it spent in the module.
+# At full speed, the worker reports to the page twice a second which fraction of the time it has spent in the module.
 MODULE_METER = """
 (() => {
   const made = WebAssembly.Instance;
@@ -57,7 +57,7 @@ MODULE_METER = """
     return { exports: { ...exports, bench_serve_and_settle } };
   };
 })();"""
-# Runs before the page's script: `parts` gets these fractions.
+# Runs before the page's script. `parts` gets the fractions that MODULE_METER reports.
 PARTS_METER = """
 window.parts = [];
 const listen = Worker.prototype.addEventListener;
@@ -110,10 +110,10 @@ Promise.all([unpacked("module").arrayBuffer(), unpacked("data").json()]).then(([
   calculator = examples.find(({ name }) => name === "calculator");
   window.serveAlone(true);
 });"""
-# Measures the cycles per second of one long call of that module; the result is in `alone`.
+# Measures the cycles per second of one long call of the module in that worker. The result is in `alone`.
 MODULE_ALONE = "window.serveAlone(false)"
 
-# Measures the time from the next key to the next change of the digits.
+# Measures the time between the next key press and the next change of the digits.
 TIME_OF_KEY = """
 window.seen = 0;
 addEventListener("keydown", () => { window.went = performance.now(); }, { capture: true, once: true });
@@ -123,8 +123,7 @@ new MutationObserver((_, own) => {
 }).observe(document.getElementById("digits"), { childList: true, characterData: true, subtree: true })"""
 KEY_TIME = "return window.seen"
 
-# Clicks a button that searches for a goal. If the goal is a change, it is a change of a place that never changes. `searched` gets the cycles
-# per second.
+# Clicks a button that searches for a goal. For a change, the goal is a place that never changes. `searched` gets the cycles per second.
 SEARCH = """
 window.searched = 0;
 document.getElementById("change-place").value = "st.0.3.3";

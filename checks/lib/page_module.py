@@ -1,4 +1,4 @@
-"""Reads the parts of a page that page/build has made."""
+"""Reads the parts that page/build has embedded in a page."""
 
 import base64
 import re
@@ -6,22 +6,22 @@ import zlib
 
 
 def part_of_page(text, name):
-    """Returns the contents of the hidden element with this name."""
+    """Returns the contents of the hidden element with an id."""
     return re.search(rf'<script type="[a-z/]+" id="{name}">(.*?)</script>', text, re.S).group(1)
 
 
 def module_of_page(page):
-    """Returns the WebAssembly module."""
-    kept = base64.b64decode(part_of_page(page.read_text(), "module"))
-    # Older pages do not compress it.
-    return kept if kept.startswith(b"\0asm") else zlib.decompress(kept, -15)
+    """Returns the page's WebAssembly module."""
+    stored = base64.b64decode(part_of_page(page.read_text(), "module"))
+    # Older pages contain it uncompressed.
+    return stored if stored.startswith(b"\0asm") else zlib.decompress(stored, -15)
 
 
 def with_worker_code(text, code):
-    """Returns a page's text with `code` before the script of its worker. (Older pages do not compress that script.)"""
-    kept = part_of_page(text, "worker")
-    if not re.fullmatch("[A-Za-z0-9+/=]+", kept):
-        return text.replace(kept, code + kept, 1)
+    """Returns a page's text with `code` before the worker's script. (In older pages, that script is not compressed.)"""
+    stored = part_of_page(text, "worker")
+    if not re.fullmatch("[A-Za-z0-9+/=]+", stored):
+        return text.replace(stored, code + stored, 1)
     packer = zlib.compressobj(wbits=-15)
-    packed = packer.compress(code.encode() + zlib.decompress(base64.b64decode(kept), -15)) + packer.flush()
-    return text.replace(kept, base64.b64encode(packed).decode(), 1)
+    packed = packer.compress(code.encode() + zlib.decompress(base64.b64decode(stored), -15)) + packer.flush()
+    return text.replace(stored, base64.b64encode(packed).decode(), 1)

@@ -1,4 +1,4 @@
-"""What checks/page checks where source and machine meet: lines, names and addresses, compared with the output of mcs4 listing."""
+"""The part of checks/page about the connection of source and machine: lines, names and addresses, compared with the output of mcs4 listing."""
 
 import os
 import pathlib
@@ -17,9 +17,9 @@ POPUP = "const shown = document.querySelector('.popup-message'); return shown.hi
 GO_TO_STATUS = "return document.getElementById('go-to-status').textContent"
 CHOSEN = "return document.getElementById('follow').checked"
 STACK = "return [...document.querySelectorAll('.stack button')].map((row) => [...row.children].map((part) => part.textContent).join(' '))"
-# The addresses in the listing, and the lines with a breakpoint in the margin.
+# The addresses in the disassembly, and the source lines with a breakpoint in the margin.
 ADDRESSES = "return [...document.querySelectorAll('#lines-of-program button:not([hidden])')].map((row) => row.textContent.match(/[0-9A-F]{3}/)[0])"
-# The margins of the source line and of the listing row that have a breakpoint.
+# The breakpoint marks in the source's margin and in the disassembly.
 MARKS = """
 const marks = [...document.querySelectorAll(".mark-breakpoints")].map((mark) => `${mark.textContent} ${mark.title}`);
 const rows = [...document.querySelectorAll("#lines-of-program button[aria-pressed='true']")].filter((row) => !row.hidden);
@@ -28,7 +28,7 @@ LABELS = "return [...document.querySelectorAll('#lines-of-program .labels')].map
 MARGIN = """
 return document.querySelector("#program-editor .cm-editor").lineEditor.marksIn("breakpoints").map((line) => line + 1).join(" ")"""
 
-# Steps several times. After each step returns the counter, and the marked visible source line with its number in the margin.
+# Steps several times. Returns for each step the counter, and the marked visible source line with its number.
 STEP_THROUGH = """
 // What a line has changed stands behind it, and is no part of it.
 const textOf = (line) => {
@@ -58,7 +58,7 @@ return (async () => {
   return rows;
 })();"""
 
-# Scrolls the number of a line into view.
+# Scrolls a line's number into view.
 SHOW_MARGIN = """
 const editor = document.querySelector("#program-editor .cm-editor").lineEditor;
 editor.scrollIntoView({ line: arguments[0] - 1, ch: 0 }, 60);
@@ -67,13 +67,13 @@ const numbers = [...document.querySelectorAll("#program-editor .cm-lineNumbers .
 const node = numbers.find((each) => each.textContent === String(arguments[0]));
 node.scrollIntoView({ block: "center" });
 """
-# Clicks on that number, as the pointer does.
+# Clicks on that number like a pointer.
 CLICK_MARGIN = SHOW_MARGIN + """
 const { left, top, width, height } = node.getBoundingClientRect();
 const at = { clientX: left + width / 2, clientY: top + height / 2, button: 0, buttons: 1, bubbles: true, cancelable: true, detail: 1 };
 for (const kind of ["mousedown", "mouseup", "click"]) node.dispatchEvent(new MouseEvent(kind, at));"""
 
-# The screen position of a word in a line, once that line is visible.
+# The screen position of a word in a line, after scrolling the line into view.
 WORD_PLACE = """
 const editor = document.querySelector("#program-editor .cm-editor").lineEditor;
 const [line, word] = arguments;
@@ -92,10 +92,10 @@ def listing_of(mcs4, *words):
 
 
 def listed(mcs4):
-    """Returns the output of mcs4 listing: the numbers and texts of the source lines by the addresses at which they begin; and the values of the
-    names."""
+    """Returns the contents of mcs4 listing: the numbers and texts of source lines by the addresses at which they begin, and the values of the names.
+    """
     listing = listing_of(mcs4).splitlines()
-    # Further rows of a line have no text.
+    # Continuation rows of a line have no text.
     rows = [row for row in listing if row[17:] or not re.match("[0-9A-F]{3} ", row)]
     lines = {row[:3]: (number, row[17:]) for number, row in enumerate(rows, 1) if re.match("[0-9A-F]{3} [0-9A-F]{2}", row)}
     return lines, dict(line.split() for line in listing_of(mcs4, "--names").splitlines())
@@ -116,7 +116,7 @@ def check_steps(browser, source):
     rows = []
     for chunk in range(STEPS // STEPS_AT_ONCE):
         rows += browser.script(STEP_THROUGH, STEPS_AT_ONCE)
-        # Another routine each time.
+        # Start each chunk in another routine.
         lines_answered(browser, f"run {20 + 61 * chunk}")
     wanted = [[counter, words_of("{} {}".format(*source[counter]))] for counter, _ in rows]
     verdict(f"the source line at each of {STEPS} steps", [[counter, words_of(line)] for counter, line in rows], wanted)
@@ -158,7 +158,7 @@ def check_margin(browser, source, values):
 
 
 def check_inside(browser, source, values, lines):
-    """Checks that a breakpoint inside an instruction moves to the next one, and that a run stops there."""
+    """Checks that a breakpoint inside an instruction moves to the next instruction, and that a run stops there."""
     call = next(number for number, text in enumerate(lines, 1) if "JMS scan" in text.expandtabs(1))
     address = next(place for place, (number, _) in source.items() if number == call)
     inside, behind = (f"{int(address, 16) + more:03X}" for more in (1, 2))
@@ -178,14 +178,14 @@ def check_inside(browser, source, values, lines):
 
 
 def point_at(browser, line, word):
-    """Moves the pointer to a word of the source, and leaves it there."""
+    """Moves the pointer to a word of the source and leaves it there."""
     x, y = browser.script(WORD_PLACE, line, word)
     browser.actions({"type": "pointer", "id": "mouse", "parameters": {"pointerType": "mouse"}, "actions": [
         {"type": "pointerMove", "duration": 0, "x": int(x) + shift, "y": int(y)} for shift in (1, 2)]})
 
 
 def check_pointing(browser, source, values, lines):
-    """Checks the tooltip at a word: a label with its address and line, a number with its value, an instruction, a register."""
+    """Checks the description of a word under the pointer: a label with its address and line, a number with its value, an instruction, a register."""
     line_of = {word: next(number for number, text in enumerate(lines, 1) if re.search(pattern, text)) for word, pattern in {
         "scan": r"JMS scan\b", "nonzero": r"^nonzero\s*=", "JMS": r"JMS scan\b", "P1": r"FIM P1,"}.items()}
     for word, words in {

@@ -1,5 +1,5 @@
-"""What checks/page tries with unusual input: markup in each field and in each name, files of all kinds, numbers out of range, many clicks at
-once, and a reload right after an edit. Nothing of it may become an element or a script, and the bench must answer after each."""
+"""The part of checks/page with unusual input: markup in each field and each name, files of all kinds, numbers out of range, many clicks at once, and
+a reload right after an edit. None of the input may become an element or a script, and the bench must still answer after each."""
 
 import base64
 import re
@@ -8,9 +8,9 @@ from page_in_browser import ENTER, ESCAPE, NOTICE, PUT_INTO_EDITOR, STATUS, TEXT
 from verdicts import eventually, verdict
 
 MARKUP = "<img src=x onerror=\"window.injected=1\"><script>window.injected=1</script>"
-# Markup without blanks and quotes, for names.
+# Markup without spaces and quotes, for use as a name.
 NAME = "<img/src=x/onerror=injected=1>"
-# The editor has its own images, without an address.
+# The editor's own images have no address.
 HARMLESS = "return !window.injected && document.querySelectorAll('img[src], body script[src], iframe, object').length === 0"
 ASKED = "const box = document.getElementById('ask'); return box !== null && box.open"
 CLOSE_ALL = """
@@ -37,7 +37,7 @@ BOARD = '[[rom]]\nchip = 0\nport = "0000"\n'
 
 
 def check_alive(browser, what):
-    """Checks that the bench answers, and that the input became no element or script."""
+    """Checks that the bench answers, and that the input has not become an element or a script."""
     if browser.script(ASKED):
         browser.script("document.getElementById('ask').close('')")
     for _ in range(4):
@@ -82,7 +82,7 @@ def check_fields(browser):
 
 
 def files():
-    """Returns unusual files by their descriptions, each with a name and bytes."""
+    """Returns unusual files by description, each with a name and its bytes."""
     one = {
         "page.html": b"<!doctype html>" + MARKUP.encode(), "picture.png": b"\x89PNG\r\n\x1a\n" + bytes(200), "empty.asm": b"", "none": b"",
         "bad.mcs": b"MCS4" + bytes(5000), "cut.mcsp": b"project 1\n", "open.mcsp": b"project 1 x\nboard\n", "empty.hex": b"",
@@ -105,7 +105,7 @@ def check_files(browser):
         eventually(browser, f"{what} is opened, asked for or refused in words",
               f"{ASKED.replace('return', 'const asks =')}; {NOTICE.replace('return', 'const text =')}; return asks || text !== ''", True)
         check_alive(browser, what)
-    # The last drop has 60 programs, which the page reads one after another; the text that arrives last closes a dialog that is open by then.
+    # The last drop has 60 programs, which the page reads one after another. The last text to arrive closes any dialog that is open by then.
     browser.until(NOTICE, re.compile(r"^59\.asm is in Source"))
     until_ready(browser)
     browser.script(CLOSE_ALL)

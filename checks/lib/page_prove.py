@@ -1,6 +1,6 @@
-"""What checks/page checks about proofs. The properties of an example are proved with the same numbers of states as by mcs4 prove. An edit removes
-a mark, and undoing it restores the mark. A proof can be cancelled. A counterexample opens before the step that breaks its property, and the
-machine can go back from there. Also: goals, wrong numbers and texts, the keyboard, and a phone's width."""
+"""The part of checks/page about proofs. The properties of an example are proved with the same numbers of states as by mcs4 prove. An edit removes a
+mark, and undoing the edit restores it. A proof can be cancelled. A counterexample opens before the step that breaks its property, and time can go
+back from there. Also: goals, wrong numbers and texts, the keyboard, and a phone's width."""
 
 import os
 import re
@@ -23,16 +23,16 @@ ROWS = """return [...document.querySelectorAll('#proof-list > li')].map((each) =
 LAMPS_LIT = "return document.querySelectorAll('.bulb.lit').length"
 LIT = "return [...document.querySelectorAll('#proof-list .lit')].length"
 CONTROL, SHIFT, ENTER = "\ue009", "\ue008", "\ue007"
-# The maximum time of a search, in seconds, on a busy machine.
+# The maximum time of a search in seconds, on a busy machine.
 LONG = 900
-# The number of common mistakes that are asked about every program.
+# The number of common mistakes for which every program is checked.
 MISTAKES = 7
 CHANGED = "the program, the board or the text has changed since then"
 # The lamp is on while TEST is 0, and nothing turns the other lamp on.
 BOARD = ('# lamp 0: lit\n# test: button WALK\nlamp = [{ line = "ram0.0.0" }, { line = "ram0.0.1" }]\nrom = [{ chip = 0, port = "0000" }]\n'
          "ram = [{ bank = 0, chips = 1 }]\n")
 PROGRAM = "look:   JCN 1, on\n        LDM 0\n        JUN put\non:     LDM 1\nput:    WMP\n        INC R1\n        JUN look\n"
-# It counts in all registers, so no search reaches an end.
+# The program counts in all registers, so no search reaches an end.
 COUNTING = "look:   JCN 1, look\n" + "".join(f"        ISZ R{number}, look\n" for number in range(16)) + "        JUN look\n"
 
 
@@ -43,23 +43,23 @@ def prove(browser, states=1000000):
 
 
 def prove_to_end(browser, what, states=1000000):
-    """Proves, and waits for the end, when the button has its first label again."""
+    """Starts a proof and waits for its end, when the button has its first label again."""
     prove(browser, states)
     eventually(browser, what, BUTTON, "Prove", LONG)
 
 
 def proved_by_tool(browser, folder, mcs4):
-    """Returns the results of mcs4 prove for the texts of the page: properties, and then mistakes."""
+    """Returns the results of mcs4 prove for the page's texts: properties, then mistakes."""
     names = [("board", "board.toml"), ("program", "program.asm"), ("properties", "some.props")]
     for name, file in names:
         (folder / file).write_text(text_of(browser, name))
-    asked = ["./mcs4", "prove", *(folder / file for _, file in names)]
-    ran = subprocess.run(asked, cwd=TOP, env=dict(os.environ, MCS4=str(mcs4)), stdout=subprocess.PIPE, text=True, check=False)
+    command = ["./mcs4", "prove", *(folder / file for _, file in names)]
+    ran = subprocess.run(command, cwd=TOP, env=dict(os.environ, MCS4=str(mcs4)), stdout=subprocess.PIPE, text=True, check=False)
     return re.findall(r"^ok \d+ - (.*) # proved for all inputs \((.*)\)$", ran.stdout, re.M)
 
 
 def check_example(browser, folder, mcs4):
-    """Checks the stopwatch, which has one state more than the first question may search."""
+    """Checks the stopwatch example, which has one more state than the first question may search."""
     choose_example(browser, "stopwatch")
     properties = [line for line in text_of(browser, "properties").splitlines() if line.startswith(("never", "every"))]
     proved = proved_by_tool(browser, folder, mcs4)
@@ -100,7 +100,7 @@ return editor.getLine(editor.getCursor('from').line).trim()"""), second)
 
 
 def check_counterexample(browser):
-    """Checks the lamp that can be on: its test, and the session before the step that turns it on."""
+    """Checks the counterexample about the lamp that can be on: its test, and the session before the step that turns the lamp on."""
     before = text_of(browser, "tests")
     row = "#proof-list li:nth-of-type(2) .bar button"
     browser.click(f"{row}:nth-of-type(2)")
@@ -169,15 +169,15 @@ def check_wrong(browser):
 
 
 def check_cancelled(browser):
-    """Checks that an endless search can be cancelled at once, also by the keyboard, and that the machine keeps running meanwhile."""
+    """Checks that an endless search can be cancelled immediately, also by keyboard, and that time keeps running in the meantime."""
     put(browser, "program", COUNTING)
     put(browser, "properties", "never lamp 1 on\n")
     prove(browser, 999999999)
     eventually(browser, "it searches", SO_FAR, re.compile("more than .* states so far"), LONG)
-    begun = time.monotonic()
+    start = time.monotonic()
     browser.hold("#prove", 300)
     eventually(browser, "it stops", BUTTON, "Prove", 10)
-    verdict("at once", time.monotonic() - begun < 8, True)
+    verdict("at once", time.monotonic() - start < 8, True)
     verdict("and says so", browser.script(PROPERTIES_STATUS), "It was cancelled before anything was proved.")
     verdict("with nothing left of it", browser.script("return isShown(document.getElementById('proof-results'))"), False)
     browser.script("document.querySelector('#properties-editor .cm-editor').lineEditor.focus()")

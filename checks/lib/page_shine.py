@@ -1,6 +1,6 @@
-"""The brightness of lamps in a browser. While running, it is the fraction of the time for which a lamp is on, as `trace` reports it; while
-paused, it is the present instant. A display that is rewritten in each turn of the main loop always shows its number. A display that is shifted in
-after a key shows its number when the shifting is done."""
+"""The brightness of lamps in a browser. While time is running, the brightness corresponds to the fraction of time for which a lamp is on, as `trace`
+reports it. While time is paused, it shows the instant. A display that is rewritten in each turn of the main loop always shows its number. A display
+that is shifted in after a key shows its number when the shifting is complete."""
 
 import re
 
@@ -9,12 +9,12 @@ from verdicts import eventually, verdict
 
 ROM = '[[rom]]\nchip = 0\nport = "0000"\n'
 PULSES_BOARD = ROM + "".join(f'[[lamp]]\nline = "rom0.{line}"\n' for line in range(4))
-# Lamp 0 is on for 3 cycles in a turn, lamp 1 for the other cycles, lamp 2 always, lamp 3 never.
+# In each turn, lamp 0 is on for 3 cycles and lamp 1 for the other cycles. Lamp 2 is always on, lamp 3 never.
 PULSES = "FIM P0, 0\nSRC P0\nloop: LDM 5\nWRR\nNOP\nLDM 6\nWRR\nFIM P1, 0\nwait: ISZ R2, wait\nJUN loop\n"
-# Shifts 42 out all the time, segment by segment.
+# A program that shifts out 42 all the time, segment by segment.
 REFRESHED_BOARD, REFRESHED = ((TOP / f"js/test/two_digits.{kind}").read_text() for kind in ("toml", "asm"))
 BRIGHTNESS_STATUS = "return document.getElementById('brightness-status').textContent"
-# Records the brightness of each lamp and the text of the display, in each frame.
+# Records in each frame the brightness of each lamp and the text of the display.
 WATCH = """
 window.shines = [];
 window.numbers = [];
@@ -32,7 +32,7 @@ SHINES = "return [...document.querySelectorAll('#front .bulb')].map((bulb) => Nu
 
 
 def parts_lit(answer):
-    """Returns the fraction of the time for which each lamp is on, from an answer to `trace n lamps` in the log."""
+    """Returns the fraction of time for which each lamp is on, from an answer to `trace n lamps` in the log."""
     head = re.search(r"trace ran (\d+) end lines \d+ ([.*]+)", answer)
     rows = re.findall(r"(\d+) [0-9A-F]{3} ([.*]+)", answer[head.end():])
     total, marks, since = int(head.group(1)), head.group(2), 0
@@ -49,7 +49,7 @@ def watched(browser, milliseconds):
 
 
 def parts_seen(browser):
-    """Returns the minimum and maximum brightness of each lamp, as the fraction of the time that it stands for."""
+    """Returns the minimum and maximum brightness of each lamp, converted to the fraction of time for which the lamp is on."""
     frames = browser.script("return window.shines")
     return [(min(each) ** 2.2, max(each) ** 2.2) for each in zip(*frames)]
 

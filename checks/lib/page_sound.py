@@ -1,5 +1,5 @@
-"""The buzzer of a board in a browser: its samples and their times, muted until the user switches it on, at other speeds, and without Web
-Audio."""
+"""The board's buzzer in a browser: its samples and their timing. The buzzer is silent until the user switches sound on, at other speeds, and without
+Web Audio."""
 
 import re
 import time
@@ -8,7 +8,7 @@ from page_in_browser import SPEED, choose_example, status_of, until_ready
 from verdicts import eventually, verdict
 
 BOARD = '# buzzer rom0.0: the buzzer\n[[rom]]\nchip = 0\nport = "0000"\n'
-# A wave of 198 cycles.
+# The frequency of a wave of 198 cycles.
 PITCH = 92593 / 198
 TONE = """
         FIM P0, 0
@@ -23,10 +23,10 @@ wait:   ISZ R3, wait
         ISZ R2, wait
         JUN loop
 """
-# A piece of sound arrives about every 50 ms, 90 ms before it is heard. If it arrives later than this many seconds after the previous one, the
-# host was too busy.
+# A sound block arrives about every 50 ms, 90 ms before it is heard. If it arrives more than this time in seconds after the previous block, the host
+# was too busy.
 HELD_UP = 0.1
-# Records the pieces that are played, with their start and their arrival, by the audio clock and by the page's clock.
+# Records the blocks that are played: their start and arrival by the audio clock and by the page's clock.
 WATCH = """
 window.played = [];
 const start = AudioBufferSourceNode.prototype.start;
@@ -39,7 +39,7 @@ AudioBufferSourceNode.prototype.start = function (when) {
   return start.call(this, when);
 };
 """
-# Without an audio device, the audio clock stays at 0 in some browsers; the page's clock replaces it.
+# Replaces the audio clock with the page's clock. Without an audio device, the audio clock stays at 0 in some browsers.
 CLOCK = """
 const begun = performance.now();
 Object.defineProperty(BaseAudioContext.prototype, "currentTime", { get: () => (performance.now() - begun) / 1000 });
@@ -48,12 +48,12 @@ STANDS = "return window.played.every(({ now }) => now === 0)"
 PRESSED = "return document.getElementById('sound-button').getAttribute('aria-pressed')"
 SOUND_STATUS = "return document.getElementById('sound-status').textContent"
 PLAYED = "return window.played.length"
-# The first piece must be sent this many seconds before it is heard, in one of several tries.
+# The time in seconds before it is heard at which the first block must be sent, in at least one of some attempts.
 EARLY, TRIES = 0.08, 5
 
 
 def begins_later(browser, first):
-    """Returns whether the first piece is sent early enough. It is tried several times, because other work on the machine can delay the page."""
+    """Returns true if the first block is sent early enough. Makes several attempts, because other work on the machine can delay the page."""
     for _ in range(TRIES):
         if first["when"] - first["now"] > EARLY:
             return True

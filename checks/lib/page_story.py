@@ -1,6 +1,6 @@
-"""What checks/page does as a first-time user would, by keyboard alone. An empty bench gets a board. A program is typed, rejected, corrected and
-run, paused and stepped, lost and restored, saved, and opened again with the same bytes. Then an example that is a project is opened, whose
-session is in the state that its texts describe."""
+"""The part of checks/page that acts like a first-time user, by keyboard alone. An empty bench gets a board. A program is typed, rejected, corrected,
+run, paused and stepped, lost and restored, saved, and opened again with the same bytes. Then a project example is opened, whose session is in the
+state that its texts describe."""
 
 import re
 import time
@@ -19,7 +19,7 @@ OFFERED = "return document.getElementById('board-offer').checkVisibility()"
 OPEN = "return document.getElementById('sessions').open"
 IN_SOURCE = "e.closest('#program-editor .cm-editor') !== null"
 REGISTERS = "return document.getElementById('registers').textContent"
-# Shows on the lamps which keys are down. A source disassembled from ROM would lack its comment.
+# A program whose lamps show which keys are down. A source disassembled from ROM would lack its comment.
 TYPED = ["; my first program", "LDM 3", "WRR", "read: RDR", "WMQ", "JUN read"]
 FAULT = "line 5: WMQ is not an instruction; WMP?"
 DROP = """
@@ -37,7 +37,7 @@ def type_keys(browser, text):
 
 
 def choose_by_keyboard(browser, name):
-    """Chooses an example by keys alone."""
+    """Chooses an example by keyboard alone."""
     browser.script("document.getElementById('name').focus()")
     focused(browser, TAB, "e.id === 'sessions-button'", 5)
     browser.keys([ENTER])
@@ -55,7 +55,7 @@ def go_to_source(browser):
 
 
 def check_board(browser):
-    """Checks that an empty bench says how to begin."""
+    """Checks that an empty bench shows how to begin."""
     choose_by_keyboard(browser, "empty bench")
     verdict("an empty bench offers a beginning", browser.script(OFFERED), True)
     go_by_tab(browser, "a board to begin with", "e.id === 'first-board'")
@@ -66,7 +66,7 @@ def check_board(browser):
 
 
 def check_program(browser):
-    """Checks that a program is typed, rejected, corrected and run."""
+    """Checks that a program can be typed, is rejected, corrected, and run."""
     go_to_source(browser)
     for line in TYPED:
         type_keys(browser, line)
@@ -85,7 +85,7 @@ def check_program(browser):
 
 
 def check_keys(browser):
-    """Checks keys of the board by the keyboard; the lamps show them."""
+    """Checks the board's keys through the keyboard. The lamps show the keys."""
     browser.keys([ESCAPE, TAB], 5, 5)
     shown = browser.script(LAMPS)
     browser.script("window.shown = new Set()")
@@ -117,7 +117,7 @@ def check_stop(browser):
 
 
 def check_loss(browser):
-    """Checks that a text that is lost can be restored."""
+    """Checks that a lost text can be restored."""
     mine = browser.script(PROGRAM_TEXT)
     browser.script("document.getElementById('from-rom').focus()")
     browser.keys([ENTER])
@@ -132,7 +132,7 @@ def check_loss(browser):
 
 
 def save_by_keyboard(browser):
-    """Saves by the File menu: Enter opens it, an arrow moves to Save, Enter saves."""
+    """Saves through the File menu: Enter opens the menu, an arrow key moves to Save, Enter saves."""
     browser.script("document.getElementById('menu-button').focus()")
     browser.keys([ENTER, DOWN])
     verdict("the arrow comes to Save", browser.script("return document.activeElement.id"), "save-button")
@@ -140,7 +140,7 @@ def save_by_keyboard(browser):
 
 
 def check_file(browser, folder):
-    """Checks a file that is saved, a wrong file that is rejected, and the saved file, which is opened again with the same bytes."""
+    """Checks that a file is saved, that a wrong file is rejected, and that the saved file opens with the same bytes."""
     texts = browser.script(TEXTS)
     save_by_keyboard(browser)
     saved = kept_download(folder, "My first board.mcsp")
@@ -166,7 +166,7 @@ def check_file(browser, folder):
 
 
 def check_example(browser):
-    """Checks an example that is a project: its texts have their comments, and its session is in the state that they describe."""
+    """Checks a project example: its texts have their comments, and its session is in the state that they describe."""
     browser.script("for (const each of document.querySelectorAll('#notice .dismiss')) each.click()")
     choose_by_keyboard(browser, "a fault to find")
     verdict("its source has its comments", browser.script(PROGRAM_TEXT), re.compile("^; Four lamps should count from 0 to 9"))
@@ -184,8 +184,8 @@ def check_example(browser):
     browser.chord(CONTROL, ENTER)
     eventually(browser, "mended, it is assembled and run", STATUS_OF.format(PROGRAM), re.compile("^Assembled .* bytes; running from 000"))
     browser.until(STATUS, re.compile("at a breakpoint"))
-    begun = "\n".join(["unbreak 8", "reset", *["run 91000"] * 10, "lamps", "run 97000", "lamps"])
-    verdict("and counts to 9, and then from 0 on", lines_answered(browser, begun), re.compile(r"lamps \*\.\.\*.*lamps \.\.\.\."))
+    script = "\n".join(["unbreak 8", "reset", *["run 91000"] * 10, "lamps", "run 97000", "lamps"])
+    verdict("and counts to 9, and then from 0 on", lines_answered(browser, script), re.compile(r"lamps \*\.\.\*.*lamps \.\.\.\."))
 
 
 def check(browser, page, folder, _mcs4):

@@ -1,5 +1,5 @@
-"""The printer tape in a browser: it has what was typed and what was computed, by pointer and keyboard, at any speed, after going back, after a
-reload, and after clearing. Also wrong descriptions of a printer."""
+"""The printer tape in a browser: typed and computed text, by pointer and keyboard, at any speed, after going back, after a reload, and after
+clearing. Also errors in the description of a printer."""
 
 import re
 import time
@@ -22,7 +22,7 @@ port = "000i"
 bank = 0
 chips = 1
 """
-# Sends 0, 1, 2, 3, .. once, the code before the strobe.
+# A program that sends 0, 1, 2, 3, .. once, each code before its strobe.
 SENDER = """
         FIM P0, 0
         SRC P0
@@ -64,7 +64,7 @@ def check_calculator(browser):
 
 
 def check_editing(browser):
-    """Checks the tape while the board's text is edited and not applied."""
+    """Checks the tape while the board's text is edited but not applied."""
     text = browser.script(BOARD_TEXT)
     browser.script(PUT_INTO_EDITOR, "#board-editor", text.replace("printer rom0.2", "printer rom5.2"))
     eventually(browser, "a printer that cannot be is reported", FAULTS, re.compile("the board has no output line rom5.2"))

@@ -1,6 +1,6 @@
-"""What checks/page checks about the tests of programs. Those of an example pass. An error in the program makes one fail at its line, and the
-session opens in that state. Counts are next to the source. Also: a text with errors, a text without tests, a run that is cancelled, and that the
-text is saved with the session and in a project."""
+"""The part of checks/page about the tests of programs. An example's tests pass. An error in the program makes a test fail at its line, and the
+session opens in that state. Counts are beside the source. Also: a text with errors, a text without tests, a run that is cancelled, and saving the
+text with the session and in a project."""
 
 import re
 import time
@@ -45,7 +45,7 @@ def check_passing(browser):
 
 
 def check_failing(browser):
-    """Checks a delay that is one turn shorter. The session opens at the failure, and its texts are those of the test."""
+    """Checks a delay that is one turn too short. The session opens at the failure with the texts of the test."""
     program = browser.script(TEXT_OF_EDITOR, "#program-editor")
     browser.script(PUT_INTO_EDITOR, "#program-editor", program.replace("0x0C", "0x0D"))
     verdict("an edit takes the counts away", browser.script(COUNTS), [])
@@ -94,7 +94,7 @@ def check_faults(browser):
 
 
 def insert_sample(browser):
-    """Inserts the sample test of the board into an empty text."""
+    """Inserts the board's sample test into an empty editor."""
     browser.script(PUT_INTO_EDITOR, EDITOR, "")
     browser.click("#first-test")
     browser.until(f"{TEXT_OF_EDITOR.replace('arguments[0]', repr(EDITOR))}.includes('expect')", True)
@@ -106,7 +106,7 @@ PASSED = re.compile(r"^(The test|All \d+ tests) passed\.$")
 
 
 def check_examples(browser):
-    """Checks that the tests of each example pass, and then the sample test of its board."""
+    """Checks that each example's tests pass, and so does the sample test of its board."""
     examples = browser.script(EXAMPLES)
     verdict("the page has its examples", len(examples) >= 17, True)
     for example in examples:
@@ -129,7 +129,7 @@ def check_cancel(browser):
 
 
 def check_kept(browser, folder):
-    """Checks that the text of tests is saved with its session, and is in a project."""
+    """Checks that the tests text is saved with its session and is in a project."""
     browser.script(PUT_INTO_EDITOR, EDITOR, "test mine\n  run 5")
     time.sleep(1)
     browser.reload()

@@ -1,4 +1,4 @@
-"""What checks/page checks about texts, projects and links: nothing that a user has made is lost."""
+"""The part of checks/page about texts, projects and links: nothing that a user has made is lost."""
 
 import base64
 import pathlib
@@ -15,7 +15,7 @@ TOP = pathlib.Path(__file__).resolve().parent.parent.parent
 NAME = "return document.getElementById('name').value"
 WATCHED = "return [...document.querySelectorAll('#watched-list li')].map((row) => row.title)"
 ENTER = "\ue007"
-# Returns whether the page handles Ctrl+S instead of the browser.
+# True if the page handles Ctrl+S instead of the browser.
 CONTROL_S = """
 const event = new KeyboardEvent("keydown", { key: "s", ctrlKey: true, bubbles: true, cancelable: true });
 document.body.dispatchEvent(event);
@@ -27,16 +27,16 @@ ASKED = "return document.getElementById('ask').open ? document.getElementById('a
 KEPT = "return document.querySelectorAll('#kept li').length"
 UNDO = "#notice button:not(.dismiss)"
 
-# A board and a program with comments, names and non-ASCII letters, which only a saved text keeps.
+# A board and a program with comments, names and non-ASCII letters, which only a saved text preserves.
 BOARD = (TOP / "examples/three_lamps/board.toml").read_text() + "# row 0: WALK\n"
 PROGRAM = "; my own light\nstart:\tFIM P0, 0x00\t; f\u00fcr the first lamp\n\tJUN start"
 
 
 def kept_download(folder, name):
-    """Returns a file that the page saves, once it is complete."""
+    """Returns a file that the page saves, after it is complete."""
     saved = folder / "downloads" / name
     end = time.monotonic() + 20
-    # Some browsers create an empty file first.
+    # Some browsers first create an empty file.
     while not (saved.exists() and saved.stat().st_size > 0) and time.monotonic() < end:
         time.sleep(0.05)
     time.sleep(0.1)
@@ -48,7 +48,7 @@ def rename(browser, name):
 
 
 def check_project(browser, folder):
-    """Checks that a project is saved and opened again with the same bytes."""
+    """Checks that a project is saved, and that it opens with the same bytes."""
     status_of(browser, "#board-editor", BOARD)
     status_of(browser, "#program-editor", PROGRAM)
     browser.type_into("#watched-field", "count = R5" + ENTER)
@@ -72,7 +72,7 @@ def check_project(browser, folder):
 
 
 def check_damaged(browser, folder, whole):
-    """Checks that incomplete, damaged and foreign files are rejected with a message, and that the existing session stays."""
+    """Checks that incomplete, damaged and foreign files are rejected with a message, and that the current session stays."""
     shown = browser.script(TEXTS)
     cut = folder / "cut.mcsp"
     cut.write_bytes(whole[:-700])
@@ -97,7 +97,7 @@ def check_damaged(browser, folder, whole):
 
 
 def check_undo(browser):
-    """Checks that the page asks before it replaces something, and that this can be undone."""
+    """Checks that the page asks before it replaces a text, and that replacing can be undone."""
     mine, of_rom = "; mine\n\tLDM 5\n\tJUN 0\n", "\tLDM 5\n\tJUN 0x000\n"
     status_of(browser, "#program-editor", mine)
     taken = browser.script(TEXTS)
@@ -128,14 +128,14 @@ def check_undo(browser):
 
 
 def count_kept(browser):
-    """Returns the number of sessions in the dialog, which stays open."""
+    """Returns the number of sessions in the dialog, and leaves the dialog open."""
     browser.click("#sessions-button")
     browser.until("return document.getElementById('sessions').open", True)
     return browser.script(KEPT)
 
 
 def check_examples(browser):
-    """Checks that an example becomes a session only when something is done in it."""
+    """Checks that an example becomes a saved session only after the user has done something in it."""
     before = count_kept(browser)
     browser.click("#close-sessions")
     choose_example(browser, "die")
@@ -161,7 +161,7 @@ def check_examples(browser):
 
 
 def check_deleting(browser, kept):
-    """Checks that several sessions are deleted at once, and restored."""
+    """Checks that several sessions can be deleted at once and restored."""
     verdict("examples alone have made no session", count_kept(browser), kept)
     browser.click("#choose-all")
     browser.click("#delete-chosen")
@@ -178,8 +178,8 @@ def check_deleting(browser, kept):
 
 
 def check_notices(browser, folder):
-    """Checks that notices of different kinds are shown together, that a new notice replaces the last one of its kind, and that the status is
-    right after a reset."""
+    """Checks that notices of different kinds appear together, that a new notice replaces the last one of its kind, and that the status is right after
+    a reset."""
     choose_example(browser, "calculator")
     stop_time(browser)
     browser.type_into("#file", str(folder / "cut.mcsp"))
@@ -203,8 +203,8 @@ def check_notices(browser, folder):
 
 
 def check_many_notices(browser, folder):
-    """Checks that each file causes one notice, and that the newest three are visible. They disappear automatically, and can be read and undone in
-    the list."""
+    """Checks that each file causes one notice and that the newest three are visible. They disappear automatically, and the list can show and undo
+    them."""
     words = [f"{number}.asm is in Source. Assemble and run puts it into ROM." for number in range(4)]
     for number in range(4):
         text = folder / f"{number}.asm"
@@ -221,16 +221,15 @@ def check_many_notices(browser, folder):
 
 
 def open_link(browser, page, link):
-    """Opens the page at an address with a link in it."""
+    """Opens the page at an address that contains a link."""
     browser.go("about:blank")
     browser.go(f"{page.as_uri()}#{link}")
-    # The page is not ready before its question is answered.
+    # The page is not ready before the user answers its question.
     browser.until("return Boolean(document.body.dataset.ready) || document.getElementById('ask').open", True, 90)
 
 
 def check_link(browser, page):
-    """Checks that a link contains the name and the texts, that a preview is shown before it is opened, and that an incomplete link is
-    rejected."""
+    """Checks that a link contains the name and the texts, that a preview appears before it is opened, and that an incomplete link is rejected."""
     status_of(browser, "#board-editor", BOARD)
     status_of(browser, "#program-editor", PROGRAM)
     rename(browser, "my light")
@@ -246,20 +245,20 @@ def check_link(browser, page):
                " ? document.getElementById('link').value.slice(document.getElementById('link').selectionStart).split('#')[1] : ''", link)
     browser.click("#ask .bar button:last-child")
     choose_example(browser, "die")
-    kept = count_kept(browser)
+    stored_count = count_kept(browser)
     open_link(browser, page, link)
     eventually(browser, "a link is shown before it is opened", ASKED, 'Open "my light" from a link?')
     verdict("with what it holds", browser.text("#ask"), re.compile("Three lamps.*text has 1[0-9] lines, the source 3 lines.*1 ROM, 1 RAM chip, 3 lamps"))
     browser.click("#ask .bar button:last-child")
     eventually(browser, "what is not wanted is not opened", "return location.hash", re.compile("^#(session|example)="))
-    verdict("and nothing is made", count_kept(browser), kept)
+    verdict("and nothing is made", count_kept(browser), stored_count)
     open_link(browser, page, link)
     eventually(browser, "it is asked again", ASKED, re.compile("my light"))
     browser.click("#ask .bar button:first-child")
     eventually(browser, "it becomes a session", NAME, "my light")
     verdict("with its texts", browser.script(TEXTS), [BOARD, PROGRAM])
     until_ready(browser)
-    verdict("which is kept", count_kept(browser), kept + 1)
+    verdict("which is kept", count_kept(browser), stored_count + 1)
     browser.click("#close-sessions")
     open_link(browser, page, f"{link}%20")
     eventually(browser, "a blank behind a link is passed over", ASKED, re.compile("my light"))
@@ -274,7 +273,7 @@ def check_link(browser, page):
 
 
 def link_of(name, board, program):
-    """Returns a link as somebody would forge it."""
+    """Returns a forged link."""
     rest = f"name {name}\nwire\n{board}.\nasm\n{program}.\n".encode()
     total = subprocess.run(["cksum"], input=rest, stdout=subprocess.PIPE, check=True).stdout.split()[0]
     packer = zlib.compressobj(wbits=-15)
@@ -305,13 +304,13 @@ def check_foreign_links(browser, page):
 
 
 def check_drop(browser, project):
-    """Checks that a file that is dropped on the page is opened."""
+    """Checks that a file dropped on the page is opened."""
     browser.script("""
 const data = new DataTransfer();
 data.items.add(new File([arguments[0]], "dropped.mcsp"));
 document.body.dispatchEvent(new DragEvent("drop", { dataTransfer: data, bubbles: true, cancelable: true }))""", project.decode())
     eventually(browser, "a project that is dropped is opened", TEXTS, [BOARD, PROGRAM])
-    # A script cannot drop a folder; dropping its files has the same effect.
+    # A script cannot drop a folder, but dropping its files has the same effect.
     drop = """
 const data = new DataTransfer();
 for (const [name, text] of arguments[0]) data.items.add(new File([text], name));
@@ -330,7 +329,7 @@ document.body.dispatchEvent(new DragEvent("drop", { dataTransfer: data, bubbles:
 
 
 def saved_as(browser, folder, ending):
-    """Returns a file that the dialog Export saves."""
+    """Returns the contents of a file that the Export dialog saves."""
     of_file_menu(browser, "#export-button")
     number = [".asm", ".toml", ".hex", ".bin"].index(ending) + 1
     browser.click(f"#export li:nth-child({number}) button")
@@ -341,14 +340,14 @@ def saved_as(browser, folder, ending):
 
 
 def asked_of_bench(mcs4, session, lines):
-    """Returns the program's answers to lines, on a copy of a session."""
+    """Returns the program's answers to lines in a copy of a session."""
     copy = session.with_suffix(".copy.mcs")
     copy.write_bytes(session.read_bytes())
     return subprocess.run([mcs4, "open", copy], input=lines, stdout=subprocess.PIPE, check=True, text=True).stdout
 
 
 def check_files(browser, folder, mcs4):
-    """Checks that programs, boards, lines and ROM images are opened and saved, in the form that `mcs4 rom` reads and writes."""
+    """Checks that programs, boards, lines and ROM images can be opened and saved, in the formats that `mcs4 rom` reads and writes."""
     example = TOP / "examples/three_lamps"
     for name in ("board.toml", "three_lamps.asm"):
         browser.type_into("#file", str(example / name))
@@ -381,7 +380,7 @@ def check_files(browser, folder, mcs4):
 
 
 def check_image(browser, folder, image):
-    """Checks that an image is loaded into ROM, and that an image with bytes outside of the board's ROMs is not."""
+    """Checks that an image is loaded into ROM, and that an image with bytes outside the board's ROM chips is rejected."""
     other = folder / "other.bin"
     other.write_bytes(bytes(byte ^ 0x80 if at < 4 else byte for at, byte in enumerate(image)))
     browser.type_into("#file", str(other))
@@ -395,7 +394,7 @@ def check_image(browser, folder, image):
 
 
 def check_tool(folder, project):
-    """Checks that `mcs4 project` splits a project of the page, and joins it again to the same bytes."""
+    """Checks that `mcs4 project` splits a project of the page and joins it again to the same bytes."""
     tool = [TOP / "mcs4", "project"]
     parts, again = folder / "parts", folder / "again.mcsp"
     subprocess.run([*tool, "split", project, parts], check=True)

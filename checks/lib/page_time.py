@@ -1,4 +1,4 @@
-"""What checks/page checks in the browser about time: cycles, steps over and out and to goals, back and forward, slow motion. The page's messages
+"""The part of checks/page about time: cycles, steps over, out and to goals, going back and forward, slow motion. The page's messages
 are compared with the program, mcs4 trace and mcs4 cycles on the same session."""
 
 import os
@@ -19,7 +19,7 @@ field.value = arguments[1];
 field.dispatchEvent(new Event("input"))"""
 PRESS = """
 document.body.dispatchEvent(new KeyboardEvent("keydown", { key: arguments[0], shiftKey: arguments[1], bubbles: true, cancelable: true }))"""
-# The bytes of the saved session, once they are there.
+# Reads the bytes of the saved session into `keptFile`.
 KEPT = """
 window.keptFile = "";
 const id = location.hash.slice("#session=".length);
@@ -32,7 +32,7 @@ ALL = "seq\nstate\nram 0\nbreaks\nwatches"
 
 
 class Program:
-    """The program next to the page, on separate sessions."""
+    """The program, which runs on separate sessions while the page runs."""
 
     def __init__(self, folder, mcs4):
         self.folder = folder
@@ -44,7 +44,7 @@ class Program:
         return subprocess.run(tool, input=lines, stdout=subprocess.PIPE, text=True, check=True, env=self.env).stdout
 
     def session(self, name, lines):
-        """Begins a new session with these lines; returns their answers."""
+        """Creates a new session and serves lines in it. Returns its file and the answers."""
         file = self.folder / f"{name}.mcs"
         file.unlink(missing_ok=True)
         return file, subprocess.run([self.mcs4, "new", file], input=lines, stdout=subprocess.PIPE, text=True, check=True).stdout
@@ -62,7 +62,7 @@ def texts_of(name):
 
 
 def first_call(program, name):
-    """Returns the first JMS of an example: the cycles before it, the cycles of its subroutine, its address and the next one."""
+    """Returns the first JMS of an example: the cycles before it, the cycles of its subroutine, its address, and the next address."""
     file, _ = program.session(name, texts_of(name))
     lines = [line for line in program.tool("trace", file, 3000).splitlines() if re.match(r" *\d+  [0-9A-F]{3} ", line)]
     at = next(at for at, line in enumerate(lines) if " JMS " in line)
@@ -73,19 +73,19 @@ def first_call(program, name):
 
 
 def counted(cycles):
-    """Returns a number of cycles and its time as the page writes it, 10.8 microseconds each."""
+    """Returns a number of cycles and its time in the page's format, with 10.8 microseconds per cycle."""
     time = cycles * 10.8 / 1000
     return f"{cycles:,} cycles, " + (f"{time:.3f} ms" if time < 1000 else f"{time / 1000:.3f} s")
 
 
 def stand(browser):
-    """Pauses the running machine."""
+    """Pauses time if it is running."""
     if browser.script("return document.getElementById('run').textContent") == "Pause":
         stop_time(browser)
 
 
 def at_rest(browser, name):
-    """Opens a new session of an example, paused, after a reset."""
+    """Opens a new session of an example, paused after a reset."""
     choose_example(browser, name)
     browser.until("return document.getElementById('run').textContent", "Pause", 3)
     stand(browser)
@@ -94,13 +94,13 @@ def at_rest(browser, name):
 
 
 def state(browser):
-    """Returns the answers to all questions. If the machine was running, its answers can be in the log just before them."""
+    """Returns the answers to all queries. If time was running, an entry about runs can precede them in the log."""
     answers = lines_answered(browser, ALL)
     return answers[answers.index("seqseq"):]
 
 
 def check_over(browser, program, name, example):
-    """Checks steps over a JMS, into it, out of it, and to the line after it: the cycles are those of the trace, and no breakpoint stays."""
+    """Checks steps over a JMS, into it, out of it, and to the next line. The cycles match the trace, and no breakpoint remains."""
     before, over, address, behind = first_call(program, example)
     at_rest(browser, name)
     lines_answered(browser, f"run {before}")
@@ -125,7 +125,7 @@ def into_and_out(browser):
 
 
 def check_run_to(browser):
-    """Checks a run to a line of the listing, by Ctrl and a click."""
+    """Checks a run to a line of the disassembly with Ctrl and a click."""
     browser.click("#back-stop")
     browser.until(STATUS, re.compile("^Back at"))
     address = browser.script("""
@@ -138,7 +138,7 @@ return row.textContent.match(/[0-9A-F]{3}/)[0]""")
 
 
 def check_run_to_source(browser):
-    """Checks a run to the source line at the caret, by Ctrl+F10, and a run to a change of a named lamp."""
+    """Checks a run to the caret's source line with Ctrl+F10, and a run to a change of a named lamp."""
     at_rest(browser, "three lamps")
     browser.script("""
 const editor = document.querySelector("#program-editor .cm-editor").lineEditor;
@@ -152,7 +152,7 @@ editor.getInputField().dispatchEvent(new KeyboardEvent("keydown", { key: "F10", 
 
 
 def check_many(browser, program):
-    """Checks a step of several instructions, with the same cycles as in the trace."""
+    """Checks a step of several instructions, which must have the same cycles as the trace."""
     file, _ = program.session("many", texts_of("three_lamps"))
     lines = [line for line in program.tool("trace", file, 400).splitlines() if re.match(r" *\d+  [0-9A-F]{3} ", line)]
     at_rest(browser, "three lamps")
@@ -165,13 +165,12 @@ def check_many(browser, program):
 
 
 def check_far(browser):
-    """Checks a step over a delay of 24 seconds, counted separately, and a step back before it. A search for a change that never happens must
-    end."""
+    """Checks a step over a delay of 24 seconds, counted separately, and a step back before it. A search for a change that never happens must end."""
     choose_example(browser, "empty bench")
     loops = "".join(f"ISZ R{each}, loop\n" for each in range(5))
     lines_answered(browser, "wire\n[[rom]]\nchip = 0\nport = \"0000\"\n.\nasm\nJMS wait\nend: JUN end\n"
                    f"wait: FIM P0, 0\nFIM P1, 0\nFIM P2, 0\nloop: {loops}BBL 0\n.")
-    # An ISZ takes two cycles, and each loop ends 16 times.
+    # An ISZ takes two cycles, and each loop runs 16 times.
     cycles = 0
     for _ in range(5):
         cycles = 16 * (cycles + 2)
@@ -191,7 +190,7 @@ def check_far(browser):
 
 
 def check_stopwatch(browser):
-    """Checks that a hundredth of a second of the stopwatch is 926 cycles, measured between two marks."""
+    """Checks that a hundredth of a second of the stopwatch is 926 cycles, measured between two markers."""
     at_rest(browser, "stopwatch")
     lines_answered(browser, "test 0")
     browser.script(CHANGE, "#change-place", "lamps")
@@ -217,7 +216,7 @@ def check_stopwatch(browser):
 
 
 def check_back(browser):
-    """Checks back and forward, over keys that were pressed while running: the answers and the file must be the same."""
+    """Checks going back and forward over keys that were pressed while time was running. The answers and the file must be the same."""
     at_rest(browser, "calculator")
     browser.click("#run")
     for legend in "12":
@@ -258,7 +257,7 @@ def check_back(browser):
 
 
 def check_never(browser):
-    """Checks that a run to a goal that is never reached can be ended by Stop, F8 and a reload, and that only runs of it remain."""
+    """Checks that a run to an unreachable goal can be ended with Stop, F8 and a reload, and that the session then has only its runs."""
     choose_example(browser, "empty bench")
     lines_answered(browser, 'wire\n[[rom]]\nchip = 0\nport = "0000"\n.\nasm\nJMS round\nround: JUN round\n.\nstep')
     for what, stop in {"F8": lambda: browser.script(PRESS, "F8", False), "Stop": lambda: browser.click("#run")}.items():
@@ -275,7 +274,7 @@ def check_never(browser):
     eventually(browser, "a reload ends it, which is reported", STATUS, re.compile("^Paused at 002: the return from the subroutine was not reached, because "
                                                                               "the page was reloaded"))
     browser.click("#back-stop")
-    # The number of cycles before the session was last saved depends on the browser.
+    # The number of cycles before the last save depends on the browser.
     eventually(browser, "and nothing is lost", STATUS, re.compile("^Back at the stop at 002"))
     verdict("no breakpoint and no watch is left", state(browser)[-len("breaksbreaks -watcheswatches -"):], "breaksbreaks -watcheswatches -")
 
@@ -300,8 +299,8 @@ BBL 6
 
 
 def check_waiting(browser):
-    """Checks a step over a subroutine that waits for a key: the machine runs, and the key is pressed. A plain instruction returns from
-    nothing."""
+    """Checks a step over a subroutine that waits for a key: time runs until the key is pressed. Outside a subroutine, Step out reports that no call
+    is open."""
     choose_example(browser, "empty bench")
     browser.click("#first-board")
     browser.until("return document.querySelectorAll('#keys button').length", 2)
@@ -320,7 +319,7 @@ def check_waiting(browser):
 
 
 def check_slow(browser):
-    """Checks slow motion, and that the running line is followed."""
+    """Checks slow motion, and that the page follows the running line."""
     at_rest(browser, "three lamps")
     verdict("the speeds", browser.script("return [...document.getElementById('speed').options].map((each) => each.textContent).join(', ')"),
             "real time, 1/10, 1/100, 1/1,000, an instruction a second, full speed")

@@ -1,5 +1,5 @@
-"""The checks for common mistakes on the page. Each mistake is reported with its line when it happens, while the machine keeps running. If its
-switch is on, the machine pauses before the mistake, and can continue. A program without mistakes has no report."""
+"""The checks for common mistakes on the page. Each mistake is reported with its line when it happens, while time keeps running. If its check box is
+on, time pauses before the mistake and can continue. A program without mistakes has no report."""
 
 import re
 import time
@@ -12,7 +12,7 @@ SHOWN = "return isShown(document.getElementById('usual'))"
 BOARD = """rom = [{ chip = 0, port = "0000" }, { chip = 1, port = "iiii" }]
 ram = [{ bank = 0, chips = 1 }]
 """
-# RDR reads the keys; WRR has no SRC of its own.
+# RDR reads the keys. The following WRR has no SRC of its own.
 PROGRAM = """keys:   FIM P0, 0x10
         SRC P0
         RDR

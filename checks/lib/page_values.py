@@ -1,6 +1,6 @@
-"""What checks/page checks about values. While paused, the words of the source at the pointer and at the caret show their values, which can be
-edited there. The heat map shows which nibbles of RAM change, while running and while paused. The expected values were counted manually, or are
-the bench's answers."""
+"""The part of checks/page about values. While time is paused, the source words at the pointer and the caret show their values, which can be edited
+there. The heat map shows which RAM nibbles change, while time is running and while it is paused. The expected values were counted manually or are the
+bench's answers."""
 
 import re
 
@@ -33,7 +33,7 @@ const editor = document.querySelector("#program-editor .cm-editor").lineEditor;
 editor.focus();
 editor.setCursor({ line: arguments[0] - 1, ch: editor.getLine(arguments[0] - 1).indexOf(arguments[1]) })"""
 NEXT = "return document.querySelector('#program-editor .next').textContent"
-# The changes after each step from ADD on, worked out manually.
+# The instruction after each step from ADD, worked out manually.
 STEPS = ("BBL", "JUN turn", "turn:", "SRC", "LDM", "WRM", "INC", "JMS", "JUN turn")
 LINE_VALUES = "return [...document.querySelectorAll('#program-editor .line-values')].map((each) => each.textContent)"
 WATCHED = """return [...document.querySelectorAll("#watched-list li")].map((row) =>
@@ -46,7 +46,7 @@ def line_of(text):
 
 
 def pointed(browser, line, word, shown, wanted):
-    """Rests the pointer on a word. If the page has moved meanwhile, the pointer is moved again."""
+    """Rests the pointer on a word. Repeats that if the page has moved in the meantime."""
     for _ in range(4):
         point_at(browser, line, word)
         if matches(browser.until(shown, wanted, 5), wanted):
@@ -54,7 +54,7 @@ def pointed(browser, line, word, shown, wanted):
 
 
 def begin(browser):
-    """Runs the program to just after RDM: R5 is 1, and the nibble that it writes is 7."""
+    """Runs the program to just after RDM. R5 is then 1, and the nibble that the program writes is 7."""
     browser.script("document.getElementById('change-place').value = 'nonsense'")
     choose_example(browser, "empty bench")
     verdict("what was typed in another session is gone", browser.script("return document.getElementById('change-place').value"), "lamps")
@@ -87,7 +87,7 @@ def check_pointer(browser):
 
 
 def check_edit(browser):
-    """Checks that with the caret at R5 its value is shown below the text, and can be edited there."""
+    """Checks that the value of R5 is shown below the text when the caret is there, and that it can be edited there."""
     browser.script(CARET, line_of("INC R5"), "R5")
     eventually(browser, "the caret, too", MEANING, "R5 = 1. R5: the lower half of P2.")
     browser.script(f"document.querySelector('{CELL}').focus()")
@@ -103,7 +103,7 @@ def check_edit(browser):
 
 
 def check_lines(browser):
-    """Checks that the last lines that were run end with their changes, and that a call ends with all changes of its subroutine."""
+    """Checks that the last lines that ran end with their changes, and that a call ends with all changes of its subroutine."""
     for step in range(9):
         browser.click("#over")
         browser.until(NEXT, re.compile(STEPS[step]))
@@ -113,7 +113,7 @@ def check_lines(browser):
 
 
 def check_watched(browser):
-    """Checks named values: a wrong one has an error, the others are shown, and all are saved with the session."""
+    """Checks named values: a wrong one causes an error, the others are shown, and all are saved with the session."""
     browser.type_into("#watched-field", "count = R16" + ENTER)
     eventually(browser, "what is nothing to watch is reported", "return document.querySelector('#watched-status').textContent",
                "R16: no such place; the registers are r0 to r15 (column 9)")
@@ -134,7 +134,7 @@ FOCUS = "document.activeElement.blur(); document.querySelector(arguments[0]).foc
 
 
 def check_last_change(browser):
-    """Checks that a cell reports its last change and the instruction that made it, and that going back to the change leads there."""
+    """Checks that a cell reports its last change and the instruction that made it, and that going back to this change leads there."""
     if browser.script("return document.getElementById('run').textContent") == "Pause":
         stop_time(browser)
     lines_answered(browser, "run 100\npoke ram.0.0x13 5\nrun 7")
@@ -160,12 +160,12 @@ const field = document.getElementById(arguments[0]);
 field.value = arguments[1];
 field.dispatchEvent(new Event("change"))"""
 WARM = "return [...document.querySelectorAll('.ram [data-warmth]')].map((cell) => `${cell.dataset.warmth} ${cell.title}`)"
-# Worked out manually: 6 of the 100 cycles precede WRM at 006, which writes 7 over 3.
+# Worked out manually: 6 of the 100 cycles precede the WRM at 006, which overwrites 3 with 7.
 HEATED = "once by 006 (turn + 4, line 6), 94 cycles, 1.015 ms ago"
 
 
 def check_heat(browser):
-    """Checks which nibbles of RAM have changed lately, and their names."""
+    """Checks which RAM nibbles have changed recently, and their names."""
     lines_answered(browser, "reset")
     lines_answered(browser, "poke ram.0.0x12 3")
     lines_answered(browser, "run 100")

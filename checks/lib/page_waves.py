@@ -1,5 +1,5 @@
-"""Waves in the browser. A recording is shown and saved as mcs4 wave writes it for the same session, and the cursors measure what the examples say
-about themselves."""
+"""Waves in the browser. A recording looks and is saved as mcs4 wave writes it for the same session, and the cursors confirm the times that the
+examples state."""
 
 import base64
 import os
@@ -20,7 +20,7 @@ SPOKEN = "return document.getElementById('wave-canvas').getAttribute('aria-value
 NAMES = "return [...document.querySelectorAll('#wave-table th')].map((each) => each.textContent).join(' ')"
 LEFT, RIGHT, DOWN, HOME, END, ENTER = "\ue012", "\ue014", "\ue015", "\ue011", "\ue010", "\ue007"
 
-# Selects only these lines.
+# Selects only the given lines.
 CHOOSE = """
 document.getElementById("wave-choice").open = true;
 document.getElementById("wave-choice").dispatchEvent(new Event("toggle"));
@@ -47,13 +47,13 @@ def record(browser, cycles, where="after"):
 
 
 def look_for(browser, words):
-    """Searches for lines by words."""
+    """Searches for lines with a query."""
     browser.script("document.getElementById('wave-choice').open = true")
     browser.script("const f = document.getElementById('signal-search'); f.value = arguments[0]; f.dispatchEvent(new Event('input'))", words)
 
 
 def saved(browser, folder, selector, name):
-    """Returns the bytes of a file that a button saves."""
+    """Returns the contents of a file that a button saves."""
     file = folder / "downloads" / name
     file.unlink(missing_ok=True)
     if selector == "#save-session-button":
@@ -64,7 +64,7 @@ def saved(browser, folder, selector, name):
     else:
         browser.click(selector)
     end = time.monotonic() + 20
-    # Some browsers create an empty file first.
+    # Some browsers first create an empty file.
     while not (file.exists() and file.stat().st_size > 0) and time.monotonic() < end:
         time.sleep(0.05)
     time.sleep(0.2)
@@ -102,7 +102,7 @@ def check_stopwatch(browser):
 
 
 def check_long(browser):
-    """Checks a recording of half a minute: the last hundredth of a second is as long as the first."""
+    """Checks a recording of half a minute, whose last hundredth of a second is as long as the first."""
     verdict("a long recording", record(browser, 3000000), "3,000,000 cycles recorded, 32.400 s.")
     browser.script(FOCUS)
     browser.keys(["a", END, "p", "b", END, "p", "p"], 1, 1)
@@ -118,7 +118,7 @@ def check_click(browser):
     box = browser.script("const b = document.getElementById('wave-canvas').getBoundingClientRect(); return [b.width, b.height]")
     browser.show("#wave-canvas")
     browser.click("#wave-canvas")
-    # The driver clicks on the middle of an element. The names of the lines have this width, and a click can snap to a near edge.
+    # The driver clicks at the centre of the element. The names of the lines occupy this width on the left, and a click can snap to a nearby edge.
     gutter = 150 if box[0] >= 600 else 112
     middle = 30000 * (box[0] / 2 - gutter) / (box[0] - gutter)
     found = int(browser.until("return document.getElementById('wave-canvas').getAttribute('aria-valuenow')", re.compile("[1-9]")))
@@ -132,7 +132,7 @@ def check_click(browser):
 
 
 def check_file(browser, folder, mcs4):
-    """Checks that the saved recording equals, byte for byte, what mcs4 wave writes for the saved session."""
+    """Checks that the saved recording equals, byte for byte, the output of mcs4 wave for the saved session."""
     choose_example(browser, "calculator")
     stop_time(browser)
     session = folder / "waves.mcs"
@@ -164,7 +164,7 @@ def check_file(browser, folder, mcs4):
 
 
 def check_before(browser):
-    """Checks the last cycles before a pause: they are repeated, with the keys that were pressed."""
+    """Checks a recording of the last cycles before a pause. They are repeated with the keys that were pressed."""
     choose_example(browser, "calculator")
     stop_time(browser)
     lines_answered(browser, "run 300\npress 0 0\nrun 5000\nrelease 0 0\nrun 3000")
@@ -181,13 +181,13 @@ def check_before(browser):
     eventually(browser, "the key scan has found it", SPOKEN, re.compile(r"^scan\.keys is row 0: 7, cycle [1-9]"))
 
 
-# Fills fields of the waves, by their ids.
+# Fills in fields of the waves, by id.
 FILL = "for (const [id, value] of Object.entries(arguments[0])) document.getElementById(id).value = value"
 COUNT = "return document.getElementById('scope-count').textContent"
 
 
 def check_live(browser, folder, mcs4):
-    """Checks that a running machine is recorded while keys work, and that mcs4 wave writes the same for the session at its beginning."""
+    """Checks that a running machine is recorded while keys work, and that mcs4 wave writes the same for the session at the start of the recording."""
     choose_example(browser, "calculator")
     stop_time(browser)
     session = folder / "live.mcs"
@@ -225,13 +225,13 @@ def check_live(browser, folder, mcs4):
     if lines and up - down <= 100000:
         subprocess.run([mcs4, "open", session], input=lines, text=True, stdout=subprocess.PIPE, check=True)
         rest = wave(mcs4, "--board", board, session, str(int(count) - up), *names)
-        # If the recording begins inside an instruction, the counter is already that of the next one.
+        # If the recording begins inside an instruction, the counter already points to the next instruction.
         verdict("and behind it", difference([each for each in changes_after(written, up) if each[0] > 1],
                                             [each for each in changes_after(rest, 0) if each[0] > 1]), "")
 
 
 def changes_after(file, cycle):
-    """Returns the changes after a cycle, counted from there. For a number, its value is followed only by its code."""
+    """Returns the changes after a cycle, counted from that cycle."""
     lines = file.decode().split("$enddefinitions $end\n")[1].split("\n")
     found, now = [], 0
     for line in lines:
@@ -243,7 +243,7 @@ def changes_after(file, cycle):
 
 
 def difference(some, others):
-    """Returns a description of the first difference between two lists, or that both are empty."""
+    """Returns a description of the first difference between two lists, or of their lengths if one of them is empty."""
     if not some or not others:
         return f"{len(some)} and {len(others)} changes"
     for one, other in zip(some, others):
@@ -253,7 +253,7 @@ def difference(some, others):
 
 
 def check_triggers(browser):
-    """Checks that a trigger ends a recording with cycles before and after it, and pauses the machine on request."""
+    """Checks that a trigger ends a recording with cycles before and after it, and pauses time on request."""
     choose_example(browser, "stopwatch")
     lines_answered(browser, "test 0")
     stop_time(browser)
@@ -284,7 +284,7 @@ def check_triggers(browser):
 
 
 def check_search(browser):
-    """Checks that a value is searched for by keyboard, in both directions, and that a value that is not found is reported."""
+    """Checks that a value can be searched for by keyboard in both directions, and that a missing value is reported."""
     found = "return document.getElementById('wave-search-status').textContent"
     choose_example(browser, "stopwatch")
     lines_answered(browser, "test 0")
@@ -314,7 +314,7 @@ def check_search(browser):
     eventually(browser, "what does not come is reported", found, "lamp0 = 1: not after cycle 30,000 of this recording.")
 
 
-# The middle of the first row, at a distance in pixels from its left end.
+# The centre of a row, at a distance in pixels from its left end.
 PLACE = """
 const { left, top } = document.getElementById("wave-canvas").getBoundingClientRect();
 return [Math.round(left + arguments[0]), Math.round(top + 26 * (1.35 + arguments[1]))]"""
@@ -322,7 +322,7 @@ MEASURED = "const shown = document.getElementById('wave-measure'); return shown.
 
 
 def at(browser, x, row, *more, kind="mouse"):
-    """Moves the pointer to a row, and performs some actions there."""
+    """Moves the pointer to a row and performs actions there."""
     place = dict(zip(("x", "y"), browser.script(PLACE, x, row)))
     browser.actions({"type": "pointer", "id": f"waves-{kind}", "parameters": {"pointerType": kind},
                      "actions": [{"type": "pointerMove", "duration": 0, **place}, *more]})
@@ -332,7 +332,7 @@ CLICK = ({"type": "pointerDown", "button": 0}, {"type": "pointerUp", "button": 0
 
 
 def cycles_between(browser, one, other):
-    """Returns the cycles between two points of the picture, by the cursors."""
+    """Returns the cycles between two points of the picture, measured with the cursors."""
     browser.script(FOCUS)
     for key, x in (("a", one), ("b", other)):
         browser.keys([key], 1, 1)
@@ -348,8 +348,8 @@ def turn(browser, x, row, down, across=0):
 
 
 def check_pointer(browser):
-    """Checks the measurement under the pointer. The wheel zooms there. Rows can be dragged, named, grouped and coloured, and all that is
-    saved."""
+    """Checks the measurement under the pointer, the zoom with the wheel, and that rows can be dragged, named, grouped and coloured. All of this must
+    be saved."""
     choose_example(browser, "stopwatch")
     lines_answered(browser, "test 0")
     record(browser, 5000)
@@ -400,7 +400,7 @@ def check_pointer(browser):
 
 
 def check_pictures(browser, folder):
-    """Checks the picture as a PNG and as an SVG file."""
+    """Checks the picture as a PNG file and as an SVG file."""
     text = saved(browser, folder, "#save-svg", "stopwatch.svg").decode()
     verdict("a picture that can be scaled has the names", [name in text for name in ("digit", "lamp15", "tens")], [True] * 3)
     data = saved(browser, folder, "#save-png", "stopwatch.png")
@@ -446,7 +446,7 @@ def check(browser, page, folder, mcs4):
 
 
 def take_picture(browser, page, path):
-    """Takes a screenshot of the stopwatch, with a hundredth of a second between the cursors."""
+    """Takes a screenshot of the stopwatch with a hundredth of a second between the cursors."""
     browser.command("Emulation.setDeviceMetricsOverride", width=1440, height=900, deviceScaleFactor=1, mobile=False)
     browser.go(page.as_uri())
     until_ready(browser)

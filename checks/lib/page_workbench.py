@@ -1,5 +1,5 @@
-"""What checks/page checks about the layout of panels: splitters are moved by mouse, finger and keyboard; panels are closed, reopened and shown in
-full size. All of it is remembered, and can be reset."""
+"""The part of checks/page about the layout of panels. Splitters move by mouse, touch and keyboard. Panels can be closed, reopened and maximised. The
+page remembers the layout, and can reset it."""
 
 import re
 
@@ -19,7 +19,7 @@ const box = document.getElementById(arguments[0]).getBoundingClientRect();
 return [Math.round(box.x + box.width / 2), Math.round(box.y + box.height / 2)]"""
 SHOWN = "return arguments[0].filter((id) => isShown(document.getElementById(id)))"
 PANELS = ["front", "texts", "dock", "processor", "calls", "watched", "breakpoints", "memory", "ports", "history"]
-# Each splitter with the panel that it resizes, its direction, and the movement of the pointer that makes the panel larger.
+# Each splitter with the panel that it resizes, its direction, and the pointer movement that enlarges the panel.
 BORDERS = (("front-splitter", "front", "vertical", (40, 0)), ("side-splitter", "side", "vertical", (-40, 0)),
            ("dock-splitter", "dock", "horizontal", (0, -40)), ("calls-splitter", "calls", "horizontal", (0, 40)))
 
@@ -53,14 +53,14 @@ def check_borders(browser):
 
 
 def in_menu(browser, panel, what):
-    """Clicks a panel's checkbox in the menu of panels, or its button for full size."""
+    """Clicks a panel's checkbox in the panel menu, or its button for full size."""
     browser.click("#view-button")
     browser.script("document.querySelectorAll(`#view-menu li`)[arguments[0]].querySelector(arguments[1]).click()", PANELS.index(panel), what)
     browser.keys([ESCAPE])
 
 
 def check_panels(browser):
-    """Checks that each panel can be closed, reopened and shown in full size, and that a new page has the layout of the last one."""
+    """Checks that each panel can be closed, reopened and maximised, and that a new page has the layout of the last one."""
     verdict("all panels are there", browser.script(SHOWN, PANELS), PANELS)
     for panel in PANELS:
         in_menu(browser, panel, "input")
@@ -103,7 +103,7 @@ def check_arrangement(browser):
 
 # --- the first impression
 
-# True if a part of an element is visible: it is shown, and no scrolling box hides all of it.
+# True if a part of an element is visible: the element is shown, and no scrolling box hides all of it.
 IN_VIEW = """
 const inView = (element) => {
   if (!element.getClientRects().length || getComputedStyle(element).visibility !== "visible") return false;
@@ -118,7 +118,7 @@ const inView = (element) => {
 };
 const controls = [...document.querySelectorAll("button, input, select, textarea, summary, a[href]")].filter(inView);
 """
-# Blocks that count as one control, because they are one stop of the Tab key: the board's keys, registers, a RAM bank, the listing's rows.
+# Blocks that count as one control, because each is one tab stop: the board's keys, the registers, a RAM bank, the rows of the disassembly.
 BLOCKS = "#keys, .ram, .cells, .stack, #lines-of-program"
 CONTROLS = IN_VIEW + f"return new Set(controls.map((each) => each.closest('{BLOCKS}') || each)).size"
 # A checkbox is as large as its label.
@@ -126,7 +126,7 @@ SMALL = IN_VIEW + """
 const sizeOf = (each) => (each.type === "checkbox" && each.labels.length > 0 ? each.labels[0] : each).getBoundingClientRect();
 return controls.filter((each) => sizeOf(each).width < arguments[0] - 0.5 || sizeOf(each).height < arguments[0] - 0.5)
   .map((each) => `${each.id || each.textContent || each.localName} in ${each.closest("[id]").id}`)"""
-# Words of at least two letters, including those in the editor.
+# The number of visible words with at least two letters, including words in the editor.
 WORDS = IN_VIEW + """
 let words = 0;
 const walker = document.createTreeWalker(document.body, NodeFilter.SHOW_TEXT);
@@ -153,14 +153,13 @@ MAX_CONTROLS, MAX_WORDS, MIN_LINES = 60, 350, 25
 
 
 def check_first_glance(browser, page, at_size):
-    """Checks what a new user sees: the debugger's panels next to the source and a trace, few controls and words, and nothing that is too
-    small."""
+    """Checks what a new user sees: the debugger's panels beside the source and a trace, few controls and words, and nothing that is too small."""
     browser.script("localStorage.clear()")
     at_size(browser, 1440, 900)
     open_anew(browser, page)
     choose_example(browser, "calculator")
     verdict(f"at most {MAX_CONTROLS} controls are seen", browser.script(CONTROLS) <= MAX_CONTROLS, True)
-    # On a busy machine the status first reports that the tab was busy.
+    # On a busy machine, the status first reports that the tab was busy.
     eventually(browser, f"and at most {MAX_WORDS} words", WORDS.replace("return words", f"return words <= {MAX_WORDS}"), True)
     verdict("no target is below 24 pixels", browser.script(SMALL, 24), [])
     stop_time(browser)
@@ -197,8 +196,8 @@ WIDTH_OF_HELP = "return document.getElementById('help').getBoundingClientRect().
 
 
 def check_small_things(browser, at_size):
-    """Checks details: all settings of twenty keys are visible, a display has its colour in the gallery, an empty bench offers one way to begin,
-    and others."""
+    """Checks details: all settings of twenty keys are visible, a display has its colour in the gallery, an empty bench offers one way to begin, and
+    others."""
     at_size(browser, 1440, 900)
     choose_example(browser, "calculator")
     show_text(browser, "wiring")
@@ -239,7 +238,7 @@ def check_small_things(browser, at_size):
 
 
 def check_narrow_things(browser, at_size):
-    """Checks the details on a phone."""
+    """Checks details on a phone."""
     at_size(browser, 390, 844, True)
     browser.click("#region-debug")
     verdict("on a phone no button touches the edge of its panel", browser.script(NARROW), 0)
@@ -250,14 +249,14 @@ def check_narrow_things(browser, at_size):
 
 
 def first_word(browser, word):
-    """Returns the position of the first occurrence of a word in the source."""
+    """Returns the position of a word's first occurrence in the source."""
     lines = browser.script("return document.querySelector('#program-editor .cm-editor').lineEditor.getValue()").split("\n")
     line = next(at for at, text in enumerate(lines) if re.search(rf"^[^;]*\b{word}\b", text))
     return {"line": line, "ch": lines[line].index(word) + 1}
 
 
 def check_watch_rows(browser):
-    """Checks that four values need as much space as four lines of text with a margin."""
+    """Checks that four watched values need as much space as four lines of text with a margin."""
     stop_time(browser)
     for words in ("count = R5", "R6", "acc", "P2"):
         browser.type_into("#watched-field", words + ENTER)
@@ -267,14 +266,14 @@ def check_watch_rows(browser):
         browser.click("#watched-list .remove")
 
 
-# --- how many clicks a new user needs
+# --- the number of clicks that a new user needs
 
 COUNT_CLICKS = """
 window.clicks = 0;
 if (!window.countsClicks) addEventListener("click", ({ isTrusted, detail }) => { window.clicks += Number(isTrusted && detail > 0); }, true);
 window.countsClicks = true"""
 COUNTED = "return [...new Set(window.counted)].sort().join(' ')"
-# The lamps that are visibly on.
+# Records which lamps are visibly on.
 COUNT_LAMPS = """
 window.counted = [];
 const note = () => window.counted.push([...document.querySelectorAll("#front .bulb")].map((bulb) => Number(bulb.classList.contains("lit"))).join(""));
@@ -283,7 +282,7 @@ window.noting.observe(document.getElementById("front"), { subtree: true, attribu
 
 
 def clicks_of(browser, what, most, path):
-    """Checks that a task of a new user needs at most a number of clicks. Typing does not count."""
+    """Checks that a new user's task needs at most `most` clicks. Typing does not count."""
     browser.script(COUNT_CLICKS)
     path(browser)
     found = browser.script("return window.clicks")
@@ -291,7 +290,7 @@ def clicks_of(browser, what, most, path):
 
 
 def draw_board(browser):
-    """Draws four by four keys, four lamps and a shift register, with a program that scans the keys."""
+    """Draws four by four keys, four lamps and a shift register, and inserts a program that scans the keys."""
     browser.click("#first-drawing")
     browser.click("#shelf-keys")
     eventually(browser, "keys are chosen", "return document.querySelectorAll('#chosen [aria-label=rows]').length", 1)
@@ -331,7 +330,7 @@ def mend_bug(browser):
 def run_test(browser):
     browser.click("#tests-tab")
     browser.click("#first-test")
-    # Running the board makes the test, which takes a while on a busy machine.
+    # Running the board creates the test, which takes a while on a busy machine.
     eventually(browser, "there is a test", TESTS, re.compile("^ *expect", re.M))
     browser.click("#tests-editor .send")
     eventually(browser, "the test was run", "return document.querySelectorAll('#test-list li').length", 1)
@@ -347,7 +346,7 @@ def search_property(browser):
 
 
 def check_newcomer(browser):
-    """Checks the tasks of a new user. The first lamp has its own check, with the cards (page_commands)."""
+    """Checks a new user's tasks. The first lamp has its own check with the welcome cards (page_commands)."""
     choose_example(browser, "empty bench")
     clicks_of(browser, "a board of one's own", 12, draw_board)
     clicks_of(browser, "a bug", 6, mend_bug)
@@ -357,7 +356,7 @@ def check_newcomer(browser):
     show_text(browser, "program")
 
 
-# Elements that moved without user input, if the browser measures a layout shift of more than 0.005: 0 is none, 0.1 is much.
+# The elements that moved without user input, if the browser measures a layout shift above 0.005. A shift of 0 is none, 0.1 is much.
 SHIFTS = """
 return new Promise((done) => {
   let sum = 0;
@@ -374,7 +373,7 @@ return new Promise((done) => {
 
 
 def check_shifts(browser, page, at_size):
-    """Checks that nothing moves after it was painted."""
+    """Checks that nothing moves after it has been painted."""
     for width, height in ((1440, 900), (390, 844)):
         at_size(browser, width, height, width < 700)
         browser.go("about:blank")
@@ -386,7 +385,7 @@ def check_shifts(browser, page, at_size):
 
 
 def check_by_finger(browser, at_size):
-    """Checks that on a phone and on a tablet everything that a finger can touch has 44 pixels, except cells of values."""
+    """Checks that on a phone and on a tablet every touch target has 44 pixels, except value cells."""
     browser.command("Emulation.setTouchEmulationEnabled", enabled=True)
     for width, height in ((390, 844), (820, 1180)):
         at_size(browser, width, height, True)

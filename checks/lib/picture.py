@@ -1,4 +1,4 @@
-"""Makes a screenshot small: converts a true-colour PNG to one with at most 64 colours, which is enough for drawings and letters."""
+"""Reduces a screenshot: converts a true-colour PNG to a PNG with at most 64 colours, which is enough for drawings and letters."""
 
 import collections
 import struct
@@ -8,7 +8,7 @@ COLOURS = 64
 
 
 def chunks(data):
-    """Yields the chunks of a PNG, each with its name."""
+    """Yields the chunks of a PNG with their names."""
     at = 8
     while at < len(data):
         length, name = struct.unpack(">I4s", data[at:at + 8])
@@ -22,7 +22,7 @@ def paeth(left, above, corner):
 
 
 def unfilter(kind, row, above, step):
-    """Returns a row as it was before its filter."""
+    """Reverses the filter of a row."""
     for at in range(len(row)):
         left = row[at - step] if at >= step else 0
         corner = above[at - step] if at >= step else 0
@@ -46,7 +46,7 @@ def rows_of(data):
 
 
 def palette_of(rows):
-    """Returns the most frequent colours that differ from each other."""
+    """Returns the most frequent colours that differ clearly from each other."""
     counts = collections.Counter(colour for row in rows for colour in row)
     palette = []
     for colour, _ in counts.most_common():

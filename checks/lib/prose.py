@@ -1,4 +1,4 @@
-"""Finds the errors in the sentences of a document: too many words, or words that have a better replacement."""
+"""Finds errors in the sentences of a document: sentences with too many words, and words that have a better replacement."""
 
 import re
 
@@ -36,11 +36,11 @@ AVOIDED = {
 }
 BETTER = list(AVOIDED.values())
 ANY_AVOIDED = re.compile("|".join(rf"\b(?P<word{n}>{words})\b" for n, words in enumerate(AVOIDED)), re.I)
-# Sentences that stay as they are, by their beginnings, with the reason.
+# The beginnings of sentences that stay as they are, with the reasons.
 EXCEPTIONS = {
     "*Whatever bytes the shell reads, and wherever the machine stops,": "the headline of PROOF stays word for word",
 }
-# Code, and a list of it, counts as one word.
+# Code, or a list of code, counts as one word.
 CODE = r"`[^`]*`(?:(?:,| and|, and)? \(?`[^`]*`\)?)*"
 # The beginning of a new block: a table row, a list item, a heading.
 BEGINS = r"\s*(?:\||- |\d+\. )|#"

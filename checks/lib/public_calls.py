@@ -1,7 +1,7 @@
 #!/usr/bin/env python3
 """Finds the public interface of the crates: types with their public fields and variants, constants, and calls with the types of their parameters.
-`checks/lib/public_calls.py CRATE..` prints the interface of some crates, in the form of public_calls.txt. That file has the interface that must
-stay: checks/documents compares it with the sources.
+`checks/lib/public_calls.py CRATE..` prints the interface of crates, in the form of public_calls.txt. That file contains the interface that must
+be kept: checks/documents compares it with the sources.
 """
 
 import functools
@@ -11,7 +11,7 @@ import sys
 
 TOP = pathlib.Path(__file__).resolve().parent.parent.parent
 LIST = TOP / "checks/lib/public_calls.txt"
-# The end of the head of an item: a clause, the body, or a semicolon.
+# The end of an item's head: a clause, the body, or a semicolon.
 END = re.compile(r"^\s*(?:requires|ensures|ghost|decreases)\b|[{;]\s*$")
 
 
@@ -25,7 +25,7 @@ def parts_of(text):
     """Returns the parts of a list, split at the commas outside of brackets."""
     depth, parts, part = 0, [], ""
     for before, char in zip(" " + text, text):
-        # The `>` of an arrow closes no bracket.
+        # The `>` of an arrow does not close a bracket.
         depth += (char in "([{<") - (char in ")]}" or (char == ">" and before != "-"))
         if char == "," and depth == 0:
             parts, part = [*parts, part], ""
@@ -40,7 +40,7 @@ def type_of(parameter):
 
 
 def call_of(head):
-    """Returns a call from the head of its function: the name, the types of the parameters, and the type of the result."""
+    """Returns the call that the head of a function declares: the name, the types of the parameters, and the type of the result."""
     head = re.sub(r"\s+", " ", head).strip()
     name, _, rest = re.sub(r"^(?:pub )?(?:const )?fn ", "", head).partition("(")
     end = next(at for at in range(len(rest)) if rest[:at + 1].count(")") > rest[:at + 1].count("("))

@@ -1,5 +1,5 @@
-"""A second implementation of mcs4-prove over the board of board4004.py. It searches breadth-first through everything that a machine can do, with any
-keys and any TEST pin, and tests conditions on the way. It shares no code with the program.
+"""A second implementation of mcs4-prove over the board of board4004.py. It searches everything that a machine can do, breadth-first, with any
+keys and any TEST pin, and tests conditions at the same time. It shares no code with the program.
 
 A state is everything in a machine except its inputs, what its stopwatch shows, if it has one, and how many marks were seen, if it looks for some.
 There is a state at power-on, before each cycle that reads an input (RDR, or JCN with TEST), and after a fixed number of cycles without such a read.
@@ -18,7 +18,7 @@ from board4004 import ADDRESSES, CODES, TWO_WORDS, Board
 
 # A comparison, in the words of a question: `in` or `out`, the list, the index, the part, the minimum and the maximum.
 Comparison = tuple[str, str, int, str, int, int]
-# The condition that the next cycle makes one of some mistakes: `mistake` and their names.
+# The condition that the next cycle makes one of these mistakes: `mistake`, then their names.
 Mistakes = tuple[str, ...]
 Row = list[Comparison | Mistakes]
 # A mark: `up` or `down`, and the row and the column of a key that a read must show at that level.
@@ -30,7 +30,7 @@ NO_LEVELS: Levels = (frozenset(), 1)
 
 
 def rows_of(word: str, rows: list[Row]) -> list[str]:
-    """Returns the lines of rows of conditions, each after this word."""
+    """Returns the lines of rows of conditions, with this word before each row."""
     return [line for row in rows for line in (word, *(" ".join(map(str, words)) for words in row))]
 
 
@@ -64,7 +64,7 @@ class Question:
 
 @dataclass
 class Found:
-    """A verdict: `holds`, `may fail` or `too many`; the number of states found; the values that lead to the failure."""
+    """A verdict (`holds`, `may fail` or `too many`), the number of states found, and the values that lead to the failure."""
 
     verdict: str
     states: int
@@ -83,7 +83,7 @@ def addresses(board: Board) -> list[int]:
 
 
 def cell(board: Board, name: str, index: int) -> int:
-    """Returns the value of a cell; 0 if the board lacks it."""
+    """Returns the value of a cell, or 0 if the board does not have it."""
     chips = board.chips
     if name.startswith("chain"):
         chain = chips.chains[int(name[5:])] if int(name[5:]) < len(chips.chains) else []
@@ -102,9 +102,9 @@ def cell(board: Board, name: str, index: int) -> int:
 
 # ---- mistakes, by the instruction table of the manual
 
-# The maximum number of open calls: the processor has as many return addresses.
+# The maximum number of open calls, which is the number of the processor's return addresses.
 OPEN_CALLS = 3
-# The instructions for a RAM chip: its characters, its status characters, and its port.
+# The instructions that access a RAM chip: its characters, its status characters and its port.
 FOR_RAM = {"WRM", "RDM", "ADM", "SBM", "WMP", *(f"{way}{k}" for way in ("WR", "RD") for k in range(4))}
 MISTAKES = ("code", "call", "return", "ram", "rom", "rdr", "wrr")
 # The attributes of a board with the number of its open calls, its stopwatch, what that shows, what it looks for, and the marks seen.
@@ -123,7 +123,7 @@ def set_calls(board: Board, calls: int) -> None:
 
 @dataclass
 class Stopwatch:
-    """Counts cycles from where it begins to where it ends."""
+    """Counts cycles from the place where it starts to the place where it stops."""
 
     begins: Condition
     ends: Condition
@@ -135,17 +135,17 @@ def stopwatch_of(board: Board) -> Stopwatch | None:
 
 
 def elapsed_of(board: Board) -> int:
-    """Returns the cycles that the stopwatch shows; 0 if it does not run."""
+    """Returns the number of cycles that the stopwatch shows, or 0 if it does not run."""
     return getattr(board, ELAPSED, 0)
 
 
 def set_elapsed(board: Board, cycles: int) -> None:
-    """Sets what the stopwatch shows."""
+    """Sets the reading of the stopwatch."""
     setattr(board, ELAPSED, cycles)
 
 
 def elapsed_after(board: Board) -> int:
-    """Returns what the stopwatch shows after the next cycle."""
+    """Returns the reading of the stopwatch after the next cycle."""
     stopwatch, elapsed = stopwatch_of(board), elapsed_of(board)
     if not stopwatch:
         return 0
@@ -224,13 +224,13 @@ def is_early(board: Board) -> bool:
 
 
 def read_by(board: Board, name: str) -> list[int]:
-    """Returns the addresses of the ROM words that the instruction at the counter reads: its own, and for FIN the word that it loads."""
+    """Returns the addresses of the ROM words that the instruction at the counter reads: its own words, and for FIN the word that it loads."""
     behind = (board.pc + 1) % ADDRESSES
     return [board.pc] + ([behind] if name in TWO_WORDS else []) + ([behind & 0xF00 | board.pair(0)] if name == "FIN" else [])
 
 
 def mistakes(board: Board) -> set[str]:
-    """Returns the mistakes that the next cycle makes; none in the second cycle of an instruction."""
+    """Returns the mistakes that the next cycle makes. There are none in the second cycle of an instruction."""
     if board.owed:
         return set()
     if board.is_outside():
@@ -274,7 +274,7 @@ def is_met(board: Board, condition: Comparison | Mistakes) -> bool:
 
 
 def condition_of(rows: list[Row]) -> Condition:
-    """Returns the function that tests whether a row of conditions is met at once."""
+    """Returns the function that tests whether all conditions of any row are met at the same time."""
     return lambda board: any(all(is_met(board, each) for each in row) for row in rows)
 
 
@@ -292,7 +292,7 @@ def fault_of(question: Question) -> Condition:
 # ---- what a machine reads
 
 def begins(board: Board) -> tuple[str, int]:
-    """Returns the instruction whose work the next cycle does, and its lower half; an empty name if it does none."""
+    """Returns the instruction that takes effect in the next cycle, and its lower half. The name is empty if there is none."""
     return ("", 0) if board.owed or board.is_outside() else CODES[board.rom[board.pc]]
 
 
@@ -303,7 +303,7 @@ def is_reading(board: Board) -> bool:
 
 
 def port_values(board: Board) -> dict[int, Levels]:
-    """Returns the values that RDR can read, each with keys that give it. Keys combine: two keys together pull all lines that either of them
+    """Returns the values that RDR can read, each with keys that produce it. Keys combine: two keys together pull all lines that either of them
     pulls."""
     chips = board.chips
     port = chips.rom_src >> 4
@@ -323,7 +323,7 @@ def port_values(board: Board) -> dict[int, Levels]:
 
 
 def values_read(board: Board) -> dict[int, Levels]:
-    """Returns the values that the next cycle can read, each with levels that give it; only 0 if it reads none."""
+    """Returns the values that the next cycle can read, each with levels that produce it. If it reads none, the only value is 0."""
     name, low = begins(board)
     if name == "RDR":
         return port_values(board)
@@ -355,7 +355,7 @@ def load(board: Board, state: tuple) -> None:
 
 
 def go_on(board: Board, levels: Levels, is_bad: Condition, pause: int) -> tuple[int, bool]:
-    """Does one cycle at these levels, then continues to the next state; returns the number of cycles, and true if the forbidden conditions were
+    """Executes one cycle at these levels, then continues to the next state. Returns the number of cycles, and true if the forbidden conditions were
     met after the last one."""
     board.chips.down, board.test = set(levels[0]), levels[1]
     at, state = board.pc, saved(board)
@@ -420,7 +420,7 @@ def way_to(came: list[tuple[int, int]], at: int) -> list[int]:
 
 
 def is_met_when_driven(question: Question, chance: random.Random, cycles: int) -> bool:
-    """Returns true if the forbidden conditions are met within a number of cycles, with random keys and TEST before each."""
+    """Returns true if the forbidden conditions are met within a number of cycles, with random keys and a random TEST level before each."""
     board, is_bad = power_on(question), fault_of(question)
     chips = board.chips
     for _cycle in range(cycles):
@@ -442,7 +442,7 @@ def commands(levels: Levels, before: Levels) -> list[str]:
 
 
 def replayed(question: Question, way: list[int]) -> tuple[list[str], str]:
-    """Returns the session lines that replay a counterexample up to the cycle that meets the forbidden conditions; or a description of the
+    """Returns the session lines that replay a counterexample up to the cycle that meets the forbidden conditions, or a description of the
     error."""
     board, is_bad, before = power_on(question), fault_of(question), NO_LEVELS
     lines, bad = [*question.begun(), "reset"], is_bad(board)

@@ -1,7 +1,7 @@
-"""Random boards, programs and commands, reproducible by a seed. All of them are texts, as a user types them.
+"""Random boards, programs and commands, reproducible by a seed. All of them are texts as a user types them.
 
-Many contain details that tools once reported wrongly: addresses such as 0E0 and 1E2, and the names `inf` and `nan`, which some parsers read as
-numbers; and a single chain, of up to 80 bits, that is clocked often.
+Many contain details that tools once reported incorrectly: addresses such as 0E0 and 1E2, and the names `inf` and `nan`, which some parsers read as
+numbers; and a single chain of up to 80 bits that is clocked often.
 """
 
 from __future__ import annotations
@@ -25,7 +25,7 @@ class Wiring:
     def __init__(self, chance: random.Random) -> None:
         self.chance = chance
         pages = {0, *chance.choices([1, 1, 2, 14, 15, chance.randrange(16)], k=chance.randrange(1, 3))}
-        # Also the page after one, where instructions at its end continue.
+        # Also the page after a page, because instructions at the end of a page continue there.
         self.pages = sorted(pages | {(page + 1) % 16 for page in pages if chance.random() < 0.4})
         ports = {*self.pages, *chance.sample(range(16), chance.randrange(4))}
         self.ports = {chip: chance.choice(["0000", "0000", "1111", "".join(chance.choices("i01", k=4)), "iiii"]) for chip in sorted(ports)}
@@ -48,7 +48,7 @@ class Wiring:
         self.lamps = chance.choices(self.lines, k=chance.choice([0, 3, 8, 20])) if self.lines else []
 
     def chain(self) -> tuple[str, str, int]:
-        """Returns a chain's clock and data, mostly of one port, and its number of chips."""
+        """Returns the clock and the data of a chain, usually on the same port, and its number of chips."""
         lines = self.chance.choice(self.outputs)
         others = lines if self.chance.random() < 0.8 else self.chance.choice(self.outputs)
         return self.chance.choice(lines), self.chance.choice(others), self.chance.choice([1, 2, 3, 8, 8])
@@ -71,7 +71,7 @@ class Wiring:
 
 
 class Program:
-    """A program for a board: instructions at some addresses, then targets for its jumps."""
+    """A program for a board: instructions at several addresses, then targets for its jumps."""
 
     def __init__(self, chance: random.Random, wiring: Wiring) -> None:
         self.chance, self.wiring = chance, wiring
@@ -88,13 +88,13 @@ class Program:
         self.names = self.some_names()
 
     def put_part(self, at: int, phrases: int) -> None:
-        """Adds some phrases from an address on, as far as there is room, and an end: a jump, a code that is not an instruction, or whatever
+        """Adds phrases from an address on, as far as there is room, and an end: a jump, a code that is not an instruction, or whatever
         follows."""
         statement = [word for _n in range(phrases) for word in self.phrase()]
         self.put(at, statement + self.chance.choice([["JUN"], ["JUN"], ["BBL 3"], [f"DB 0x{self.chance.choice(OUTSIDE):02X}"], []]))
 
     def put(self, at: int, statements: list[str]) -> None:
-        """Adds statements from an address on, as far as there is room; `^4` jumps back by four of them."""
+        """Adds statements from an address on, as far as there is room. `^4` jumps back by four of them."""
         put: list[int] = []
         for statement in statements:
             statement, _sign, back = statement.partition(" ^")
@@ -109,13 +109,13 @@ class Program:
             at += size
 
     def put_end_of_page(self, page: int) -> None:
-        """Adds instructions in the last words of a page; their targets are on the next page."""
+        """Adds instructions in the last words of a page. Their targets are on the next page."""
         if (page >> 8) + 1 in self.wiring.pages and {page + 0xFC, page + 0xFD, page + 0xFE, page + 0xFF, page + 0x100} <= self.free:
             name = self.chance.choice(["ISZ R3", "JCN 12", "JCN 4", "JIN P2", "FIN P2"])
             self.put(page + 0xFC, [*self.chance.randrange(2, 4) * ["NOP"], name])
 
     def phrase(self) -> list[str]:
-        """Returns a few instructions that belong together, or one of any kind."""
+        """Returns a few instructions that belong together, or a single one of any kind."""
         kind = self.chance.random()
         value, pair = self.chance.randrange(16), self.chance.randrange(8)
         if kind < 0.15:
@@ -133,7 +133,7 @@ class Program:
         return [self.any_instruction(value, pair)]
 
     def selected(self) -> int:
-        """Returns an SRC byte, mostly of an existing chip."""
+        """Returns an SRC byte, usually that of an existing chip."""
         return self.chance.choice([16 * self.chance.choice([*self.wiring.ports]), self.chance.randrange(64), self.chance.randrange(256)])
 
     def clocked(self, pair: int) -> list[str]:
@@ -157,12 +157,12 @@ class Program:
         return name + (operand or (f" {value}" if name in ("LDM", "BBL", "JCN") else ""))
 
     def some_names(self) -> dict[int, str]:
-        """Returns labels for some addresses, some of which read as numbers."""
+        """Returns labels for some of the addresses. Some of the labels look like numbers."""
         there = self.chance.sample(self.begins, min(len(self.begins), self.chance.choice([0, 2, 12])))
         return {at: NAMES[i] if i < len(NAMES) else f"l{at:03X}" for i, at in enumerate(there)}
 
     def target(self, at: int, name: str) -> str:
-        """Returns the target of a jump: mostly an instruction."""
+        """Returns the target of a jump, usually an instruction."""
         if at in self.loops:
             return self.names.get(self.loops[at], f"0x{self.loops[at]:03X}")
         page = (at + 2) % ADDRESSES >> 8 if name in ("JCN", "ISZ") else self.chance.choice(self.wiring.pages)
@@ -205,7 +205,7 @@ class Seeded:
         return ["wire", *self.board_text, ".", "asm", *self.program_text, "."]
 
     def somewhere(self) -> int:
-        """Returns an address, mostly of an instruction; often before a loop that clocks a chain, or at the end of a page."""
+        """Returns an address, usually of an instruction, and often before a loop that clocks a chain, or at the end of a page."""
         loops = [goal - 3 for goal in self.program.loops.values()]
         if loops and self.chance.random() < 0.3:
             return self.chance.choice(loops)
@@ -215,12 +215,12 @@ class Seeded:
         return self.chance.choice(self.program.begins) if self.chance.random() < 0.95 else self.chance.randrange(ADDRESSES)
 
     def character(self) -> tuple[int, int]:
-        """Returns a RAM nibble, mostly of an existing chip."""
+        """Returns a RAM nibble, usually of an existing chip."""
         bank = self.chance.choice([*self.wiring.banks, self.chance.randrange(8)])
         return bank, self.chance.choice([self.program.selected(), self.chance.randrange(256)])
 
     def change(self) -> str:
-        """Returns a command that changes something; some are rejected."""
+        """Returns a command that changes something. Some of these commands are rejected."""
         chance = self.chance
         bank, src = self.character()
         value = chance.randrange(16)
@@ -233,7 +233,7 @@ class Seeded:
         return chance.choice(kinds)
 
     def stop(self, board: Board) -> str:
-        """Returns a command that sets or removes a breakpoint or a watch: mostly one that the board reaches, or the one at which it stopped."""
+        """Returns a command that sets or removes a breakpoint or a watch, usually one that the board reaches, or the one at which it stopped."""
         ahead, visited, written = board.copy(), [board.pc], [self.character()]
         ahead.breaks = set()
 

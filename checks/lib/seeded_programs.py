@@ -1,4 +1,4 @@
-"""Programs for the checks: those of the examples, and random ones, most of them without an error, some with one or more.
+"""Programs for the checks: those of the examples, and random ones. Most of the random ones have no error, and some have one or more.
 
 As a command, `seeded_programs.py FOLDER ACCEPTED REFUSED` writes random programs into a folder, as `NUMBER.asm`: ACCEPTED programs that the
 assembler of the checks accepts, and among them REFUSED programs that it rejects.
@@ -15,7 +15,7 @@ TOP = pathlib.Path(__file__).resolve().parent.parent.parent
 
 
 def examples():
-    """Yields the programs of the examples: files, and texts after `asm` in scripts."""
+    """Yields the programs of the examples: files, and the texts after `asm` in scripts."""
     for path in sorted(TOP.glob("examples/**/*.asm")):
         yield path.name, path.read_text().splitlines()
     for path in sorted(TOP.glob("examples/**/*.txt")):
@@ -25,10 +25,10 @@ def examples():
 
 
 def seeded(number):
-    """Returns a random program: most have no error, some have one or more."""
+    """Returns a random program. Most have no error, and some have one or more."""
     chance = random.Random(number)
     names = [f"n{i}" for i in range(8)]
-    # A name that is used alone is defined there, so that most programs are accepted.
+    # The names that are not defined yet. Those that remain are defined at the end, so that most programs are accepted.
     free = list(names)
     chance.shuffle(free)
 
@@ -55,13 +55,13 @@ def seeded(number):
     return lines + [f"{name}:" for name in free if chance.random() < 0.98]
 
 
-# Lines with an error of each kind, by themselves or in most programs.
+# Lines with each kind of error. Some are wrong on their own, and some only in most programs.
 WRONG = ("FOO", "LDM", "NOP NOP", "1: NOP", "DB 1,, 2", "ORG 4096", "n9 = 5000", "n0: NOP", "n1 = 7", "P1 = 3", "ORG 4095", "JUN n20", "LDM 16",
          "DB 256", "FIM P0, 300", "ISZ R1, 0xF00", "JCN 4, 2000", "BBL n21")
 
 
 def wrong(number):
-    """Returns a random program with some wrong lines. In half of the programs, the wrong lines are wrong only in their bytes."""
+    """Returns a random program with wrong lines. In half of the programs, the errors are only in the bytes of these lines."""
     chance = random.Random(number)
     lines = seeded(number)
     rows = WRONG if chance.random() < 0.5 else WRONG[11:]

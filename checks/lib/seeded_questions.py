@@ -16,7 +16,7 @@ from second_search import (
     MISTAKES, Comparison, Mark, Question, Row, all_keys, cell, elapsed_of, go_on, is_shown, power_on, values_read)
 from seeded_boards import OUTSIDE, Program, Seeded, Wiring
 
-# Most of the instructions that do nothing with a chip.
+# Most of the instructions that do not access a chip.
 HANDY = ["CLB", "CLC", "IAC", "CMC", "CMA", "RAL", "RAR", "TCC", "DAC", "TCS", "STC", "DAA", "KBP"]
 LENGTHS = {"character": 2048, "status": 512, "ramport": 32, "romport": 16, "banksrc": 8, "register": 16, "counter": 14,
            "chain0": 256, "chain1": 256, "chain2": 256, "chain3": 256}
@@ -25,7 +25,7 @@ WALK, WAYS = 12, 8
 
 
 class Asking(Program):
-    """A short program that reads keys and TEST again and again."""
+    """A short program that reads keys and TEST repeatedly."""
 
     def __init__(self, chance: random.Random, wiring: Wiring) -> None:
         self.chance, self.wiring = chance, wiring
@@ -39,14 +39,14 @@ class Asking(Program):
         self.begins = [at for at, statement in self.statements.items() if not statement.startswith("DB")]
 
     def prepared(self) -> list[str]:
-        """Returns phrases before the loop: a chain shifts in bits, or a port gets a value."""
+        """Returns the phrases before the loop, which shift bits into a chain, or write a value to a port."""
         if self.wiring.chains and self.chance.random() < 0.8:
             clock, data, _chips = self.chance.choice([self.wiring.chains[self.wiring.driver], self.chance.choice(self.wiring.chains)])
             return self.pulses(clock, data)
         return self.selected_by(self.chance.randrange(8)) + [f"LDM {self.chance.randrange(16)}", self.chance.choice(["WRR", "WMP", "WRM", "WR1"])]
 
     def pulses(self, clock: str, data: str) -> list[str]:
-        """Returns phrases that clock a chain, mostly with its data line at 1."""
+        """Returns phrases that clock a chain, usually with its data line at 1."""
         numbers = [int(word) for word in clock[3:].split(".")]
         pair = self.chance.randrange(8)
         begin = [f"FIM P{pair}, 0x{16 * numbers[0] if clock.startswith('rom') else 64 * numbers[1]:02X}", f"SRC P{pair}"]
@@ -57,7 +57,7 @@ class Asking(Program):
         return begin + self.chance.randrange(1, 4) * [f"LDM {one}", write, f"LDM {one | 1 << numbers[-1]}", write]
 
     def selected_by(self, pair: int) -> list[str]:
-        """Returns phrases that select a chip, mostly one with inputs."""
+        """Returns phrases that select a chip, usually one with inputs."""
         inputs = [16 * int(line[3:].split(".")[0]) for line in self.wiring.inputs]
         return [f"FIM P{pair}, 0x{self.chance.choice(inputs) if inputs and self.chance.random() < 0.8 else self.selected():02X}", f"SRC P{pair}"]
 
@@ -118,7 +118,7 @@ class AskingKeys(Asking):
 
 
 def walked(question: Question, chance: random.Random) -> Iterator[Board]:
-    """Yields the machine at some states of a random walk."""
+    """Yields the machine at several states of a random walk."""
     board = power_on(question)
     yield board
     for _n in range(chance.randrange(WALK)):
@@ -128,7 +128,7 @@ def walked(question: Question, chance: random.Random) -> Iterator[Board]:
 
 
 def cells_of(wiring: Wiring) -> list[tuple[str, int]]:
-    """Returns cells to compare: registers, ports, some nibbles of RAM and chains; some of missing chips."""
+    """Returns cells to compare: registers, ports, and some of the nibbles of RAM and chains. Some belong to missing chips."""
     cells = [("register", k) for k in range(16)] + [("counter", k) for k in range(14)]
     cells += [("romport", chip) for chip in wiring.ports] + [("banksrc", bank) for bank in wiring.banks]
     cells += [("ramport", 4 * bank + chip) for bank, chips in wiring.banks.items() for chip in range(chips)]
@@ -138,7 +138,7 @@ def cells_of(wiring: Wiring) -> list[tuple[str, int]]:
 
 
 def comparison(chance: random.Random, wiring: Wiring, boards: list[dict[tuple[str, int], int]]) -> Comparison:
-    """Returns a comparison, mostly of a cell that changes on the walk, with a value that it has there or another one."""
+    """Returns a comparison, usually of a cell that changes on the walk, with a value that it has there or with another one."""
     name, index = chance.choice(cells_of(wiring))
     changing = [each for each in boards[0] if len({seen[each] for seen in boards}) > 1]
     if changing and chance.random() < 0.8:
@@ -157,7 +157,7 @@ def comparison(chance: random.Random, wiring: Wiring, boards: list[dict[tuple[st
 
 
 def at_address(seen: dict[tuple[str, int], int]) -> Row:
-    """Returns comparisons that hold between two instructions at the counter that was seen."""
+    """Returns comparisons that hold between two instructions at the counter of a recorded state."""
     return [("in", "counter", 3, "whole", 0, 0), *(("in", "counter", n, "whole", *[seen["counter", n]] * 2) for n in (4, 5))]
 
 
@@ -167,7 +167,8 @@ def opposite(words: Comparison) -> Comparison:
 
 
 def timed(question: Question, chance: random.Random, wiring: Wiring, boards: list[dict[tuple[str, int], int]]) -> None:
-    """Adds a time to a question: how long a condition holds, or from one address to another. Its limit is near the longest time on some ways."""
+    """Adds a time to a question: how long a condition holds, or the time from one address to another. Its limit is near the longest time on several
+    walks."""
     if chance.random() < 0.5:
         question.nevers = []
     kind = chance.random()
@@ -180,13 +181,13 @@ def timed(question: Question, chance: random.Random, wiring: Wiring, boards: lis
         question.begins = [[comparison(chance, wiring, boards)] for _row in range(chance.choice([1, 2]))]
         question.ends = [[comparison(chance, wiring, boards), *([("mistake", *MISTAKES)] if chance.random() < 0.2 else [])] for _row in range(chance.choice([1, 2]))]
     if chance.random() < 0.15:
-        # What the stopwatch shows itself, in its lowest byte.
+        # The reading of the stopwatch itself, in its lowest byte.
         question.ends.append([("in", "counter", 16, "whole", chance.randrange(1, 6), 255)])
     question.within = max(0, longest_seen(question, chance) + chance.choice([-1, 0, 0, 0, 1, 3]))
 
 
 def longest_seen(question: Question, chance: random.Random) -> int:
-    """Returns the longest time that the stopwatch of a question shows on some ways."""
+    """Returns the longest time that the stopwatch of a question shows on several walks."""
     shown = [0]
 
     def note(board: Board) -> bool:
@@ -259,7 +260,7 @@ def marks_on_way(question: Question, chance: random.Random) -> list[tuple[Board,
 
 
 def seeded_question(seed: int, most: int) -> Question:
-    """Returns a random question; one in eight has a long program of any instructions."""
+    """Returns a random question. One in eight has a long program of arbitrary instructions."""
     chance = random.Random(seed)
     wiring: Wiring
     if seed % 8 == 7:
@@ -281,8 +282,8 @@ def seeded_question(seed: int, most: int) -> Question:
     boards = [{each: cell(board, *each) for each in cells} for board in walked(question, chance)]
     question.nevers = [[comparison(chance, wiring, boards) for _each in range(chance.choice([1, 2, 2, 3]))] for _row in range(chance.choice([0, 1, 1, 1, 2]))]
     if chance.random() < 0.5:
-        asked = ("mistake", *chance.sample(MISTAKES, chance.choice([1, 1, 2, len(MISTAKES)])))
-        question.nevers.append([asked, *([comparison(chance, wiring, boards)] if chance.random() < 0.2 else [])])
+        mistake_condition = ("mistake", *chance.sample(MISTAKES, chance.choice([1, 1, 2, len(MISTAKES)])))
+        question.nevers.append([mistake_condition, *([comparison(chance, wiring, boards)] if chance.random() < 0.2 else [])])
     if seed % 4 == 1:
         timed(question, chance, wiring, boards)
     if seed % 8 == 2:

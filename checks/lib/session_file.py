@@ -1,6 +1,6 @@
-"""Writes and reads session files by docs/FORMAT.md, without the program, with a bench of a few commands to fill them.
+"""Writes and reads session files as docs/FORMAT.md specifies, without the program, and has a bench with a few commands to fill them.
 
-`Kept` has the expected contents of a session's file after each accepted command: its snapshot, its records, and all other bytes, except the
+`Kept` contains the expected contents of a session's file after each accepted command: its snapshot, its records, and all other bytes, except the
 unused rest of a snapshot area.
 """
 
@@ -37,14 +37,14 @@ def chain_line(chain, bit):
 
 
 def name_of(line):
-    """Returns the name of a line in texts."""
+    """Returns the name of a line in texts, for example rom0.3."""
     kind, *numbers = line
     return ("rom{}.{}", "ram{}.{}.{}", "chain{}.{}")[kind].format(*numbers)
 
 
 @dataclasses.dataclass
 class Board:
-    """Ports by chip, chips by bank, chains as (clock, data, chips), keys as (chain, first, rows, columns), lamps as lines."""
+    """Ports by chip, chips by bank, chains as (clock, data, chips), keys as (chain, first, rows, columns), and lamps as lines."""
     roms: dict = dataclasses.field(default_factory=dict)
     banks: dict = dataclasses.field(default_factory=dict)
     chains: list = dataclasses.field(default_factory=list)
@@ -68,7 +68,7 @@ class Board:
         return self.keys[2] * len(self.keys[3]) if self.keys else 0
 
     def tables(self):
-        """Returns the tables of the board's text, each with the key that it is below: ROMs and banks by number, chains, keys, lamps."""
+        """Returns the tables of the board's text, each with the key that it is below: ROMs and banks by number, then chains, keys and lamps."""
         found = [("rom", {"chip": chip, "port": self.roms[chip]}) for chip in sorted(self.roms)]
         found += [("ram", {"bank": bank, "chips": self.banks[bank]}) for bank in sorted(self.banks)]
         found += [("chain", {"clock": name_of(clock), "data": name_of(data), "chips": chips}) for clock, data, chips in self.chains]
@@ -82,7 +82,7 @@ class Board:
         lines = []
         for below, table in self.tables():
             lines.append(f"[{below}]" if below == "keys" else f"[[{below}]]")
-            # In this form, TOML writes numbers, strings and lists like JSON.
+            # In this form, TOML writes numbers, strings and lists in the same way as JSON.
             lines += [f"{key} = {json.dumps(value)}" for key, value in table.items()]
         return "".join(f"{line}\n" for line in lines)
 
@@ -131,7 +131,7 @@ class State:
                 f"r {''.join(f'{register:X}' for register in self.registers)} ret {' '.join(f'{address:03X}' for address in self.returns)}")
 
     def cycle(self):
-        """Does one cycle of the few instructions that the checks use."""
+        """Executes one cycle, with the few instructions that the checks use."""
         if self.owed:
             self.owed = 0
             return
@@ -151,16 +151,16 @@ class State:
             assert code == 0, f"the checks have no instruction {code:02X}"
 
     def run(self, cycles):
-        """Runs a number of cycles, or to a breakpoint; returns the words about the number of cycles and the reason for the stop."""
-        begun = self.place()
+        """Runs a number of cycles, or up to a breakpoint. Returns the words about the number of cycles and the reason for the stop."""
+        start = self.place()
         done = left_out = 0
         while done + left_out < cycles:
             self.cycle()
             done += 1
             if not self.owed and self.counter in self.breakpoints:
                 return f" ran {done} break"
-            if self.place() == begun and left_out == 0:
-                # The program loops, so whole rounds are skipped.
+            if self.place() == start and left_out == 0:
+                # The program loops, so whole iterations are skipped.
                 left_out = (cycles - done) // done * done
         return f" ran {cycles} end"
 
@@ -168,7 +168,7 @@ class State:
         return self.counter, self.owed, self.accumulator, self.carry, bytes(self.registers)
 
     def step(self):
-        """Runs one instruction, or the second cycle of one; returns the words about its cycles."""
+        """Runs one instruction, or the second cycle of one. Returns the words about its cycles."""
         was_owed = self.owed
         self.cycle()
         if not self.owed or was_owed:
@@ -177,7 +177,7 @@ class State:
         return " ran 2 end"
 
     def reset(self):
-        """Does a power cycle; ROM, keys, TEST, breakpoints, watches and wiring stay."""
+        """Performs a power cycle. ROM, keys, TEST, breakpoints, watches and wiring stay."""
         new = State()
         for part in ("ram", "status", "ram_ports", "rom_ports", "accumulator", "carry", "registers", "counter", "returns", "bank", "rom_source",
                      "bank_sources", "owed"):
@@ -189,7 +189,8 @@ class State:
 
 @dataclasses.dataclass
 class Command:
-    """A command: its lines, its record, its effect on a state (which can answer after `ok N`), and the cycles that it counts in a log."""
+    """A command: its lines, its record, its effect on a state (which can add to the answer `ok N`), and the number of cycles that it counts in a
+    log."""
     text: str
     record: bytes
     do: object
@@ -224,12 +225,12 @@ def load(text, image):
 
 
 def run(cycles):
-    """Returns the command of a run. It counts all its cycles, even if a breakpoint stops it."""
+    """Returns the command for a run. It counts all its cycles, even if a breakpoint stops it."""
     return Command(f"run {cycles}\n", bytes([5]) + number(cycles, 4), lambda state: state.run(cycles), cycles)
 
 
 def step():
-    """Returns the command of a step. It counts two cycles."""
+    """Returns the command for a step. It counts two cycles."""
     return Command("step\n", bytes([6]), State.step, 2)
 
 
@@ -266,7 +267,7 @@ def watch(bank, source):
 # --- files
 
 def read(file):
-    """Returns the snapshot and the records in a file; None if the file has none."""
+    """Returns the snapshot and the records in a file, or None if the file does not have them."""
     if len(file) != SIZE or file[:8] != NAME or any(file[9:16]):
         return None
     slot = SLOTS[file[8] % 2]
@@ -303,7 +304,7 @@ class Kept:
     """A session, and the expected contents of its file."""
 
     def __init__(self, state=None, slot=0, version=2):
-        """Begins a session at this state, with a snapshot in one of the slots."""
+        """Starts a session at this state, with a snapshot in one of the slots."""
         self.state = state or State()
         self.version = version
         self.file = bytearray(SIZE)
@@ -348,7 +349,7 @@ class Kept:
         return "".join(self.accept(command) for command in commands)
 
     def fault(self, file):
-        """Returns a description of the error if a file differs from this one; "" if it does not."""
+        """Returns a description of the error if a file differs from this one, or "" if it does not."""
         if len(file) != SIZE:
             return f"it has {len(file)} bytes"
         wanted = bytearray(self.file)

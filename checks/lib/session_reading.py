@@ -1,5 +1,5 @@
-"""Reads a session file after docs/FORMAT.md: a second reading of the bytes of states and of commands. bench4004.py has the effects of commands
-and their answers.
+"""Reads a session file as docs/FORMAT.md specifies: an independent parser for the bytes of states and commands. bench4004.py implements the effects
+of commands and their answers.
 """
 
 import re
@@ -11,10 +11,10 @@ MAX_COMMANDS = 2**32 - 1
 # The maximum numbers of chains, and of chips in a chain, by version.
 MAX_CHAINS = {1: 2, 2: 4}
 MAX_CHIPS = {1: 4, 2: 8}
-# Places by their numbers: their forms, the maxima of the numbers in them, and the maximum of their value.
+# Places by their numbers: the form of each, the maxima of the numbers in it, and the maximum of its value.
 PLACES = (("acc", 15), ("cy", 1), ("pc", 4095), ("r{}", 15, 15), ("dcl", 7), ("rom.{}", 4095, 255), ("ram.{}.{}", 7, 255, 15),
           ("st.{}.{}.{}", 7, 15, 3, 15))
-# The other commands that have only numbers, by their tags.
+# The other commands whose operands are all numbers, by their tags.
 COMMANDS = {3: ("press", 255, 255), 4: ("release", 255, 255), 5: ("run", 2**32 - 1), 6: ("step",), 8: ("test", 1), 9: ("reset",),
             10: ("break", 4095), 11: ("unbreak", 4095), 12: ("watch", 7, 255), 13: ("unwatch", 7, 255)}
 
@@ -30,7 +30,7 @@ def require(holds):
 
 
 class Reader:
-    """A reader of bytes, one after the other."""
+    """A reader of bytes, one after another."""
 
     def __init__(self, given):
         self.given, self.at = bytes(given), 0
@@ -47,7 +47,7 @@ class Reader:
         return bytearray(found)
 
     def number(self, most):
-        """Returns a number of 1, 2 or 4 bytes, as many as its maximum needs."""
+        """Returns a number of 1, 2 or 4 bytes, depending on its maximum."""
         found = int.from_bytes(self.take(1 if most < 256 else 2 if most < 65536 else 4), "big")
         require(found <= most)
         return found
@@ -74,7 +74,7 @@ def is_input(board, line):
 
 
 def is_board(board):
-    """Returns true if these parts make a board."""
+    """Returns true if these parts form a valid board."""
     def is_output(line):
         return has_line(board, line) and line[0] != 2 and not is_input(board, line)
 
@@ -105,7 +105,7 @@ def read_board(reader, version):
 # --- states
 
 def read_state(snapshot):
-    """Parses the state in a snapshot; returns the state and its version."""
+    """Parses the state in a snapshot. Returns the state and its version."""
     reader = Reader(snapshot)
     seq = reader.number(MAX_COMMANDS)
     version = 2 if snapshot[4:5] == b"\2" else 1
@@ -143,7 +143,7 @@ def absent_parts(state):
 
 
 def bench_of(state):
-    """Returns a bench at a state."""
+    """Returns a bench in a state."""
     bench = bench4004.Bench()
     bench.seq, board = state.seq, bench.board
     board.wire(state.board.text())
@@ -164,7 +164,7 @@ def bench_of(state):
 # --- commands
 
 def read_command(record, version):
-    """Returns the words of the session line of a record, and the cycles that it counts in a log. A text is a list of lines; a board is its whole
+    """Returns the words of the session line of a record, and the cycles that it counts in a log. A text is a list of lines. A board is its whole
     text."""
     reader = Reader(record)
     tag = reader.number(13 if version == 2 else 11)
@@ -187,10 +187,10 @@ def read_command(record, version):
 
 
 class Standing:
-    """The meaning of a file: a bench, the text of its board, and the version."""
+    """What a file contains: a bench, the text of its board, and the version."""
 
     def __init__(self, file):
-        """Reads a file; raises `Refused` if it has no state."""
+        """Reads a file. Raises `Refused` if it contains no state."""
         if len(file) != SIZE or file[:8] != NAME:
             raise Refused(50)
         held = read(file)

@@ -19,16 +19,16 @@ def put_at(part, place, value):
 
 
 def written(text, record, do):
-    """Returns a command, by its line and by its bytes."""
+    """Returns a command with its line and its bytes."""
     return Command(f"{text}\n", bytes(record), do)
 
 
 def wired(board, record):
-    """Returns the command that wires a board, by its bytes."""
+    """Returns the command that wires a board, with its bytes."""
     return Command(wire(board.text(), board).text, record, wire("", board).do)
 
 
-# Boards: an empty one; the port characters of a ROM, for lines 3, 2, 1, 0; one with each part; the maximum of each part.
+# Boards: an empty one; the port characters of a ROM, for lines 3, 2, 1, 0; one with each part; one with the maximum of each part.
 BOARDS = [
     wired(Board(), b"\1" + NO_ROMS + bytes(11)),
     wired(TWO_KEYS, b"\1" + b"0000" + b"1i0i" + NO_ROMS[:56]
@@ -74,13 +74,13 @@ WRONG_RECORDS = [
         [0], [14], [3, 0], [3, 0, 0, 0], [5, 0, 0, 0], [6, 0], [7], [7, 8, 0], [7, 0, 16], [7, 1, 2], [7, 2, 0x10, 0], [7, 3, 16, 0],
         [7, 3, 0, 16], [7, 4, 8], [7, 6, 8, 0, 0], [7, 7, 0, 0, 4, 0], [8, 2], [10, 0x10, 0], [11, 0], [12], [12, 8, 0], [12, 0],
         [13, 0, 0, 0], [13, 8, 0])),
-    # A port of one character, a bank of five chips, a byte less.
+    # A port of one character, a bank of five chips, one byte fewer.
     NEW_BOARD[:1] + b"i" + NEW_BOARD[2:], NEW_BOARD[:65] + b"\5" + NEW_BOARD[66:], NEW_BOARD[:75],
     # Two marks and one byte, one mark and two bytes.
     LOAD[:-1], bytes([2, 1]) + LOAD[2:],
 ]
 RIGHT_RECORDS = [bytes([3, 0, 0]), bytes([5, 0, 0, 0, 1]), bytes([7, 0, 15]), NEW_BOARD, LOAD]
-# Commands that version 1 has, and commands that it lacks; all records are of version 2.
+# Commands that version 1 has, and commands that it does not have. All records are of version 2.
 FIRST_COMMANDS = [wire(EACH_PART.text(), EACH_PART), wire(chained(2, 4).board.text(), chained(2, 4).board), step(),
                   written("poke pc 1", [7, 2, 0, 1], put("counter", 1)), run(1)]
 LATER_COMMANDS = [wire(chained(3, 1).board.text(), chained(3, 1).board), wire(chained(1, 5).board.text(), chained(1, 5).board),

@@ -39,7 +39,7 @@ def in_rom_0(port):
     return State(board=Board({0: port}))
 
 
-# The name of a state, and the questions to its session with their answers; the questions change nothing. Both versions have these states.
+# States with their names, and questions to their sessions with the answers. The questions change nothing. Both versions have these states.
 STATES = [
     ("a new one", State(), "", ""),
     ("a count of commands of four bytes", State(seq=0xFF00_0000), "seq\n", "seq 4278190080\n"),
@@ -145,6 +145,6 @@ WRONG_SNAPSHOTS = [
 ]
 
 
-# The longest state: the maximum number of breakpoints and watches, and a key of the largest board. The breakpoints stop runs at once.
+# The longest state: the maximum number of breakpoints and watches, and a key of the largest board. The breakpoints stop runs immediately.
 LONGEST = 7_632
 LONGEST_COMMANDS = [wire(LARGEST.text(), LARGEST), *map(break_at, range(32)), *(watch(7, source) for source in range(8)), press(9, 7)]

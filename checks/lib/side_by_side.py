@@ -1,17 +1,17 @@
 #!/usr/bin/env python3
 """Runs the gate and the checks in parallel: `checks/lib/side_by_side.py all|gate|checks|long|quick FOLDER`, for ./test.
 
-Variables name the program to check. Without a gate it is MCS4. After the gate it is BUILT_PROGRAM, which the gate builds; while the gate runs it
-is SHIPPED_PROGRAM. If that is empty, the checks start after the gate.
+Environment variables name the program to check. Without a gate, it is MCS4. After the gate, it is BUILT_PROGRAM, which the gate builds. While the
+gate runs, it is SHIPPED_PROGRAM. If that is empty, the checks start after the gate.
 
-As many checks run at a time as there are processors, the longest first. While the gate runs, there is one check at a time, or more while
-processors are idle, and none on fewer than four processors. Checks that read what the gate builds run after it. Checks that measure, that type at
-a terminal, or that need the whole machine, run at the end, one after another. The output of a check is printed in one piece when the check has
-ended; the output of the gate is printed line by line. At a terminal a line shows what is running and how long the rest takes, by the times of the
-last run (in the cache folder) or by the table below. As root, missing packages are installed by apt-get; otherwise the check counts as not run. A
-process that a check leaves is ended. FOLDER/summed gets the numbers of verdicts that passed and failed, and FOLDER/left_out the lines 'not run: ..'.
+As many checks run at the same time as there are processors, the longest first. While the gate runs, one check runs at a time, or more while
+processors are idle, and none on fewer than four processors. Checks that read what the gate builds run after it. Checks that measure, that type at a
+terminal, or that need the whole machine, run at the end, one after another. The whole output of a check is printed when the check has ended. The
+output of the gate is printed line by line. On a terminal, a line shows what is running and the remaining time, estimated from the times of the last
+run (in the cache folder) or from the table below. As root, it installs missing packages with apt-get; otherwise the check counts as not run. A
+process that a check leaves is ended. FOLDER/summed gets the numbers of passed and failed verdicts, and FOLDER/left_out the lines 'not run: ..'.
 
-Status 0: all checks have ended, with any results. 130: interrupted; the results so far are printed.
+Status 0: all checks have ended, with any results. 130: interrupted. The results so far are printed.
 """
 
 import argparse
@@ -30,14 +30,14 @@ from dataclasses import dataclass, field
 sys.dont_write_bytecode = True
 TOP = pathlib.Path(__file__).resolve().parent.parent.parent
 CACHE = pathlib.Path(os.environ.get("XDG_CACHE_HOME") or pathlib.Path.home() / ".cache") / "fethsaim/check_seconds.json"
-# The minimum time of a check in seconds, and the factor of its usual time, after which it is ended.
+# The time limit of a check: at least this many seconds, plus this factor times its usual time.
 MIN_SECONDS, TIMES = 900, 5
 END_TIMEOUT = 5
-# The minimum number of processors for running checks next to the gate.
+# The minimum number of processors for running checks at the same time as the gate.
 ENOUGH = 4
 SUMMED = re.compile(r"^(\d+) passed, (\d+) failed", re.M)
 
-# Debian's packages of commands and files. A command that is not listed is in the package of its name.
+# The Debian packages of commands and files. A command that is not listed is in the package of the same name.
 PACKAGES = {
     "aarch64-linux-gnu-gcc": "gcc-aarch64-linux-gnu",
     "/usr/aarch64-linux-gnu/lib/libc.a": "libc6-dev-arm64-cross",
@@ -53,8 +53,9 @@ PACKAGES = {
 
 @dataclass(frozen=True)
 class Check:
-    """A script in checks/. Its fields: the commands and files that it needs, and those that parts of it need; its usual seconds; its arguments, by
-    mode if they differ; whether it runs alone; whether it reads what the gate builds; which part of it this is, if its parts run in parallel."""
+    """A script in checks/. Its fields: the commands and files that it needs, and those that parts of it need; its usual time in seconds; its
+    arguments, by mode if they differ; whether it runs alone; whether it reads what the gate builds; which part of it this is, if its parts run in
+    parallel."""
 
     name: str
     needs: str = ""
@@ -81,7 +82,7 @@ class Check:
         return " ".join(self.command(mode))
 
     def limit(self):
-        """The seconds after which the check is ended."""
+        """The number of seconds after which the check is ended."""
         return int(os.environ.get("CHECK_SECONDS", MIN_SECONDS + TIMES * self.seconds))
 
 
@@ -127,7 +128,7 @@ GATE = Check("lib/gate", "rt", 3000)
 
 @dataclass
 class Running:
-    """A running check: its process, the file of its output, and the time of its start. Its mark is in the environment of all processes that it
+    """A running check: its process, the file of its output, and its start time. Its mark is in the environment of all processes that it
     starts."""
 
     check: Check
@@ -144,12 +145,12 @@ class Running:
 
 
 def is_there(need):
-    """Returns whether a command, or a file named by its path, exists."""
+    """Returns true if a command, or a file named by its path, exists."""
     return pathlib.Path(need).exists() if need.startswith("/") else shutil.which(need) is not None
 
 
 def install(checks):
-    """As root, installs the packages that these checks lack, by one apt-get."""
+    """As root, installs the missing packages of these checks, with a single apt-get."""
     lacking = sorted({PACKAGES.get(need, need) for check in checks for need in f"{check.needs} {check.parts_need}".split() if not is_there(need)})
     if not lacking or os.geteuid() != 0 or not shutil.which("apt-get"):
         return
@@ -198,7 +199,7 @@ def end_processes(mark):
 
 
 class Run:
-    """The gate and the checks of a mode while they run."""
+    """The gate and the checks of a mode, while they run."""
 
     def __init__(self, mode, folder):
         self.mode = mode
@@ -227,7 +228,7 @@ class Run:
         if check is not GATE:
             environment["MCS4"] = self.program()
         with output.open("wb") as file:
-            # A check must receive signals that this process ignores, as in the background: env restores them.
+            # A check must receive the signals that this process ignores, for example in the background. `env` restores them.
             process = subprocess.Popen(["env", "--default-signal=INT,QUIT", *words], cwd=TOP, env=environment, stdin=subprocess.DEVNULL, stdout=file,
                                        stderr=subprocess.STDOUT)
         self.running.append(Running(check, process, output, mark))
@@ -308,7 +309,7 @@ class Run:
             self.start(check)
 
     def all(self):
-        """Runs the gate and all checks; checks that run alone are last."""
+        """Runs the gate and all checks. The checks that run alone come last."""
         if self.mode in ("all", "gate"):
             self.show("== rt ci")
             self.gate = Gate(self.begin(GATE, [f"checks/{GATE.name}"]).output)
@@ -319,24 +320,24 @@ class Run:
             time.sleep(0.2)
 
     def show(self, text):
-        """Prints a text, and the line of progress below it."""
+        """Prints a text, and the progress line below it."""
         print(f"\r\033[K{text}" if sys.stdout.isatty() else text, flush=True)
 
     def progress(self):
-        """At a terminal, prints what is done, what is running, and the estimated time that remains."""
+        """On a terminal, prints what is done, what is running, and the estimated remaining time."""
         if not sys.stdout.isatty():
             return
-        begun = {each.check.label: each.seconds() for each in self.running}
-        left = {check: max(self.usual[check.label] - begun.get(check.label, 0), 5) for check in [*self.checks, GATE] if check in self.waiting or check.label in begun}
+        spent = {each.check.label: each.seconds() for each in self.running}
+        left = {check: max(self.usual[check.label] - spent.get(check.label, 0), 5) for check in [*self.checks, GATE] if check in self.waiting or check.label in spent}
         beside = sum(seconds for check, seconds in left.items() if check is not GATE) / min(self.processors, max(len(left), 1))
-        names = ", ".join(name for name in begun if name != GATE.label)
+        names = ", ".join(name for name in spent if name != GATE.label)
         gate = f"gate {self.gate.passed} of {self.gate.crates} crates, " if self.gate and not self.gate.is_over else ""
         done = sum(check is not GATE for check in self.ended)
         line = f"{gate}checks {done} of {len(self.checks)} done, running: {names or 'none'}, about {max(beside, left.get(GATE, 0)) / 60:.0f} min left"
         print(f"\r\033[K{line[: shutil.get_terminal_size().columns - 1]}", end="", flush=True)
 
     def sum_up(self):
-        """Writes the numbers for ./test, and prints the longest checks."""
+        """Writes the totals for ./test, and prints the longest checks."""
         (self.folder / "summed").write_text(f"{self.passed} {self.failed}\n")
         (self.folder / "left_out").write_text("".join(f"{line}\n" for line in self.left_out))
         longest = sorted(self.times.items(), key=lambda pair: -pair[1])[:10]
@@ -345,7 +346,7 @@ class Run:
 
 
 class Gate:
-    """The growing output of the gate, the number of crates that it has finished, and the number of these that it has proved again."""
+    """The growing output of the gate, the number of crates that it has finished, and the number of those that it has proved again."""
 
     def __init__(self, output):
         self.output = output
@@ -373,7 +374,7 @@ class Gate:
 
 
 def times_before(mode):
-    """Returns the seconds that the checks took last time, by their names."""
+    """Returns the number of seconds that each check took last time, by their names."""
     try:
         times = json.loads(CACHE.read_text())[mode]
         return {name: float(seconds) for name, seconds in times.items()}
@@ -384,10 +385,10 @@ def times_before(mode):
 def keep_times(mode, times):
     """Stores the times for the next run, if the cache folder is writable."""
     try:
-        kept = json.loads(CACHE.read_text()) if CACHE.exists() else {}
+        stored = json.loads(CACHE.read_text()) if CACHE.exists() else {}
         CACHE.parent.mkdir(parents=True, exist_ok=True)
         other = CACHE.with_name(f"{CACHE.name}.{os.getpid()}")
-        other.write_text(json.dumps({**kept, mode: {**kept.get(mode, {}), **times}}))
+        other.write_text(json.dumps({**stored, mode: {**stored.get(mode, {}), **times}}))
         other.replace(CACHE)
     except (OSError, ValueError, TypeError, AttributeError):
         return

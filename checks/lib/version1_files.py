@@ -1,9 +1,9 @@
-"""Files of version 1, made by the build of commit a1f6da2, the last one that wrote version 1; and their contents."""
+"""Files of version 1, written by the build of commit a1f6da2, the last one that wrote version 1, and their contents."""
 
 from session_file import SIZE, State, poke_register, run, step
 from session_states import WORKED, zeros_but
 
-# Ranges of a file: an offset, bytes, and the number of repetitions. All files have these, the snapshot of a new bench.
+# Ranges of a file: an offset, bytes, and the number of repetitions. All files have these ranges, which are the snapshot of a new bench.
 NEW_BENCH = [(0, b"MCS4BEN1", 1), (18, b"\x1A\xA6", 1), (24, b"-", 64), (6_840, b"\x01", 1)]
 POKE = b"\1\0\4\7\3\5\x09"
 # The worked board: three ROMs, two RAM chips, a chain of ten bits, eighty keys, three lamps.
@@ -23,14 +23,14 @@ def file_with(stretches, boards=()):
 
 
 def worked_state(program, chain=(), down=(), **parts):
-    """Returns a state on the worked board with a program at address 0, ones in a chain, and keys that are down."""
+    """Returns a state on the worked board with a program at address 0, ones in a chain, and pressed keys."""
     return State(board=WORKED, rom=zeros_but(4_096, dict(enumerate(program))), chains=[zeros_but(10, dict.fromkeys(chain, 1))],
                  keys=zeros_but(80, {8 * row + column: 1 for row, column in down}), **parts)
 
 
 READ_KEYS = {"chain": (0, 1), "down": ((0, 1), (1, 2)), "rom_source": 0x10, "bank_sources": zeros_but(8, {0: 0x10}),
              "rom_ports": zeros_but(16, {0: 3})}
-# The commands; the slot; the file; its state; commands that are done then; lines after them, and their answers.
+# The commands, the slot, the file, its state, commands that are executed then, and lines after them with their answers.
 FILES = [
     ("poke r5 9", 0, file_with([(16_400, POKE, 1)]), State(seq=1, registers=zeros_but(16, {5: 9})),
      [poke_register(5, 3)], "", ""),
@@ -64,7 +64,7 @@ FILES = [
      State(seq=40, counter=0x8FF),
      [step(), run(1)], "", ""),
     # The program of the keys with WRM and JUN 0x123 after it, both keys, break 0x200, test 0, run 13, 9,263 times poke r5 9 (the last one after
-    # a snapshot in the second slot), and poke r6 4. Then the instruction that reads the keys runs once more.
+    # a snapshot in the second slot), and poke r6 4. Then the instruction that reads the keys is executed once more.
     ("all places of a snapshot", 1,
      file_with([(8, b"\1", 1), (16_400, b"\1\0\x85\1", 1), (16_536, b"\1\2\x0F\2\xFF\x3F", 1),
                 (17_052, KEYS_PROGRAM + bytes.fromhex("e0 4123 010003030001 010003030102 0100030a0200 0100020800 010005050000000d"), 1),

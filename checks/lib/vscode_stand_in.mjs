@@ -1,5 +1,5 @@
-// A stand-in for the module `vscode`, as far as the extension of editors/vscode calls it: `standIn()` makes one. `registered` has the
-// registrations of the extension by kind and name. The stand-in stores the open texts, and what the user would see.
+// A stand-in for the module `vscode`, as far as the extension in editors/vscode calls it. `standIn()` creates one. `registered` contains the
+// registrations of the extension, by kind and name. The stand-in stores the open texts and what the user would see.
 import { readFileSync, readdirSync, statSync } from "node:fs";
 import { basename, join, sep } from "node:path";
 import { pathToFileURL } from "node:url";
@@ -10,7 +10,7 @@ class Disposable {
   }
 }
 
-/** Makes an event; `fire` calls its listeners. */
+/** Creates an event. `fire` calls its listeners. */
 function eventOf() {
   const listeners = new Set();
   const event = (act) => {
@@ -25,7 +25,7 @@ class Uri {
     Object.assign(this, { scheme, fsPath, path: fsPath, text });
   }
   static file(path) {
-    // In the editor's spelling of addresses: a colon is %3A, blanks are %20.
+    // In the editor's spelling of addresses: a colon is %3A, and a space is %20.
     return new Uri("file", path, String(pathToFileURL(path)).replace(/(?<=^file:\/\/\/[A-Za-z]):/, "%3A"));
   }
   static parse(text) {
@@ -123,7 +123,7 @@ export function standIn(folder, settings = {}) {
   };
   const languages = new Proxy({
     createDiagnosticCollection: () => ({ set: (uri, list) => shown.diagnostics.set(uri.toString(), list), dispose: () => {} }),
-    // A text that gets another language is closed and opened again.
+    // When a text gets another language, it is closed and opened again.
     setTextDocumentLanguage: async (document, languageId) => {
       events.close.fire(document);
       document.languageId = languageId;
@@ -186,7 +186,7 @@ export function standIn(folder, settings = {}) {
       },
     },
   };
-  /** Makes a webview: `posted` has the messages that it receives, and `say` sends its messages. */
+  /** Creates a webview. `posted` contains the messages that it receives, and `say` sends its messages. */
   function webview() {
     const said = eventOf();
     const own = {

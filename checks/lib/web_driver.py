@@ -1,5 +1,5 @@
-"""Drives browsers by WebDriver, the protocol over HTTP, with Python's library only: Chromium by chromedriver, and WebKit, the engine of Safari
-and of all browsers on an iPhone, by WebKitWebDriver."""
+"""Drives browsers with WebDriver, a protocol over HTTP, using only Python's library: Chromium through chromedriver, and WebKit, the engine of Safari
+and of all browsers on an iPhone, through WebKitWebDriver."""
 
 import base64
 import glob
@@ -16,7 +16,7 @@ from driven import BEFORE_SCRIPTS, ELEMENT, Driven, Fault
 
 
 def free_port():
-    """Returns a free port. (Drivers that choose a port themselves do not all report it.)"""
+    """Returns a free port. (Not all drivers that choose a port themselves report it.)"""
     with socket.socket() as line:
         line.bind(("127.0.0.1", 0))
         return line.getsockname()[1]
@@ -73,7 +73,7 @@ class WebDriver(Driven):
         return self.do("GET", "/window")
 
     def new_tab(self):
-        """Opens a tab in front of this one, and switches to it."""
+        """Opens a new tab in front of this one, and switches to it."""
         self.show_tab(self.do("POST", "/window/new", {"type": "tab"})["handle"])
 
     def show_tab(self, handle):
@@ -102,7 +102,7 @@ class WebDriver(Driven):
 
 class Chromium(WebDriver):
     name = "Chromium"
-    # With these settings it stores no data of any site.
+    # With these settings, it does not store data of any site.
     blocks_data = {"profile.default_content_setting_values.cookies": 2}
 
     def __init__(self, folder, downloads, flags=(), **settings):
@@ -116,10 +116,10 @@ class Chromium(WebDriver):
                      f"--user-data-dir={folder}", *flags],
             "prefs": {"download.default_directory": downloads, "download.prompt_for_download": False, **settings},
         }
-        asked = {"capabilities": {"alwaysMatch": {"goog:chromeOptions": options, "goog:loggingPrefs": {"browser": "ALL"}}}}
-        begun = self._ask("POST", "/session", asked)
-        self.session = "/session/" + begun["sessionId"]
-        self.version = begun["capabilities"]["browserVersion"]
+        request = {"capabilities": {"alwaysMatch": {"goog:chromeOptions": options, "goog:loggingPrefs": {"browser": "ALL"}}}}
+        answer = self._ask("POST", "/session", request)
+        self.session = "/session/" + answer["sessionId"]
+        self.version = answer["capabilities"]["browserVersion"]
 
     def command(self, name, **words):
         """Sends a command of the browser's own protocol, and returns the result."""
@@ -139,7 +139,7 @@ class WebKit(WebDriver):
     """The MiniBrowser of Debian's WebKitGTK, or the one that MINIBROWSER names. It has no headless mode, so Xvfb is its display."""
 
     name = "WebKit"
-    # It has no setting that blocks the data of sites.
+    # It has no setting that blocks site data.
     blocks_data = None
     # Its driver moves only one pointer, and its tabs are windows that do not hide each other.
     has_fingers = False
@@ -158,13 +158,13 @@ class WebKit(WebDriver):
         self.root = f"http://127.0.0.1:{port}"
         self.driver = subprocess.Popen(["WebKitWebDriver", f"--port={port}"], env=self.world, stdout=subprocess.DEVNULL,
                                        stderr=subprocess.DEVNULL)
-        begun = self._begin()
-        self.session = "/session/" + begun["sessionId"]
-        self.version = begun["capabilities"]["browserVersion"]
+        answer = self._begin()
+        self.session = "/session/" + answer["sessionId"]
+        self.version = answer["capabilities"]["browserVersion"]
         self.resize_back()
 
     def _display(self):
-        """Starts Xvfb with a display number that Xvfb chooses; returns the name of the display."""
+        """Starts Xvfb with a display number that Xvfb chooses. Returns the name of the display."""
         self.screen = subprocess.Popen(["Xvfb", "-displayfd", "1", "-screen", "0", "1920x1200x24"], stdout=subprocess.PIPE,
                                        stderr=subprocess.DEVNULL, text=True)
         number = self.screen.stdout.readline().strip()
@@ -175,11 +175,11 @@ class WebKit(WebDriver):
     def _begin(self):
         browser = os.environ.get("MINIBROWSER") or glob.glob("/usr/lib/*/webkit2gtk-4.*/MiniBrowser")[0]
         options = {"binary": browser, "args": ["--automation"]}
-        asked = {"capabilities": {"alwaysMatch": {"browserName": "MiniBrowser", "webkitgtk:browserOptions": options}}}
+        request = {"capabilities": {"alwaysMatch": {"browserName": "MiniBrowser", "webkitgtk:browserOptions": options}}}
         end = time.monotonic() + 60
         while True:
             try:
-                return self._ask("POST", "/session", asked)
+                return self._ask("POST", "/session", request)
             except OSError:
                 if time.monotonic() > end:
                     raise Fault("WebKitWebDriver did not start") from None

@@ -1,39 +1,39 @@
-// The start of commands of the bench: by the command in the user's setting, otherwise by those in the extension, on the editor's own Node.
-// So nothing else needs to be installed.
+// Starts the bench's commands: the command in the user's setting, or by default the commands in the extension. These run on the editor's own Node, so
+// the user needs no other software.
 "use strict";
 const { spawn } = require("node:child_process");
 const { join } = require("node:path");
 
-/** Makes the editor's own program a Node. */
+/** The environment that makes the editor's executable run as Node. */
 const AS_NODE = { ELECTRON_RUN_AS_NODE: "1" };
 
 class BenchCommand {
   /**
-   * @param vscode the editor's own module
-   * @param {string} folder of the extension
+   * @param vscode the editor's API module
+   * @param {string} folder the extension's folder
    */
   constructor(vscode, folder) {
     this.vscode = vscode;
     this.own = join(folder, "bench", "js", "node", "mcs4.cjs");
-    /** True if the command in the setting was not started: the extension's own replaces it. */
+    /** True if the command in the setting could not be started. The extension's own commands then replace it. */
     this.isGivenUp = false;
   }
 
-  /** The command that the user's setting names; "" for none. */
+  /** The command that the user's setting names, or "" if there is none. */
   get named() {
     return this.isGivenUp ? "" : this.vscode.workspace.getConfiguration("mcs4").get("command") || "";
   }
 
-  /** The program that is started, the words before those of the command, and additions to the environment. */
+  /** The program to start, the arguments before the command's own arguments, and additions to the environment. */
   get form() {
     const { named, own } = this;
     return named === "" ? { program: process.execPath, words: [own], env: AS_NODE } : { program: named, words: [], env: {} };
   }
 
   /**
-   * Starts a command; returns the process.
+   * Starts a command. Returns the process.
    * @param {string[]} words
-   * @param {"pipe" | "ignore"} errors the handling of its standard error
+   * @param {"pipe" | "ignore"} errors how to handle the standard error of the command
    */
   start(words, errors) {
     const { program, words: before, env } = this.form;
@@ -41,9 +41,9 @@ class BenchCommand {
   }
 
   /**
-   * Runs a command to its end; returns its exit status and its output.
+   * Runs a command until it ends. Resolves to its exit status and its output.
    * @param {string[]} words
-   * @param token says when it is to end
+   * @param token the cancellation token
    */
   run(words, token) {
     return new Promise((settle) => {
@@ -75,7 +75,7 @@ class BenchCommand {
 
   /**
    * @param {string[]} words
-   * @param {string} cwd the folder in which it runs
+   * @param {string} cwd the working directory
    */
   execution(words, cwd) {
     const { program, words: before, env } = this.form;

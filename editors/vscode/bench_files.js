@@ -1,5 +1,5 @@
-// The files that belong to the bench, and the subject of a text of tests: by board.toml in its folder, or by mcs4.toml there or in a folder
-// above.
+// Determines which files belong to the bench, and the arguments that run a test file. A file belongs to the bench if its folder has board.toml, or if
+// its folder or a parent folder has mcs4.toml.
 "use strict";
 const { existsSync, readFileSync } = require("node:fs");
 const { dirname, join } = require("node:path");
@@ -7,7 +7,7 @@ const { dirname, join } = require("node:path");
 const PROJECT = "mcs4.toml";
 
 /**
- * Finds the nearest folder of a project, from that of a file upwards; "" for none.
+ * Returns the nearest project folder, from a file's folder upwards, or "" if there is none.
  * @param {string} file
  */
 function projectFolder(file) {
@@ -23,7 +23,7 @@ function belongsToBench(file) {
 }
 
 /**
- * The texts of tests that a project names, in their order. (The bench reads the file with care; the order is all that is wanted here.)
+ * Returns the test files that a project lists, in order. (The bench parses mcs4.toml strictly; only the order matters here.)
  * @param {string} folder
  */
 function testsOfProject(folder) {
@@ -33,8 +33,8 @@ function testsOfProject(folder) {
 }
 
 /**
- * Returns the words of `mcs4 test` for a text of tests. Its results are the last ones: texts before it in the project may have steps that
- * it uses.
+ * Returns the arguments that make mcs4 run a test file. Its results are the last ones in the output: the project's test files before it run first,
+ * because they may define steps that it uses.
  * @param {string} file
  */
 function wordsOfTests(file) {

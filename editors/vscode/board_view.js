@@ -1,6 +1,6 @@
-// The front panel, "Lamps and keys": it draws the board of the program that is debugged, and its keys can be pressed there. It is a view
-// next to the debugger's, and a panel of its own. Its page is board_view.html, whose script and style editors/vsix makes from those of the
-// bench's page.
+// The front panel view, "Lamps and keys". It draws the board of the program that is being debugged, and the user can press its keys. The view can be
+// in the debugger's side bar or in a panel of its own. Its page is board_view.html; editors/vsix builds the script and style sheet of that page from
+// those of the bench's page.
 "use strict";
 const { readFileSync } = require("node:fs");
 const { join } = require("node:path");
@@ -12,14 +12,14 @@ class BoardView {
   constructor(vscode, folder) {
     this.vscode = vscode;
     this.folder = folder;
-    /** The pages that are there: of the view, and of panels. */
+    /** The web views that exist: of the side bar and of panels. */
     this.pages = new Set();
-    /** The session that is drawn, and all that it reported about its board. */
+    /** The debug session whose board is drawn, and everything that it has reported about the board. */
     this.session = null;
     this.shown = null;
   }
 
-  /** The editor shows the view, or a panel. */
+  /** Fills the web view of the side bar or of a panel. The editor calls this when it shows the view. */
   resolveWebviewView(view) {
     const { webview } = view;
     webview.options = this.options;
@@ -36,7 +36,7 @@ class BoardView {
     return { enableScripts: true, localResourceRoots: [this.vscode.Uri.file(this.folder)] };
   }
 
-  /** Opens a panel; if nothing is debugged, the program that is shown, or that of the workspace, runs in real time. */
+  /** Opens a panel. If nothing is being debugged, starts the program in the active editor, or the first project of the workspace, in real time. */
   async open() {
     const { window, debug, ViewColumn } = this.vscode;
     const panel = window.createWebviewPanel("mcs4.panel", TITLE, { viewColumn: ViewColumn.Beside, preserveFocus: true },
@@ -48,7 +48,7 @@ class BoardView {
     else window.showInformationMessage("There is no MCS-4 program here: open one, or a folder with mcs4.toml.");
   }
 
-  /** Resolves to the launch request of a panel; null if there is no program. */
+  /** Resolves to the launch configuration for a panel, or to null if there is no program. */
   async launched() {
     const { window, workspace } = this.vscode;
     const form = { type: "mcs4", request: "launch", name: TITLE, realTime: true, stopOnEntry: false };
@@ -61,7 +61,7 @@ class BoardView {
     return first ? { ...form, project: first.fsPath } : null;
   }
 
-  /** Handles a message of the page: that it is there, that a finger is on a key, or that the printout is cleared. */
+  /** Handles a message from the page: the page is ready, a key was pressed or released, or the printout was cleared. */
   async take(message, webview) {
     if (message.isReady) {
       webview.postMessage({ kind: "boardShown", news: this.shown });
@@ -80,7 +80,7 @@ class BoardView {
     for (const webview of this.pages) webview.postMessage({ kind: "boardShown", news });
   }
 
-  /** A program is debugged: its board is drawn from now on. */
+  /** Draws the board of a debug session that has just started. */
   async follow(session) {
     try {
       const news = await session.customRequest("watchBoard");
@@ -92,7 +92,7 @@ class BoardView {
     }
   }
 
-  /** Sends a session's board news to its view. */
+  /** Passes on a debug session's changes of the board to the pages. */
   news({ session, event, body }) {
     if (event !== "boardShown" || session !== this.session) return;
     this.shown = { ...this.shown, ...body };
@@ -106,7 +106,7 @@ class BoardView {
     this.post(null);
   }
 
-  /** Registers the handlers of the editor's events. */
+  /** Registers the handlers of the editor's events. Returns their disposables. */
   register() {
     const { commands, debug, window } = this.vscode;
     return [

@@ -1,4 +1,4 @@
-// The extension: it starts the language server and the debug adapter of the bench, and has tests, tasks and the front panel.
+// The entry point of the extension. It starts the bench's language server and debug adapter, and provides tests, tasks and the front panel.
 "use strict";
 const vscode = require("vscode");
 const { BenchCommand } = require("./bench_command.js");
@@ -10,7 +10,7 @@ const { TestExplorer } = require("./test_explorer.js");
 
 const LANGUAGES = ["mcs4", "mcs4-board", "mcs4-test", "mcs4-props"];
 
-/** F5 without a configuration debugs the program that is shown. */
+/** Lets F5 without a launch configuration debug the program in the active editor. */
 function resolved(folder, configuration) {
   if (configuration.type) return configuration;
   const editor = vscode.window.activeTextEditor;

@@ -1,18 +1,18 @@
-// A client of `mcs4 lsp` for Visual Studio Code, without a package: the editor's requests are sent to the server.
+// A client of `mcs4 lsp` for Visual Studio Code, without third-party packages. It forwards the editor's requests to the server.
 "use strict";
 const { LanguageFeatures } = require("./language_features.js");
 
-/** The editor's capabilities that an answer depends on. */
+/** The client capabilities that affect the server's answers. */
 const CAPABILITIES = {
   textDocument: { hover: { contentFormat: ["markdown", "plaintext"] } },
   experimental: { commands: { commands: ["editor.action.showReferences"] } },
 };
-/** The languages that the server calls otherwise. */
+/** The server's ids for languages that have another id in the editor. */
 const NAMES = { "mcs4": "asm", "mcs4-board": "toml" };
 
 class LanguageClient {
   /**
-   * @param vscode the editor's own module
+   * @param vscode the editor's API module
    * @param {import("./bench_command.js").BenchCommand} bench starts the server
    * @param {string[]} languages
    */
@@ -42,19 +42,19 @@ class LanguageClient {
     this.provide(capabilities);
   }
 
-  /** Starts the server; if the command in the setting does not start, the extension's own. */
+  /** Starts the server. If the command in the setting does not start, uses the extension's own command instead. */
   async start() {
     const { bench } = this;
     const { named } = bench;
     if (await this.isStarted()) return;
     if (named === "") throw new Error("The language server was not started.");
     bench.isGivenUp = true;
-    const words = `The command ${named} was not started; the setting mcs4.command names it. The extension's own commands take its place.`;
-    this.vscode.window.showErrorMessage(words);
+    const message = `The command ${named} was not started; the setting mcs4.command names it. The extension's own commands take its place.`;
+    this.vscode.window.showErrorMessage(message);
     if (!(await this.isStarted())) throw new Error("The language server was not started.");
   }
 
-  /** Starts the server once; returns whether there is such a program. */
+  /** Tries to start the server. Resolves to true if the program could be started. */
   async isStarted() {
     const child = this.bench.start(["lsp"], "ignore");
     const isThere = await new Promise((settle) => {
@@ -168,7 +168,7 @@ class LanguageClient {
       new vscode.Diagnostic(this.rangeOf(range), message, levels[severity] ?? vscode.DiagnosticSeverity.Error))));
   }
 
-  // --- conversions between the editor's and the protocol's terms
+  // --- conversions between the types of the editor and of the protocol
 
   plainRange({ start, end }) {
     const plain = ({ line, character }) => ({ line, character });
@@ -230,11 +230,11 @@ class LanguageClient {
     const { vscode } = this;
     const legend = new vscode.SemanticTokensLegend(tokenTypes, tokenModifiers);
     const tokensOf = (tokens) => new vscode.SemanticTokens(new Uint32Array(tokens ? tokens.data : []), tokens ? tokens.resultId : undefined);
-    const asked = (document, more) => ({ textDocument: { uri: document.uri.toString() }, ...more });
+    const paramsOf = (document, more) => ({ textDocument: { uri: document.uri.toString() }, ...more });
     this.disposables.push(vscode.languages.registerDocumentSemanticTokensProvider(selector, {
-      provideDocumentSemanticTokens: async (document) => tokensOf(await this.ask("textDocument/semanticTokens/full", asked(document))),
+      provideDocumentSemanticTokens: async (document) => tokensOf(await this.ask("textDocument/semanticTokens/full", paramsOf(document))),
       provideDocumentSemanticTokensEdits: async (document, previousResultId) => {
-        const tokens = await this.ask("textDocument/semanticTokens/full/delta", asked(document, { previousResultId }));
+        const tokens = await this.ask("textDocument/semanticTokens/full/delta", paramsOf(document, { previousResultId }));
         if (!tokens || !tokens.edits) return tokensOf(tokens);
         const edits = tokens.edits.map(({ start, deleteCount, data }) => (
           new vscode.SemanticTokensEdit(start, deleteCount, new Uint32Array(data))));
@@ -242,23 +242,23 @@ class LanguageClient {
       },
     }, legend), vscode.languages.registerDocumentRangeSemanticTokensProvider(selector, {
       provideDocumentRangeSemanticTokens: async (document, range) => (
-        tokensOf(await this.ask("textDocument/semanticTokens/range", asked(document, { range: this.plainRange(range) })))),
+        tokensOf(await this.ask("textDocument/semanticTokens/range", paramsOf(document, { range: this.plainRange(range) })))),
     }, legend));
   }
 
   async hover(document, position) {
     const found = await this.ask("textDocument/hover", this.at(document, position));
     if (!found) return null;
-    const words = new this.vscode.MarkdownString(found.contents.value);
-    return new this.vscode.Hover(words, found.range && this.rangeOf(found.range));
+    const markdown = new this.vscode.MarkdownString(found.contents.value);
+    return new this.vscode.Hover(markdown, found.range && this.rangeOf(found.range));
   }
 
   async completion(document, position, { triggerKind = 0, triggerCharacter } = {}) {
-    // The editor counts kinds of triggers from 0 on, the protocol from 1.
+    // The editor numbers trigger kinds from 0, the protocol from 1.
     const context = { triggerKind: triggerKind + 1, triggerCharacter };
     const list = (await this.ask("textDocument/completion", { ...this.at(document, position), context })) || [];
     return list.map(({ label, kind, detail, documentation, textEdit, insertTextFormat }) => {
-      // The editor counts kinds from 0 on, the protocol from 1.
+      // The editor numbers item kinds from 0, the protocol from 1.
       const item = new this.vscode.CompletionItem(label, kind - 1);
       item.detail = detail;
       item.documentation = documentation;
@@ -276,8 +276,8 @@ class LanguageClient {
 
   async actions(document, range) {
     const context = { diagnostics: [] };
-    const asked = { textDocument: { uri: document.uri.toString() }, range: this.plainRange(range), context };
-    return ((await this.ask("textDocument/codeAction", asked)) || []).map(({ title, edit }) => {
+    const params = { textDocument: { uri: document.uri.toString() }, range: this.plainRange(range), context };
+    return ((await this.ask("textDocument/codeAction", params)) || []).map(({ title, edit }) => {
       const action = new this.vscode.CodeAction(title, this.vscode.CodeActionKind.QuickFix);
       action.edit = this.editOf(edit);
       return action;

@@ -1,11 +1,11 @@
-// The requests of Visual Studio Code other than help, names and errors, sent to `mcs4 lsp`: layout, hints, folds, names of the workspace,
-// calls, lenses, links, selections, the form of a statement. Each answer is converted to the editor's own classes.
+// The language features beyond hover, names, completion and diagnostics: formatting, inlay hints, folding, workspace symbols, call hierarchy, code
+// lenses, links, selection ranges and signature help. Forwards the editor's requests to `mcs4 lsp`, and converts the answers to the editor's classes.
 "use strict";
 
 class LanguageFeatures {
   /**
    * @param {import("./language_client.js").LanguageClient} client
-   * @param {object[]} selector the languages
+   * @param {object[]} selector selects the bench's languages
    */
   constructor(client, selector) {
     this.client = client;
@@ -45,7 +45,7 @@ class LanguageFeatures {
     ];
   }
 
-  /** Asks about a whole text; an empty list if there is no answer. */
+  /** Sends a request about a document. Resolves to the answer, or to an empty list if there is none. */
   async of(method, document, more = {}) {
     return (await this.client.ask(method, { textDocument: { uri: document.uri.toString() }, ...more })) || [];
   }
@@ -71,8 +71,8 @@ class LanguageFeatures {
 
   async selections(document, positions) {
     const plain = positions.map(({ line, character }) => ({ line, character }));
-    const made = ({ range, parent }) => new this.vscode.SelectionRange(this.client.rangeOf(range), parent && made(parent));
-    return (await this.of("textDocument/selectionRange", document, { positions: plain })).map(made);
+    const selectionOf = ({ range, parent }) => new this.vscode.SelectionRange(this.client.rangeOf(range), parent && selectionOf(parent));
+    return (await this.of("textDocument/selectionRange", document, { positions: plain })).map(selectionOf);
   }
 
   async signature(document, position) {
@@ -91,7 +91,7 @@ class LanguageFeatures {
       new this.vscode.CodeLens(this.client.rangeOf(range), this.command(command))));
   }
 
-  /** A command of the editor itself accepts its own classes. */
+  /** Converts a command. The editor's own commands need arguments of the editor's classes. */
   command({ title, command, arguments: given = [] }) {
     if (command !== "editor.action.showReferences") return { title, command, arguments: given };
     const [uri, position, places] = given;

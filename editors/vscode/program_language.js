@@ -1,13 +1,13 @@
-// The texts that are programs, tests and properties of the bench: others have .asm, .test and .props, too, so they are claimed only in the
-// folder of a project or a board. A program may have .4004, which nobody else has: package.json claims it.
+// Detects programs, tests and properties of the bench. Other software also uses the extensions .asm, .test and .props, so such files count only in
+// the folder of a project or a board. Only the bench uses .4004, so package.json claims that extension.
 "use strict";
 const { extname } = require("node:path");
 const { belongsToBench } = require("./bench_files.js");
 
-/** The languages of files by their extensions. */
+/** The language ids, by file extension. */
 const LANGUAGES = { ".asm": "mcs4", ".test": "mcs4-test", ".props": "mcs4-props" };
 
-/** Gives texts of the bench their language, once each: a user who chooses another one keeps it. */
+/** Assigns a language to each file of the bench once. If the user then chooses another language, that choice stays. */
 class ProgramLanguage {
   /** @param vscode the editor's own module */
   constructor(vscode) {
@@ -27,7 +27,7 @@ class ProgramLanguage {
     if (uri.scheme !== "file" || !language || languageId === language) return;
     if (this.given.has(fileName) || !belongsToBench(fileName)) return;
     this.given.add(fileName);
-    // A text that was closed meanwhile has no language to change.
+    // If the document was closed in the meantime, the request fails. Ignore that.
     this.vscode.languages.setTextDocumentLanguage(document, language).then(undefined, () => {});
   }
 }

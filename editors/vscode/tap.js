@@ -1,14 +1,14 @@
-// The results of tests as `mcs4 test` prints them: TAP, version 13, with the error below `not ok`.
+// Parses the test results that `mcs4 test` prints: TAP version 13, with the error details below each `not ok`.
 "use strict";
 
 const RESULT = /^(not )?ok \d+ - (.*)$/;
 const PART = /^ {2}(message|at|line|lamps|registers): "(.*)"$/;
 
-/** @param {string} text a string of YAML, without its quotes */
+/** @param {string} text the contents of a double-quoted YAML string */
 const unquoted = (text) => text.replace(/\\(["\\])/g, "$1");
 
 /**
- * Reads a place, `FILE:LINE`; a name of Windows has a colon of its own.
+ * Parses a location, `FILE:LINE`. The last colon is the separator, because a Windows path has a colon, too.
  * @param {string} text
  */
 function placeOf(text) {
@@ -17,7 +17,7 @@ function placeOf(text) {
 }
 
 /**
- * Reads results.
+ * Parses test results.
  * @param {string} text
  * @returns {{ name: string, hasPassed: boolean, words: string, at: { file: string, line: number } | null, more: string[] }[]}
  */

@@ -1,16 +1,16 @@
-// Tasks of the projects in the workspace: their tests, their coverage, the search for counterexamples, and the proof.
+// Provides tasks for the projects in the workspace: run tests, show the coverage or the profile, search for counterexamples, and prove properties.
 "use strict";
 const { basename, dirname } = require("node:path");
 const { PROJECT } = require("./bench_files.js");
 
 const TYPE = "mcs4";
 const COMMANDS = ["test", "cover", "profile", "explore", "prove"];
-/** The matchers of errors in the output, from package.json. */
+/** The problem matchers for the output, defined in package.json. */
 const MATCHERS = ["$mcs4", "$mcs4-line", "$mcs4-test"];
 
 class Tasks {
   /**
-   * @param vscode the editor's own module
+   * @param vscode the editor's API module
    * @param {import("./bench_command.js").BenchCommand} bench
    */
   constructor(vscode, bench) {
@@ -37,17 +37,17 @@ class Tasks {
     return task;
   }
 
-  /** A task of tasks.json; its folder is that of the workspace if it names none. */
+  /** Completes a task from tasks.json. If the task has no folder, uses the workspace folder. */
   resolved({ definition, scope }) {
     const { vscode } = this;
     const [first] = vscode.workspace.workspaceFolders || [];
     const { uri } = scope && scope.uri ? scope : first || { uri: null };
     const folder = definition.folder || (uri ? uri.fsPath : "");
     if (!COMMANDS.includes(definition.command) || folder === "") return undefined;
-    const made = this.task({ ...definition, folder }, uri || vscode.Uri.file(folder));
-    // The editor knows the task by the definition that it received.
-    made.definition = definition;
-    return made;
+    const task = this.task({ ...definition, folder }, uri || vscode.Uri.file(folder));
+    // The editor identifies a task by the definition object that it passed in.
+    task.definition = definition;
+    return task;
   }
 }
 

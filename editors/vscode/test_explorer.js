@@ -1,4 +1,4 @@
-// The tests of the workspace in the editor's own view of tests: they are found in texts, run by `mcs4 test`, and debugged by `mcs4 dap`.
+// Shows the workspace's tests in the editor's test view. Finds them in test files, runs them with `mcs4 test`, and debugs them with `mcs4 dap`.
 "use strict";
 const { readFileSync } = require("node:fs");
 const { basename } = require("node:path");
@@ -9,7 +9,7 @@ const PATTERN = "**/*.test";
 const HEAD = /^([ \t]*test[ \t]+)(\S.*?)[ \t]*$/;
 
 /**
- * Returns the tests in a text, each with its place.
+ * Returns the tests in a text, with their locations.
  * @param {string} text
  */
 function testsIn(text) {
@@ -21,7 +21,7 @@ function testsIn(text) {
 
 class TestExplorer {
   /**
-   * @param vscode the editor's own module
+   * @param vscode the editor's API module
    * @param {import("./bench_command.js").BenchCommand} bench
    */
   constructor(vscode, bench) {
@@ -50,14 +50,14 @@ class TestExplorer {
     ];
   }
 
-  // --- which tests there are
+  // --- finding tests
 
   async findAll() {
     const found = await this.vscode.workspace.findFiles(PATTERN, "**/node_modules/**");
     for (const uri of found) this.read(uri);
   }
 
-  /** Reads a text from the disk. */
+  /** Reads a test file and shows its tests. Removes the tests of a file that cannot be read. */
   read(uri) {
     try {
       this.show(uri, readFileSync(uri.fsPath, "utf8"));
@@ -66,7 +66,7 @@ class TestExplorer {
     }
   }
 
-  /** Shows the tests of a text, if it belongs to the bench: others have .test files, too. */
+  /** Shows the tests of a file if the file belongs to the bench. (Other software also uses .test files.) */
   show(uri, text) {
     if (!belongsToBench(uri.fsPath)) return;
     const { controller, vscode } = this;
@@ -82,7 +82,7 @@ class TestExplorer {
 
   // --- runs
 
-  /** The tests that a request is about, by their texts: each text's item, and those of its tests that are wanted. */
+  /** Returns the tests that a request selects: for each test file's item, the list of its selected tests. */
   wantedOf({ include, exclude = [] }) {
     const wanted = new Map();
     const add = (file, tests) => {
@@ -112,7 +112,7 @@ class TestExplorer {
     run.end();
   }
 
-  /** Runs a text of tests; the requested ones get their results. */
+  /** Runs a test file, and reports the results of the selected tests. */
   async runText(run, file, tests, token) {
     await this.vscode.workspace.saveAll(false);
     for (const test of tests) run.started(test);
@@ -120,7 +120,7 @@ class TestExplorer {
     run.appendOutput((output + errors).replace(/\r?\n/g, "\r\n"));
     const names = [];
     file.children.forEach((child) => names.push(child.label));
-    // The texts before this one are first.
+    // The results of earlier test files of the project come first, so take the last ones.
     const results = resultsOf(output).slice(-names.length);
     for (const test of tests) {
       const result = results[names.indexOf(test.label)];
@@ -137,7 +137,7 @@ class TestExplorer {
     return message;
   }
 
-  /** Debugs the first test of a request: time is paused at its failure, or at its end, and can go back from there. */
+  /** Debugs the first test of a request. Time pauses at the test's failure or at its end, and the user can go back from there. */
   async debug(request) {
     const { workspace, debug } = this.vscode;
     const run = this.controller.createTestRun(request);

@@ -1,4 +1,4 @@
-// The table of answers, read from its file. The page has no files: page/build puts the table into its scripts.
+// The table of the bench's answers, read from its file. The page has no files, so page/build embeds the table in its scripts.
 import { readFileSync } from "node:fs";
 
 export default readFileSync(new URL("../../tools/lib/answers.txt", import.meta.url), "utf8");

@@ -1,18 +1,18 @@
-// Checks of command arguments: their count and their numbers. A project supplies file names that are left out.
+// Checks the arguments of commands: their number and numeric values. Also finds the project that supplies missing file names.
 import { existsSync } from "node:fs";
 import * as say from "../words/commands.js";
 import { CommandError, UsageError } from "./output.mjs";
 
 const PROJECT_FILE = "mcs4.toml";
-/** The names of arguments that are not file names. */
+/** The names of arguments that are not file names and may be empty. */
 const NO_FILES = new Set(["CYCLES", "N", "KEYS", "FIRST", "LAST", "COUNT"]);
 
 /**
  * Throws a UsageError if there are too few or too many arguments, or if a file name is empty.
  * @param {string[]} words
- * @param {string[]} names of the arguments in the help; the name of an optional argument ends with a question mark
+ * @param {string[]} names the argument names in the help; the name of an optional argument ends with a question mark
  * @param {number} max the maximum number of arguments
- * @param {boolean} [hasProject] whether a project can name the missing files
+ * @param {boolean} [hasProject] true if a project can supply the missing file names
  */
 export function checkArguments(words, names, max = names.length, hasProject = false) {
   const missing = names.slice(words.length).filter((name) => !name.endsWith("?"));
@@ -22,8 +22,8 @@ export function checkArguments(words, names, max = names.length, hasProject = fa
 }
 
 /**
- * Parses a decimal number from 1 to `max`; throws a UsageError for anything else.
- * @param {string} name of the argument in the help
+ * Parses a decimal number from 1 to `max`. Throws a UsageError for any other text.
+ * @param {string} name the name of the argument in the help
  * @param {string} word
  * @param {number} max
  */
@@ -34,11 +34,11 @@ export function parseCount(name, word, max) {
 }
 
 /**
- * Returns the project in `folder` (option `-C`). Without the option, returns the project in the current folder if there are fewer than
- * `needed` arguments, and null otherwise.
+ * Returns the project in `folder` (option `-C`). Without this option, returns the project in the current folder if there are fewer than `needed`
+ * arguments, otherwise null.
  * @param {string | undefined} folder
  * @param {string[]} words
- * @param {number} needed the number of arguments with which the command needs no project
+ * @param {number} needed the number of arguments with which the command does not need a project
  */
 export async function projectFor(folder, words, needed) {
   if (folder === undefined && (words.length >= needed || !existsSync(PROJECT_FILE))) return null;
@@ -74,7 +74,7 @@ export async function namesWithProperties(folder, words) {
   return [project.board, project.program, ...properties];
 }
 
-/** Never resolves: the command ends the process itself. */
+/** Returns a promise that never resolves. Used by commands that end the process themselves. */
 export function waitForExit() {
   return new Promise(() => {});
 }

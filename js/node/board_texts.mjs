@@ -1,4 +1,4 @@
-// The board file of a command: its wiring as the bench reads it, and its front panel. The error for a rejected text names file and line.
+// Reads the board file of a command: the board as the bench wires it, and its front panel. Errors name the file and the line.
 import { readBoard } from "../core/bench/answers.js";
 import { Face } from "../core/board/face.js";
 import { faultsOfNames, wiredBoard } from "../core/testing/prepared.js";
@@ -10,7 +10,7 @@ import { CommandError } from "./output.mjs";
 /** @typedef {import("./given_texts.mjs").GivenText} GivenText */
 
 /**
- * Reads a board and its front panel; returns them with the answer lines to `board`.
+ * Reads a board and its front panel. Returns both, and the bench's answer lines to `board`.
  * @param {import("../core/engine/engine_host.js").EngineHost} engine
  * @param {GivenText} given
  */
@@ -24,7 +24,7 @@ export async function boardAndFace(engine, given) {
 }
 
 /**
- * Returns the session lines that press some keys of a front panel.
+ * Returns the session lines that press a sequence of keys. Throws a CommandError if the front panel lacks one of them.
  * @param {Face} face
  * @param {string} boardName
  * @param {string} keys

@@ -1,25 +1,28 @@
-// Child processes of the Node tools. Each has its own process group, so that a signal to the tool also ends the processes that a child
-// started.
+// Child processes of the Node tools. Most children have their own process group, so that a signal from the tool also reaches the processes that the
+// child has started.
 import { processes } from "./processes.mjs";
 
-/** The maximum output of a child, in characters; a child that prints more is stopped. */
+/** The maximum output of a child in characters. A child that prints more is terminated. */
 const MAX_OUTPUT = 1048576;
-/** An environment variable that children get. With it, a command does not print messages that each user sees only once. */
+/** An environment variable that children receive. A command with this variable suppresses messages that each user should see only once. */
 export const IS_RUN_BY_COMMAND = "MCS4_IS_RUN_BY_COMMAND";
 /** Windows has no process groups. */
 const HAS_GROUPS = process.platform !== "win32";
-/** The milliseconds until a child that ignores SIGTERM is killed. A copy of this tool gets more time, because it ends its own children. */
+/**
+ * The time in milliseconds after which a child that ignores SIGTERM is killed. A copy of this tool gets more time, because it must end its own
+ * children.
+ */
 const KILL_DELAYS = { command: 1000, tool: 10000 };
 
-/** @type {Map<number, { child: import("node:child_process").ChildProcess, hasGroup: boolean }>} the running children by process id */
+/** @type {Map<number, { child: import("node:child_process").ChildProcess, hasGroup: boolean }>} the running children, by process id */
 const running = new Map();
 let isEnding = false;
 
-/** Returns a promise that never resolves, for callers while the process ends. */
+/** Returns a promise that never resolves, for callers that must wait while the process is ending. */
 const waitForever = () => new Promise(() => {});
 
 /**
- * Sends a signal to a child, and to its whole process group if it has its own.
+ * Sends a signal to a child, and to its whole process group if it has one.
  * @param {number} pid
  * @param {NodeJS.Signals} signal
  */
@@ -28,12 +31,12 @@ function send(pid, signal) {
   try {
     process.kill(hasGroup && HAS_GROUPS ? -pid : pid, signal);
   } catch {
-    // The child has ended.
+    // The child has already ended.
   }
 }
 
 /**
- * Registers a child until it ends; resolves to its status, its signal and the error message if it did not start.
+ * Tracks a child until it ends. Resolves to its exit status, its signal, and an error message if it could not be started.
  * @param {import("node:child_process").ChildProcess} child
  * @param {boolean} hasGroup
  */
@@ -51,7 +54,7 @@ function follow(child, hasGroup) {
 }
 
 /**
- * Runs a command with an input; returns its status or its signal, and its output. A command that prints too much is stopped.
+ * Runs a command with an input. Resolves to its exit status or signal, and its output. Terminates a command that prints too much.
  * @param {string} command
  * @param {string[]} words
  * @param {string} [input]
@@ -77,8 +80,8 @@ export async function runCommand(command, words, input = "") {
 }
 
 /**
- * Runs this command again in another process, without its arguments; returns its status, or null if a signal ended it. Both processes are
- * in one group, so Ctrl-C reaches both.
+ * Runs this command again in another process, without its arguments. Resolves to the exit status, or to null if a signal ended the process. Both
+ * processes are in one group, so Ctrl-C reaches both.
  * @param {Record<string, string | undefined>} env
  */
 export async function runAgain(env) {
@@ -88,12 +91,12 @@ export async function runAgain(env) {
   return status;
 }
 
-/** Sends SIGINT to the children with their own process group, which Ctrl-C does not reach. */
+/** Sends SIGINT to the children that have their own process group, because Ctrl-C does not reach them. */
 export function interrupt() {
   for (const [pid, { hasGroup }] of running) if (hasGroup) send(pid, "SIGINT");
 }
 
-/** Lets pending events run; never resolves once the process is ending. */
+/** Lets pending events run. Never resolves once the process is ending. */
 export function yieldToMessages() {
   return new Promise((resume) => {
     setImmediate(() => {

@@ -1,4 +1,4 @@
-// The help of commands for a terminal, built from the command table and from js/words/commands.js.
+// The help of commands for a terminal. It is generated from the command table and from js/words/commands.js.
 import { folded as foldedTo } from "../core/text/folded.js";
 import * as say from "../words/commands.js";
 import { COMMANDS } from "./commands/table.mjs";
@@ -11,7 +11,7 @@ const DEEP_INDENT = INDENT.repeat(3);
 const folded = (text, first = "", others = first) => foldedTo(text, WIDTH, first, others);
 
 /**
- * Returns the paragraphs of a text, each as one line.
+ * Returns the paragraphs of a text, each joined into one line.
  * @param {string} text
  */
 export function paragraphsOf(text) {
@@ -19,7 +19,7 @@ export function paragraphsOf(text) {
 }
 
 /**
- * Returns the command lines that a command accepts, as in its usage.
+ * Returns the command lines that a command accepts, as its usage shows them.
  * @param {string} name
  */
 export function usageLines(name) {
@@ -40,7 +40,7 @@ export function mcs4Usage() {
 }
 
 /**
- * Returns the options of a command as rows of the typed form and its description.
+ * Returns a row for each option of a command: the option as the user types it, and its description.
  * @param {string} name
  */
 export function optionRows(name) {
@@ -51,7 +51,7 @@ export function optionRows(name) {
   return [...rows, ["-h, --help", say.HELP_OPTION]];
 }
 
-/** @type {(head: string, rows: string[][]) => string} a headed list of words, each with its description */
+/** @type {(head: string, rows: string[][]) => string} formats a list with a heading: each entry has its description below it */
 const listed = (head, rows) => `${head}\n${rows.map(([word, does]) => `${INDENT}${word}\n${folded(does, DEEP_INDENT)}`).join("\n")}`;
 
 /** @type {(head: string, lines: string[]) => string} */
@@ -80,7 +80,7 @@ export function commandsByGroup() {
 
 /**
  * Returns the help of mcs4 itself.
- * @param {string} top the folder that mcs4 is in, "" to leave out where the manual is
+ * @param {string} top the folder of mcs4; "" omits the location of the manual
  */
 export function mcs4Help(top) {
   const width = Math.max(...say.MCS4_USAGE.map(([form]) => form.length));

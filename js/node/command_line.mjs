@@ -1,5 +1,5 @@
-// Parses the arguments of a command by the command table, runs the command, and reports errors. The exit status is 0 for success, 1 for an
-// error or a failed test, 2 for wrong arguments.
+// Parses a command's arguments as the command table describes them, runs the command, and reports errors. The exit status is 0 for success, 1 for an
+// error or a failed test, and 2 for wrong arguments.
 import { parseArgs } from "node:util";
 import * as say from "../words/commands.js";
 import { COMMANDS } from "./commands/table.mjs";
@@ -16,7 +16,7 @@ const WRONG_ARGUMENTS = 2;
 const HELP = { type: "boolean", short: "h" };
 
 /**
- * Returns the most similar words, as suggestions for a mistyped one. (The module is loaded only then.)
+ * Returns the words that are most similar to a mistyped word. (Loads the module only then.)
  * @param {string} word
  * @param {string[]} words
  */
@@ -32,15 +32,15 @@ async function suggestionsFor(word, words) {
  */
 async function unknownOption(word, options) {
   const isLong = word.startsWith("--");
-  const meant = isLong ? await suggestionsFor(word.slice(2), Object.keys(options)) : [];
-  return new UsageError(say.noOption(word, meant.map((name) => `--${name}`)));
+  const suggestions = isLong ? await suggestionsFor(word.slice(2), Object.keys(options)) : [];
+  return new UsageError(say.noOption(word, suggestions.map((name) => `--${name}`)));
 }
 
-/** @type {(value: string | undefined, isInline: boolean) => boolean} true if an option has no value, or the next option instead of one */
+/** @type {(value: string | undefined, isInline: boolean) => boolean} true if an option has no value, or if its value is another option */
 const lacksValue = (value, isInline) => value === undefined || value === "" || (!isInline && /^-[^\d]/.test(value));
 
 /**
- * Throws a UsageError if an option is unknown, lacks its value, or has a value that it does not take.
+ * Throws a UsageError if an option is unknown, lacks its value, or has a value although it accepts none.
  * @param {{ name: string, rawName: string, value?: string, inlineValue?: boolean }} token
  * @param {Command["options"]} options
  */
@@ -54,7 +54,7 @@ async function checkOption({ name, rawName, value, inlineValue }, options) {
 }
 
 /**
- * Parses the arguments of a command.
+ * Parses a command's arguments.
  * @param {Command} command
  * @param {string[]} words
  * @returns {Promise<{ values: Values, positionals: string[] }>}
@@ -73,7 +73,7 @@ async function parsed(command, words) {
 }
 
 /**
- * Prints an error; each line starts with the command's name.
+ * Prints an error message. Each line starts with the command's name.
  * @param {string} name
  * @param {string} message
  */
@@ -82,7 +82,7 @@ function complain(name, message) {
 }
 
 /**
- * Reports an error; returns the exit status. Unexpected errors are rethrown.
+ * Reports an error and returns the exit status. Rethrows unexpected errors.
  * @param {string} name
  * @param {unknown} thrown
  */
@@ -101,7 +101,7 @@ async function report(name, thrown) {
 }
 
 /**
- * Runs a command with its arguments; returns the exit status.
+ * Runs a command with its arguments. Returns the exit status.
  * @param {string} name
  * @param {string[]} words
  * @param {Command["load"]} [load]
@@ -123,7 +123,7 @@ export async function runCommand(name, words, load = COMMANDS[name].load) {
 }
 
 /**
- * Reports an unknown command; returns the exit status.
+ * Reports an unknown command. Returns the exit status.
  * @param {string} word
  */
 async function rejectCommand(word) {
@@ -133,7 +133,7 @@ async function rejectCommand(word) {
 }
 
 /**
- * Prints the help of a command, or of mcs4 if none is named; returns the exit status.
+ * Prints the help of a command, or of mcs4 if no command is named. Returns the exit status.
  * @param {string[]} words
  */
 async function help([name, ...others]) {
@@ -155,7 +155,7 @@ async function help([name, ...others]) {
 }
 
 /**
- * Runs the command line of `mcs4`; returns the exit status.
+ * Runs the `mcs4` command line. Returns the exit status.
  * @param {string[]} words
  */
 export async function runLine([name = "", ...words]) {

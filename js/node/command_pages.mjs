@@ -1,5 +1,5 @@
-// Makes the help files that are installed: `node command_pages.mjs FOLDER` writes texts for systems without Node (help/), manual pages
-// (man/) and shell completions (completions/) into a folder. tools/ship calls it.
+// Generates the installed help files: `node command_pages.mjs FOLDER`. Writes help texts for systems without Node (help/), manual pages (man/) and
+// shell completions (completions/) to the folder. tools/ship calls this script.
 import { mkdirSync, writeFileSync } from "node:fs";
 import { join } from "node:path";
 import * as say from "../words/commands.js";
@@ -15,7 +15,7 @@ const PLAIN = "\\fR";
 const ROFF_ESCAPES = { "\\": "\\e", "-": "\\-", "`": "\\(ga", "^": "\\(ha", "~": "\\(ti", "'": "\\(aq" };
 
 /**
- * Escapes a text for roff; text between back quotes becomes bold.
+ * Escapes a text for roff. Text between back quotes becomes bold.
  * @param {string} text
  */
 function roff(text) {
@@ -33,7 +33,7 @@ const tagged = (rows) => rows.flatMap(([tag, does]) => [".TP", `.B ${roff(tag)}`
 const joined = (lines, between) => lines.flatMap((line, at) => (at > 0 ? [between, line] : [line]));
 /** @type {(text: string) => string[]} */
 const paragraphs = (text) => joined(paragraphsOf(text).map(roff), ".PP");
-/** @type {(lines: string[]) => string[][]} splits lines such as `0: all was done.` into the status and its meaning */
+/** @type {(lines: string[]) => string[][]} splits lines such as `0: all was done.` into the exit status and its meaning */
 const statusRows = (lines) => lines.map((line) => [line.slice(0, 1), line.slice(2)]);
 
 /**
@@ -76,7 +76,7 @@ function mcs4ManualPage() {
 
 // --- completions ---
 
-/** Returns all words that can follow `mcs4`, each with its description and the words that can follow it. */
+/** Returns all words that can follow `mcs4`. Each has its description and the words that can follow it. */
 function completedWords() {
   const commands = Object.entries(COMMANDS).map(([name, { options, usage }]) => ({
     name,
@@ -151,7 +151,7 @@ function fishCompletion(words) {
 
 // --- all files ---
 
-/** Returns the names and the contents of all files. */
+/** Returns the names and contents of all files. */
 export function commandPages() {
   const names = Object.keys(COMMANDS);
   const words = completedWords();

@@ -1,5 +1,5 @@
-// The functions that the debugger needs from its host, for Node: access to files, and to session files, which only the native program
-// writes (`mcs4 open`).
+// The functions that the debugger needs from its host, implemented for Node: access to files and to session files. Only the native program writes
+// session files (`mcs4 open`).
 import { closeSync, existsSync, fsyncSync, openSync, realpathSync } from "node:fs";
 import { dirname, isAbsolute, join, resolve, sep } from "node:path";
 import { holderOf, readUnlocked } from "./file_locks.mjs";
@@ -8,10 +8,10 @@ import { openProgram } from "./program_on_file.mjs";
 import { heldBy } from "../words/adapter.js";
 import { isInside, readUserFile, readUserText, replacementOf } from "./user_files.mjs";
 
-/** The maximum size of a session file, in bytes. */
+/** The maximum size of a session file in bytes. */
 const MAX_SESSION_BYTES = 1048576;
 
-/** A session file and the program that serves it. `replace` puts a new file in its place, so it is complete at every moment. */
+/** A session file and the program that serves it. `replace` exchanges the file atomically, so the file is complete at every moment. */
 class SessionFile {
   constructor(name, program) {
     this.name = name;
@@ -46,7 +46,7 @@ class SessionFile {
   }
 }
 
-/** @type {(name: string) => string} a path with slashes only: all parts of the debugger use them, and Windows accepts them */
+/** @type {(name: string) => string} converts a path to forward slashes, which the whole debugger uses and Windows accepts */
 const withSlashes = (name) => (sep === "/" ? name : name.split(sep).join("/"));
 
 function syncFolder(name) {
@@ -55,7 +55,7 @@ function syncFolder(name) {
   closeSync(folder);
 }
 
-/** Starts the program on a session file. If another process has the file open, the error names that process. */
+/** Starts the native program on a session file. If another process holds the file's lock, the error names that process. */
 async function openFile(name) {
   try {
     return await openProgram("open", name);
@@ -65,7 +65,7 @@ async function openFile(name) {
   }
 }
 
-/** The host functions of a debugger; js/core/adapter/launching.js describes them. */
+/** The host functions of the debugger, as js/core/adapter/launching.js describes them. */
 export const host = {
   nameOf: (name, folder) => {
     const whole = isAbsolute(name) ? name : resolve(folder || ".", name);

@@ -1,5 +1,4 @@
-// The search of `mcs4 explore`: one search in this process, or several jobs, each in its own process. `mcs4 test` confirms each
-// counterexample.
+// The search of `mcs4 explore`: one search in this process, or several jobs in separate processes. `mcs4 test` confirms each counterexample.
 import { createHash } from "node:crypto";
 import { writeFileSync } from "node:fs";
 import { dirname, join } from "node:path";
@@ -20,25 +19,25 @@ import { readUserText, writeUserFile } from "./user_files.mjs";
 /**
  * @typedef {import("./given_texts.mjs").GivenText} GivenText
  *
- * The settings of a search, with its texts. `folder` is a temporary folder. `report` is the file that a job writes its report to.
+ * The settings of a search, including its texts. `folder` is a temporary folder. `report` is the file to which a job writes its report.
  * @typedef {{ seconds: number, jobs: number, seed: number, allowsModel: boolean, folder: string,
  *   texts: { board: GivenText, program: GivenText, properties: { name: string, text: string } }, report?: string }} Settings
  */
 
-/** The milliseconds of search between two checks of the clock and of signals. */
+/** The time in milliseconds for which the search runs before it checks the clock and signals. */
 const SLICE_TIME = 50;
-/** The maximum size of a test file and of a report, in bytes. */
+/** The maximum sizes of a test file and of a report, in bytes. */
 const MAX_TESTS = 1048576;
 const MAX_REPORT = 16777216;
-/** The environment variable that names the settings file of a job. */
+/** The environment variable that contains the name of a job's settings file. */
 const JOB_VARIABLE = "MCS4_EXPLORE_JOB";
 
 let isStopped = false;
 
 /**
- * Returns the text of the tests that a campaign continues from. They are in the file that the campaign names, or else next to the properties.
+ * Returns the test text from which a campaign starts. The campaign names the file, or the file is next to the properties.
  * @param {{ from: { file: string, line: number, state: string } | null }} campaign
- * @param {string} name of the properties file
+ * @param {string} name the name of the properties file
  */
 function testsFor({ from }, name) {
   if (!from) return "";
@@ -50,7 +49,7 @@ function testsFor({ from }, name) {
   }
 }
 
-/** Asks a model (a command) about key sequences; returns its answers, one line for each sequence. */
+/** Asks a model (a command) about key sequences. Resolves to its answers, one line for each sequence. */
 async function askModel(command, chains) {
   const { status, stdout, stderr, signal } = await runCommand("sh", ["-c", command], `${chains.join("\n")}\n`);
   const lines = stdout.split("\n").slice(0, -1);
@@ -59,7 +58,7 @@ async function askModel(command, chains) {
   return { shown: lines, fault: lines.length === chains.length ? "" : say.modelPrinted(lines.length, chains.length) };
 }
 
-/** The search for one campaign. */
+/** The search for one campaign, that is, one properties file. */
 class Exploration {
   /**
    * @param {Engine} engine
@@ -73,7 +72,7 @@ class Exploration {
     this.files = { board: join(settings.folder, "board_text"), program: join(settings.folder, "program_text") };
   }
 
-  /** Reads the texts; returns the subject of the search, its starting state, and all texts that the result depends on. */
+  /** Reads the texts. Resolves to the subject of the search, its initial state, and all texts on which the result depends. */
   async begin() {
     const { engine, settings: { texts: { board, program, properties } } } = this;
     const { prepared, faults: textErrors } = prepare(engine, { boardText: board.text, programText: program.text });
@@ -87,14 +86,14 @@ class Exploration {
     return { ...readable, texts: [board.text, program.text, properties.text, testText] };
   }
 
-  /** Prints the command of a model before it runs for the first time. */
+  /** Prints a model's command before it runs for the first time. */
   announce({ command, properties }) {
     if (command === "" || !this.settings.allowsModel) return;
     const { line } = properties.find(({ form }) => form === "model");
     printError(`# ${say.runsModel(this.names.properties, line, command)}\n`);
   }
 
-  /** Resolves to true if `mcs4 test` judges a test as expected. A run that Ctrl-C stopped along with the search is repeated once. */
+  /** Resolves to true if `mcs4 test` confirms a test. If Ctrl-C has stopped the run, the run is repeated once. */
   async confirm(test, isGoal) {
     const name = join(this.settings.folder, `find.${process.pid}.test`);
     writeFileSync(name, test);
@@ -105,7 +104,7 @@ class Exploration {
     return false;
   }
 
-  /** Searches with one seed; returns the report. */
+  /** Searches with one seed. Resolves to the report. */
   async search({ subject, campaign, texts }) {
     const { settings: { seconds, seed, allowsModel }, names } = this;
     const model = allowsModel ? (chains) => askModel(campaign.command, chains) : null;
@@ -125,12 +124,12 @@ class Exploration {
     return run.report({ names, sums, seconds: (user + system) / 1e6, isStopped });
   }
 
-  /** Prints a counterexample as it is found. */
+  /** Prints a counterexample as soon as it is found. */
   show(property, { steps }) {
     printError(`# ${say.wasFound(lineOfProperty(property, { names: this.names }), property.text, property.isGoal, stepsOf(steps))}\n`);
   }
 
-  /** Runs one search in another process; returns the exit status and the name of the report. */
+  /** Runs one search in another process. Resolves to the exit status and the name of the report. */
   async searchInProcess(seed) {
     const { settings } = this;
     const report = join(settings.folder, `report.${seed}`);
@@ -139,7 +138,7 @@ class Exploration {
     return { status: await runAgain({ ...process.env, [JOB_VARIABLE]: name }), report };
   }
 
-  /** Runs all jobs in parallel; returns the joined report. */
+  /** Runs all jobs in parallel. Resolves to the combined report. */
   async searchAll() {
     const { files, settings: { jobs, seed, texts } } = this;
     writeFileSync(files.board, texts.board.text);
@@ -154,7 +153,7 @@ class Exploration {
   }
 }
 
-/** Reads a report file of another search; throws an error if the file is not a report. */
+/** Reads the report of another search. Throws an error if the file is not a report. */
 function readReport(name) {
   const text = readUserText(name, MAX_REPORT);
   try {
@@ -167,7 +166,7 @@ function readReport(name) {
 }
 
 /**
- * Joins the reports of searches with the same texts; throws an error if the texts differ.
+ * Combines the reports of searches with the same texts. Throws an error if the texts differ.
  * @param {string[]} names
  */
 export function mergeReports(names) {
@@ -187,21 +186,21 @@ async function startExploration(settings) {
 }
 
 /**
- * Runs a search with all its jobs; returns the report.
+ * Runs a search with all its jobs. Resolves to the report.
  * @param {Settings} settings
  */
 export async function exploreTexts(settings) {
   return (await startExploration(settings)).searchAll();
 }
 
-/** Returns the settings of this process if another process started it as a job; otherwise null. */
+/** Returns the settings of this process if it is a job of another process, otherwise null. */
 export function jobSettings() {
   const name = process.env[JOB_VARIABLE];
   return name ? JSON.parse(readUserText(name, 2 * MAX_REPORT)) : null;
 }
 
 /**
- * Runs a search as a job of another process, and writes the report; returns the exit status.
+ * Runs a search as a job of another process, and writes its report. Resolves to the exit status.
  * @param {Settings & { report: string }} settings
  */
 export async function exploreAsJob(settings) {

@@ -1,17 +1,17 @@
-// The lock (`flock`) of a session file, which the native program holds while it serves the file. Other tools read the file only while no
-// process has the lock. The holder is looked up in /proc.
+// The lock (`flock`) of a session file. The native program holds the lock while it serves the file. Other tools read the file only while no process
+// holds the lock. The holder is found through /proc.
 import { spawnSync } from "node:child_process";
 import { readFileSync, statSync } from "node:fs";
 import { CommandError } from "./output.mjs";
 import { readUserFile } from "./user_files.mjs";
 import { sessionInUse } from "../words/adapter.js";
 
-/** The exit status of `flock` if another process has the lock. */
+/** The exit status of `flock` if another process holds the lock. */
 const LOCKED = 75;
-/** A line of /proc/locks: it has the process, and the device and inode of the file. */
+/** Matches a lock in /proc/locks, with its process and the device and inode of the file. */
 const FLOCK = /^\d+: FLOCK +\w+ +\w+ +(\d+) +([0-9a-f]+):([0-9a-f]+):(\d+) /;
 
-/** @param {string} name of a file of /proc */
+/** @param {string} name the name of a file in /proc */
 function textOf(name) {
   try {
     return readFileSync(name, "utf8");
@@ -21,7 +21,7 @@ function textOf(name) {
 }
 
 /**
- * Returns the ids of the processes that have a lock on a file.
+ * Returns the ids of the processes that hold a lock on a file.
  * @param {string} name
  */
 function holdersOf(name) {
@@ -30,13 +30,13 @@ function holdersOf(name) {
     const [, process, major, minor, inode] = FLOCK.exec(line) || [];
     return Number(inode) === ino ? [{ process: Number(process), device: [major, minor].map((part) => parseInt(part, 16)) }] : [];
   });
-  // The device number is joined as by makedev(3). On some file systems the device of a lock differs from the device of the file.
+  // The device number is composed as makedev(3) does. On some file systems, the device of a lock differs from the device of its file.
   const matching = locks.filter(({ device: [major, minor] }) => dev === ((major & 0xFFF) * 256) + (minor & 0xFF) + ((minor & 0xFFF00) * 4096));
   return (matching.length > 0 ? matching : locks).map(({ process }) => process).filter((process) => process > 0);
 }
 
 /**
- * Returns the command line and the id of the process that has the lock of a file; "" if there is none, or if it is not visible.
+ * Returns the command line and process id of the holder of a file's lock, or "" if there is none or it is not visible.
  * @param {string} name
  */
 export function holderOf(name) {
@@ -47,19 +47,19 @@ export function holderOf(name) {
 }
 
 /**
- * Returns the bytes of a session file; throws an error if a program serves the file.
+ * Returns the bytes of a session file. Throws an error if a program is serving the file.
  * @param {string} name
- * @param {number} most bytes
+ * @param {number} most the maximum number of bytes
  * @returns {Uint8Array}
  */
 export function readUnlocked(name, most) {
-  // Rejects a file that is not regular, or too large, before `cat` opens it.
+  // Reject a file that is too large or not regular before `cat` opens it.
   const bytes = readUserFile(name, most);
   const { status, stdout, error } = spawnSync("flock", ["--shared", "--nonblock", "--conflict-exit-code", String(LOCKED), name, "cat", name],
     { maxBuffer: most + 1, stdio: ["ignore", "pipe", "ignore"] });
   if (status === LOCKED) throw new CommandError(sessionInUse(name, holderOf(name)));
   if (!error && status === 0) return new Uint8Array(stdout);
-  // There is no `flock` command: looks for a lock in /proc. A file that changed meanwhile is in use.
+  // Without the `flock` command, look for a lock in /proc. A file whose contents have changed is also in use.
   const holder = holderOf(name);
   if (holder !== "" || !bytes.equals(readUserFile(name, most))) throw new CommandError(sessionInUse(name, holder));
   return new Uint8Array(bytes);

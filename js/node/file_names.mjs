@@ -7,7 +7,7 @@ import { escaped } from "../core/text/escaped.js";
 /** The maximum number of completions. */
 const MAX_NAMES = 1000;
 
-/** Returns a path with the home folder in place of a leading `~`. */
+/** Replaces a leading `~` in a path with the home folder. */
 export function withoutTilde(name) {
   return name === "~" || name.startsWith("~/") ? homedir() + name.slice(1) : name;
 }
@@ -22,7 +22,7 @@ function isFolder(name) {
 }
 
 /**
- * Returns the paths that start with `begin`; a folder ends with a slash. Hidden files are included only if their dot is typed.
+ * Returns the paths that start with `begin`. A folder's path ends with a slash. Hidden files are included only if `begin` has their dot.
  * @param {string} begin
  */
 export function fileNames(begin) {

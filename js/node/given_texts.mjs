@@ -1,25 +1,25 @@
-// The texts that the arguments of a command name: files, pipes, and `-` for standard input.
+// Reads the texts that a command's arguments name: files, pipes, or `-` for standard input.
 import { closeSync, openSync } from "node:fs";
 import { CommandError } from "./output.mjs";
 import { readStream, readUserFile, statOfInput } from "./user_files.mjs";
 import { noAnswers } from "../words/commands.js";
 
-/** The maximum sizes, in bytes, of a script of session lines, of answers, and of one text. */
+/** The maximum sizes, in bytes, of a session script, of answers, and of a single text. */
 export const MAX_SCRIPT = 16777216;
 export const MAX_ANSWERS = 67108864;
 export const MAX_TEXT_BYTES = 1048576;
 export const STANDARD_INPUT = 0;
 const UTF8_MARK = Buffer.from([0xEF, 0xBB, 0xBF]);
-/** @type {Record<string, string>} the encodings by their byte order marks in hex; PowerShell writes UTF-16 */
+/** @type {Record<string, string>} the encodings by their byte order marks in hexadecimal; PowerShell writes UTF-16 */
 const UTF_16 = { fffe: "utf-16le", feff: "utf-16be" };
 
 /**
- * The text of a board or a program, with the name of its file, the number of lines before it in the file, and the encoding of the file.
+ * The text of a board or a program, with the name of its file, the number of file lines before the text, and the file's encoding.
  * @typedef {{ name: string, text: string, before: number, encoding: BufferEncoding }} GivenText
  */
 
 /**
- * Decodes a text, without its byte order mark. UTF-16 is known by its mark. Bytes that are not UTF-8 either are read as Latin 1.
+ * Decodes a text and removes its byte order mark. UTF-16 is recognised by its mark. Bytes that are not valid UTF-8 are decoded as Latin 1.
  * @param {Buffer} bytes
  * @returns {{ text: string, encoding: BufferEncoding }}
  */
@@ -37,7 +37,7 @@ function decoded(bytes) {
 /**
  * Reads and decodes a regular file.
  * @param {string} name
- * @param {number} most bytes
+ * @param {number} most the maximum number of bytes
  */
 export function decodedFile(name, most) {
   return decoded(readUserFile(name, most));
@@ -51,14 +51,14 @@ function isPipe(name) {
 
 export class GivenTexts {
   constructor() {
-    /** @type {Buffer | null} the content of standard input, which can be read only once */
+    /** @type {Buffer | null} the contents of standard input, which can be read only once; null before it is read */
     this.standardInput = null;
   }
 
   /**
-   * Returns the bytes of the file, the pipe or standard input that an argument names; throws an error if there are none.
+   * Returns the contents of the file, pipe or standard input that an argument names. Throws an error if it is empty.
    * @param {string} name
-   * @param {number} most bytes
+   * @param {number} most the maximum number of bytes
    */
   read(name, most) {
     const bytes = name === "-" ? this.readStandardInput(most) : this.readNamed(name, most);
@@ -66,7 +66,7 @@ export class GivenTexts {
     return bytes;
   }
 
-  /** @param {number} most bytes */
+  /** @param {number} most the maximum number of bytes */
   readStandardInput(most) {
     if (!this.standardInput) this.standardInput = readStream(STANDARD_INPUT, "-", most);
     return this.standardInput;
@@ -74,7 +74,7 @@ export class GivenTexts {
 
   /**
    * @param {string} name
-   * @param {number} most bytes
+   * @param {number} most the maximum number of bytes
    */
   readNamed(name, most) {
     if (!isPipe(name)) return readUserFile(name, most);
@@ -87,7 +87,7 @@ export class GivenTexts {
   }
 
   /**
-   * Returns a text of tests or of properties.
+   * Returns a tests or properties text.
    * @param {string} name
    */
   source(name) {
@@ -95,7 +95,7 @@ export class GivenTexts {
   }
 
   /**
-   * Returns the text of a board (`wire`) or a program (`asm`): the whole file, or the first such text in a script of session lines.
+   * Returns the text of a board (`wire`) or a program (`asm`): the whole file, or the first such text in a session script.
    * @param {string} name
    * @param {"wire" | "asm"} word
    * @returns {GivenText}
@@ -120,8 +120,8 @@ export class GivenTexts {
   }
 
   /**
-   * Returns the lines of mcs4's answers on standard input. A last line without a line feed is cut off, so it is left out.
-   * @param {string} command that reads the answers
+   * Returns the bench's answer lines on standard input. Ignores a last line without a line feed, because it is truncated.
+   * @param {string} command the command that reads the answers
    */
   answers(command) {
     if (this.readStandardInput(MAX_ANSWERS).length === 0) throw new CommandError(noAnswers(command));
@@ -129,7 +129,7 @@ export class GivenTexts {
   }
 
   /**
-   * Returns a script of session lines.
+   * Returns a session script.
    * @param {string} name
    */
   script(name) {

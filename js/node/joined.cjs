@@ -1,9 +1,9 @@
-// Loads the joined file of a command, which starts faster than the modules that it was made from (by tools/join_commands.mjs). A joined
-// file is used only if its checksum matches the sources in the tree. Computing checksums is slow, so the user's cache stores the sizes and
-// times of the sources. While these are unchanged, the checksum is not computed again. (tools/lib/start.sh does the same for the program.)
+// Loads the joined file of a command. A joined file starts faster than the modules from which tools/join_commands.mjs has built it. It is used only
+// if its checksum matches the sources in the tree. Checksums are slow to compute, so the user's cache stores the sizes and times of the sources.
+// While these are unchanged, the checksum is not computed again. (tools/lib/start.sh does the same for the program.)
 //
-// Compiling a joined file takes a tenth of the start-up time. So the cache also stores the compiled code of each command, for the version
-// that ran last.
+// Compiling a joined file takes a tenth of the startup time. The cache therefore also stores the compiled code of each command, for the version that
+// ran last.
 "use strict";
 const {
   closeSync, existsSync, fsyncSync, lstatSync, mkdirSync, openSync, readFileSync, renameSync, rmSync, statSync, writeFileSync,
@@ -17,21 +17,24 @@ const IS_WINDOWS = process.platform === "win32";
 const OWNER_ALONE = 0o700;
 const OWNER_ALONE_FILE = 0o600;
 const ACCESS_BY_OTHERS = 0o077;
-/** Files that changed within this time, in milliseconds, are not stored: a clock that ticks by seconds might not show their next change. */
+/**
+ * Files that changed within this time, in milliseconds, are not cached. On a file system with a resolution of seconds, their next change might not be
+ * visible.
+ */
 const RECENT_CHANGE = 3000;
-/** The number of bytes before the compiled code. */
+/** The length of the header before the compiled code, in bytes. */
 const HEADER_LENGTH = 80;
 /**
- * The kind of a run: "done" if the command ran, "asked" if it only printed its help or an error. Such a run compiles fewer functions.
+ * The kind of a run: "done" if the command did its work, "asked" if it only printed its help or an error. An "asked" run compiles fewer functions.
  * @typedef {"done" | "asked"} Kind
  */
 /** @type {Kind[]} */
 const KINDS = ["done", "asked"];
-/** The highest exit status of a command that ran. */
+/** The highest exit status of a command that has done its work. */
 const MAX_DONE_STATUS = 1;
 
 /**
- * Returns the checksum of the joined contents of files. (node:crypto is loaded only here, because loading it is slow.)
+ * Returns the checksum of the concatenated contents of files. (Loads node:crypto only here, because it is slow to load.)
  * @param {string[]} names
  */
 function checksumOfFiles(names) {
@@ -41,16 +44,16 @@ function checksumOfFiles(names) {
 }
 
 /**
- * Returns whether a folder exists and belongs to the user.
+ * Returns true if a folder exists and belongs to the user.
  * @param {string} name
  */
 function belongsToUser(name) {
   const stat = lstatSync(name, { throwIfNoEntry: false });
-  // Windows has no user ids; the home folder there belongs to the user.
+  // Windows has no user ids, but its home folder belongs to the user.
   return stat !== undefined && stat.isDirectory() && (!process.getuid || stat.uid === process.getuid());
 }
 
-/** Returns the private cache folder of mcs4, which is made if necessary; "" if there cannot be one. */
+/** Returns mcs4's private cache folder, or "" if there cannot be one. Creates the folder if necessary. */
 function cacheFolder() {
   const { XDG_CACHE_HOME = "", HOME = "", LOCALAPPDATA = "" } = process.env;
   const cache = IS_WINDOWS ? LOCALAPPDATA : XDG_CACHE_HOME.startsWith("/") ? XDG_CACHE_HOME : /^\/./.test(HOME) ? join(HOME, ".cache") : "";
@@ -67,7 +70,7 @@ function cacheFolder() {
 }
 
 /**
- * Returns the sizes and times of files as one text, and whether one of the files has just changed.
+ * Returns the sizes and times of files as one text, and whether any of the files has changed within RECENT_CHANGE.
  * @param {string[]} names
  */
 function fileStamps(names) {
@@ -77,7 +80,7 @@ function fileStamps(names) {
 }
 
 /**
- * Writes a file of the cache. Errors are ignored: the next start then computes or compiles again.
+ * Writes a cache file atomically. Ignores errors, because the next start can compute or compile again.
  * @param {string} path the path of the file
  * @param {...(string | Uint8Array)} parts
  */
@@ -98,9 +101,9 @@ function writeToCache(path, ...parts) {
 }
 
 /**
- * Returns whether files have a checksum, or the sizes and times that they had when they had it.
- * @param {string} folder the cache
- * @param {string} name of a command
+ * Returns true if files have a checksum, or if their sizes and times are the same as when the checksum was last verified.
+ * @param {string} folder the cache folder; "" for none
+ * @param {string} name the name of a command
  * @param {string[]} files
  * @param {string} sum
  */
@@ -115,12 +118,12 @@ function areUnchanged(folder, name, files, sum) {
   return true;
 }
 
-/** @type {(sum: string, kind: Kind, length: number) => string} the header of compiled code: the checksum of its source, its kind and its length */
+/** @type {(sum: string, kind: Kind, length: number) => string} the header of compiled code: source checksum, kind and length */
 const codeHeader = (sum, kind, length) => `${sum} ${kind} ${length}\n`.padEnd(HEADER_LENGTH);
 
 /**
- * Returns the cached compiled code of the joined file with a checksum, and its kind; undefined if there is none.
- * @param {string} path its path in the cache
+ * Returns the cached compiled code of the joined file with a checksum, and its kind. Returns undefined if there is none.
+ * @param {string} path the path of the compiled code in the cache
  * @param {string} sum
  * @returns {{ code: Uint8Array, kind: Kind } | undefined}
  */
@@ -137,11 +140,11 @@ function cachedCode(path, sum) {
 }
 
 /**
- * Stores the compiled code of a joined file when the command ends, unless the cache already has code of that kind.
+ * Stores the compiled code of a joined file when the command ends, unless the cache already has code of the same kind.
  * @param {Script} script
- * @param {string} path its path in the cache
+ * @param {string} path the path of the compiled code in the cache
  * @param {string} sum
- * @param {Kind | undefined} known the kind of the cached code
+ * @param {Kind | undefined} known the kind of the cached code; undefined if there is none
  */
 function cacheCode(script, path, sum, known) {
   process.on("exit", (status) => {
@@ -154,9 +157,9 @@ function cacheCode(script, path, sum, known) {
 }
 
 /**
- * Runs a joined file; returns its exports. The file is ASCII, so it is not decoded.
+ * Runs a joined file and returns its exports. The file is ASCII, so Latin 1 decodes it correctly and fast.
  * @param {string} file
- * @param {string} path the path of its compiled code in the cache; "" if there is no cache
+ * @param {string} path the path of the compiled code in the cache; "" if there is no cache
  * @param {string} sum
  */
 function load(file, path, sum) {
@@ -171,9 +174,9 @@ function load(file, path, sum) {
 }
 
 /**
- * Returns the checksum of a joined file with its sources; "" if the sources in the tree differ from those that it was made from.
- * @param {string} folder the cache
- * @param {string} name of a command
+ * Returns the checksum of a joined file with its sources, or "" if the joined file was built from other sources.
+ * @param {string} folder the cache folder; "" for none
+ * @param {string} name the name of a command
  * @param {string} file
  */
 function checksumOfJoined(folder, name, file) {
@@ -187,7 +190,7 @@ function checksumOfJoined(folder, name, file) {
 }
 
 /**
- * Loads the joined file of a command; returns null if there is none, or if it was made from other sources.
+ * Loads the joined file of a command. Returns null if there is none, or if it was built from other sources.
  * @param {string} name
  * @returns {{ run: (words: string[]) => Promise<number> } | null}
  */

@@ -1,12 +1,12 @@
-// Runs a command of mcs4: `node mcs4.cjs COMMAND ..`, as the script mcs4 in the top folder calls it. Old versions of Node also read this
-// file, to report that they are too old. They do not know the prefix `node:`, so nothing is required before the version is checked. This
-// file and the joined files are CommonJS, which Node starts faster than ES modules.
+// Runs a command of mcs4: `node mcs4.cjs COMMAND ..`. The script mcs4 in the top folder calls this file. Old versions of Node must also be able to
+// read it, to report that they are too old. They do not know the prefix `node:`, so nothing is required before the version check. This file and the
+// joined files are CommonJS, which Node loads faster than ES modules.
 "use strict";
 
 const LOWEST_NODE = 18;
 
 /**
- * Runs a command; returns the exit status.
+ * Runs a command. Resolves to the exit status.
  * @param {string} name
  * @param {string[]} words
  */
@@ -21,7 +21,7 @@ async function runCommand(name, words) {
 const [, , name = "", ...words] = process.argv;
 const isOld = Number(process.versions.node.split(".")[0]) < LOWEST_NODE;
 if (isOld && process.env.MCS4 && (name === "new" || name === "open")) {
-  // The native program runs without Node.
+  // The native program can run without Node.
   const { spawnSync } = require("child_process");
   process.exitCode = spawnSync(process.env.MCS4, [name, ...words.slice(-1)], { stdio: "inherit" }).status;
 } else if (isOld) {

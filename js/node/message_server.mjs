@@ -1,25 +1,25 @@
-// The common part of `mcs4 lsp` and `mcs4 dap`: bytes of standard input go to a connection. When no message can follow, the process ends
-// with the reason on standard error.
+// The common part of `mcs4 lsp` and `mcs4 dap`. Passes the bytes of standard input to a connection. When no further message can arrive, the process
+// ends and prints the reason on standard error.
 import { isatty } from "node:tty";
 import { escaped } from "../core/text/escaped.js";
 import { WAITS_FOR_EDITOR } from "../words/commands.js";
 import { printError } from "./output.mjs";
 
-/** The milliseconds to wait for the rest of an incomplete message after each part. */
+/** The time in milliseconds to wait for the rest of an incomplete message after each part. */
 const MESSAGE_TIMEOUT = 10000;
 const INPUT = 0;
 
 /**
- * Explains at a terminal that the command waits for an editor. (An editor starts it without a terminal.)
- * @param {string} name of the command
+ * Explains to a user at a terminal that the command waits for an editor. (An editor starts the command without a terminal.)
+ * @param {string} name the command's name
  */
 export function explainAtTerminal(name) {
   if (isatty(INPUT)) printError(`${name}: ${WAITS_FOR_EDITOR}\n`);
 }
 
 /**
- * Returns a function that ends the process once all output is written. Its arguments are the exit status and the reason.
- * @param {string} name of the command
+ * Returns a function that ends the process after all output is written. Its arguments are the exit status and the reason.
+ * @param {string} name the command's name
  * @returns {(status: number, words?: string) => void}
  */
 export function exitAfterOutput(name) {
@@ -34,7 +34,8 @@ export function exitAfterOutput(name) {
 /**
  * Passes the bytes of standard input to a connection.
  * @param {import("../core/server/message_stream.js").MessageStream} connection
- * @param {(words: string) => void} ended is called once, when no message can follow, with the reason; "" if the stream ends between messages
+ * @param {(words: string) => void} ended called once with the reason when no further message can arrive; the reason is "" if the stream ends between
+ *   messages
  */
 export function listen(connection, ended) {
   let hasEnded = false;
@@ -46,7 +47,7 @@ export function listen(connection, ended) {
     if (!hasEnded) ended(words);
     hasEnded = true;
   };
-  // If this process itself was stopped or busy, the rest of the message is in the pipe. setImmediate lets it be read first.
+  // If this process was suspended or busy, the rest of the message may be in the pipe. setImmediate lets Node read it first.
   const rejectIncomplete = (partsThen) => setImmediate(() => partsThen === parts && !hasEnded && end(connection.refuseIncomplete()));
   process.stdin.on("data", (bytes) => {
     if (hasEnded) return;

@@ -1,4 +1,4 @@
-// The proved WebAssembly module as the engine of commands, for systems without a native program. A message reports that once to each user.
+// The proved WebAssembly module as the commands' engine, for systems without a native program. Each user sees a message about that once.
 /* global WebAssembly */
 import { closeSync, existsSync, openSync } from "node:fs";
 import { join } from "node:path";
@@ -11,7 +11,8 @@ import { moduleOfPage } from "./page_parts.mjs";
 const OWNER_ALONE = 0o600;
 
 /**
- * Returns true once for each user, and records that in the cache. If it cannot be recorded, returns false, as tools/lib/start.sh does.
+ * Returns true at the first call for each user, and records the call in the cache. Returns false if it cannot be recorded, as tools/lib/start.sh
+ * does.
  */
 function isFirstTime() {
   try {
@@ -26,8 +27,8 @@ function isFirstTime() {
 }
 
 /**
- * Starts the module; returns the engine.
- * @param {string} words the message that the module is used, and why; "" for no message
+ * Starts the module. Returns the engine.
+ * @param {string} words the message about the use of the module and its reason; "" for no message
  */
 export function startModule(words) {
   const engine = new Engine(new WebAssembly.Module(moduleOfPage()));

@@ -1,11 +1,11 @@
-// The search of `mcs4 prove` by the proved WebAssembly module, for systems without the program mcs4-prove.
+// Answers the questions of `mcs4 prove` with the proved WebAssembly module, for systems without the program mcs4-prove.
 import { startModule } from "./module_engine.mjs";
 
 const SIGNALS = /** @type {const} */ (["SIGHUP", "SIGINT", "SIGTERM"]);
 
 /**
- * Returns a function that answers questions to the prover. A search is one call of the module, during which no signal handler can run, so a
- * signal ends the process at once.
+ * Returns a function that answers the questions of `mcs4 prove`. A search is a single call of the module, and no signal handler can run during the
+ * call. The handlers are therefore removed, so that a signal ends the process immediately.
  * @returns {(question: string) => string}
  */
 export function moduleProver() {

@@ -1,11 +1,12 @@
-// The native program as a host of sessions (the interface is in js/core/engine/engine_host.js), by blocking system calls.
+// The native program as an engine that hosts sessions, with blocking system calls. js/core/engine/engine_host.js describes the interface.
 //
-// A state is a token: the index of a node in a tree. A node has its parent and the commands that lead from the parent to it. Each running
-// process is at one state; lines that it serves move it to the next state. A state without a process is rebuilt: from the nearest copy of
-// a session file above it in the tree, and the commands since then. So files are copied only when a state is needed a second time.
+// A state is a token: the index of a node in a tree. A node stores its parent, and the commands that lead from the parent to it. Each running process
+// is at one state. The lines that a process serves move it to the next state. To reach a state without a process, the engine starts a process on the
+// nearest copy of a session file above the state in the tree, and repeats the commands since then. Files are therefore copied only when a state is
+// needed for the second time.
 //
-// A shell starts the program for each session, which takes a tenth of the time of a fork by node. Node and the program communicate over
-// named pipes. All files are in a private folder of the user. The shell removes the folder when node has ended, even by a signal.
+// A shell starts the program for each session, which takes a tenth of the time of a fork by Node. Node and the program communicate over named pipes.
+// All files are in a private folder of the user. The shell removes the folder when Node has ended, even after a signal.
 import {
   closeSync, constants, copyFileSync, openSync, readFileSync, readSync, renameSync, rmSync, writeFileSync, writeSync,
 } from "node:fs";
@@ -23,11 +24,12 @@ import { TOP } from "./top.mjs";
  * @typedef {import("../core/engine/engine_host.js").EngineHost} EngineHost
  * @typedef {import("../core/engine/engine_host.js").State} State
  *
- * A node of the tree. `copy` is the path of its session file, "" for none; `count` is the session's number of commands, -1 if not known yet.
+ * A node of the tree. `copy` is the path of its session file, "" if there is none. `count` is the session's number of commands, -1 if it is not known
+ * yet.
  * @typedef {{ parent: number, commands: string, copy: string, count: number }} StateNode
  *
- * An analysis of session lines: the commands among them, with their texts, and the number of `seq` lines. `isWhole` is true if the last
- * line and the last text are complete.
+ * An analysis of session lines: the commands among them, including their texts, and the number of `seq` lines. `isWhole` is true if the last line and
+ * the last text are complete.
  * @typedef {{ commands: string, seqs: number, isWhole: boolean }} LineAnalysis
  */
 
@@ -35,15 +37,15 @@ import { TOP } from "./top.mjs";
 const MAX_PROCESSES = 3;
 /** The maximum number of copies that were made without a call of `keep`. */
 const MAX_COPIES = 32;
-/** The bytes that a pipe accepts at least while nobody reads from it. */
+/** The minimum number of bytes that a pipe accepts while nobody reads from it. */
 const PIPE_CAPACITY = 4096;
 const BUFFER_SIZE = 1 << 16;
 const TOKEN_SIZE = 4;
 export const SESSION_BYTES = 163856;
-/** The maximum number of cached analyses: the same lines are often served again. */
+/** The maximum number of cached analyses. The same lines are often served repeatedly. */
 const MAX_ANALYSES = 500;
 
-/** An error of the program itself: it is missing, it does not answer, or it has ended. */
+/** An error of the program itself: it is missing, does not answer, or has ended. */
 export class ProgramError extends CommandError {}
 
 // --- lines ---
@@ -69,8 +71,8 @@ function analyse(lines) {
 }
 
 /**
- * Splits lines into pieces that a pipe can hold, so that no write blocks forever. A piece can be longer only if it is a single text, which
- * the program reads whole before it answers.
+ * Splits lines into pieces that fit into a pipe, so that no write blocks forever. A piece is longer only if it is a single text, which the program
+ * reads completely before it answers.
  * @param {string} lines
  */
 function splitForPipe(lines) {
@@ -93,7 +95,7 @@ function splitForPipe(lines) {
 // --- processes ---
 
 /**
- * The loop of the shell's script. Each line of its control pipe starts a program: `new` or `open`, the name of the session file, and the
+ * The main loop of the shell script. Each line of the control pipe starts a program: `new` or `open`, the name of the session file, and the slot
  * number of the pipes to use.
  */
 const SHELL_LOOP = `while read -r word name slot; do
@@ -104,11 +106,11 @@ const SHELL_LOOP = `while read -r word name slot; do
 done < "$folder/control"
 if [ -e "$folder" ]; then rm -rf -- "$folder"; fi`;
 
-/** The name of the shell; its own messages begin with it. */
+/** The shell's name, which precedes its own messages. */
 const SHELL = "starter";
 /** The shell's exit status if no program is named and start.sh does not know one. */
 const UNKNOWN_PROGRAM = 3;
-/** The shell's script: it finds the program if none is named, makes the pipes, starts the loop, and prints the program's path. */
+/** The shell script. It finds the program if none is named, creates the pipes, starts the loop, and prints the program's path. */
 const SHELL_SCRIPT = `trap "" HUP INT TERM
 program=$1 top=$2 folder=$3
 shift 3
@@ -121,9 +123,9 @@ mkfifo -- "$@" || exit 1
 } > /dev/null 2>> "$folder/words" &
 printf %s "$program"`;
 
-/** The shell that starts the program, and its folder. */
+/** The shell that starts programs, and its folder. */
 class Starter {
-  /** @param {string} program its path; "" for the program that ./mcs4 starts, if that is known without comparing sources */
+  /** @param {string} program the program's path; "" for the program that ./mcs4 starts, if it is known without comparing sources */
   constructor(program) {
     this.root = temporaryRoot();
     this.folder = temporaryFolder("mcs4");
@@ -131,7 +133,8 @@ class Starter {
     const pipes = ["control", ...this.free.flatMap((slot) => [`in${slot}`, `out${slot}`])].map((name) => join(this.folder, name));
     const { status, signal, stdout } = processes().spawnSync(
       "/bin/sh", ["-c", SHELL_SCRIPT, SHELL, program, TOP, this.folder, ...pipes], { encoding: "utf8", stdio: ["ignore", "pipe", "ignore"] });
-    // A signal to the process group, such as Ctrl-C, can end the shell before it ignores signals. This process got the same signal.
+    // A signal to the process group, such as Ctrl-C, can end the shell before it ignores signals. This process has received the same signal, so end
+    // in the same way.
     if (signal) {
       removeFolder(this.folder);
       process.exit(128 + system.signals[signal]);
@@ -144,7 +147,7 @@ class Starter {
   }
 
   /**
-   * Starts the program on a session file; returns the number of its pipes, and the open pipes.
+   * Starts the program on a session file. Returns the slot number of its pipes, and the open pipes.
    * @param {"new" | "open"} word
    * @param {string} name
    */
@@ -154,7 +157,7 @@ class Starter {
     return { slot, input: openSync(join(this.folder, `in${slot}`), "w"), output: openSync(join(this.folder, `out${slot}`), "r") };
   }
 
-  /** The program's lines on standard error, without the shell's own messages, and without lines that name this folder. */
+  /** The program's lines on standard error, without the shell's own messages and without lines that name this folder. */
   get words() {
     const lines = readFileSync(join(this.folder, "words"), "latin1").split("\n");
     return lines.filter((line) => line !== "" && !line.startsWith(`${SHELL}: `) && !line.includes(this.folder));
@@ -166,18 +169,18 @@ class Starter {
   }
 }
 
-/** A running program on a session file. */
+/** A running program that serves a session file. */
 class Session {
   /**
    * @param {Starter} starter
    * @param {"new" | "open"} word
-   * @param {string} name of the file, in the starter's folder
+   * @param {string} name the name of the file in the starter's folder
    */
   constructor(starter, word, name) {
     this.starter = starter;
     this.name = name;
     this.file = join(starter.folder, name);
-    /** The index of the state that the session is at, -1 for none. */
+    /** The index of the session's state, or -1 if it is not known. */
     this.at = -1;
     this.buffer = Buffer.allocUnsafe(BUFFER_SIZE);
     const { slot, input, output } = starter.start(word, name);
@@ -188,7 +191,7 @@ class Session {
     this.count = this.readOpening();
   }
 
-  /** Reads the first line of the answers; returns the session's number of commands. Throws an error if the session was not opened. */
+  /** Reads the first answer line. Returns the session's number of commands. Throws an error if the session could not be opened. */
   readOpening() {
     const line = this.readUntil((text) => text.endsWith("\n")).trimEnd();
     if (this.hasEnded || !/^session \d+$/.test(line)) {
@@ -199,20 +202,20 @@ class Session {
     return Number(line.slice("session ".length));
   }
 
-  /** Returns the error for a program whose first line is not mcs4's. */
+  /** Returns the error for a program whose first line is not one of mcs4's. */
   noAnswerError() {
     const { program, words } = this.starter;
     return new ProgramError([...words, `${program} does not answer; MCS4 names the program where it is not the mcs4 at the top`].join("\n"));
   }
 
-  /** Returns the error for a program that ends before it has answered. */
+  /** Returns the error for a program that has ended before it answered. */
   endedError() {
     return new ProgramError(`the session has ended; the program said: ${this.starter.words.join("; ") || "nothing"}`);
   }
 
   /**
-   * Reads answers until they are complete, or until the program has ended.
-   * @param {(text: string) => boolean} isWhole true if the answers so far are complete
+   * Reads answers until they are complete or the program has ended.
+   * @param {(text: string) => boolean} isWhole returns true if the answers so far are complete
    */
   readUntil(isWhole) {
     let text = "";
@@ -225,8 +228,8 @@ class Session {
   }
 
   /**
-   * Serves lines; returns the lines of their answers. A `seq` is sent after them, because its answer marks the end. If the lines contain
-   * `seq` themselves, their answers are counted, too.
+   * Serves lines. Returns the lines of their answers. A `seq` line follows the lines, because its answer marks the end. If the lines contain `seq`
+   * themselves, those answers are counted, too.
    * @param {string} lines
    */
   exchange(lines) {
@@ -246,7 +249,7 @@ class Session {
   }
 
   /**
-   * Serves lines that end without a line feed, or within a text, and ends the session; returns the lines of the answers.
+   * Serves lines that end without a line feed or within a text, and ends the session. Returns the lines of the answers.
    * @param {string} lines
    */
   exchangeLast(lines) {
@@ -261,9 +264,9 @@ class Session {
   }
 
   /**
-   * Sends lines; returns the text of their answers. If the program has ended, reads what it still answered.
+   * Sends lines. Returns the text of their answers. If the program has ended, returns its remaining output.
    * @param {string} lines
-   * @param {(text: string) => boolean} isWhole true if the answers so far are complete
+   * @param {(text: string) => boolean} isWhole returns true if the answers so far are complete
    */
   send(lines, isWhole) {
     try {
@@ -274,7 +277,7 @@ class Session {
     return this.readUntil(isWhole);
   }
 
-  /** Empties the input pipe after a program that ended too soon: the next program at this pipe must not read its lines. */
+  /** Empties the input pipe after a program has ended early, because the next program with this pipe must not read the remaining lines. */
   drain() {
     const pipe = openSync(join(this.starter.folder, `in${this.slot}`), constants.O_RDONLY | constants.O_NONBLOCK);
     try {
@@ -286,7 +289,7 @@ class Session {
     }
   }
 
-  /** Closes the input, so that the program ends, and waits for its end. */
+  /** Closes the input, so that the program ends, and waits for the program's end. */
   end() {
     if (this.hasEnded) this.drain();
     closeSync(this.input);
@@ -295,7 +298,7 @@ class Session {
   }
 
   /**
-   * Closes the last open pipe, and frees the slot of the pipes.
+   * Closes the last open pipe and releases the slot of the pipes.
    * @param {number} pipe
    */
   close(pipe) {
@@ -307,26 +310,26 @@ class Session {
 // --- states ---
 
 /**
- * The engine on native programs.
+ * The engine that uses native programs.
  * @implements {EngineHost}
  */
 export class NativeEngine {
-  /** @param {string} program its path */
+  /** @param {string} program the program's path */
   constructor(program, starter = new Starter(program)) {
     this.size = TOKEN_SIZE;
     this.starter = starter;
     /** @type {StateNode[]} the tree; node 0 is a new session */
     this.states = [{ parent: -1, commands: "", copy: "", count: 0 }];
-    /** @type {Session[]} the running sessions, the most recently used first */
+    /** @type {Session[]} the running sessions, most recently used first */
     this.sessions = [];
-    /** @type {number[]} the states with copies that were made without a call of `keep`, the oldest first */
+    /** @type {number[]} the states with copies that were made without a call of `keep`, oldest first */
     this.copied = [];
     this.files = 0;
     /** @type {Map<string, LineAnalysis>} */
     this.analyses = new Map();
   }
 
-  /** Returns an engine on the program that ./mcs4 starts, if start.sh knows it without comparing all sources; otherwise null. */
+  /** Returns an engine for the program that ./mcs4 starts, if start.sh knows the program without comparing all sources. Otherwise returns null. */
   static forKnownProgram() {
     const starter = new Starter("");
     return starter.control < 0 ? null : new NativeEngine(starter.program, starter);
@@ -395,7 +398,7 @@ export class NativeEngine {
     return this.setNumber(new Uint8Array(this.size), this.addState({ parent: -1, commands: "", copy, count: -1 }));
   }
 
-  /** The message that there is no room for a session among the temporary files; "" if there is room. */
+  /** The message that the folder for temporary files has no room for a session, or "" if it has room. */
   get noRoomMessage() {
     const { folder, root } = this.starter;
     const room = join(folder, "room");
@@ -409,7 +412,7 @@ export class NativeEngine {
     }
   }
 
-  /** Ends the program, and removes all files. */
+  /** Ends all programs and removes all files. */
   end() {
     for (const session of this.sessions.splice(0)) session.end();
     this.starter.end();
@@ -428,7 +431,7 @@ export class NativeEngine {
   }
 
   /**
-   * Writes the index of a node into a state; returns the state.
+   * Writes a node's index into a state. Returns the state.
    * @param {State} state
    * @param {number} number
    */
@@ -438,7 +441,7 @@ export class NativeEngine {
   }
 
   /**
-   * Adds a node to the tree; returns its index.
+   * Adds a node to the tree. Returns its index.
    * @param {StateNode} state
    */
   addState(state) {
@@ -446,7 +449,7 @@ export class NativeEngine {
   }
 
   /**
-   * Analyses session lines, with a cache.
+   * Analyses session lines. Caches the result.
    * @param {string} lines
    */
   analyse(lines) {
@@ -459,7 +462,7 @@ export class NativeEngine {
   }
 
   /**
-   * Serves lines on a session; returns the lines of the answers. If that fails, drops the session.
+   * Serves lines in a session. Returns the lines of the answers. Drops the session if that fails.
    * @param {Session} session
    * @param {string} lines
    */
@@ -473,8 +476,8 @@ export class NativeEngine {
   }
 
   /**
-   * Serves lines that end without a line feed, or within a text. The new state is a copy of the session file.
-   * @param {number} number of the state
+   * Serves lines that end without a line feed or within a text. The new state is a copy of the session file.
+   * @param {number} number the index of the state
    * @param {string} lines
    * @param {State} into
    */
@@ -490,8 +493,8 @@ export class NativeEngine {
   }
 
   /**
-   * Returns a session at a state; starts one if none is there.
-   * @param {number} number of the state
+   * Returns a session at a state. Starts a new session if there is none.
+   * @param {number} number the index of the state
    */
   sessionAt(number) {
     const found = this.sessions.findIndex(({ at }) => at === number);
@@ -501,8 +504,8 @@ export class NativeEngine {
   }
 
   /**
-   * Starts the program, and brings it to a state.
-   * @param {number} number of the state
+   * Starts the program and brings it to a state.
+   * @param {number} number the index of the state
    */
   newSession(number) {
     const { lines, copy } = this.pathTo(number);
@@ -520,8 +523,8 @@ export class NativeEngine {
   }
 
   /**
-   * Returns the nearest copy at a state or above it ("" for a new session), and the commands from there to the state.
-   * @param {number} number of the state
+   * Returns the path of the nearest copy at a state or above it ("" for a new session), and the commands from there to the state.
+   * @param {number} number the index of the state
    */
   pathTo(number) {
     const commands = [];
@@ -531,8 +534,8 @@ export class NativeEngine {
   }
 
   /**
-   * Stores a copy of a state that had to be rebuilt, so that the next time needs no commands. Only the last MAX_COPIES copies are stored.
-   * @param {number} number of the state
+   * Stores a copy of a state that had to be rebuilt, so that reaching it again needs no commands. Only the last MAX_COPIES copies are stored.
+   * @param {number} number the index of the state
    * @param {string} file
    */
   copyForNext(number, file) {
@@ -546,7 +549,7 @@ export class NativeEngine {
 
   /**
    * Copies a session file for a state.
-   * @param {number} number of the state
+   * @param {number} number the index of the state
    * @param {string} file
    */
   copy(number, file) {
@@ -555,7 +558,7 @@ export class NativeEngine {
     this.states[number].copy = copy;
   }
 
-  /** Returns the path of a new session file. */
+  /** Returns the path for a new session file. */
   newFile() {
     this.files += 1;
     return join(this.starter.folder, `${this.files}.mcs`);
@@ -564,7 +567,7 @@ export class NativeEngine {
   /**
    * Removes a session and its file.
    * @param {Session} session
-   * @param {boolean} isOpen whether its pipes are still open
+   * @param {boolean} isOpen true if the session's pipes are still open
    */
   drop(session, isOpen) {
     this.sessions = this.sessions.filter((each) => each !== session);

@@ -1,5 +1,5 @@
-// Finds the native program that runs sessions for commands, and starts the engine: on that program, or on the proved WebAssembly module if
-// there is no program for this system. Also the steps that many commands share: opening a session, reading a program.
+// Finds the native program that serves sessions for commands, and starts the engine. The engine uses that program, or the proved WebAssembly module
+// if there is no program for this system. Also has steps that many commands share, such as opening a session and reading a program.
 import { existsSync } from "node:fs";
 import { type } from "node:os";
 import { join } from "node:path";
@@ -16,7 +16,8 @@ import {
 /**
  * @typedef {import("../core/engine/engine_host.js").EngineHost} EngineHost
  *
- * The result of looking for a program: its path ("" if there is none), the reason, and `isUnsupported`: no program is made for this system.
+ * The result of the search for a program: its path ("" if there is none), and the reason why there is none. `isUnsupported` is true if the program is
+ * not available for this system.
  * @typedef {{ program: string, fault: string, isUnsupported: boolean }} Found
  */
 
@@ -29,7 +30,8 @@ const IS_WINDOWS = process.platform === "win32";
 const hasStarter = existsSync(join(TOP, "tools/lib/start.sh"));
 
 /**
- * Runs a script of the starter that prints a program's path, or why there is none. Returns null if the starter or the shell is missing.
+ * Runs a script of the starter. The script prints a program's path, or the reason why there is none. Returns null if the starter or the shell is
+ * missing.
  * @param {string} script
  * @returns {Found | null}
  */
@@ -42,20 +44,20 @@ function runStarter(script) {
   return { program, fault, isUnsupported: program === "" && isUnsupported === "1" };
 }
 
-/** @returns {Found} the result without a starter: an editor's extension has none, and Windows has no shell for it */
+/** @returns {Found} the result without a starter: an editor extension has none, and Windows has no shell */
 const noProgram = () => ({ program: "", fault: hasStarter ? notForSystem(type(), process.arch) : NO_PROGRAM_IN_COPY, isUnsupported: true });
 
-/** @type {Found | null} the result of the first search for the program */
+/** @type {Found | null} the cached result of the search for the program */
 let foundProgram = null;
 
-/** Finds the program: the variable MCS4 names it, or it is the one that ./mcs4 starts, which is built first if necessary. */
+/** Returns the program that the variable MCS4 names, or the program that ./mcs4 starts. Builds that program first if necessary. */
 function findProgram() {
   if (process.env.MCS4) return { program: process.env.MCS4, fault: "", isUnsupported: false };
   foundProgram ||= runStarter(FIND_PROGRAM) || noProgram();
   return foundProgram;
 }
 
-/** Returns the path of the program; throws an error if there is none for this system. */
+/** Returns the program's path. Throws an error if there is no program for this system. */
 export function programPath() {
   const { program, fault } = findProgram();
   if (program === "") throw new CommandError(needsProgram(fault));
@@ -63,8 +65,7 @@ export function programPath() {
 }
 
 /**
- * Returns the path of the prover: the program that MCS4_PROVE names, a local build, or the shipped one; "" if there is none for this
- * system.
+ * Returns the prover's path: the program that MCS4_PROVE names, a local build, or the shipped program. Returns "" if there is none for this system.
  */
 export function proverPath() {
   const { MCS4_PROVE: proverName } = process.env;
@@ -79,12 +80,12 @@ export function proverPath() {
 let nativeEngine = null;
 
 /**
- * Starts the engine: the native program, or the proved module if there is no program for this system. The use of the module is reported
- * once to each user. The engine's processes and files are removed when this process ends.
+ * Starts the engine: the native program, or the proved module if there is no program for this system. Each user sees a message about the use of the
+ * module once. The engine's processes and files are removed when this process ends.
  * @returns {Promise<EngineHost>}
  */
 export async function startEngine() {
-  // First of all, so that a signal cannot leave the engine's folder behind.
+  // This must come first, so that a signal cannot leave the engine's folder behind.
   endOnSignals();
   const { NativeEngine } = await import("./native_engine.mjs");
   const known = process.env.MCS4 || foundProgram || !hasStarter || IS_WINDOWS ? null : NativeEngine.forKnownProgram();
@@ -99,18 +100,18 @@ export async function startEngine() {
   return engine;
 }
 
-/** Ends the native engine, if one was started, and removes its files. */
+/** Ends the native engine, if it was started, and removes its files. */
 export function endEngine() {
   if (nativeEngine) nativeEngine.end();
   nativeEngine = null;
 }
 
-/** @type {((status: number) => void) | null} the action on a signal */
+/** @type {((status: number) => void) | null} the function that ends the process after a signal; null before the handlers are registered */
 let signalAction = null;
 
 /**
- * Ends the process on a signal by `act`, not by the signal itself, so that unfinished files are removed.
- * @param {(status: number) => void} [act] ends the process with a status
+ * Makes signals end the process through `act`, so that unfinished files are removed.
+ * @param {(status: number) => void} [act] ends the process with an exit status
  */
 export function endOnSignals(act = process.exit) {
   const isFirst = signalAction === null;
@@ -119,19 +120,21 @@ export function endOnSignals(act = process.exit) {
   for (const [signal, status] of Object.entries(SIGNALS)) process.on(signal, () => signalAction(status));
 }
 
-/** Returns the message that the native engine has no room for temporary files; "" if it has room, or if none was started. */
+/**
+ * Returns the message that the folder for temporary files has no room for a session. Returns "" if it has room or if no native engine was started.
+ */
 export function noRoomMessage() {
   return nativeEngine ? nativeEngine.noRoomMessage : "";
 }
 
 /**
- * Returns the state of a session file. The engine works on a copy of the file. An error names the file.
+ * Returns the state of a session file. The engine works on a copy of the file. Errors name the file.
  * @param {EngineHost} engine
  * @param {import("./given_texts.mjs").GivenTexts} texts
- * @param {string} session its file
+ * @param {string} session the session's file name
  */
 export async function openSession(engine, texts, session) {
-  // A pipe without a writer would block the process forever, even for signals. Also, the file is read twice.
+  // A pipe without a writer would block the process forever, and signals could not end it. In addition, the file is read twice.
   if (statOfInput(session)?.isFIFO()) throw new CommandError(`cannot read ${session}: it is not a regular file`);
   const bytes = texts.read(session, MAX_TEXT_BYTES);
   if (!bytes.equals(texts.read(session, MAX_TEXT_BYTES))) throw new CommandError(inUse(session));
@@ -147,7 +150,7 @@ export async function openSession(engine, texts, session) {
 }
 
 /**
- * Returns the error for rejected texts. (The modules that word it are loaded only then.)
+ * Returns the error for rejected texts. (Loads the modules with the messages only then.)
  * @param {EngineHost} engine
  * @param {ConstructorParameters<typeof import("./refused_texts.mjs").RefusedTexts>[1]} given
  * @param {import("../core/testing/prepared.js").TextFault[]} faults
@@ -158,9 +161,9 @@ export async function rejectedTextsError(engine, given, faults) {
 }
 
 /**
- * Returns the source map of a program; throws an error if the bytes in ROM are not those of the program.
+ * Returns the source map of a program. Throws an error if the contents of ROM are not this program.
  * @param {EngineHost} engine
- * @param {Uint8Array} codes the bytes in ROM
+ * @param {Uint8Array} codes the contents of ROM
  * @param {import("./given_texts.mjs").GivenText} program
  */
 export async function checkedProgramMap(engine, codes, program) {
@@ -171,7 +174,7 @@ export async function checkedProgramMap(engine, codes, program) {
   return map;
 }
 
-/** Lets signal handlers run between the pieces of a long computation; resolves to true. */
+/** Lets signal handlers run between the pieces of a long computation. Resolves to true. */
 export async function yieldToMessages() {
   await new Promise((resume) => {
     setImmediate(resume);
@@ -180,7 +183,7 @@ export async function yieldToMessages() {
 }
 
 /**
- * Assembles a program without its board, on a board with all ROMs; returns its source map, and the byte at each address.
+ * Assembles a program without its board, on a board with all ROM chips. Returns its source map, and the byte at each address.
  * @param {EngineHost} engine
  * @param {import("./given_texts.mjs").GivenText} program
  */
@@ -192,11 +195,11 @@ export async function assembledProgram(engine, program) {
 }
 
 /**
- * Reads a program, which must be the one in the ROM of a session; returns a function that describes an address by the program's source.
+ * Reads a program, which must match the session's ROM. Returns a function that describes an address in terms of the program's source.
  * @param {import("./given_texts.mjs").GivenTexts} texts
  * @param {EngineHost} engine
  * @param {string} programName
- * @param {string} session its file
+ * @param {string} session the session's file name
  * @returns {Promise<(address: number) => string>}
  */
 export async function addressDescriber(texts, engine, programName, session) {

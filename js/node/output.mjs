@@ -1,20 +1,20 @@
-// The output of the Node tools. Each call returns only after everything is written. Control characters in texts are printed as `\x1B`.
+// The output of the Node tools. A call returns only after everything is written. Control characters in texts are printed in the form `\x1B`.
 import { fstatSync, writeSync } from "node:fs";
 import { escaped } from "../core/text/escaped.js";
 
 const OUTPUT = 1;
 const ERRORS = 2;
-/** The exit status if nobody reads standard output any more: the shell's status for SIGPIPE. */
+/** The exit status if the reader of standard output has gone: the shell's status for SIGPIPE. */
 const PIPE_STATUS = 141;
 
-/** An error that ends a command with status 1. Each line of the message is printed after the command's name. */
+/** An error that ends a command with exit status 1. Each line of the message is printed after the command's name. */
 export class CommandError extends Error {}
 
-/** An error in the arguments of a command. The usage is printed below the message, and the exit status is 2. */
+/** An error in a command's arguments. The usage is printed below the message, and the exit status is 2. */
 export class UsageError extends Error {}
 
 /**
- * Writes all bytes; waits while a pipe is full.
+ * Writes all bytes. Waits while a pipe is full.
  * @param {number} stream
  * @param {Uint8Array} bytes
  */
@@ -31,10 +31,7 @@ function writeAll(stream, bytes) {
 
 const NOT_WRITTEN = "not all was written; is there room where it goes to?";
 
-/**
- * Throws an error if standard output is closed. Node opens another file in its place, so the starter reports it by the variable
- * `is_closed`.
- */
+/** Throws an error if standard output is closed. Node opens another file in its place, so the starter sets the variable `is_closed`. */
 export function checkOutput() {
   if (process.env.is_closed) throw new CommandError("standard output is closed");
 }
@@ -54,8 +51,8 @@ export function printBytes(bytes) {
 }
 
 /**
- * Ends the process when a write to the stream `process.stdout` fails.
- * @param {string} name of the command
+ * Makes the process end when a write to `process.stdout` fails.
+ * @param {string} name the command's name
  */
 export function exitOnOutputError(name) {
   checkOutput();
@@ -75,19 +72,19 @@ export function print(text) {
 }
 
 /**
- * Writes a text to standard error; errors are ignored.
+ * Writes a text to standard error. Ignores errors.
  * @param {string} text
  */
 export function printError(text) {
   try {
     writeAll(ERRORS, Buffer.from(escaped(text)));
   } catch {
-    // There is no other place to report the text.
+    // There is no other way to report the text.
   }
 }
 
 /**
- * Writes a text for other programs to standard output, byte for byte. For a terminal, control characters are escaped.
+ * Writes a text for other programs to standard output, byte for byte. On a terminal, control characters are escaped.
  * @param {string} text
  * @param {BufferEncoding} encoding
  */

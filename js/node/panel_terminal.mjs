@@ -1,4 +1,4 @@
-// The terminal of the panel. It draws on the whole screen and reads keys one by one. It is restored however the panel ends.
+// The panel's terminal. Draws on the whole screen and reads single keys. Restores the terminal however the panel ends.
 import { writeSync } from "node:fs";
 import { keysIn } from "../core/panel/terminal_keys.js";
 import { MIN_SIZE, hasRoom } from "../core/panel/screen.js";
@@ -13,20 +13,20 @@ import { isDumb } from "./terminal.mjs";
  */
 
 const OUTPUT = 1;
-/** Switches to the alternate screen, without a cursor and without wrapping; END switches back. */
+/** The escape sequences that switch to the alternate screen, without cursor and line wrapping (BEGIN), and back (END). */
 const BEGIN = "\x1b[?1049h\x1b[?25l\x1b[?7l\x1b[2J";
 const END = "\x1b[0m\x1b[?7h\x1b[?25h\x1b[?1049l";
 const CLEAR = "\x1b[2J";
 const PLAIN = "\x1b[0m";
 const INVERSE = "\x1b[7m";
 const MIN_SIZE_TEXT = say.columnsByRows(MIN_SIZE.columns, MIN_SIZE.rows);
-/** The least bits for a colour of a terminal with 256 colours, and of one with 8. */
+/** The minimum colour depths, in bits, for 256 colours and for 8 colours. */
 const MIN_BITS = { colours256: 8, colours8: 4 };
-/** Each colour on a terminal with 256 colours, in three levels: dim, half and full. */
+/** Each lamp colour on a terminal with 256 colours, in three levels: dim, half and full. */
 const COLOURS_OF_256 = {
   red: [88, 160, 196], amber: [94, 172, 214], yellow: [100, 184, 226], green: [22, 34, 46], blue: [19, 27, 33], white: [240, 248, 231],
 };
-/** Each colour on a terminal with 8 colours. Amber is yellow that is never bright. */
+/** Each lamp colour on a terminal with 8 colours. Amber is yellow without the bright level. */
 const COLOURS_OF_8 = { red: 31, amber: 33, yellow: 33, green: 32, blue: 34, white: 37 };
 
 /** @type {(colour: string, level: number) => string} */
@@ -35,7 +35,7 @@ const paint256 = (colour, level) => `\x1b[${level === 3 ? "1;" : ""}38;5;${COLOU
 const paint8 = (colour, level) => `\x1b[${["2;", "", colour === "amber" ? "" : "1;"][level - 1]}${COLOURS_OF_8[colour]}m`;
 
 /**
- * Returns the function that sets the colour of a lamp on a terminal; null if it has no colours, or if NO_COLOR is set.
+ * Returns the function that sets a lamp's colour on a terminal. Returns null if the terminal has no colours or NO_COLOR is set.
  * @param {import("node:tty").WriteStream} output
  * @param {Record<string, string | undefined>} env
  */
@@ -57,13 +57,13 @@ export class PanelTerminal {
     if (!hasRoom(this.size)) throw new CommandError(say.tooSmall(MIN_SIZE_TEXT, this.size.columns, this.size.rows));
     this.paint = paintFor(stdout, env);
     this.isOn = false;
-    /** True if the terminal is gone or the panel must end. */
+    /** True if the terminal has gone or the panel must end. */
     this.isGone = false;
-    /** True if restoring the terminal has failed. */
+    /** True if the terminal could not be restored. */
     this.isLost = false;
-    /** @type {TypedKey[]} the typed keys that are not handled yet */
+    /** @type {TypedKey[]} the typed keys that have not been handled yet */
     this.keys = [];
-    /** @type {string[]} the rows on the screen */
+    /** @type {string[]} the rows that are on the screen */
     this.shown = [];
     this.wake = () => {};
     this.resized = () => {};
@@ -75,11 +75,11 @@ export class PanelTerminal {
   }
 
   /**
-   * Switches to the whole screen, and starts to read keys.
-   * @param {() => void} resized is called when the size of the terminal changes
+   * Switches to the whole screen and starts reading keys.
+   * @param {() => void} resized called when the terminal's size changes
    */
   begin(resized) {
-    const gone = () => {
+    const markGone = () => {
       this.isGone = true;
       this.wake();
     };
@@ -90,8 +90,8 @@ export class PanelTerminal {
       this.keys.push(...keysIn(String(text)));
       this.wake();
     });
-    for (const event of ["end", "error", "close"]) this.input.on(event, gone);
-    this.output.on("error", gone);
+    for (const event of ["end", "error", "close"]) this.input.on(event, markGone);
+    this.output.on("error", markGone);
     this.output.on("resize", () => {
       this.shown = [];
       resized();
@@ -101,7 +101,7 @@ export class PanelTerminal {
     this.output.write(BEGIN);
   }
 
-  /** Restores the terminal at once, and makes the panel end. */
+  /** Restores the terminal immediately and makes the panel end. */
   leave() {
     this.isGone = true;
     this.end();
@@ -121,7 +121,7 @@ export class PanelTerminal {
     this.input.destroy();
   }
 
-  /** If the terminal is lost, ends the process by SIGHUP, as a hangup does: node would crash at a normal exit. */
+  /** If the terminal could not be restored, ends the process with SIGHUP like a hangup, because Node would crash at a normal exit. */
   hangUp() {
     if (!this.isLost) return;
     process.removeAllListeners("SIGHUP");
@@ -129,8 +129,8 @@ export class PanelTerminal {
   }
 
   /**
-   * Waits until a key is typed, the terminal changes, or the time has passed.
-   * @param {number} milliseconds
+   * Waits until a key is typed, the terminal changes, or the time has elapsed.
+   * @param {number} milliseconds the maximum time to wait
    */
   async wait(milliseconds) {
     if (this.keys.length > 0 || this.isGone) return;
@@ -145,7 +145,7 @@ export class PanelTerminal {
   }
 
   /**
-   * Writes the rows that have changed, in one write; nothing if the terminal is restored already.
+   * Writes the rows that have changed, in a single write. Does nothing after the terminal has been restored.
    * @param {ScreenRow[]} rows
    */
   draw(rows) {
@@ -157,7 +157,7 @@ export class PanelTerminal {
     if (changed !== "") this.output.write(begin + changed);
   }
 
-  /** Prints that the terminal is too small, unless the terminal is restored already. */
+  /** Shows that the terminal is too small. Does nothing after the terminal has been restored. */
   drawTooSmall() {
     if (!this.isOn) return;
     const { columns, rows } = this.size;

@@ -1,5 +1,4 @@
-// Node's module for child processes, loaded at its first use. Loading it takes a tenth of the start-up time, and many commands start no
-// process.
+// Node's module for child processes, loaded on first use. Loading it takes a tenth of the startup time, and many commands do not start any process.
 import { createRequire } from "node:module";
 
 const require = createRequire(import.meta.url);

@@ -1,4 +1,4 @@
-// The native program on a user's session file, with asynchronous reads. It gets session lines and returns their answers.
+// The native program on a user's session file, with asynchronous reads. It serves session lines and returns their answers.
 import { spawn } from "node:child_process";
 import { constants } from "node:os";
 import { refusalOf } from "../core/bench/answers.js";
@@ -7,33 +7,33 @@ import { programPath } from "./native_program.mjs";
 import { CommandError } from "./output.mjs";
 import { programEnded, sessionWasRefused } from "../words/commands.js";
 
-/** Shells add this number to the number of the signal that has ended a program; the sum is the exit status. */
+/** The offset of an exit status that represents a signal: shells add it to the signal's number. */
 const SIGNALLED = 128;
 
-/** An error: the program has ended before it has answered. */
+/** The error of a program that has ended before it answered. */
 export class ProgramEnded extends CommandError {}
 
-/** A running program on a session file. */
+/** A running program that serves a session file. */
 export class SessionProgram {
   /**
    * @param {"new" | "open"} word
    * @param {string} name
-   * @param {boolean} [isAtTerminal] whether the program shares this process's standard error; signals from the terminal do not reach it then
+   * @param {boolean} [isAtTerminal] true if the program shares this process's standard error; signals from the terminal then do not reach the program
    */
   constructor(word, name, isAtTerminal = false) {
     this.child = spawn(programPath(), [word, name], { stdio: ["pipe", "pipe", isAtTerminal ? "inherit" : "pipe"], detached: isAtTerminal });
     this.child.stdout.setEncoding("utf8");
-    /** @type {string[]} the lines of answers that are not read yet */
+    /** @type {string[]} the answer lines that have not been read yet */
     this.lines = [];
-    /** The beginning of an incomplete line. */
+    /** The incomplete last line of the output. */
     this.partialLine = "";
-    /** The program's output on standard error. */
+    /** The program's output on standard error, and the error if the program did not start. */
     this.words = "";
-    /** The first line of its answers. */
+    /** The first answer line. */
     this.opened = "";
     this.wake = () => {};
     this.hasEnded = false;
-    /** The program's exit status, once it has ended. */
+    /** The program's exit status. Valid once the program has ended. */
     this.status = 1;
     this.child.stdout.on("data", (text) => {
       const lines = (this.partialLine + text).split("\n");
@@ -63,7 +63,7 @@ export class SessionProgram {
   }
 
   /**
-   * Returns the next lines of the answers; throws ProgramEnded if the program ends before it has printed them.
+   * Resolves to the next answer lines. Throws ProgramEnded if the program ends before it has printed them.
    * @param {number} count
    */
   async readLines(count) {
@@ -77,7 +77,7 @@ export class SessionProgram {
   }
 
   /**
-   * Serves lines; returns their answers.
+   * Serves lines. Resolves to their answers.
    * @param {string} lines
    * @param {number} count the number of answer lines
    */
@@ -87,10 +87,9 @@ export class SessionProgram {
   }
 
   /**
-   * Serves one input, or several inputs without `seq`. A `seq` is sent after them, because its answer marks the end, however long the
-   * answers are.
+   * Serves one input, or several inputs without `seq`. A `seq` line follows, because its answer marks the end, however many answers there are.
    * @param {string} input
-   * @param {(line: string) => void} each is called with each line of the answers, as it arrives
+   * @param {(line: string) => void} each called with each answer line as it arrives
    */
   async serve(input, each) {
     this.child.stdin.write(`${input}seq\n`);
@@ -105,12 +104,12 @@ export class SessionProgram {
     }
   }
 
-  /** Closes the input, so that the program ends. */
+  /** Closes the program's input, so that the program ends. */
   close() {
     this.child.stdin.end();
   }
 
-  /** Closes the input, and waits until the program has ended. */
+  /** Closes the program's input and waits until the program has ended. */
   async end() {
     this.close();
     await this.ended;
@@ -118,7 +117,7 @@ export class SessionProgram {
 }
 
 /**
- * Returns an answer; if it is a refusal, with its message. (The messages are loaded only then.)
+ * Returns an answer. A refusal is followed by its message. (Loads the messages only then.)
  * @param {string} answer
  */
 async function withMessage(answer) {
@@ -129,7 +128,7 @@ async function withMessage(answer) {
 }
 
 /**
- * Starts the program on a session file; if it rejects the file, throws an error with its message.
+ * Starts the program on a session file. If the program rejects the file, throws an error with the message.
  * @param {"new" | "open"} word
  * @param {string} name
  */

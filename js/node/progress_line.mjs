@@ -1,10 +1,10 @@
-// A line on standard error that shows the progress of a long command, rewritten each second. It is shown only on a terminal.
+// A progress line of a long command on standard error, updated once per second. It appears only on a terminal.
 import { escaped } from "../core/text/escaped.js";
 
-/** The milliseconds until the line first appears, and between two updates. A shorter command shows no line. */
+/** The time in milliseconds until the line appears, and between two updates. Shorter commands do not show the line. */
 const INTERVAL = 1000;
 const MILLISECONDS = 1000;
-/** Moves to the start of the line, and clears it. */
+/** The escape sequence that moves to the start of the line and clears it. */
 const CLEAR = "\r\u001b[K";
 
 export class ProgressLine {
@@ -22,8 +22,8 @@ export class ProgressLine {
   }
 
   /**
-   * Begins a step of the command.
-   * @param {(seconds: number) => string} words returns the text of the line, by the seconds since the step began
+   * Starts a step of the command.
+   * @param {(seconds: number) => string} words returns the text of the line for a number of seconds since the step started
    */
   begin(words) {
     this.words = words;
@@ -39,13 +39,13 @@ export class ProgressLine {
     this.isShown = true;
   }
 
-  /** Clears the line, before something else is printed. */
+  /** Clears the line before other output. */
   clear() {
     if (this.isShown) process.stderr.write(CLEAR);
     this.isShown = false;
   }
 
-  /** Clears the line, and stops updating it. */
+  /** Clears the line and stops the updates. */
   end() {
     this.clear();
     if (this.timer) clearInterval(this.timer);

@@ -1,4 +1,4 @@
-// A project in a folder on disk, for the Node tools: its `mcs4.toml`, and the files that it names, which must exist.
+// A project folder on disk for the Node tools: its `mcs4.toml`, and the files that it names, which must exist.
 import { existsSync, statSync } from "node:fs";
 import { join } from "node:path";
 import { ProjectFault, readProject } from "../core/project/project_folder.js";
@@ -6,7 +6,7 @@ import { PROJECT_FILE } from "../core/project/project_toml.js";
 import { leadsOut } from "../words/server.js";
 import { MAX_USER_TEXT, isInside, readUserFile, statOfInput } from "./user_files.mjs";
 
-/** Returns the error of a path that does not name a file in a folder; "" if it does. */
+/** Returns an error message if a path does not name a file in a folder, otherwise "". */
 export function pathError(folder, path) {
   const place = join(folder, path);
   if (!existsSync(place)) return `there is no file ${path}`;
@@ -16,9 +16,7 @@ export function pathError(folder, path) {
 
 /** @typedef {ReturnType<typeof projectIn>} DiskProject */
 
-/**
- * Returns the project in a folder, with paths relative to the current folder. Throws a ProjectFault with file, line and message.
- */
+/** Returns the project in a folder. Its paths are relative to the current folder. Throws a ProjectFault with file, line and message. */
 export function projectIn(folder) {
   const file = join(folder, PROJECT_FILE);
   const stat = statOfInput(file);

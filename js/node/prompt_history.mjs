@@ -1,6 +1,6 @@
-// The history of lines typed at prompts, in a private file of the user: $XDG_STATE_HOME/mcs4/history. Several prompts can add lines at the
-// same time, each under a lock. A new prompt shortens a file that has become too long. If the file cannot be made or used, readline
-// remembers lines until the prompt ends.
+// The history of lines typed at prompts. It is a private file of the user: $XDG_STATE_HOME/mcs4/history. Several prompts can add lines at the same
+// time, each under a lock. A new prompt shortens a file that has become too long. If the file cannot be created or used, readline keeps the lines
+// until the prompt ends.
 import { closeSync, constants, existsSync, fchmodSync, fstatSync, mkdirSync, openSync, readSync, rmSync, statSync, writeSync } from "node:fs";
 import { dirname, isAbsolute, join } from "node:path";
 import { escaped } from "../core/text/escaped.js";
@@ -10,26 +10,29 @@ import { replacementOf } from "./user_files.mjs";
 export const MAX_LINES = 1000;
 /** The maximum length of a line in the history, in characters. */
 const MAX_LINE_LENGTH = 1000;
-/** A file of more than MAX_BYTES is shortened to at most KEPT_BYTES. */
+/** The size in bytes above which the file is shortened, and its maximum size after that. */
 const MAX_BYTES = 262144;
 const KEPT_BYTES = 131072;
-/** A lock file older than this, in milliseconds, belongs to a killed process, and is removed. */
+/** The age in milliseconds after which a lock file is considered the leftover of a killed process and removed. */
 const STALE_LOCK_AGE = 10000;
-/** The milliseconds to wait for the lock; after that, the line is added without it. */
+/** The time in milliseconds to wait for the lock. After that, the line is added without the lock. */
 const LOCK_TIMEOUT = 1000;
-/** The milliseconds between two attempts. */
+/** The time in milliseconds between two attempts to acquire the lock. */
 const RETRY_INTERVAL = 3;
 const OWNER_ALONE = 0o600;
 const ACCESS_BY_OTHERS = 0o077;
 const APPEND = constants.O_RDWR | constants.O_APPEND | constants.O_CREAT | constants.O_NONBLOCK | constants.O_NOCTTY;
 
-/** Returns the path of the history file; "" if the environment names no home folder. */
+/** Returns the path of the history file, or "" if the environment names no home folder. */
 function historyPath({ XDG_STATE_HOME = "", HOME = "" }) {
   if (isAbsolute(XDG_STATE_HOME)) return join(XDG_STATE_HOME, "mcs4/history");
   return isAbsolute(HOME) ? join(HOME, ".local/state/mcs4/history") : "";
 }
 
-/** Makes a missing folder and its parents. Throws an error if another user owns the place, so that root leaves no files in other homes. */
+/**
+ * Creates a missing folder and its parents. Throws an error if the existing parent belongs to another user, so that root leaves no files in other
+ * home folders.
+ */
 function makeFolder(folder) {
   const missingFolders = [];
   for (let at = folder; !existsSync(at); at = dirname(at)) missingFolders.unshift(at);
@@ -37,7 +40,7 @@ function makeFolder(folder) {
   for (const name of missingFolders) mkdirSync(name, 0o700);
 }
 
-/** Opens the file. It must be a regular file of the user; access by others is removed. */
+/** Opens the file, which must be a regular file that belongs to the user. Removes access by others. */
 function openFile(name) {
   const file = openSync(name, APPEND, OWNER_ALONE);
   const stat = fstatSync(file);
@@ -49,7 +52,7 @@ function openFile(name) {
   return file;
 }
 
-/** Reads an open file from an offset to its end. */
+/** Reads an open file from an offset to the end. */
 function readFrom(file, first) {
   const bytes = Buffer.alloc(Math.max(0, fstatSync(file).size - first));
   return bytes.subarray(0, readSync(file, bytes, 0, bytes.length, first));
@@ -62,7 +65,7 @@ function lastLines(bytes, most) {
   return tail.subarray(tail.indexOf("\n") + 1);
 }
 
-/** Takes the lock; returns false if it cannot be taken in time. */
+/** Acquires the lock. Returns false if it cannot be acquired in time. */
 function takeLock(lock) {
   for (let waited = 0; waited < LOCK_TIMEOUT; waited += RETRY_INTERVAL) {
     try {
@@ -78,19 +81,19 @@ function takeLock(lock) {
   return false;
 }
 
-/** Shortens a file that is too long to its last lines. */
+/** Shortens a file that is too long, keeping its last lines. */
 function shorten(name, file) {
   if (fstatSync(file).size > MAX_BYTES) replacementOf(name, lastLines(readFrom(file, 0), KEPT_BYTES)).put();
 }
 
-/** Returns whether a terminal can show a line as it is. Others can be in a file that the user has edited. */
+/** Returns true if a terminal can show a line unchanged. A file that the user has edited can contain other lines. */
 const isPrintable = (line) => line !== "" && escaped(line) === line;
 
 export class PromptHistory {
   /** @param {Record<string, string | undefined>} env */
   constructor(env) {
     this.name = historyPath(env);
-    /** The lines of the file when the prompt started, the newest first. */
+    /** The lines of the file when the prompt started, newest first. */
     this.lines = [];
     /** The last line that was added. */
     this.last = "";
@@ -101,7 +104,7 @@ export class PromptHistory {
     });
   }
 
-  /** Calls `act` with the open file, under its lock. After an error, the file is not used again. */
+  /** Calls `act` with the open file, under the lock if possible. After an error, the file is not used again. */
   withFile(act) {
     if (this.name === "") return;
     const lock = `${this.name}.lock`;
@@ -122,7 +125,7 @@ export class PromptHistory {
     }
   }
 
-  /** Adds a line, unless it repeats the last one. */
+  /** Adds a line, unless it is blank, too long, or equal to the last one. */
   add(line) {
     if (line.trim() === "" || line === this.last || line.length > MAX_LINE_LENGTH) return;
     this.last = line;

@@ -1,5 +1,5 @@
-// The search of `mcs4 prove`. Its questions go to the program mcs4-prove, or to the proved module if there is no such program for this
-// system. `mcs4 test` must confirm a counterexample.
+// The search of `mcs4 prove`. Its questions go to the program mcs4-prove, or to the proved module if there is no such program for this system. `mcs4
+// test` must confirm each counterexample.
 import { writeFileSync } from "node:fs";
 import { join } from "node:path";
 import { Judging } from "../core/prove/judging.js";
@@ -18,11 +18,11 @@ import { removeFolder, temporaryFolder } from "./temporary.mjs";
  * @typedef {import("./given_texts.mjs").GivenText} GivenText
  * @typedef {{ board: GivenText, program: GivenText, properties: { name: string, text: string } }} Texts
  *
- * The limits of a search: the maximum number of states, and of memory for them in MB, 0 for all memory.
+ * The limits of a search: the maximum number of states, and the maximum memory for them in MB (0 for all memory).
  * @typedef {{ most: number, memory: number }} Limits
  */
 
-/** The texts, the limits and the prover of one call of `mcs4 prove`. */
+/** One call of `mcs4 prove`: its texts, its limits and its prover. */
 class Proving {
   /**
    * @param {Texts} texts
@@ -32,13 +32,13 @@ class Proving {
     this.texts = texts;
     this.limits = limits;
     this.program = proverPath();
-    /** @type {((question: string) => string) | null} the module's answer to a question; null if the program answers */
+    /** @type {((question: string) => string) | null} answers a question with the module; null if the program mcs4-prove answers */
     this.module = null;
-    // This handler runs before the engine's handler. The search has its own process group, which Ctrl-C does not reach.
+    // This handler runs before the engine's handler. Ctrl-C does not reach the search, because it has its own process group.
     process.on("SIGINT", interrupt);
   }
 
-  /** Reads the texts; returns the object that judges their properties. */
+  /** Reads the texts. Resolves to the object that judges their properties. */
   async begin() {
     const engine = await startEngine();
     if (this.program === "") this.module = (await import("./module_prover.mjs")).moduleProver();
@@ -70,7 +70,7 @@ class Proving {
   }
 
   /**
-   * Sends the text of a question to the prover; returns its output, its errors, and the signal that ended it, if any.
+   * Sends the text of a question to the prover. Resolves to its output, its errors, and the signal that ended it, if any.
    * @param {string} text
    */
   async search(text) {
@@ -78,7 +78,7 @@ class Proving {
   }
 
   /**
-   * Asks the prover a question; returns its parsed answer.
+   * Asks the prover a question. Resolves to the parsed answer.
    * @param {import("../core/prove/question.js").Question} question
    * @param {import("../core/prove/question.js").QuestionLimits} limits
    */
@@ -91,7 +91,8 @@ class Proving {
   }
 
   /**
-   * Resolves to true if `mcs4 test` confirms a counterexample. One that consists of session lines was already run on the bench.
+   * Resolves to true if `mcs4 test` confirms a counterexample. A counterexample in session lines needs no confirmation, because the bench has already
+   * run it.
    * @param {import("../core/prove/counterexample.js").Counterexample} found
    * @param {boolean} isGoal
    */
@@ -110,7 +111,7 @@ class Proving {
 }
 
 /**
- * Reads the texts and prepares the proof of their properties; the caller then judges one property at a time.
+ * Reads the texts and prepares the proof of their properties. The caller then judges one property at a time.
  * @param {Texts} texts
  * @param {Limits} limits
  * @returns {Promise<Judging>}

@@ -1,4 +1,4 @@
-// The report of `mcs4 explain` about the rejected lines of a script: the line, the wrong line of its text, and the reason.
+// The report of `mcs4 explain` about the rejected lines of a script: each line, the wrong line of its text, and the reason.
 import { refusalOf } from "../core/bench/answers.js";
 import { INVALID_CHARACTER, LINE_TOO_LONG, MAX_LINE_LENGTH, NOT_ASCII, opensText } from "../core/bench/inputs.js";
 import { numberOf } from "../core/bench/numbers.js";
@@ -10,33 +10,33 @@ import { MAX_SHOWN_LENGTH, NO_FORM, RefusedTexts, spellingHint, wordsOfRefusal }
  * @typedef {import("../core/bench/answered_script.js").AnsweredInput} AnsweredInput
  */
 
-/** The kinds of the texts that lines of a script open, by the first word of the line. */
+/** The kinds of texts in a script, by the word that opens the text. */
 const TEXT_KINDS = { wire: "board", wiring: "board", asm: "program", map: "program", errors: "program" };
 
-/** @type {(line: string) => string} a description of the first character that is not allowed in a line; "" if there is none */
+/** @type {(line: string) => string} describes the first invalid character of a line; "" if there is none */
 function foreignCharacter(line) {
   const [character = ""] = INVALID_CHARACTER.exec(line) || [];
   if (character === "") return "";
   return character > "\x7f" ? say.foreignCharacter(character) : say.foreignByte(character.charCodeAt(0).toString(16).toUpperCase().padStart(2, "0"));
 }
 
-/** The refusals of a script. */
+/** The rejected lines of a script. */
 export class RefusedLines {
   /**
    * @param {import("../core/engine/engine_host.js").EngineHost} engine
-   * @param {string[]} lines of the script
-   * @param {((address: number) => string) | null} placeOf describes an address by a program's source
+   * @param {string[]} lines the script's lines
+   * @param {((address: number) => string) | null} placeOf describes an address in terms of a program's source; null without a source
    */
   constructor(engine, lines, placeOf) {
     this.engine = engine;
     this.lines = lines;
     this.placeOf = placeOf;
-    /** The text of the last wired board; null if the session already had a board, whose text is not known. */
+    /** The text of the last wired board. Null if the session already had a board, because its text is not known. */
     this.boardText = null;
   }
 
   /**
-   * Returns the error in a rejected text, with its line number in that text; null if no line is known.
+   * Returns the error in a rejected text, with its line number in that text. Returns null if the line is not known.
    * @param {AnsweredInput} answered
    * @param {{ number: number, line: number }} refusal
    */
@@ -55,7 +55,7 @@ export class RefusedLines {
   }
 
   /**
-   * Returns a report line about the address in an input, in a list; an empty list if there is no address, or no source is known.
+   * Returns a report line about the address in an input, as a list. The list is empty if the input has no address or no source is known.
    * @param {AnsweredInput} answered
    */
   addressLines({ input: { line, words: [kind, first = "", second = ""] } }) {
@@ -86,7 +86,7 @@ export class RefusedLines {
   /**
    * Returns the report lines about all rejected inputs, and about the first input without an answer.
    * @param {AnsweredInput[]} inputs
-   * @param {string} opened the first line of the answers
+   * @param {string} opened the first answer line
    */
   reportLines(inputs, opened) {
     const refused = refusalOf(opened);

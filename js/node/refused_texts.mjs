@@ -23,7 +23,7 @@ import { dataOfPage } from "./page_parts.mjs";
 const MAX_ERRORS = 20;
 export const MAX_SHOWN_LENGTH = 120;
 export const NO_FORM = 30;
-/** Matches a line in the spelling of another assembler. */
+/** Matches a line in the syntax of another assembler. */
 const OTHER_SPELLING = new RegExp("[ \\t,][0-7]P([ \\t,]|$)|[0-9]<|[ \\t,][0-9][0-9A-F]*H([ \\t,]|$)|[ \\t,][$][0-9A-F]|^[A-Z_][A-Z0-9_]*,|"
   + "[ \\t]/|[ \\t](TZ|TN|CZ|CN|AZ|AN)[ \\t,]");
 
@@ -53,14 +53,14 @@ export function wordsOfRefusal(number) {
 }
 
 /**
- * Returns a hint for a line in the spelling of another assembler; "" for any other line.
+ * Returns a hint if a line is in the syntax of another assembler, otherwise "".
  * @param {string} line
  */
 export function spellingHint(line) {
   return OTHER_SPELLING.test(line.replace(/;.*/, "").toUpperCase()) ? "; mcs4 import takes programs in Intel's and AS's spelling" : "";
 }
 
-/** Makes the messages about rejected texts; an engine checks the texts again for details. */
+/** Composes the messages about rejected texts. An engine checks the texts again to find the details. */
 export class RefusedTexts {
   /**
    * @param {EngineHost} engine
@@ -72,7 +72,7 @@ export class RefusedTexts {
   }
 
   /**
-   * Returns the error of a board's text, with its line and its message; null if the bench names no line.
+   * Returns the error in a board's text, with its line and its message. Returns null if the bench does not report a line.
    * @param {string} text
    */
   errorOfBoard(text) {
@@ -82,7 +82,7 @@ export class RefusedTexts {
   }
 
   /**
-   * Returns the error for the first line of a program that puts bytes into a ROM that the board lacks; null if there is none.
+   * Returns the error for the first program line that puts bytes into a ROM chip that the board does not have. Returns null if there is none.
    * @param {string} text
    */
   lineWithoutRom(text) {
@@ -98,7 +98,7 @@ export class RefusedTexts {
   }
 
   /**
-   * Returns the error in a text, with its line and its message; null if no line is known.
+   * Returns the error in a text, with its line and its message. Returns null if the line is not known.
    * @param {TextFault} fault
    * @param {string} text
    * @returns {Fault | null}
@@ -113,7 +113,7 @@ export class RefusedTexts {
   }
 
   /**
-   * Returns the message about an error, with the wrong line below it.
+   * Returns the message about an error, followed by the wrong line.
    * @param {TextFault} fault
    */
   messageOf(fault) {
@@ -130,7 +130,7 @@ export class RefusedTexts {
   }
 
   /**
-   * Returns the message about all errors, at most MAX_ERRORS in detail.
+   * Returns the messages about all errors. At most MAX_ERRORS of them are listed.
    * @param {TextFault[]} faults
    */
   message(faults) {

@@ -1,5 +1,5 @@
-// `mcs4 new` and `mcs4 open` at a terminal. The native program serves the lines, and its answers go to standard output as they arrive. The
-// prompt and all messages go to standard error.
+// `mcs4 new` and `mcs4 open` at a terminal. The native program serves the lines. Its answers go to standard output as they arrive. The prompt and all
+// messages go to standard error.
 import { joinLines } from "../core/bench/inputs.js";
 import { SessionPrompt } from "../core/prompt/bench_prompt.js";
 import { BEGINNING } from "../words/session_prompt.js";
@@ -12,7 +12,7 @@ import { ProgramEnded, SessionProgram } from "./program_on_file.mjs";
 import { TerminalPrompt } from "./terminal_prompt.mjs";
 
 /**
- * Returns the functions that the prompt calls, for a program and a terminal.
+ * Returns the callbacks of the prompt for a program and a terminal.
  * @param {SessionProgram} program
  * @param {{ print: (words: string) => void, complain: (words: string) => void }} terminal
  */
@@ -57,9 +57,9 @@ async function finish(program, unserved) {
 }
 
 /**
- * Serves the lines typed at a terminal; returns the exit status.
+ * Serves the lines that the user types at a terminal. Resolves to the exit status.
  * @param {"new" | "open"} word
- * @param {string} name of the session's file
+ * @param {string} name the session's file name
  */
 export async function servePrompt(word, name) {
   const program = new SessionProgram(word, name, true);

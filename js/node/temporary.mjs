@@ -1,18 +1,18 @@
-// Temporary folders for commands: in memory if possible, private to the user, removed when the process exits.
+// Temporary folders for commands. They are in memory if possible, private to the user, and removed when the process exits.
 import { accessSync, constants, mkdtempSync, rmSync } from "node:fs";
 import { tmpdir } from "node:os";
 import { join } from "node:path";
 import { noFolderIn } from "../words/commands.js";
 import { CommandError } from "./output.mjs";
 
-/** @type {Set<string>} the folders that exist */
+/** @type {Set<string>} the existing folders */
 const folders = new Set();
 
 process.on("exit", () => {
   for (const folder of folders) rmSync(folder, { recursive: true, force: true });
 });
 
-/** Returns the folder for temporary files: the one that TMPDIR names, or else one in memory if possible. */
+/** Returns the folder for temporary files: the folder that TMPDIR names, or a folder in memory if possible. */
 export function temporaryRoot() {
   if (process.env.TMPDIR) return process.env.TMPDIR;
   try {
@@ -24,8 +24,8 @@ export function temporaryRoot() {
 }
 
 /**
- * Makes a temporary folder; returns its path.
- * @param {string} name the beginning of its name
+ * Creates a temporary folder. Returns its path.
+ * @param {string} name the beginning of the folder's name
  */
 export function temporaryFolder(name) {
   const root = temporaryRoot();

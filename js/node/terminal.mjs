@@ -1,13 +1,13 @@
-// The capabilities of a terminal, by its name in TERM and by NO_COLOR.
+// The capabilities of a terminal, derived from TERM and NO_COLOR.
 
-/** Returns whether a terminal cannot move its cursor. */
+/** Returns true if a terminal cannot move its cursor. */
 export function isDumb({ TERM = "" }) {
   return /^(|dumb|unknown)$/.test(TERM);
 }
 
 /**
- * Returns a function that takes the number of a colour or style and returns a function that applies it to a text. If the terminal has no
- * colours, or with NO_COLOR, texts stay unchanged.
+ * Returns a function from the code of a colour or style to a function that applies it to a text. If the terminal has no colours, or if NO_COLOR is
+ * set, texts stay unchanged.
  */
 export function painter(env) {
   const isPlain = isDumb(env) || Boolean(env.NO_COLOR);

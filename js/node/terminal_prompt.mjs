@@ -1,8 +1,8 @@
-// A prompt at a terminal. Node's readline edits, completes and recalls lines. Lines are served one after the other; input that is typed or
-// pasted meanwhile waits. A terminal that cannot move its cursor edits its lines itself.
+// A prompt at a terminal. Node's readline edits, completes and recalls lines. Lines are served in sequence; input that arrives in the meantime waits.
+// On a terminal that cannot move its cursor, the terminal itself edits the lines.
 //
 //     const terminal = new TerminalPrompt(prompt, { output: process.stderr });
-//     await terminal.run();      ends at `prompt.isEnded`, the end of input, or a signal; resolves to the signal's status, or 0
+//     await terminal.run();      // resolves to the status of a signal, or to 0 at `prompt.isEnded` and at the end of input
 import { constants } from "node:os";
 import { createInterface } from "node:readline";
 import { PassThrough } from "node:stream";
@@ -12,35 +12,35 @@ import { MAX_LINES, PromptHistory } from "./prompt_history.mjs";
 import { isDumb, painter } from "./terminal.mjs";
 
 /**
- * The receiver of typed lines. `label` is the text of the prompt. `take` serves a line. `complete` returns the completions of a line, and the
- * end of the line that they replace. `interrupt` stops the line that is being served, and returns false if it cannot. `drop` discards
- * unfinished input, and returns a message about it.
+ * The receiver of typed lines. `label` is the text of the prompt. `take` serves a line. `complete` returns the completions of a line, and the end of
+ * the line that they replace. `interrupt` stops the line in progress, and returns false if it cannot be stopped. `drop` discards incomplete input and
+ * returns a message about it.
  * @typedef {{ label: string, isEnded: boolean, take: (line: string) => Promise<boolean>,
  *   complete: (line: string) => Promise<[string[], string]>, interrupt: () => boolean, drop: () => string }} PromptOfLines
  */
 
 /**
- * The streams and calls of a prompt at a terminal.
+ * The streams and callbacks of a prompt at a terminal.
  * @typedef {object} TerminalCalls
  * @property {import("node:tty").WriteStream} output the terminal that shows the prompt and the messages
- * @property {() => void} [served] is called after a line was served
- * @property {() => void} [left] is called when the prompt gives the terminal back: at Ctrl-Z and at its end
- * @property {() => void} [entered] is called when the prompt has the terminal again after Ctrl-Z
+ * @property {() => void} [served] called after a line has been served
+ * @property {() => void} [left] called when the prompt returns the terminal: at Ctrl-Z and at its end
+ * @property {() => void} [entered] called when the prompt has the terminal again after Ctrl-Z
  */
 
-/** The escape sequences around pasted text, and those that switch them on and off (bracketed paste). */
+/** The escape sequences around pasted text, and the sequences that switch them on and off (bracketed paste). */
 const PASTE = { begins: "\x1b[200~", ends: "\x1b[201~", on: "\x1b[?2004h", off: "\x1b[?2004l" };
-/** Matches the beginning of such a mark at the end of the input read so far. */
+/** Matches the beginning of a paste mark at the end of the input so far. */
 const CUT_MARK = /\x1b\[(2(0[01]?)?)?$/;
 const CTRL_C = "\x03";
 const BOLD = 1;
 const RED = 31;
-/** The columns of a terminal that does not report its width. */
+/** The assumed width of a terminal that does not report its width, in columns. */
 const DEFAULT_WIDTH = 80;
-/** Messages are never folded to fewer columns. */
+/** The minimum width to which messages are folded, in columns. */
 const MIN_WIDTH = 20;
 
-/** The input stream of readline, which gets the terminal's input piece by piece. */
+/** The input stream of readline. It receives the terminal's input piece by piece. */
 class Keys extends PassThrough {
   isTTY = true;
 
@@ -49,7 +49,7 @@ class Keys extends PassThrough {
   }
 }
 
-/** Replaces control characters in a pasted text by U+FFFD, so that they cannot move the cursor. The bench rejects a line with U+FFFD. */
+/** Replaces control characters in pasted text with U+FFFD, so that they cannot move the cursor. The bench rejects a line with U+FFFD. */
 function harmless(text) {
   // eslint-disable-next-line no-control-regex
   return text.replace(/[\x00-\x08\x0b-\x1f\x7f-\x9f]/g, "\ufffd");
@@ -67,9 +67,9 @@ export class TerminalPrompt {
     this.isDumb = isDumb(process.env);
     this.paint = painter(process.env);
     this.history = new PromptHistory(process.env);
-    /** The pieces of input that are not handled yet. */
+    /** The pieces of input that have not been handled yet. */
     this.waiting = [];
-    /** True while a line is served or completed, and before the first prompt. */
+    /** True while a line is being served or completed, and before the first prompt. */
     this.isBusy = true;
     this.isPasting = false;
     this.hasInputEnded = false;
@@ -87,7 +87,7 @@ export class TerminalPrompt {
 
   // --- output ---
 
-  /** The columns that messages are folded to. */
+  /** The width to which messages are folded, in columns. */
   get width() {
     return Math.max(MIN_WIDTH, (this.output.columns || DEFAULT_WIDTH) - 1);
   }
@@ -97,16 +97,16 @@ export class TerminalPrompt {
     this.output.write(`${foldedMessage(escaped(words), this.width)}\n`);
   }
 
-  /** Prints an error message in red; quoted lines have no colour. */
+  /** Prints an error message in red. Quoted lines are not coloured. */
   complain(words) {
     const lines = foldedMessage(escaped(words), this.width).split("\n");
     const paint = this.paint(RED);
     this.output.write(`${lines.map((line) => (line.startsWith(QUOTED) ? line : paint(line))).join("\n")}\n`);
   }
 
-  // --- from the first line to the last ---
+  // --- running the prompt ---
 
-  /** Runs the prompt; resolves to the exit status of a signal that ended it, or 0. */
+  /** Runs the prompt. Resolves to the exit status for a signal that ended it, or to 0. */
   async run() {
     process.stdin.setEncoding("utf8");
     process.stdin.on("data", (text) => this.handleInput(text));
@@ -131,7 +131,7 @@ export class TerminalPrompt {
     terminal.on("SIGINT", () => this.dropLine());
     terminal.on("SIGTSTP", () => this.suspend());
     if (this.isDumb) process.on("SIGINT", () => (this.isBusy ? this.prompt.interrupt() : this.dropLine()));
-    // Readline reads Ctrl-C as a key, unless the terminal is dumb. So a SIGINT is from another process.
+    // On a terminal with cursor movement, readline reads Ctrl-C as a key, so a SIGINT comes from another process.
     for (const signal of ["SIGTERM", "SIGHUP", ...(this.isDumb ? [] : ["SIGINT"])]) {
       process.on(signal, () => {
         this.status = 128 + constants.signals[signal];
@@ -140,7 +140,7 @@ export class TerminalPrompt {
     }
   }
 
-  /** Shows the prompt, and handles waiting input. */
+  /** Shows the prompt and handles waiting input. */
   next() {
     this.isBusy = false;
     this.show();
@@ -166,14 +166,14 @@ export class TerminalPrompt {
     else if (!this.isOver) this.next();
   }
 
-  /** Ends the prompt with an unexpected error, which rejects the promise of `run`. */
+  /** Ends the prompt after an unexpected error. The promise of `run` then rejects. */
   fail(thrown) {
     const settle = this.settle;
     this.settle = () => settle(Promise.reject(thrown));
     this.end();
   }
 
-  /** Ends the prompt, and restores the terminal. */
+  /** Ends the prompt and restores the terminal. */
   end() {
     if (this.isOver) return;
     this.isOver = true;
@@ -184,7 +184,7 @@ export class TerminalPrompt {
     this.settle();
   }
 
-  /** Switches off bracketed paste, and calls `left`. (Closing readline, or the end of node, restores the terminal's mode.) */
+  /** Switches off bracketed paste and calls `left`. (The terminal's mode is restored when readline closes or Node ends.) */
   leave() {
     if (this.hasLeft) return;
     this.hasLeft = true;
@@ -194,7 +194,7 @@ export class TerminalPrompt {
 
   // --- input ---
 
-  /** Handles input from the terminal. Ctrl-C while a line is served stops that line, and discards the input before the key. */
+  /** Handles input from the terminal. Ctrl-C while a line is being served stops that line and discards the input before the key. */
   handleInput(text) {
     const stop = this.isBusy && !this.isDumb && !this.isPasting ? text.lastIndexOf(CTRL_C) : -1;
     if (stop >= 0) {
@@ -212,7 +212,7 @@ export class TerminalPrompt {
       const rest = this.handlePiece(this.waiting[0]);
       if (rest !== "") this.waiting[0] = rest;
       else this.waiting.shift();
-      // The beginning of a paste mark waits for the rest of the mark.
+      // If the input ends within a paste mark, wait for the rest of the mark.
       if (rest !== "" && CUT_MARK.exec(rest)?.index === 0) {
         if (this.waiting.length < 2) return;
         this.waiting.splice(0, 2, rest + this.waiting[1]);
@@ -221,7 +221,7 @@ export class TerminalPrompt {
     if (this.hasInputEnded && !this.isBusy && !this.isOver) this.end();
   }
 
-  /** Handles one piece of input: a paste mark, or the characters up to the end of a line. Returns the rest of the input. */
+  /** Handles one piece of input: a paste mark, or characters up to the end of a line. Returns the rest of the input. */
   handlePiece(text) {
     const mark = this.isPasting ? PASTE.ends : PASTE.begins;
     if (text.startsWith(mark)) {
@@ -236,7 +236,7 @@ export class TerminalPrompt {
     return text.slice(piece.length);
   }
 
-  /** Inserts pasted characters into the line; none of them acts as a key. */
+  /** Inserts pasted characters into the line. None of them acts as a key. */
   paste(piece) {
     const text = piece.replace(/[\r\n]+$/, "");
     if (text !== "") this.terminal.write(harmless(text));
@@ -257,7 +257,7 @@ export class TerminalPrompt {
 
   // --- control keys ---
 
-  /** Handles Ctrl-C: discards the line. If the line is empty, discards the unfinished input of earlier lines. */
+  /** Handles Ctrl-C: discards the line. If the line is empty, discards the incomplete input of earlier lines. */
   dropLine() {
     const { terminal, output } = this;
     const isEmpty = this.isDumb || terminal.line === "";
@@ -267,12 +267,12 @@ export class TerminalPrompt {
       output.write("^C");
       terminal.clearLine();
     }
-    const words = isEmpty ? this.prompt.drop() : "";
-    if (words !== "") this.print(words);
+    const message = isEmpty ? this.prompt.drop() : "";
+    if (message !== "") this.print(message);
     this.show();
   }
 
-  /** Handles Ctrl-Z: the terminal belongs to the shell until the process continues. */
+  /** Handles Ctrl-Z: returns the terminal to the shell until the process continues. */
   suspend() {
     this.calls.left();
     this.output.write(PASTE.off);

@@ -14,8 +14,8 @@ import { CommandError, UsageError, print, printError } from "./output.mjs";
  * @typedef {import("../core/testing/test_run.js").Outcome} Outcome
  * @typedef {import("./given_texts.mjs").GivenText} GivenText
  *
- * The callbacks of a command: `checkNames` gets the file names before the files are read, `outcome` turns the result of each test into
- * output, and `report` prints the counts at the end. `Counting` is the class that counts.
+ * The callbacks of a command. `checkNames` checks the file names before the files are read. `outcome` formats the result of each test. `report`
+ * prints the counts at the end. `Counting` is the class that counts.
  * @typedef {{ name: string, Counting: typeof Account, checkNames?: (names: string[]) => void,
  *   outcome?: (outcome: Outcome, number: number, total: number) => string,
  *   report?: (counts: { coverage: Coverage | null, profile: Profile | null }, program: GivenText) => void }} Tool
@@ -36,7 +36,7 @@ async function namesOf(folder, given) {
 }
 
 /**
- * Runs tests; returns the exit status: 0 if all pass, otherwise 1.
+ * Runs tests. Resolves to the exit status: 0 if all tests pass, otherwise 1.
  * @param {Tool} tool
  * @param {string | undefined} folder
  * @param {string[]} given
@@ -62,7 +62,7 @@ export async function runTestCommand({ Counting, checkNames = () => {}, outcome:
 }
 
 /**
- * Runs a copy of a session for some cycles, and counts; returns the exit status.
+ * Runs a copy of a session for a number of cycles, and counts. Resolves to the exit status.
  * @param {Tool} tool
  * @param {string} session
  * @param {string[]} given
@@ -86,7 +86,7 @@ export async function countCycles({ name, Counting, checkNames = () => {}, repor
 }
 
 /**
- * Runs tests, or counts over the next cycles of a session if one is named; returns the exit status.
+ * Counts over the next cycles of a session if one is named. Otherwise runs tests. Resolves to the exit status.
  * @param {Tool} tool
  * @param {{ folder?: string, session?: string }} values
  * @param {string[]} given

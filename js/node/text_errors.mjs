@@ -1,4 +1,4 @@
-// Finds all errors in a text that the bench has rejected, with the same messages as on the page.
+// Finds all errors in a text that the bench has rejected. The messages are the same as on the page.
 import { instructionsOf } from "../core/help/manual.js";
 import { TextBench } from "../core/server/text_bench.js";
 import { AllFaultsOfTexts } from "../core/text/all_faults.js";
@@ -15,10 +15,10 @@ async function loadBench() {
 }
 
 /**
- * Returns the errors in a text, each with its line.
+ * Resolves to the errors in a text, with their lines.
  * @param {import("../core/prompt/bench_prompt.js").TextWord} word
  * @param {string} text
- * @param {string} board the text of the program's board
+ * @param {string} board the text of the board, which a program needs
  * @param {{ manual: import("../core/help/manual.js").ManualSection[], wordsOf: (number: number) => string }} known
  */
 export async function errorsOfText(word, text, board, { manual, wordsOf }) {

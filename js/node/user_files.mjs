@@ -1,5 +1,5 @@
-// Access to users' files for the Node tools. An input file must be regular and not larger than a limit. An output file replaces its target
-// atomically, and no temporary file remains.
+// Access to the user's files for the Node tools. An input file must be regular and at most as large as a limit. An output file replaces its target
+// atomically, and leaves no temporary file behind.
 import { constants } from "node:fs";
 import {
   accessSync, closeSync, existsSync, fchmodSync, fchownSync, fstatSync, fsyncSync, lstatSync, mkdirSync, openSync, readSync, readlinkSync,
@@ -11,22 +11,22 @@ import { LONGEST_KEPT } from "../core/text/text_fault.js";
 import * as say from "../words/commands.js";
 import { CommandError } from "./output.mjs";
 
-/** The maximum size of a user's text, in bytes; a character has at most four bytes. */
+/** The maximum size of a user's text in bytes. A character has at most four bytes. */
 export const MAX_USER_TEXT = 4 * LONGEST_KEPT;
-/** The maximum number of symbolic links that are followed, as in Linux. */
+/** The maximum number of symbolic links to follow, the same as in Linux. */
 const MAX_LINKS = 40;
 const PART_BYTES = 65536;
 const ANY_WRITER = 0o222;
 const ALL_MODES = 0o7777;
 const OWNER_ALONE = 0o600;
 
-/** An error: a file cannot be read or written. The message has the file's name. */
+/** The error of a file that cannot be read or written. The message contains the file's name. */
 export class UserFileError extends CommandError {}
 
-/** The reason for such an error, without the name; `tried` adds it. */
+/** The reason for such an error, without the file's name. `tried` adds the name. */
 class Reason extends Error {}
 
-/** @type {Record<string, string>} the messages of the system's error codes */
+/** @type {Record<string, string>} the messages for the system's error codes */
 const REASONS = {
   ENOENT: "there is no such file", EACCES: "no permission", EPERM: "no permission", ENOSPC: "no space left on the device",
   EDQUOT: "the disk quota is used up", EFBIG: "it would exceed the size limit for files", EROFS: "the file system is read-only",
@@ -41,7 +41,7 @@ function reasonOf(thrown) {
 }
 
 /**
- * Calls `act`; turns an error of the system into a UserFileError.
+ * Calls `act` and returns its result. Converts an error of the system into a UserFileError.
  * @template Result
  * @param {string} what the beginning of the message, such as `cannot read NAME`
  * @param {() => Result} act
@@ -58,7 +58,7 @@ function tried(what, act) {
 // --- reading ---
 
 /**
- * Returns the stat of a file that is going to be read; undefined if there is no such file.
+ * Returns the stat of a file to read, or undefined if there is no such file.
  * @param {string} name
  */
 export function statOfInput(name) {
@@ -66,7 +66,7 @@ export function statOfInput(name) {
 }
 
 /**
- * Returns whether a file is in a folder, after following all links.
+ * Returns true if a file is in a folder, after following all links.
  * @param {string | URL} name
  * @param {string | URL} folder
  */
@@ -75,10 +75,10 @@ export function isInside(name, folder) {
 }
 
 /**
- * Reads an open file to its end; throws a Reason if it is larger than a limit. The size is counted while reading, because files in /proc
- * report no size, and other files can grow meanwhile.
+ * Reads an open file to its end. Throws a Reason if the file is larger than a limit. Counts the size while reading, because files in /proc report no
+ * size, and other files can grow in the meantime.
  * @param {number} file
- * @param {number} most bytes
+ * @param {number} most the maximum number of bytes
  */
 function readUpTo(file, most) {
   const parts = [];
@@ -93,9 +93,9 @@ function readUpTo(file, most) {
 }
 
 /**
- * Reads an open file to its end; throws a Reason if it is not regular, or larger than a limit.
+ * Reads an open file to its end. Throws a Reason if the file is not regular or is larger than a limit.
  * @param {number} file
- * @param {number} most bytes
+ * @param {number} most the maximum number of bytes
  */
 function readRegular(file, most) {
   const stat = fstatSync(file);
@@ -105,9 +105,9 @@ function readRegular(file, most) {
 }
 
 /**
- * Reads a regular file of limited size. A FIFO or a device is rejected at once, without blocking.
+ * Reads a regular file up to a maximum size. Rejects a FIFO or a device immediately, without blocking.
  * @param {string | URL} name
- * @param {number} most bytes
+ * @param {number} most the maximum number of bytes
  */
 export function readUserFile(name, most) {
   return tried(`cannot read ${name}`, () => {
@@ -121,19 +121,19 @@ export function readUserFile(name, most) {
 }
 
 /**
- * Reads an open pipe or standard input to its end; blocks until then.
+ * Reads an open pipe or standard input to its end. Blocks until then.
  * @param {number} stream
  * @param {string} name
- * @param {number} most bytes
+ * @param {number} most the maximum number of bytes
  */
 export function readStream(stream, name, most) {
   return tried(`cannot read ${name}`, () => readUpTo(stream, most));
 }
 
 /**
- * Reads a text of a user.
+ * Reads a user's text file.
  * @param {string | URL} name
- * @param {number} [most] bytes
+ * @param {number} [most] the maximum number of bytes
  */
 export function readUserText(name, most = MAX_USER_TEXT) {
   return readUserFile(name, most).toString("utf8");
@@ -141,7 +141,7 @@ export function readUserText(name, most = MAX_USER_TEXT) {
 
 // --- writing ---
 
-/** @type {Set<string>} the paths of temporary files, which are removed when the process exits */
+/** @type {Set<string>} the paths of temporary files to remove when the process exits */
 const pending = new Set();
 
 process.on("exit", () => {
@@ -149,8 +149,8 @@ process.on("exit", () => {
 });
 
 /**
- * Follows the symbolic links of a path, even to a file that does not exist yet. Links in /proc are not followed: they stand for the open
- * files of a process.
+ * Follows the symbolic links of a path, even to a file that does not exist yet. Links in /proc are not followed, because they represent a process's
+ * open files.
  * @param {string} name
  */
 function followLinks(name) {
@@ -164,12 +164,12 @@ function followLinks(name) {
   }
 }
 
-/** Returns an unpredictable name. (node:crypto is loaded only here, because loading it is slow.) */
+/** Returns an unpredictable name. (Loads node:crypto only here, because it is slow to load.) */
 function randomName() {
   return createRequire(import.meta.url)("node:crypto").randomBytes(12).toString("hex");
 }
 
-/** A temporary file that is going to replace a target file in the same folder. It gets the mode and the owner of the target. */
+/** A temporary file that will replace a target file in the same folder. It gets the target's mode and owner. */
 export class Replacement {
   /**
    * @param {string} target a path without links
@@ -205,7 +205,7 @@ export class Replacement {
     }
   }
 
-  /** Removes the temporary file; the target is unchanged. */
+  /** Removes the temporary file. The target stays unchanged. */
   drop() {
     rmSync(this.name, { force: true });
     pending.delete(this.name);
@@ -213,7 +213,7 @@ export class Replacement {
 }
 
 /**
- * Throws a Reason if a target is read-only, even for root, who could replace it.
+ * Throws a Reason if a target is read-only. This also applies to root, who could otherwise replace it.
  * @param {string} target
  * @param {import("node:fs").Stats} before
  */
@@ -223,7 +223,7 @@ function checkWritable(target, { mode }) {
 }
 
 /**
- * Gives a new file the owner and the mode of its target; throws a Reason if that is not allowed.
+ * Gives a new file the owner and mode of its target. Throws a Reason if that is not allowed.
  * @param {number} file
  * @param {import("node:fs").Stats} before
  */
@@ -240,7 +240,7 @@ function copyOwner(file, { uid, gid, mode }) {
 }
 
 /**
- * Makes the temporary file that is going to replace another file; follows links.
+ * Creates the temporary file that will replace another file. Follows links.
  * @param {string} name
  * @param {string | Uint8Array} bytes
  */
@@ -249,7 +249,7 @@ export function replacementOf(name, bytes) {
 }
 
 /**
- * Returns whether a name is a device, a pipe or a stream of a process, which cannot be replaced.
+ * Returns true if a name refers to a device, a pipe or a process's stream, which cannot be replaced.
  * @param {string} name
  */
 function isStream(name) {
@@ -257,7 +257,7 @@ function isStream(name) {
 }
 
 /**
- * Writes a user's file atomically: it has either the old bytes or the new bytes at every moment. A device or a pipe is written directly.
+ * Writes a user's file atomically: at every moment, the file has either the old bytes or the new ones. Writes directly to a device or a pipe.
  * @param {string} name
  * @param {string | Uint8Array} bytes
  */
@@ -269,7 +269,7 @@ export function writeUserFile(name, bytes) {
 }
 
 /**
- * Returns whether two names lead to the same file.
+ * Returns true if two names refer to the same file.
  * @param {string} one
  * @param {string} other
  */
@@ -279,7 +279,7 @@ function isSameFile(one, other) {
 }
 
 /**
- * Returns whether a folder exists and is writable.
+ * Returns true if a folder exists and is writable.
  * @param {string} folder
  */
 function isWritable(folder) {
@@ -292,7 +292,7 @@ function isWritable(folder) {
 }
 
 /**
- * Returns the first bytes of a file, as Latin 1.
+ * Returns the first bytes of a file, decoded as Latin 1.
  * @param {string} name
  * @param {number} count
  */
@@ -309,11 +309,11 @@ function readBeginning(name, count) {
 }
 
 /**
- * Throws a UserFileError if a command must not overwrite a file. It may overwrite an empty file and a file of its own kind, but none of its
- * inputs. A new file, a device and a pipe are accepted.
+ * Throws a UserFileError if a command must not overwrite a file. A command may overwrite an empty file or a file of its own kind, but none of its
+ * inputs. New files, devices and pipes are accepted.
  * @param {string} name
- * @param {string} begin the text that files of this kind begin with
- * @param {string} why the reason to reject another file
+ * @param {string} begin the text at the beginning of files of this kind
+ * @param {string} why the reason to reject a file of another kind
  * @param {string[]} inputs the names of the files that the command reads
  */
 export function checkOutputFile(name, begin, why, inputs) {
@@ -332,7 +332,7 @@ export function checkOutputFile(name, begin, why, inputs) {
 // --- new files in a folder ---
 
 /**
- * Makes a missing folder and its missing parents; returns the folders that were made, the innermost first.
+ * Creates a missing folder and its missing parents. Returns the created folders, innermost first.
  * @param {string} folder
  */
 function makeFolder(folder) {
@@ -352,7 +352,7 @@ function makeFolder(folder) {
 }
 
 /**
- * Renames temporary files to their targets; if one fails, removes the others again.
+ * Renames temporary files to their targets. If one rename fails, removes the files already renamed.
  * @param {Replacement[]} replacements
  */
 function putAll(replacements) {
@@ -369,10 +369,10 @@ function putAll(replacements) {
 }
 
 /**
- * Writes new files into a folder, all of them or none. The folder is made if it does not exist.
+ * Writes new files into a folder, either all of them or none. Creates the folder if it does not exist.
  * @param {string} folder
  * @param {{ name: string, content: string | Uint8Array }[]} files
- * @param {string[]} names of files that must not exist in the folder
+ * @param {string[]} names the names of files that must not exist in the folder
  */
 export function writeNewFiles(folder, files, names) {
   const inFolder = (/** @type {() => any} */ act) => tried(`cannot write in ${folder}`, act);
@@ -393,7 +393,7 @@ export function writeNewFiles(folder, files, names) {
 }
 
 /**
- * Throws a UserFileError if a file does not exist, or is not writable.
+ * Throws a UserFileError if a file does not exist or is not writable.
  * @param {string} name
  */
 export function checkWritableFile(name) {

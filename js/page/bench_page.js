@@ -1,4 +1,4 @@
-// The page: creates its parts and connects them to the session that is shown. Every value on the page is read from answers of the bench.
+// The page: creates its parts and connects them to the current session. Every value on the page comes from the bench's answers.
 
 import { AskView } from "./ui/ask_view.js";
 import { Face } from "../core/board/face.js";
@@ -42,7 +42,7 @@ export class Page {
     this.store = store;
     this.words = words;
     this.notice = notice;
-    /** True if the computer's keyboard presses keys of the board. */
+    /** True if the computer's keyboard presses the board's keys. */
     this.isTyping = true;
     this.past = new KeptPast();
     this.current = makeCurrentSession(this);
@@ -94,7 +94,7 @@ export class Page {
   }
 
   /**
-   * Returns the listener for frames, errors and the death of the bench's worker.
+   * Returns the listener for the bench worker's frames, errors and termination.
    * @returns {import("../core/bench/bench_client.js").Listener}
    */
   listener() {
@@ -105,7 +105,7 @@ export class Page {
     };
   }
 
-  /** Compares the program's text with ROM. Called when either can have changed. */
+  /** Compares the program's text with ROM. Called whenever either of them may have changed. */
   checkSource() {
     return this.source.check().catch((fault) => this.recovery.failed(fault));
   }
@@ -119,7 +119,7 @@ export class Page {
   }
 
   /**
-   * Shows another session: opens its texts and clears everything that belongs to the previous session.
+   * Opens another session: shows its texts and clears everything that belongs to the previous session.
    * @param {SessionRecord} record
    */
   begin(record) {
@@ -143,7 +143,7 @@ export class Page {
   }
 
   /**
-   * Draws another board, with the front panel that its text declares.
+   * Draws another board with the front panel that the board's text declares.
    * @param {SessionRecord} record
    * @param {string[]} board the answers to `board`
    */
@@ -164,8 +164,7 @@ export class Page {
   }
 
   /**
-   * Shows the changed front panel of the board in use. If the text describes another board, its front panel is shown when that board is
-   * applied.
+   * Shows an edited front panel. If the text describes a board that is not in use, its front panel appears when that board is applied.
    * @param {string} boardText
    */
   readFace(boardText) {
@@ -180,8 +179,8 @@ export class Page {
   /**
    * Shows a snapshot of the session.
    * @param {Shown} shown
-   * @param {boolean} [isPassing] whether time is running and another snapshot follows
-   * @param {import("../core/engine/brightness_meter.js").LitShares | null} [litShares] the measured time that each lamp was on
+   * @param {boolean} [isPassing] true if time is running and another snapshot follows
+   * @param {import("../core/engine/brightness_meter.js").LitShares | null} [litShares] the measured duty cycle of each lamp, from 0 to 1
    */
   show({ snapshot, file, board, total, reset, future, past, waves, printed, waiting }, isPassing = false, litShares = null) {
     const { session } = this.current;

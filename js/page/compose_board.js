@@ -1,4 +1,4 @@
-// Composes the parts that show and draw the board. Connects each one to other parts, so that none needs the page.
+// Creates the views and controllers that show and draw the board. The callbacks passed here connect each of them to the page's other parts.
 
 import { partAtLine } from "../core/bench/part_lines.js";
 import { Cancelled } from "../core/bench/faults.js";
@@ -76,7 +76,7 @@ export function makePressing(page) {
 }
 
 /**
- * Connects the sound to the buzzer that the text of a board declares.
+ * Connects the sound to the buzzer that a board's text declares.
  * @param {Page} page
  * @param {string} boardText
  */
@@ -85,7 +85,7 @@ export function connectSound({ running, snapshotView }, boardText) {
 }
 
 /**
- * Returns the controller of the picture that is drawn from the board's text.
+ * Returns the controller of the Wiring tab's picture, which is drawn from the board's text.
  * @param {Page} page
  * @returns {DrawingController}
  */
@@ -163,7 +163,7 @@ export function makeScope(page) {
 }
 
 /**
- * Resolves to the result of a call, or to null if it failed, and reports the failure.
+ * Resolves to the result of a call. If the call fails, reports the error and resolves to null.
  * @template Result
  * @param {Page} page
  * @param {Promise<Result>} call

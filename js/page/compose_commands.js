@@ -1,4 +1,4 @@
-// Composes the commands: connects them to the page's parts, the palette and the keys.
+// Creates the page's commands and connects them to the page's parts, the palette and the keys.
 
 import { textOfKey } from "../core/board/key_place.js";
 import { COMMANDS, labelledCommand } from "./commands/command_table.js";
@@ -27,16 +27,16 @@ import * as say from "../words/page_commands.js";
  * @typedef {import("./bench_page.js").Page} Page
  */
 
-/** The name of the stored choice that records that the welcome cards were shown. */
+/** The key of the stored choice that records that the welcome cards were shown. */
 const SEEN = "welcome";
 
-/** @type {TextName[]} in the order of the page's editors */
+/** @type {TextName[]} the texts in the order of the page's editors */
 const EDITORS = ["board", "program", "tests", "properties"];
 
 /**
- * Brings a text, a view or a panel to the front.
+ * Brings a text or a panel to the front.
  * @param {Page} page
- * @param {string} name "" for a part that is always visible
+ * @param {string} name the name of the text or panel; "" for a part that is always visible
  */
 function show({ layout }, name) {
   if (name in say.TEXTS) layout.showText(name);
@@ -44,7 +44,7 @@ function show({ layout }, name) {
 }
 
 /**
- * Creates the parts that exist before the page: the theme, tooltips and the toolbar.
+ * The parts that exist before the page: the theme, the tooltips and the toolbar.
  * @typedef {{ theme: Theme, tips: Tooltips, toolbar: ToolbarView }} Shell
  * @returns {Shell}
  */
@@ -55,7 +55,7 @@ export function makeShell() {
 }
 
 /**
- * Returns the calls that commands make for projects, files and notices.
+ * Returns the callbacks for commands about projects, files and notices.
  * @param {Page} page
  */
 function projectCalls({ export: exports, notice, recovery, sessionsController, sharing }) {
@@ -77,7 +77,7 @@ function projectCalls({ export: exports, notice, recovery, sessionsController, s
 }
 
 /**
- * Returns the calls that commands make to run, pause and step.
+ * Returns the callbacks for commands that run, pause and step.
  * @param {Page} page
  */
 function timeCalls(page) {
@@ -104,7 +104,7 @@ function timeCalls(page) {
 }
 
 /**
- * Returns the calls that commands make for the texts.
+ * Returns the callbacks for commands about the texts.
  * @param {Page} page
  */
 function textCalls(page) {
@@ -130,7 +130,7 @@ function textCalls(page) {
 }
 
 /**
- * Returns the word at the caret in the focused text, or "" if there is none.
+ * Returns the word at the caret of the focused editor, or "" if there is none.
  * @param {Page} page
  */
 function wordAtCaret({ textEditors }) {
@@ -219,7 +219,7 @@ export class Commands {
     });
   }
 
-  /** Shows the welcome cards on the first visit with this browser. */
+  /** Shows the welcome cards on the first visit in this browser. */
   welcomeFirst() {
     if (!this.page.layout.choices.get(SEEN)) this.welcome.open();
   }
@@ -243,7 +243,7 @@ export class Commands {
   }
 
   /**
-   * Returns the commands that depend on the examples and on the board.
+   * Returns the commands that depend on the examples and on the board's keys.
    * @returns {Command[]}
    */
   ownCommands() {
@@ -271,7 +271,7 @@ export class Commands {
   }
 
   /**
-   * Executes a command, or reports the reason why it cannot run.
+   * Executes a command, or shows the reason why it cannot run now.
    * @param {Command} command
    */
   do(command) {
@@ -281,7 +281,7 @@ export class Commands {
   }
 
   /**
-   * Opens the palette. The saved projects appear when the store has listed them.
+   * Opens the palette. The saved projects appear once the store has listed them.
    * @param {string} begin the initial text of the palette's field
    */
   open(begin) {

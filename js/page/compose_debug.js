@@ -1,4 +1,5 @@
-// Composes the debugger's parts: breakpoints, moves in time and values. Connects each one to other parts, so that none needs the page.
+// Creates the debugger's parts: breakpoints, steps back and forward, and values. The callbacks passed here connect each of them to the page's other
+// parts.
 
 import { Cancelled, WorkerDied } from "../core/bench/faults.js";
 import { hex } from "../core/bench/numbers.js";
@@ -152,7 +153,7 @@ export function makeHeat(page) {
 }
 
 /**
- * Returns the names that expressions can use: from the board in use, from the program in ROM, and from the watch.
+ * Returns the names that expressions can use: names from the board in use, from the program in ROM, and from the watch.
  * @param {Page} page
  */
 function namesOfPage({ snapshotView, source, breakpoints }) {

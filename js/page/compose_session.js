@@ -1,4 +1,4 @@
-// Composes sessions, their files and the guides. Connects each one to other parts, so that none needs the page.
+// Creates the parts for sessions, files and guides. The callbacks passed here connect each of them to the page's other parts.
 
 import { Guide } from "./help/guide.js";
 import { forgetStory } from "./session/address.js";
@@ -36,8 +36,8 @@ export function makeSessionsController(page, parts) {
       speeds.dispatchEvent(new Event("change"));
     },
     image: async (name, bytes) => {
-      const words = await page.rom.load(name, bytes);
-      if (words) page.notice.show(words, "file", { word: say.DISASSEMBLE_ROM, act: () => page.texts.takeFromRom() });
+      const message = await page.rom.load(name, bytes);
+      if (message) page.notice.show(message, "file", { word: say.DISASSEMBLE_ROM, act: () => page.texts.takeFromRom() });
     },
   });
 }
@@ -82,7 +82,7 @@ export function makeSharing(page) {
 }
 
 /**
- * Returns the calls that the actions of a story make.
+ * Returns the callbacks for the links in a story.
  * @param {Page} page
  * @returns {import("../core/help/story_acts.js").ActCalls}
  */

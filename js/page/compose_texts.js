@@ -1,4 +1,4 @@
-// Composes the editors of the texts, with their tests and searches. Connects each one to other parts, so that none needs the page.
+// Creates the text editors, with their tests and searches. The callbacks passed here connect each of them to the page's other parts.
 
 import { countOfFaults } from "../core/bench/words.js";
 import { ExploreTab } from "./explore/explore_tab.js";
@@ -68,7 +68,7 @@ export function makeProblems(page) {
 }
 
 /**
- * Shows the names of RAM characters, from the watch and from the source, in the RAM view.
+ * Shows names at the RAM view's nibbles. The names come from the watch and from the source.
  * @param {Page} page
  */
 export function nameCharacters({ snapshotView, watched, source }) {
@@ -122,7 +122,7 @@ export function makeTexts(page) {
 }
 
 /**
- * Inserts a key scan routine for a board into the source, as one edit that can be undone, and shows it.
+ * Inserts a key scan routine for a board into the source and shows it. The insertion is one edit, so one undo removes it.
  * @param {Page} page
  * @param {import("../core/bench/answers.js").Board} board
  */
@@ -149,7 +149,7 @@ export function makeTests(page, manual) {
     faults: (texts) => bench.call("testFaults", [texts]),
     sample: (texts) => bench.call("sampleTest", [texts]),
     run: async (texts) => {
-      // The worker serves one call at a time. Without this pause, time would stop during the tests and nothing would say why.
+      // The worker serves one call at a time. Without this pause, the tests would stop time without an explanation.
       await running.pause();
       return page.work.show(say.RUNNING_TESTS, (signal, progress) => bench.call("runTests", [texts], { signal, progress }));
     },
@@ -169,7 +169,7 @@ export function makeTests(page, manual) {
 }
 
 /**
- * Adds a test to the tests of the program. Returns a message for the user.
+ * Adds a test to the program's tests. Returns a message for the user.
  * @param {Page} page
  * @param {string} test
  */
@@ -181,7 +181,7 @@ function addTest({ tests, texts }, test) {
 }
 
 /**
- * Opens a new session with texts and executes lines in it. The user can then step back through them.
+ * Opens a new session with the texts and executes lines in it, so that the user can step back through them.
  * @param {Page} page
  * @param {{ name: string, lines: string, message: string }} wanted
  * @param {import("../core/explore/exploring.js").ExploredTexts} texts
@@ -196,7 +196,7 @@ async function openAfter(page, { name, lines, message }, texts) {
   const before = page.current.session;
   if (!(await sessionsController.manager.useNew(make))) return;
   await page.serving.act(lines);
-  // `act` hides the notice about the former session, because it changes the new one. The notice must stay.
+  // `act` hides the notice about the previous session, because it changes the new one. Show that notice again.
   if (before && !before.isUntouched) sessionsController.reportLeft(before.record);
   page.layout.showText("program");
   page.running.showMessage(message);

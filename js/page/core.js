@@ -1,4 +1,4 @@
-// Composes the parts that run the board, serve lines and save the session. Connects each one to other parts, so that none needs the page.
+// Creates the parts that run the board, serve lines and save the session. The callbacks passed here connect each of them to the page's other parts.
 
 import { wordsOfAddress, wordsOfWhen } from "../words/stops.js";
 import { Serving } from "./lines/serving.js";

@@ -1,6 +1,5 @@
-// The board view of the editor's extension: lamps, displays and keys, drawn by the page's own views. The extension sends changes
-// (adapter/shown_board.js) and receives presses of keys. editors/vsix bundles this module as one script. Its elements are in
-// editors/vscode/board_view.html.
+// The board view of the editor extension: lamps, displays and keys, drawn by the page's own views. The extension sends changes
+// (adapter/shown_board.js) and receives key presses. editors/vsix bundles this module into one script. The HTML is in editors/vscode/board_view.html.
 
 import { readBoard } from "../core/bench/answers.js";
 import { keyOfKeyboard } from "../core/board/board_keys.js";
@@ -16,7 +15,7 @@ import { block, button, field } from "./ui/dom.js";
  * @typedef {import("../core/board/key_place.js").Key} Key
  */
 
-/** The interface of Visual Studio Code for a web view. */
+/** The web view API of Visual Studio Code. */
 const editor = globalThis.acquireVsCodeApi();
 let isRunning = false;
 
@@ -35,16 +34,16 @@ const pressing = new Pressing({
     return keyOfKeyboard(front.keys, event.key);
   },
 });
-/** The front panel. While time is running, it shows lamps as perceived, otherwise as they are at that instant. */
+/** The front panel. It shows the perceived brightness of lamps while time is running, and their state at that instant while time is paused. */
 const front = new FrontView((node, key) => pressing.listen(node, key), () => {});
-/** The printer's view. The adapter stores the printout since the board was drawn. */
+/** The printer view. The debug adapter keeps the printout from the moment the board was drawn. */
 const printer = new PrinterView({ printOn: () => {}, clear: () => editor.postMessage({ isTorn: true }) });
 pressing.listenToKeyboard();
 button("test").addEventListener("click", () => sendKey(pinKey(front.level === "1" ? 0 : 1), true));
 
 /**
  * Shows changes of the board.
- * @param {ShownNews | null} news null when debugging has ended
+ * @param {ShownNews | null} news null after the end of debugging
  */
 function show(news) {
   block("front").hidden = news === null;

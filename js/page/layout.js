@@ -1,4 +1,4 @@
-// The workbench: the tabs of texts and dock, the panels with their borders, and printing.
+// The workbench: the text tabs, the dock, the panels with their splitters, and printing.
 
 import { Choices } from "./ui/choices.js";
 import { block } from "./ui/dom.js";
@@ -17,7 +17,7 @@ import { Tabs } from "./ui/tabs.js";
 
 const TEXTS = ["program", "board", "wiring", "tests", "properties"];
 const DOCK = ["disassembly", "waves", "console", "problems"];
-/** @type {Record<string, string>} the dock's tab for each panel in the dock */
+/** @type {Record<string, string>} the dock tab that shows each panel of the dock */
 const DOCKED = { listing: "disassembly", scope: "waves", talk: "console", problems: "problems" };
 
 /** @type {Border[]} */
@@ -30,7 +30,7 @@ const BORDERS = [
 ];
 
 export class Layout {
-  /** @param {() => Printed} printed returns the content to print */
+  /** @param {() => Printed} printed returns the contents to print */
   constructor(printed) {
     this.choices = new Choices();
     const { choices } = this;
@@ -60,7 +60,7 @@ export class Layout {
   }
 
   /**
-   * Brings a tab of the texts or of the dock to the front.
+   * Brings a tab of the texts or the dock to the front.
    * @param {string} name
    */
   showText(name) {

@@ -20,15 +20,17 @@ import * as say from "../words/page.js";
  * @typedef {import("../core/engine/examples.js").Example} Example
  * @typedef {import("./session/store.js").SessionStore} SessionStore
  * @typedef {import("../core/help/manual.js").ManualSection} ManualSection
- * @typedef {{ refusals: Record<string, string>, examples: Example[], manual: ManualSection[] }} Data the data that page/build puts into the
- * page
+ * @typedef {{ refusals: Record<string, string>, examples: Example[], manual: ManualSection[] }} Data The data that page/build embeds in the page.
  */
 
-/** A WebAssembly module with one `memory.fill` instruction, to test for bulk memory: the bench's module needs it. */
+/**
+ * A WebAssembly module with one `memory.fill` instruction. A browser accepts this module only if it supports bulk memory, which the bench's module
+ * needs.
+ */
 const BULK_MEMORY_TRIAL = Uint8Array.of(0, 97, 115, 109, 1, 0, 0, 0, 1, 4, 1, 96, 0, 0, 3, 2, 1, 0, 5, 3, 1, 0, 1, 10, 13, 1, 11, 0,
   65, 0, 65, 0, 65, 0, 252, 11, 0, 11);
 
-/** Returns the name of a feature that the bench needs and this browser lacks, or "" if nothing is missing. */
+/** Returns the name of a feature that the bench needs and this browser lacks, or "" if the browser has all of them. */
 function missingFeature() {
   if (typeof WebAssembly !== "object" || !WebAssembly.validate(BULK_MEMORY_TRIAL)) return say.BULK_MEMORY;
   if (typeof BigInt !== "function") return say.BIG_INTEGERS;
@@ -38,7 +40,7 @@ function missingFeature() {
 }
 
 /**
- * Opens the store of sessions, or creates one in memory if the browser has none.
+ * Opens the browser's session store, or creates a store in memory if the browser's store cannot be opened.
  * @param {boolean} hasLocks
  * @returns {Promise<SessionStore>}
  */
@@ -51,7 +53,7 @@ async function openStore(hasLocks) {
 }
 
 /**
- * Returns the text of a part of the page.
+ * Returns the text of an embedded part of the page.
  * @param {string} id
  */
 function textOf(id) {
@@ -59,7 +61,7 @@ function textOf(id) {
 }
 
 /**
- * Returns the unpacked bytes of a part of the page.
+ * Returns the decompressed bytes of an embedded part of the page.
  * @param {string} id
  */
 function unpackedPart(id) {
@@ -67,7 +69,7 @@ function unpackedPart(id) {
 }
 
 /**
- * Returns a function that creates a bench in its own worker. The worker's script is a part of the page.
+ * Returns a function that creates a bench in its own worker. The worker's script is embedded in the page.
  * @param {Example[]} examples
  */
 function benchMaker(examples) {
@@ -103,12 +105,12 @@ function listenToChoices(page) {
     page.isTyping = typing.checked;
   });
   show();
-  // A browser can restore old values of the fields when the user returns to the page.
+  // When the user returns to the page, a browser may restore old values of the fields.
   addEventListener("pageshow", show);
 }
 
 /**
- * Listens to events of the window: the page is hidden or left, its address changes, or an error is not caught.
+ * Listens to window events: the page is hidden or left, its address changes, or an error is not caught.
  * @param {Page} page
  */
 function listenToLeaving(page) {
@@ -117,9 +119,9 @@ function listenToLeaving(page) {
   addEventListener("beforeunload", (event) => {
     if (!page.store.keeps) event.preventDefault();
   });
-  // Errors that no code catches are reported, too.
+  // Report uncaught errors to the user.
   addEventListener("error", (event) => {
-    // Browsers report this when an observed resize causes another one. It is harmless.
+    // Browsers report this harmless message when an observed resize causes another resize.
     if (!event.error && /^ResizeObserver loop/.test(event.message)) return;
     page.recovery.failed(event.error || event.message);
   });
@@ -152,20 +154,20 @@ async function start(words, notice, shell, { examples, manual }) {
   await page.sessionsController.openFirst(story);
   if (story) guide.showStory(story, examples);
   if (isFirst) commands.welcomeFirst();
-  // Firefox 153 runs the save on leaving the page only if that function has run before.
+  // When the user leaves the page, Firefox 153 runs a function only if it has run before, so save once now.
   page.current.keepNow();
-  // The duration of the start in milliseconds.
+  // The startup time in milliseconds.
   document.body.dataset.ready = String(Math.round(performance.now()));
 }
 
 async function main() {
   const shell = makeShell();
   const notice = new Notice();
-  // The block `needs` is for browsers that cannot run this script.
+  // The block `needs` is visible only in browsers that cannot run this script.
   block("needs").hidden = true;
-  const lack = missingFeature();
-  if (lack) {
-    notice.show(say.hasNo(lack, textOf("needs")));
+  const missing = missingFeature();
+  if (missing) {
+    notice.show(say.hasNo(missing, textOf("needs")));
     return;
   }
   /** @type {Data} */

@@ -1,4 +1,4 @@
-// The printed page: the lamps in their present state, and both texts in full, not only the part that an editor shows.
+// The printed page: the lamps as they are now, and both texts in full. An editor alone would print only its visible part.
 
 import { block, element } from "./ui/dom.js";
 import * as say from "../words/page.js";
@@ -6,13 +6,13 @@ import * as say from "../words/page.js";
 /** @typedef {{ name: string, board: string, program: string }} Printed */
 
 export class PrintView {
-  /** @param {() => Printed} printed returns the content to print */
+  /** @param {() => Printed} printed returns the contents to print */
   constructor(printed) {
     this.printed = printed;
     this.block = block("print");
     addEventListener("beforeprint", () => this.fill());
     addEventListener("afterprint", () => this.block.replaceChildren());
-    // Some browsers report a print preview only by a change of the media query.
+    // Some browsers announce a print preview only through the media query.
     const print = matchMedia("print");
     if (print.addEventListener) print.addEventListener("change", () => print.matches && this.fill());
   }

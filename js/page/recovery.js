@@ -1,4 +1,4 @@
-// Recovery from errors: a call that failed, or a bench whose worker died.
+// Recovery from errors: a failed call, or the death of the bench's worker.
 
 import * as say from "../words/page.js";
 
@@ -12,15 +12,15 @@ import * as say from "../words/page.js";
  */
 
 /**
- * The calls that the recovery from errors and dead workers makes.
+ * The callbacks of Recovery.
  * @typedef {object} RecoveryCalls
- * @property {() => KeptSession | null} session Returns the session that is shown, or null if there is none.
- * @property {() => boolean} isRunning Returns whether time is running.
- * @property {() => void} stopClock Stops the clock of the page without a request to the worker.
- * @property {(words: string) => void} halted Shows that time is paused, and why.
+ * @property {() => KeptSession | null} session Returns the current session, or null if there is none.
+ * @property {() => boolean} isRunning Returns true if time is running.
+ * @property {() => void} stopClock Stops the page's clock without a request to the worker.
+ * @property {(words: string) => void} halted Shows that time is paused, and the reason.
  * @property {(frame: Frame) => void} ran Shows the last frame of a run before the error.
- * @property {(record: SessionRecord) => Promise<void>} openAgain Opens a session in a new worker and shows it. Rejects if the worker
- *   fails again.
+ * @property {(record: SessionRecord) => Promise<void>} openAgain Opens a session in a new worker and shows the session. Rejects if the new worker
+ *   fails, too.
  */
 
 export class Recovery {
@@ -35,28 +35,28 @@ export class Recovery {
     this.words = words;
     this.notice = notice;
     this.calls = calls;
-    /** True while a new worker starts in place of a dead one. */
+    /** True while a new worker starts as the replacement for a dead one. */
     this.isRestarting = false;
   }
 
   /**
-   * Reports a failed call and pauses time. The failed call has changed nothing in the session.
+   * Reports a failed call and pauses time. The failed call has not changed the session.
    * @param {unknown} fault
    */
   failed(fault) {
     const { bench, notice, words, calls } = this;
     console.error(fault);
-    // Calls to a dead worker fail while a new one starts. `restart` reports the death.
+    // While a new worker starts, calls to the dead one still fail. `restart` reports the death of the worker.
     if (this.isRestarting) return;
     notice.show(words.ofFailure(fault));
     if (!calls.session()) return;
     const isRunning = calls.isRunning();
     calls.halted(say.PAUSED);
-    // The run before the error is not lost.
+    // Save the part of the run before the error.
     if (isRunning) bench.call("halt", []).then(calls.ran).catch(() => {});
   }
 
-  /** Starts a new worker after one died. The session continues from its last record, which the page has. */
+  /** Starts a new worker after the old one has died. The session continues from the page's copy of its last record. */
   async restart() {
     const { bench, notice, words, calls } = this;
     this.isRestarting = true;

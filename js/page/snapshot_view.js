@@ -1,4 +1,4 @@
-// All views of the board and its processor. Reads each snapshot and sends its changes to the views.
+// All views of the board and its processor. Reads each snapshot and passes the changes on to the views.
 
 import { readBoard, refusalOf } from "../core/bench/answers.js";
 import { CellEditor } from "./machine/cell_editor.js";
@@ -26,24 +26,23 @@ import * as say from "../words/page.js";
  */
 
 /**
- * The calls that the views of a snapshot make to the page.
+ * The callbacks of SnapshotView.
  * @typedef {object} SnapshotOwnCalls
- * @property {(node: HTMLButtonElement, key: BoardKey) => void} listen Makes a button press its key.
- * @property {() => boolean} isRunning Returns whether time is running.
- * @property {() => boolean} isFast Returns whether the speed is so high that the listing does not follow each instruction.
- * @property {() => boolean} isWiringShown Returns whether the picture of the wiring is in front.
+ * @property {(node: HTMLButtonElement, key: BoardKey) => void} listen Connects a button to its key.
+ * @property {() => boolean} isRunning Returns true if time is running.
+ * @property {() => boolean} isFast Returns true if the speed is too high for the disassembly to follow each instruction.
+ * @property {() => boolean} isWiringShown Returns true if the Wiring tab's picture is in front.
  * @property {(lines: string) => Promise<string[]>} ask Resolves to the bench's answers to queries.
- * @property {(line: string) => Promise<string | null>} act Serves a line. Resolves to its answer, or to null after a failure that was
- *   reported.
+ * @property {(line: string) => Promise<string | null>} act Serves a line. Resolves to its answer, or to null after a failure. A failure has already
+ *   been reported.
  * @property {(number: number) => string} wordsOfRefusal Returns the message of a refusal.
- * @property {(name: string) => string} explain Returns the description of a place or of a name in the program.
- * @property {(counter: number) => void} isAt Shows the address of the program counter in the source.
- * @property {(breakpoints: string[]) => void} breakAt Takes the addresses of the bench's breakpoints, each as three hexadecimal digits.
- * @property {(address: number) => void} toggleBreakpoint Sets or removes the breakpoint of an address.
- * @property {(address: number) => void} wentTo Shows an address in the source after the listing went to it.
- * @property {(face: string, number: number) => void} watchLamps Asks the bench to measure how long lamps are on, by the text of a front
- *   panel and its number.
- * @property {(cycles: number) => number} timeOf Returns the duration of cycles in milliseconds at the present speed; Infinity at full
+ * @property {(name: string) => string} explain Returns the description of a place, or of a name in the program.
+ * @property {(counter: number) => void} isAt Shows the program counter's line in the source.
+ * @property {(breakpoints: string[]) => void} breakAt Passes on the addresses of the bench's breakpoints, each as three hexadecimal digits.
+ * @property {(address: number) => void} toggleBreakpoint Sets or removes the breakpoint at an address.
+ * @property {(address: number) => void} wentTo Shows an address in the source after the disassembly has moved to it.
+ * @property {(face: string, number: number) => void} watchLamps Asks the bench to measure lamp duty cycles for a front panel, by its text and number.
+ * @property {(cycles: number) => number} timeOf Returns the duration of a number of cycles in milliseconds at the current speed; Infinity at full
  *   speed.
  * @property {(fault: unknown) => void} failed Reports an error that a call threw.
  */
@@ -52,7 +51,7 @@ import * as say from "../words/page.js";
 
 /** @typedef {{ seeLamps: (lamps: string) => void, seeKeys: (keysDown: number) => void }} Watcher */
 
-/** The interval in milliseconds at which values that change too fast to read are drawn while time is running. */
+/** The interval in milliseconds at which slower views are updated while time is running fast. Their values change too quickly to read. */
 const DRAW_INTERVAL = 100;
 
 export class SnapshotView {
@@ -62,7 +61,7 @@ export class SnapshotView {
     this.board = readBoard([]);
     this.face = new Face("");
     this.reader = new SnapshotReader();
-    /** The time of the last complete drawing, in milliseconds. */
+    /** The time of the last complete update, in milliseconds. */
     this.lastDrawn = 0;
     this.changes = new Changes();
     this.front = new FrontView(calls.listen, calls.watchLamps);
@@ -77,7 +76,7 @@ export class SnapshotView {
       this.toggleWatch(isSet, `${bank} 0x${hex(source, 2)}`, cell)));
     this.ports = new PortsView(this.changes, this.editor, calls.explain);
     this.wiring = new WiringView(calls.isWiringShown);
-    /** @type {Watcher | null} the listener to changes of lamps and keys */
+    /** @type {Watcher | null} the listener for changes of lamps and keys */
     this.watcher = null;
     this.listing = new ListingView(calls.ask, calls.toggleBreakpoint, () => this.showListing());
     this.goTo = new GoToView(this.listing, calls.toggleBreakpoint, (address) => {
@@ -92,7 +91,7 @@ export class SnapshotView {
   }
 
   /**
-   * Sets or clears a watch; a refusal is reported near the click.
+   * Sets or clears a watch. Shows a refusal near the click.
    * @param {boolean} isSet
    * @param {string} place
    * @param {HTMLElement} [at]
@@ -103,7 +102,7 @@ export class SnapshotView {
   }
 
   /**
-   * Returns the message of a refusal, "" for another answer.
+   * Returns the message if an answer is a refusal, "" for any other answer.
    * @param {string | null} answer
    */
   refusalOf(answer) {
@@ -112,7 +111,7 @@ export class SnapshotView {
     return refusal ? `${this.calls.wordsOfRefusal(refusal.number)}.` : "";
   }
 
-  /** The program counter that is shown, as three hexadecimal digits; "" before the first snapshot. */
+  /** The program counter as three hexadecimal digits, or "" before the first snapshot. */
   get counter() {
     return this.reader.registers ? this.reader.registers.counter : "";
   }
@@ -120,7 +119,7 @@ export class SnapshotView {
   /**
    * Draws another board.
    * @param {string[]} answers the answers to `board`
-   * @param {string} boardText the text of the board, with its front panel
+   * @param {string} boardText the board's text, which declares its front panel
    */
   draw(answers, boardText) {
     this.board = readBoard(answers);
@@ -137,13 +136,13 @@ export class SnapshotView {
     this.forgetRom();
   }
 
-  /** Discards the cached bytes of ROM, which can have changed. */
+  /** Discards the cached contents of ROM, which may have changed. */
   forgetRom() {
     this.listing.forget();
     this.stack.forget();
   }
 
-  /** @param {string} boardText the text of this board, with another front panel */
+  /** @param {string} boardText the text of the same board, with another front panel */
   readFace(boardText) {
     const face = new Face(boardText);
     this.face = face;
@@ -153,8 +152,8 @@ export class SnapshotView {
 
   /**
    * Shows the names of the program in ROM.
-   * @param {SourceMap | null} map null if the source is not that program
-   * @param {string} words the reason
+   * @param {SourceMap | null} map null if the source is not the program in ROM
+   * @param {string} words the reason for null
    */
   nameLines(map, words) {
     this.sourceStatus.set(words);
@@ -164,10 +163,10 @@ export class SnapshotView {
   }
 
   /**
-   * Shows a snapshot. Lamps, displays and keys are drawn at once. While time is running, all other views are drawn less often.
+   * Shows a snapshot. Lamps, displays and keys are updated immediately. While time is running fast, all other views are updated less often.
    * @param {string[]} snapshot
-   * @param {boolean} [isPassing] whether time is running and another snapshot follows
-   * @param {import("../core/engine/brightness_meter.js").LitShares | null} [litShares] the measured time that each lamp was on
+   * @param {boolean} [isPassing] true if time is running and another snapshot follows
+   * @param {import("../core/engine/brightness_meter.js").LitShares | null} [litShares] the measured duty cycle of each lamp
    */
   show(snapshot, isPassing = false, litShares = null) {
     const changed = this.reader.take(snapshot);
@@ -179,15 +178,15 @@ export class SnapshotView {
     else this.changes.stops();
   }
 
-  /** Draws the views of the last snapshot that `show` can delay. */
+  /** Updates the views that `show` can delay. */
   showRest() {
     this.lastDrawn = performance.now();
     this.showChanged(this.reader.readRest());
   }
 
   /**
-   * Shows lamps as perceived while time runs, otherwise as they are at this instant.
-   * @param {string | undefined} lamps the marks of the lamps, if they have changed
+   * Shows the perceived brightness of the lamps while time is running, otherwise their state at this instant.
+   * @param {string | undefined} lamps one character per lamp (`*` for on) if a lamp has changed
    * @param {import("../core/engine/brightness_meter.js").LitShares | null} litShares
    */
   showLamps(lamps, litShares) {
@@ -232,7 +231,7 @@ export class SnapshotView {
     if (registers || breakpoints || this.listing.lines.length === 0) this.showListing();
   }
 
-  /** @param {Map<number, import("../core/machine/breakpoint_marks.js").BreakpointMark>} marks the marks of breakpoints, by address */
+  /** @param {Map<number, import("../core/machine/breakpoint_marks.js").BreakpointMark>} marks the breakpoint marks, by address */
   showBreakpoints(marks) {
     this.listing.breakpoints = new Map([...marks].map(([address, mark]) => [hex(address, 3), mark]));
     this.showListing();

@@ -1,4 +1,4 @@
-// Texts of the debug adapter, which users read in their editor.
+// The debug adapter's texts, which users see in their editor.
 
 // --- adapter/adapter_connection.js ---
 export const MESSAGE_FORM = "a message has a number seq, the type \"request\" and a command";
@@ -164,7 +164,7 @@ export const KEYS = "Keys";
 export const NAMES = "Names";
 /** @type {(isOn: boolean) => string} */
 export const lampIs = (isOn) => (isOn ? "on" : "off");
-/** The values of a key, as they are shown and as they are typed. */
+/** The two values of a key, as the editor shows and accepts them. */
 export const DOWN = "down";
 export const UP = "up";
 /** @type {(name: string) => string} */

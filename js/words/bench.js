@@ -1,4 +1,4 @@
-// Texts about errors of the bench: wrong answers, failed calls, ROM images. (The messages of refusals are in tools/lib/refusals.txt.)
+// Messages about errors of the bench: wrong answers, failed calls, ROM images. (The messages of refusals are in tools/lib/refusals.txt.)
 
 // --- bench/answered_script.js ---
 export const FIRST_IS_SESSION = "the first line of the answers must be `session N`";

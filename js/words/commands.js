@@ -1,11 +1,11 @@
-// Texts of the commands of mcs4: their help, which manual pages and completions are made from, and their error messages.
+// The texts of mcs4's commands: their help, from which the manual pages and completions are generated, and their error messages.
 
 import { EYE_CYCLES, EYE_MS } from "../core/time/mcs4_time.js";
 import { didYouMean } from "./text.js";
 
 /**
- * The help of a command: a short summary, its text, its options by their long names, examples with their effects, and the meanings of its
- * exit statuses. Blank lines in the text separate paragraphs; other line breaks do not count.
+ * The help of a command: a short summary, its text, its options by their long names, examples with their effects, and the meaning of each exit
+ * status. Blank lines in the text separate paragraphs; other line breaks are ignored.
  * @typedef {{ summary: string, text: string, options: Record<string, string>, examples: [string, string][],
  *   status: string[] }} CommandWords
  */

@@ -1,4 +1,4 @@
-// Texts about conditions: errors in them, the names of places, and messages that compare actual and expected values.
+// Texts about conditions: error messages, the names of places, and messages that compare actual with expected values.
 
 // --- conditions/places.js ---
 export const NAMED_PLACES = "acc, cy, dcl, r0 to r15, ram.B.S, st.B.H.K, rom1.2, ram0.0.3, chain0.5, a whole port such as rom1 or ram0.0, "
@@ -86,7 +86,7 @@ export const KEY_FORM = "write `key NAME down` or `key NAME up`";
 export const noKeyOfPanel = (name, there) => (
   `the board has no key ${name}; ${there ? `it has: ${there}` : "its text names no keys"}`);
 /**
- * Returns the message that the board lacks a place.
+ * Returns the message that the board does not have a place.
  * @param {string} place
  * @returns {string}
  */

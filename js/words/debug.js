@@ -68,7 +68,7 @@ export const characterAt = (chip, register, character) => `chip ${chip}, registe
 export const sourceOfBank = (bank) => `SRC of bank ${bank}`;
 
 // --- debug/common_mistakes.js ---
-/** The name of each kind of common mistake, as the label of the switch that pauses at it. */
+/** The name of each kind of common mistake, which labels the check box that pauses time at such a mistake. */
 export const KINDS = /** @type {Record<import("../core/debug/common_mistakes.js").Kind, string>} */ ({
   calls: "a fourth JMS inside three others",
   return: "a BBL without a call",

@@ -1,4 +1,4 @@
-// Texts of the board drawing: the shelf, the fields, the effects of actions, and why an action is not possible.
+// Texts of the Wiring tab: the shelf, the fields, the effects of actions, and the reasons why an action is not possible.
 
 // --- drawing/acts.js ---
 export const TEST_IN_USE = "TEST has its button or switch: delete that one first.";
@@ -127,7 +127,7 @@ export const NOTHING_TO_REDO = "There is nothing to redo.";
 
 // --- drawing/drawing_view.js ---
 /**
- * The parts on the shelf, each with its name and its description.
+ * The parts on the shelf: each part's label and description.
  * @type {Record<import("../core/drawing/acts.js").Shelved, [string, string]>}
  */
 export const SHELF = {
@@ -152,7 +152,7 @@ export const INSERT_SCAN = "Insert code that scans these keys";
 /** @type {(label: string) => string} */
 export const lineOf = (label) => `${label} at`;
 export const WHAT_IS_THERE = "what is there";
-/** The kinds of port lines of a ROM, each with its letter in the board's text. */
+/** The kinds of ROM port lines: each kind's letter in the board's text and its description. */
 export const DIRECTIONS = [["i", "an input"], ["0", "an output"], ["1", "an output that reads as 1"]];
 /** @type {(line: number) => string} */
 export const lineIsA = (line) => `line ${line} is`;

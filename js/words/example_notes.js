@@ -1,6 +1,6 @@
-// Texts about the examples: how to try each one, and the cards that a first visit shows.
+// Texts about the examples: how to try each example, and the welcome cards of a first visit.
 
-/** The instructions for the user, by the name of the example. */
+/** What the user can try in each example, by the example's name. */
 export const TO_DO = {
   "three lamps": "Pause it, then step with F11 and watch a lamp change.",
   "counter": "Press COUNT: the display counts.",
@@ -20,7 +20,7 @@ export const TO_DO = {
   "printing calculator": "Press 2 + 3 * 4 = and read the tape.",
   "empty bench": "Draw a board in Wiring, or write one in Board.",
 };
-/** The order of the gallery. Examples that are not in this list follow. */
+/** The order of the examples. An example that is not in this list comes first. */
 export const ORDER = Object.keys(TO_DO);
 /** @type {(title: string, toDo: string) => string} */
 export const exampleWords = (title, toDo) => `${title} ${toDo}`;
@@ -29,7 +29,7 @@ export const exampleWords = (title, toDo) => `${title} ${toDo}`;
 export const WELCOME = "What would you like to do first?";
 export const WELCOME_HINT = "First steps, in the list of commands (Ctrl+Shift+P), shows these cards again.";
 export const CLOSE = "Close";
-/** The cards of the first visit: their titles, their texts, and the examples that they open. */
+/** The welcome cards: their titles, their texts, and the examples that they open. */
 export const CARDS = {
   lamp: { title: "Light a lamp (3 clicks)", words: "Your first program, step by step. No knowledge is needed.", example: "" },
   step: { title: "Step through a program", words: "Three lamps. Pause, step, and see what changes.", example: "three lamps" },

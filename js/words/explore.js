@@ -1,4 +1,4 @@
-// Texts that users read about properties and of the search for keys that break them.
+// Texts about properties and about the search for key sequences that break them.
 
 // --- explore/beginning.js ---
 /** @type {(state: string) => string} */
@@ -90,7 +90,7 @@ export const NO_FOURTH_CALL = "no more than three calls open";
 export const NO_LONE_RETURN = "no BBL without a call";
 
 // --- explore/report.js ---
-/** @type {(place: string, text: string) => string} a model, whose text has its command */
+/** @type {(place: string, text: string) => string} a model's command that is not run, with the location of its line */
 export const notRun = (place, text) => `not run: ${text} (${place}): it runs a command of your shell; --allow-model allows it`;
 /** @type {(count: number, lines: string) => string} */
 export const linesAre = (count, lines) => `${count === 1 ? "line" : "lines"} ${lines}`;

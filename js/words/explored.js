@@ -1,4 +1,4 @@
-// Messages about the results of a search for counterexamples: all properties, one property, the coverage.
+// Messages about the results of a search for counterexamples: all properties, a single property, the coverage.
 
 import { counted } from "../core/bench/numbers.js";
 import { Coverage } from "../core/explore/search_coverage.js";
@@ -12,7 +12,7 @@ import { grouped, isRight, remarkOf, stepsOf } from "../core/explore/report.js";
 const NEEDS_COMMAND = "a page cannot run a command; mcs4 explore --allow-model can";
 
 /**
- * Returns the number of broken properties, and the number of goals that were not reached.
+ * Returns the number of broken properties, and the number of goals not reached.
  * @param {Report} report
  */
 function countsOf({ properties }) {
@@ -23,7 +23,7 @@ function countsOf({ properties }) {
 }
 
 /**
- * Returns the line with the steps, the rate, the states and the seeds of a search, during the search and after it.
+ * Returns the line with a search's steps, rate, states and seeds. It is the same during the search and after it.
  * @param {Report} report
  */
 export function wordsOfFigures({ seeds, steps, seconds, states }) {
@@ -43,7 +43,7 @@ export function wordsSoFar(report) {
 /**
  * Returns the summary at the end of the search.
  * @param {Report} report
- * @param {boolean} isStopped whether the search was stopped before its time was over
+ * @param {boolean} isStopped true if the search was stopped before its time was up
  */
 export function wordsOfEnd(report, isStopped) {
   const { broken, left } = countsOf(report);
@@ -54,7 +54,7 @@ export function wordsOfEnd(report, isStopped) {
 }
 
 /**
- * Returns the mark on the tab; "" if no property is broken.
+ * Returns the tab's mark, or "" if no property is broken.
  * @param {Report} report
  */
 export function markOfReport(report) {
@@ -63,10 +63,10 @@ export function markOfReport(report) {
 }
 
 /**
- * Returns the mark before a property. While the search is running, the mark is "open" for a goal that is not reached yet, and for a
- * property that was not checked yet.
+ * Returns the mark in front of a property. While the search is running, the mark is "open" for a goal that has not been reached, and for a property
+ * that has not been checked.
  * @param {PropertyResult} property
- * @param {boolean} goesOn whether the search is running
+ * @param {boolean} goesOn true if the search is running
  */
 export function markOf(property, goesOn) {
   if (property.isSkipped) return "not run";
@@ -75,7 +75,7 @@ export function markOf(property, goesOn) {
 }
 
 /**
- * Returns the text after a property; "" if it would say only how much was searched.
+ * Returns the text after a property, or "" if the text would only repeat the amount of the search.
  * @param {PropertyResult} property
  * @param {Report} report
  */
@@ -87,8 +87,7 @@ export function wordsOfProperty(property, report) {
 }
 
 /**
- * Returns the coverage of the program: of its instructions and of its branch directions, each with a text, and the lines that were never
- * run.
+ * Returns the program's coverage: the coverage of its instructions and of its branch directions, each with a text, and the lines that never ran.
  * @param {Report} report
  */
 export function coverageOf({ covered, instructions }) {

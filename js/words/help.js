@@ -1,4 +1,4 @@
-// Texts of the help, of the first program (the five steps), and of stories.
+// Texts of the help, of the tour with the first program (five steps), and of stories.
 
 // --- help/guide.js ---
 /** @type {(name: string) => string} */
@@ -13,8 +13,9 @@ export const rowsFound = (count) => `${count} ${count === 1 ? "row has" : "rows 
 export const INSTRUCTIONS = "The 45 instructions";
 export const KEYBOARD = "The keyboard";
 export const CELLS = "What the cells show";
-/** The titles of the sections in docs/MANUAL.md whose table rows begin with a session line. */
+/** The title of the section about JCN's conditions in docs/MANUAL.md. */
 export const CONDITIONS_OF_JCN = "The sixteen conditions of JCN";
+/** The titles of the sections in docs/MANUAL.md whose table rows begin with a session line. */
 export const SECTIONS_OF_LINES = ["Commands", "Queries"];
 
 // --- help/story_acts.js ---
@@ -24,7 +25,7 @@ export const noLabel = (label) => `Nothing was done: the source is not the same 
 export const noKey = (legend) => `Nothing was done: the board has no key ${legend}.`;
 
 // --- help/tour.js ---
-/** The board for the five steps to a first program. */
+/** The board of the tour with the first program. */
 export const TOUR_BOARD = `# My first board: four lamps and two keys.
 #
 # row 0: left right

@@ -1,4 +1,4 @@
-// Error messages of the import of programs in the spelling of other assemblers.
+// Error messages for programs in the syntax of other assemblers.
 
 // --- import/source_lines.js ---
 /** @type {(most: number) => string} */

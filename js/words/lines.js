@@ -1,9 +1,9 @@
-// Texts about session lines: the effect of each, and why a line is rejected.
+// Texts about session lines: the effect of each, and the reasons why a line is rejected.
 
 import { didYouMean } from "./text.js";
 
 /**
- * The session lines in groups, each with its form and its effect. Each text can be read alone.
+ * The session lines in groups, each with its form and its effect. Each text is complete on its own.
  * @type {{ title: string, lines: [string, string][] }[]}
  */
 export const LINES_BY_GROUPS = [
@@ -44,7 +44,7 @@ export const LINES_BY_GROUPS = [
       ["trace n place ..", "shows what n cycles would change at these places"],
     ] },
 ];
-/** The forms of the lines, by their first words. */
+/** The form of each session line, by its first word. */
 const FORM_OF = new Map(LINES_BY_GROUPS.flatMap(({ lines }) => lines.map(([form]) => [form.split(/[ ,]/)[0], form])));
 
 // --- bench/line_forms.js ---

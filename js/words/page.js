@@ -1,4 +1,4 @@
-// Texts of the page as a whole: the console, dialogs, notices, and missing features of the browser.
+// Texts of the page as a whole: the console, dialogs, notices, and missing browser features.
 
 // --- lines/lines_view.js ---
 export const LINES_HINT = "Enter runs, Shift+Enter adds a line, the up arrow recalls. Type help for commands.";
@@ -46,7 +46,7 @@ export const notSet = (why) => `Not set: ${why}`;
 export const NOT_DONE = "It was not done.";
 
 // --- bench_page.js ---
-/** The name of a session if its board has no title. */
+/** The name of a session whose board has no title. */
 export const MY_BOARD = "my board";
 
 // --- main.js ---
@@ -62,7 +62,7 @@ export const cannotStart = (why, needs) => `The bench could not be started: ${wh
 // --- ui/status_view.js ---
 export const ROM_MATCHES = "ROM matches source";
 export const ROM_DIFFERS = "ROM differs from source";
-/** The texts of the status bar about saving, by the state of the session. */
+/** The status bar's texts about saving, by the session's state. */
 export const SAVED = { example: "Not saved", saved: "Saved in this browser", failed: "Not saved" };
 
 // --- print_view.js ---

@@ -1,13 +1,13 @@
-// Texts of the page's commands: their names, their groups, and why one cannot be done now. Also those of the command palette and the list
-// of keys.
+// Texts of the page's commands: their names, their groups, and the reasons why a command cannot run now. Also the texts of the command palette and
+// the key list.
 
-/** The groups of commands, in the order in which lists show them. */
+/** The groups of commands, in display order. */
 export const GROUPS = {
   time: "Time", project: "Project", show: "Show", board: "Board", text: "Text", debug: "Debug", tests: "Tests and properties",
   wiring: "Wiring", waves: "Waves", settings: "Settings", help: "Help", example: "Example", key: "Key of the board",
 };
 
-/** The names of the commands, by their ids. */
+/** The names of the commands, by command id. */
 export const COMMANDS = {
   "time.continue": "Continue",
   "time.pause": "Pause",
@@ -123,15 +123,15 @@ export const atSpeed = (speed) => `Speed: ${speed}`;
 export const toggledPanel = (panel) => `Close or reopen ${panel}`;
 /** @type {(panel: string) => string} */
 export const fullPanel = (panel) => `Full size: ${panel}, and back`;
-/** The names of the commands that choose a theme, by the id of the theme. */
+/** The names of the commands that select a theme, by theme id. */
 export const THEMES = { system: "Theme: as the system", light: "Theme: light", dark: "Theme: dark" };
 /** @type {(example: string) => string} */
 export const openExample = (example) => `Open the example ${example}`;
 /** @type {(key: string) => string} */
 export const pressKey = (key) => `Press ${key}`;
-/** The names of the texts and views, by their ids. */
+/** The names of the texts and views, by id. */
 export const TEXTS = { program: "Source", board: "Board", tests: "Tests", properties: "Properties", wiring: "Wiring", waves: "Waves" };
-/** The names of the machine's panels, by their ids. */
+/** The names of the machine's panels, by id. */
 export const PANELS = {
   front: "Front panel", processor: "Registers", listing: "Disassembly", breakpoints: "Breakpoints", watched: "Watch", memory: "RAM",
   ports: "Ports", talk: "Console",
@@ -158,9 +158,9 @@ export const NO_NAMES = "show Source first";
 // --- commands/toolbar_view.js ---
 export const FILE = "File";
 export const THEME = "Theme";
-/** @type {Record<string, string>} a shorter text on a button, by the id of its command */
+/** @type {Record<string, string>} shorter button labels, by command id */
 export const SHORT = { "project.share": "Share" };
-/** @type {Record<string, string>} the tooltip of a command's button, by the id of the command */
+/** @type {Record<string, string>} the tooltips of command buttons, by command id */
 export const TIPS = {
   "time.over": "Step over: one instruction; a subroutine that it calls runs whole",
   "time.into": "Step into: one instruction, into a subroutine that it calls",
@@ -169,7 +169,7 @@ export const TIPS = {
 };
 
 // --- commands/empty_panels.js ---
-/** @type {Record<string, { words: string, button: string }>} the text and the button in an empty panel, by the id of its list */
+/** @type {Record<string, { words: string, button: string }>} the text and the button label of an empty panel, by the id of the panel's list */
 export const EMPTY = {
   "watched-list": { words: "Named values.", button: "Add a watch" },
   "breakpoint-list": { words: "", button: "Set at cursor" },
@@ -203,7 +203,7 @@ export const A_PROJECT = "project";
 export const KEY_TABLE = "Keys of commands";
 export const KEY = "Key";
 export const DOES = "Does";
-/** The part of the page in which a key works, by the scope of the key. */
+/** The part of the page in which a key works, by the key's scope. */
 export const WHERE = {
   everywhere: "", texts: "in the texts", source: "in Source", board: "in Board", tests: "in Tests", properties: "in Properties",
 };

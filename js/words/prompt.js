@@ -1,4 +1,4 @@
-// Texts at the prompt of `mcs4 debug`.
+// Texts of the `mcs4 debug` prompt.
 
 // --- prompt/breakpoint_commands.js ---
 export const WHICH_ONE = "which one? info breakpoints shows their numbers";
@@ -20,15 +20,15 @@ export const byContinue = (place) => `${place}, by continue`;
 export const NOTHING_WATCHED = "nothing is watched";
 
 // --- prompt/stop_commands.js ---
-/** @type {(condition: string) => string} the condition of a breakpoint as an argument of `break` */
+/** @type {(condition: string) => string} a breakpoint's condition as an argument of `break`; "" for none */
 export const ifCondition = (condition) => (condition && ` if ${condition}`);
-/** @type {(note: string) => string} the note of a breakpoint as an argument of `break` */
+/** @type {(note: string) => string} a breakpoint's log message as an argument of `break`; "" for none */
 export const logNote = (note) => (note && ` log "${note}"`);
 export const CONDITION_FORM = "write condition N CONDITION, as in condition 1 r4 = 7";
 export const IGNORE_FORM = "write ignore N COUNT, as in ignore 1 5";
 export const COMMANDS_FORM = "write commands N, and lines up to end";
 export const SAVE_FORM = "write save breakpoints FILE";
-/** The first line of a file of breakpoints. */
+/** The first line of a breakpoints file. */
 export const SAVED_HEAD = "# Breakpoints of mcs4 debug";
 export const TEMPORARY = ", temporary";
 /** @type {(id: number) => string} */
@@ -132,7 +132,7 @@ export const backInSubroutine = (where) => `Back in the subroutine, at ${where}:
 export const backAt = (where) => `Back at ${where}: this instruction has not run yet.`;
 
 // --- prompt/debugger_prompt.js ---
-/** The beginning of a message that a command did nothing. */
+/** The beginning of the message of a command that had no effect. */
 export const NOTHING_DONE = "Nothing was done";
 export const PAGE_REMEMBERS = "the page remembers";
 export const SESSION_REMEMBERS = "the session remembers";

@@ -1,4 +1,4 @@
-// Messages about the results of proofs on the page: all properties, one property.
+// Messages about the results of proofs on the page: all properties, a single property.
 
 import { grouped, stepsOf } from "../core/explore/report.js";
 import { statesOf } from "../core/prove/verdicts.js";
@@ -10,7 +10,7 @@ import * as say from "./prove.js";
  */
 
 /**
- * Returns whether a property is proved, or a goal is reached.
+ * Returns true if a property is proved, or if a goal is reached.
  * @param {JudgedLine} judged
  */
 export function isRight({ isGoal, verdict }) {
@@ -18,7 +18,7 @@ export function isRight({ isGoal, verdict }) {
 }
 
 /**
- * Returns the mark of a property: its verdict in one or two words.
+ * Returns a property's mark: its verdict in one or two words.
  * @param {JudgedLine} judged
  */
 export function markOf({ isGoal, verdict }) {
@@ -54,7 +54,7 @@ function countsOf(judged) {
 /**
  * Returns the summary of all verdicts, such as `2 proved, 1 can fail.`
  * @param {JudgedLine[]} judged
- * @param {boolean} isStopped whether the proof was cancelled
+ * @param {boolean} isStopped true if the proof was cancelled
  */
 export function wordsOfEnd(judged, isStopped) {
   const { proved, broken, reached, never, open } = countsOf(judged);
@@ -66,7 +66,7 @@ export function wordsOfEnd(judged, isStopped) {
 }
 
 /**
- * Returns the text about the progress.
+ * Returns the text about the progress of the proof.
  * @param {Progress} progress
  */
 export function wordsSoFar({ judged, count, states }) {
@@ -75,7 +75,7 @@ export function wordsSoFar({ judged, count, states }) {
 }
 
 /**
- * Returns the mark on the tab; "" if nothing is decided.
+ * Returns the tab's mark, or "" if no verdict is known.
  * @param {JudgedLine[]} judged
  */
 export function markOfTab(judged) {

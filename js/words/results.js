@@ -1,4 +1,4 @@
-// Messages about the results of tests: all tests, one test, the coverage.
+// Messages about the results of tests: all tests, a single test, the coverage.
 
 import { counted } from "../core/bench/numbers.js";
 import { wordsOfCoverage } from "../core/testing/coverage.js";
@@ -24,7 +24,7 @@ export function wordsOfOutcomes(outcomes) {
 }
 
 /**
- * Returns the mark on the tab.
+ * Returns the tab's mark.
  * @param {Outcome[]} outcomes
  */
 export function markOfOutcomes(outcomes) {
@@ -33,7 +33,7 @@ export function markOfOutcomes(outcomes) {
 }
 
 /**
- * Returns the message that no test was run because texts have errors.
+ * Returns the message that no test has run because the texts have errors.
  * @param {TextFault[]} faults
  * @param {(number: number) => string} wordsOfRefusal
  */
@@ -45,7 +45,7 @@ export function wordsOfFaults(faults, wordsOfRefusal) {
 }
 
 /**
- * Returns the time that a test took, in cycles and in milliseconds or seconds.
+ * Returns the duration of a test, in cycles and in milliseconds or seconds.
  * @param {Outcome} outcome
  */
 export function wordsOfTime({ cycles }) {
@@ -54,7 +54,7 @@ export function wordsOfTime({ cycles }) {
 }
 
 /**
- * Returns the text about the coverage of the program by the tests; "" if nothing was counted.
+ * Returns the text about the program's coverage by the tests, or "" if nothing was counted.
  * @param {Report} report
  */
 export function wordsOfCounts({ coverage }) {

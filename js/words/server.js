@@ -1,4 +1,4 @@
-// Texts of the language server, which users read in their editor, and error messages about `mcs4.toml`.
+// The language server's texts, which users see in their editor, and error messages about `mcs4.toml`.
 
 // --- server/beside_language.js ---
 /** @type {(file: string) => string} */

@@ -18,7 +18,7 @@ export const titleOfPage = (name) => `${name} - Fethsaim`;
 export const notKept = (why) => `This session is not kept: ${why}. It is still in this page; save it to a file.`;
 
 // --- session/session_summary.js ---
-/** The kinds of parts that the summary of a session counts, in the singular. */
+/** The kinds of parts that a session's summary counts, in the singular. */
 export const PARTS = ["ROM", "RAM chip", "shift register", "lamp", "key"];
 export const NO_CHIP = "no chip yet";
 
@@ -116,7 +116,7 @@ export const NOT_UTF8 = "the project is damaged: it is not a text in UTF-8";
 export const HAS_ZERO_BYTES = "the project has zero bytes; it is not a text";
 
 // --- session/project_parts.js ---
-/** The first line of the file `mcs4.toml` that `mcs4 project split` writes. */
+/** The first line of the `mcs4.toml` file that `mcs4 project split` writes. */
 export const ABOUT_PROJECT_FILE = "# The project of this folder: commands, editors and the page use these files unless others are named.";
 export const UNNAMED = "session";
 /** @type {(line: number) => string} */
@@ -239,11 +239,11 @@ export const NO_SPACE = "the browser has no more space for this page";
 export const storeFailed = (name) => `the browser's store failed (${name})`;
 
 // --- session/texts_controller.js ---
-/** The names of the texts, as subjects of a sentence. */
+/** The names of the texts as the subject of a sentence. */
 export const WHICH_TEXT = {
   board: "The board's text", program: "The source", tests: "The text of tests", properties: "The text of properties",
 };
-/** The end of a message about a text that was opened: the tab that it is in, and its use. */
+/** The end of the message about an opened text: its tab and its use. */
 export const OPENED_IN = {
   tests: "is in Tests. Run tests runs it on the current Board and Source.",
   properties: "is in Properties. Search looks for counterexamples, on the current Board and Source.",

@@ -1,9 +1,9 @@
-// Texts at the prompt of `mcs4 new` and `mcs4 open`, in addition to the bench's answers.
+// Texts of the `mcs4 new` and `mcs4 open` prompt. They complement the bench's answers.
 
 // --- prompt/bench_prompt.js ---
 export const BEGINNING = "help shows the lines, quit leaves.";
 export const OWN_TITLE = "At this prompt:";
-/** @type {[string, string][]} the lines that only the prompt accepts, each with its effect */
+/** @type {[string, string][]} the lines that only the prompt accepts, with their effects */
 export const OWN_LINES = [
   ["wire FILE, asm FILE", "reads the text of the board, or program, in a file"],
   ["map FILE", "shows the addresses of the program in a file"],
@@ -13,7 +13,7 @@ export const OWN_LINES = [
   ["quit", "leaves; so does Ctrl-D"],
 ];
 export const KEYS_OF_PROMPT = "Tab completes a line, Up recalls earlier ones, Ctrl-C drops what is typed.";
-/** The title of the manual's section about places. */
+/** The title of the manual section about places. */
 export const PLACES_TITLE = "Places";
 /** @type {(word: string) => string} */
 export const textDropped = (word) => `the text of ${word} is dropped`;

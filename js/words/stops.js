@@ -1,4 +1,4 @@
-// Messages about stops: where the machine paused, why, and after how many cycles. Also about going back and forward.
+// Messages about pauses: where time paused, why, and after how many cycles. Also messages about going back and forward.
 
 import { hex } from "../core/bench/numbers.js";
 import { wordsOfCycles } from "../core/time/cycles.js";
@@ -11,7 +11,7 @@ import { wordsOfCycles } from "../core/time/cycles.js";
  * @typedef {import("../core/machine/source_map.js").SourceMap} SourceMap
  */
 
-/** @type {Record<string, string>} the reasons why a run stopped, by the word in its answer */
+/** @type {Record<string, string>} the reasons why a run stopped, by the word in the bench's answer */
 export const REASONS = {
   code: "before a code that is not an instruction",
   break: "at a breakpoint",
@@ -27,8 +27,8 @@ export const NO_CALL_WAITS = "no call is open here";
 export const wordsOfLine = (line) => `line ${line}`;
 
 /**
- * Returns an address with its name and its line, such as `00D (show + 3, line 12)`.
- * @param {string} address in hexadecimal
+ * Returns an address with its name and its source line, for example `00D (show + 3, line 12)`.
+ * @param {string} address the address in hexadecimal
  * @param {SourceMap | null} map the program in ROM
  */
 export function wordsOfAddress(address, map) {
@@ -39,10 +39,10 @@ export function wordsOfAddress(address, map) {
 }
 
 /**
- * Returns the message after going back or forward.
+ * Returns the message after a move back or forward.
  * @param {BackGoal | { kind: "forward" }} goal
  * @param {Pick<TravelResult, "isDone" | "why" | "place" | "from" | "to" | "line" | "end" | "cycles">} gone
- * @param {string} where the address at which the machine is paused
+ * @param {string} where the address at which time is paused
  * @param {{ condition: string }} [breakpoint] the breakpoint at that address
  */
 export function wordsOfGone(goal, gone, where, breakpoint) {
@@ -67,7 +67,7 @@ export function wordsOfGone(goal, gone, where, breakpoint) {
 }
 
 /**
- * Returns the reason why a goal in the past was not reached.
+ * Returns the reason why a goal in the past could not be reached.
  * @param {BackGoal | { kind: "forward" }} goal
  * @param {string} why
  */
@@ -82,9 +82,9 @@ function whyNot(goal, why) {
 }
 
 /**
- * Returns the message about the last change of a place: the values, the instruction or line, and the time. Returns "" if the board lacks
- * the place.
- * @param {string} name of the place
+ * Returns the message about a place's last change: the values, the instruction or session line that changed it, and the time. Returns "" if the board
+ * does not have the place.
+ * @param {string} name the name of the place
  * @param {import("../core/debug/debugger.js").LastChange} change
  * @param {SourceMap | null} map the program in ROM
  */
@@ -108,7 +108,7 @@ export function wordsOfGoal(goal) {
 }
 
 /**
- * Returns the message while the machine runs to a distant goal.
+ * Returns the message while time runs towards a distant goal.
  * @param {Goal} goal
  */
 export function wordsOfMove(goal) {
@@ -116,9 +116,9 @@ export function wordsOfMove(goal) {
 }
 
 /**
- * Returns the first part of the message that a goal was reached.
+ * Returns the first part of the message about a goal that was reached.
  * @param {Goal} goal
- * @param {boolean} returns whether the goal was a return from a subroutine
+ * @param {boolean} returns true if the goal was a return from a subroutine
  * @param {string} where
  */
 function reached(goal, returns, where) {
@@ -130,11 +130,11 @@ function reached(goal, returns, where) {
 }
 
 /**
- * Returns the message when the machine pauses.
+ * Returns the message when time pauses.
  * @param {Goal | null} goal null if the run had no goal
  * @param {Pick<Stop, "why" | "cycles" | "returns" | "change">} stop
- * @param {string} where the address at which the machine is paused
- * @param {string} [when] the condition and hit count of the breakpoint that paused it, in words
+ * @param {string} where the address at which time is paused
+ * @param {string} [when] the condition and hit count of the breakpoint that paused time, in words
  */
 export function wordsOfStop(goal, { why, cycles, returns, change }, where, when = "") {
   if (why === "lacks") return `Nothing was done: this board has no ${goal && goal.kind === "change" ? goal.place : "such place"}.`;
@@ -146,9 +146,9 @@ export function wordsOfStop(goal, { why, cycles, returns, change }, where, when 
 }
 
 /**
- * Returns the condition and hit count of a breakpoint in words, such as `, when r9 = 9, at hit 5`.
+ * Returns a breakpoint's condition and hit count in words, for example `, when r9 = 9, at hit 5`.
  * @param {{ condition: string, from: number, hits: number } | undefined} breakpoint
- * @param {string} [fault] the error in the breakpoint, which makes it stop every time
+ * @param {string} [fault] the error in the breakpoint, which makes it stop at every hit
  */
 export function wordsOfWhen(breakpoint, fault = "") {
   if (!breakpoint) return "";
@@ -161,9 +161,9 @@ export function wordsOfWhen(breakpoint, fault = "") {
 export const stoppedAt = (where) => `Paused at ${where}.`;
 
 /**
- * Returns the message when the user pauses the machine before its goal.
+ * Returns the message when the user pauses time before the goal is reached.
  * @param {Goal | null} goal
- * @param {number} cycles since the run began
+ * @param {number} cycles the number of cycles since the start of the run
  * @param {string} where
  */
 export function wordsOfHalt(goal, cycles, where) {
@@ -171,9 +171,9 @@ export function wordsOfHalt(goal, cycles, where) {
 }
 
 /**
- * Returns the message that a reload of the page, or the choice of another session, has ended a run or a search.
+ * Returns the message that a page reload or a change of the session has interrupted a run or a search.
  * @param {Goal} goal
- * @param {boolean} ran whether the machine ran to the goal; otherwise the past was searched for it
+ * @param {boolean} ran true if time was running towards the goal, false if the past was being searched for the goal
  * @param {string} where
  */
 export function wordsOfInterrupted(goal, ran, where) {

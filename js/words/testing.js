@@ -1,4 +1,4 @@
-// Texts about tests: errors in them, their results, coverage and profiles.
+// Texts about tests: error messages, results, coverage and profiles.
 
 // --- testing/coverage.js ---
 /** @type {(counts: number[], percent: string, percentOfWays: string) => string} */
@@ -57,7 +57,7 @@ export const TAP_TRACE = "trace: |";
 // --- testing/test_run.js ---
 /** @type {(state: string, test: string) => string} */
 export const stateMissing = (state, test) => `the state ${state} is missing, because the test \`${test}\` did not reach its \`save\``;
-/** @type {(line: number, file: string) => string} a reference to a line of this text, or of another file */
+/** @type {(line: number, file: string) => string} a reference to a line in this text, or in another file */
 const placeOf = (line, file) => (file ? `${file}:${line}` : `line ${line}`);
 /** @type {(name: string, line: number, file: string) => string} */
 export const stepsOfLine = (name, line, file) => `the steps ${name} of ${placeOf(line, file)}`;

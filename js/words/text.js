@@ -1,8 +1,8 @@
-// Texts of the editors: errors in programs and boards, completion, help on words, names, search.
+// Texts of the editors: errors in programs and boards, completion, help on words, names, and search.
 
 // --- text/alike.js ---
 export const OR = " or ";
-/** @type {(words: string[], end?: string) => string} suggestions for a mistyped word, after the sentence that rejects it */
+/** @type {(words: string[], end?: string) => string} suggestions for a mistyped word, which follow the message that rejects the word */
 export const didYouMean = (words, end = "") => (
   words.length > 0 ? `; did you mean ${words.join(OR)}?${end && ` ${end}`}` : end && `; ${end}`);
 
@@ -117,7 +117,7 @@ export const sizeOf = (size, most, unit) => `${size} of ${most} ${unit}`;
 export const MAY_BE_MORE = "There may be more.";
 /** @type {(bytes: string) => string} */
 export const assembledAll = (bytes) => `Assembled ${bytes}; running from 000.`;
-/** @type {Record<string, string>} the titles of the texts, by their kinds */
+/** @type {Record<string, string>} the titles of the texts, by kind */
 const TEXTS = { program: "Source", board: "Board", tests: "Tests", properties: "Properties" };
 /** @type {(name: string, line: number) => string} */
 export const problemAt = (name, line) => `${TEXTS[name]}, line ${line}: `;
@@ -167,7 +167,7 @@ export const noRomForLine = (chip, address) => (
 export const layoutTooLong = (most, size) => `in columns the program would have ${size} characters; at most ${most} are accepted`;
 
 // --- text/program_words.js ---
-/** The words of other assemblers, each with its replacement here. */
+/** The terms of other assemblers, each with its replacement here. */
 export const ELSEWHERE = new Map(Object.entries({
   JMP: "JUN", GOTO: "JUN", BRA: "JUN", CALL: "JMS", JSR: "JMS", RET: "BBL", RTS: "BBL", MOV: "LD or XCH", LDA: "LD", STA: "XCH", STO: "XCH",
   JZ: "JCN 4", JNZ: "JCN 12", JC: "JCN 2", JNC: "JCN 10", DJNZ: "ISZ", BYTE: "DB", DEFB: "DB", EQU: "NAME = NUMBER", HLT: "JUN to itself",
@@ -240,7 +240,7 @@ export const BYTE_TWICE = "an earlier line has put a byte at this address; check
 // --- text/property_words.js ---
 export const MAY_CHANGE = "Inputs";
 export const MUST_HOLD = "Properties";
-/** The end of a property: the words after its label. */
+/** The end of a property's text, after a label. */
 export const ONCE_FOR_EACH_PRESS = "at most once for each press";
 export const FIRST_PROPERTIES = "# Properties that hold whatever is pressed, at any time. F1 lists the words; "
   + "Ctrl+Space completes them.\n\n";

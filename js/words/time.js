@@ -1,4 +1,4 @@
-// Texts about time: cycles, speeds, steps, back and forward.
+// Texts about time: cycles, speeds, steps, and moves back and forward.
 
 import { PLACES_ARE } from "./conditions.js";
 
@@ -37,14 +37,14 @@ export const BETWEEN_MARKS = "Between the marks ";
 /** @type {(most: string) => string} */
 export const enterCount = (most) => `Nothing was done: give a number of instructions, 1 to ${most}.`;
 export const ENTER_CHANGE = "Nothing was done: enter a place such as r5, lamp 3 or rom0.2, or a condition such as r5 > 8.";
-/** @type {(fault: string) => string} an error for the status bar, with a few examples instead of all places */
+/** @type {(fault: string) => string} an error for the status bar, which has a few examples instead of all places */
 export const cannotSearchFor = (fault) => `Nothing was done: ${fault.replace(PLACES_ARE, SUCH_PLACES)}.`;
 const SUCH_PLACES = "enter something such as r5, lamp 3 or rom0.2";
 
 // --- time/running.js ---
 /** @type {(rate: string) => string} */
 export const cyclesASecond = (rate) => `${rate} cycles a second`;
-/** @type {(name: string, errors: number) => string} by the name of the session, and the number of its breakpoints with errors */
+/** @type {(name: string, errors: number) => string} the status text for a session name and the number of breakpoints with errors */
 export const isRunning = (name, errors) => `Running "${name}". F5 pauses it.${errors === 0 ? "" : errorsIn(errors)}`;
 /** @type {(errors: number) => string} */
 const errorsIn = (errors) => (

@@ -1,8 +1,8 @@
-// Texts of a trace, which has a line for each instruction.
+// Texts of a trace, which has one line per instruction.
 
 // --- trace/trace_lines.js ---
 export const SECOND_CYCLE = "(the second cycle)";
 
 // --- trace/session_trace.js ---
-/** @type {(why: string) => string} the reason why the session stops, in the line of the next instruction */
+/** @type {(why: string) => string} the reason why the session stops before the next instruction */
 export const stopsBefore = (why) => `stops before it: ${why === "code" ? "no instruction" : why}`;

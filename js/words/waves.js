@@ -1,7 +1,7 @@
 // Texts of the logic analyser: recording, trigger, search, lines and values.
 
 // --- waves/live_waves.js ---
-/** @type {Record<string, string>} the reasons why a recording has ended */
+/** @type {Record<string, string>} the reasons why a recording ended */
 export const ENDS = {
   hand: "Stopped by you.",
   back: "It ended when the session went back or forward.",
@@ -83,7 +83,7 @@ export const noName = (name) => `Nothing here is called ${name}.`;
 export const notListed = (count) => (
   `${count === 1 ? "1 nibble of RAM is" : `${count.toLocaleString("en")} nibbles of RAM are`} not listed: find one, `
   + "as in: ram 0 0x12, or: st 0 1.");
-/** @type {Record<string, string>} the titles of the groups of lines */
+/** @type {Record<string, string>} the titles of the line groups */
 export const TITLES = {
   lamps: "Lamps", keys: "Keys", test: "TEST pin", numbers: "Ports and shift registers as numbers", decoders: "Decoders",
   registers: "Registers and pairs", pc: "Counter", label: "Label",
@@ -95,11 +95,11 @@ export const recordedNext = (names, isOne) => `${names} ${isOne ? "is" : "are"} 
 
 /** @type {(group: string) => string} */
 export const titleOfChip = (group) => group.replace(/^rom/, "ROM ").replace(/^ram/, "RAM ").replace(/^chain/, "Chain ");
-/** The beginning of the name of a group of RAM nibbles. */
+/** The beginning of the group name for RAM nibbles. */
 export const RAM_GROUP = "RAM, ";
 
 // --- waves/decoders.js ---
-/** @type {(value: string) => string} the value of a shift register between shifts */
+/** @type {(value: string) => string} the text for a shift register's value between shifts */
 export const atRest = (value) => `= ${value}`;
 export const NO_ROW = "-";
 /** @type {(rows: number[]) => string} */

@@ -1,7 +1,7 @@
-// Texts about the layout of the page: its panels.
+// Texts about the page's layout: its panels.
 
 // --- ui/panels.js ---
-/** The names of the panels by their ids, in the order of the window. */
+/** The names of the panels by id, in the order in which the window shows them. */
 export const PANELS = {
   front: "Front panel", texts: "Texts", dock: "Dock", processor: "Registers", calls: "Call stack", watched: "Watch",
   breakpoints: "Breakpoints", memory: "RAM", ports: "Ports", history: "More stepping",

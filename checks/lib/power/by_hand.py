@@ -1,4 +1,4 @@
-"""Lists of writes and flushes whose images are known in advance, as a check of images.py and its builder. It needs no machine."""
+"""Sequences of writes and flushes whose possible disk images are known in advance. They check images.py and its builder without a machine."""
 
 from __future__ import annotations
 
@@ -12,22 +12,22 @@ OLD = bytes(SECTOR)
 
 
 def history(events: list[Event], whole_blocks: bool = False, seed: int = 0, first: int = 0) -> History:
-    """Returns a history of these events, of a session that did not exist before."""
+    """Returns a history of events, for a session that did not exist before."""
     return History(events, first, False, set(), whole_blocks, random.Random(seed))
 
 
 def write(number: int, place: int, data: bytes) -> Event:
-    """Returns the event that a write arrives."""
+    """Returns the event for the arrival of a write."""
     return Event("write", number, place, data)
 
 
 def done(what: str, number: int) -> Event:
-    """Returns the event that a request is answered, that a flush arrives, or that a command is sent or answered."""
+    """Returns the event for a request that is answered, a flush that arrives, or a command that is sent or answered."""
     return Event(what, number)
 
 
 def states(events: History, size: int) -> list[tuple[bytes, Image]]:
-    """Returns the first bytes of all images of a history, on a disk of zeros, with the images."""
+    """Returns the first bytes of all images of a history, each with its image. The disk has only zeros before."""
     disk = Disk(BLOCK)
     builder = Builder(disk, events)
     found = []
@@ -42,8 +42,8 @@ def states(events: History, size: int) -> list[tuple[bytes, Image]]:
 
 
 def durable_writes() -> bool:
-    """Checks that a write is durable once a flush is answered that arrived after the write was answered. A write that was answered later waits
-    for the next flush."""
+    """Checks that a write is durable after the answer to a flush that arrived after the write was answered. A write that was answered later waits for
+    the next flush."""
     first = [write(1, 0, A), done("wrote", 1), write(2, SECTOR, B), done("flush", 3), done("wrote", 2), done("flushed", 3)]
     then = [write(4, 0, C), done("flush", 5), done("flushed", 5)]
     is_at_the_end = history(first + then[:2]).durable_at() == {1: 6}
@@ -64,7 +64,7 @@ def whole_blocks() -> bool:
 
 
 def writes_at_one_place() -> bool:
-    """Checks two writes at one place: an image has the later one, or the earlier one without it; once both are durable, only the later one."""
+    """Checks two writes to the same sector. An image has the later write, or only the earlier one. When both are durable, it has the later one."""
     events = [write(1, 0, A), done("wrote", 1), write(2, 0, B), done("wrote", 2)]
     before = states(history(events), SECTOR)
     both = {data for data, image in before if image.kept == {1: None, 2: None}}
@@ -73,8 +73,8 @@ def writes_at_one_place() -> bool:
 
 
 def bounds() -> bool:
-    """Checks the bounds of the number of commands: those acknowledged before the cut, and those sent before it. Before the first answer there is
-    no lower bound."""
+    """Checks the bounds of the number of commands: the commands acknowledged before the cut, and the commands sent before it. Before the first
+    answer, there is no lower bound."""
     events = history([write(1, 0, A), done("answered", 0), done("sent", 1), write(2, 0, B), done("wrote", 2), done("flush", 3),
                     done("flushed", 3), done("answered", 1)])
     found = {(image.durable, len(image.kept)): (image.least, image.most) for image in events.all_images() if image.how != "some"}
@@ -82,13 +82,13 @@ def bounds() -> bool:
 
 
 def bounds_of_a_copy() -> bool:
-    """Checks that a session that was copied has the commands that it had, even before its first answer."""
+    """Checks that a copied session has its commands even before its first answer."""
     found = history([write(1, 0, A), done("answered", 7)], first=7).all_images()
     return {(image.least, image.most) for image in found if image.how != "some"} == {(7, 7)}
 
 
 def settled() -> bool:
-    """Checks that a settled image is the disk from then on."""
+    """Checks that after an image has been settled, later images build on it."""
     events = history([write(1, 0, A), done("wrote", 1), done("flush", 2), done("flushed", 2), write(3, 0, B)])
     disk = Disk(BLOCK)
     builder = Builder(disk, events)
@@ -105,5 +105,5 @@ CHECKS = (durable_writes, parts_of_a_write, whole_blocks, writes_at_one_place, b
 
 
 def faults() -> list[str]:
-    """Returns a message for each result of images.py that differs from the known one."""
+    """Returns a message for each result of images.py that differs from the known result."""
     return [f"{check.__name__}: {check.__doc__}" for check in CHECKS if not check()]

@@ -1,4 +1,5 @@
-"""The trials: the file systems, what is done on them before a session is served, wrong programs, and which of these a run of the check tries.
+"""The trials: the file systems, the actions on them before a session is served, the wrong programs, and the combinations that a run of the check
+tries.
 """
 
 from __future__ import annotations
@@ -9,9 +10,9 @@ from typing import NamedTuple
 
 
 class Kind(NamedTuple):
-    """A file system: the size of its disk in MiB, the command that makes it and that command's Debian package, its type, the mount options
-    besides noatime, the options with which it commits each second, and its modules. `whole_blocks`: its blocks of 4 KiB must be written whole.
-    `shows_stale`: parts of a file that were not written yet can contain old data of the disk."""
+    """A file system: the size of its disk in MiB, the command that creates it, that command's Debian package, its type, the mount options besides
+    noatime, the options that make it commit every second, and its modules. `whole_blocks`: its blocks of 4 KiB must be written whole. `shows_stale`:
+    parts of a file that were not written yet can contain old disk data."""
     name: str
     size: int
     make: tuple[str, ...]
@@ -30,12 +31,12 @@ MAKE_BTRFS = ("mkfs.btrfs", "-q", "-f", "-K")
 
 
 def ext(name: str, options: str = "", *more: str) -> Kind:
-    """Returns ext4 with these mount options, made with more arguments."""
+    """Returns ext4 with mount options, created with more arguments."""
     return Kind(name, 64, (*MAKE_EXT, *more), "e2fsprogs", "ext4", options, "commit=1", ("ext4",))
 
 
 def btrfs(name: str, options: str = "") -> Kind:
-    """Returns btrfs with these mount options."""
+    """Returns the file system kind for btrfs with these mount options."""
     return Kind(name, 128, MAKE_BTRFS, "btrfs-progs", "btrfs", options, "commit=1", ("btrfs",), whole_blocks=True)
 
 
@@ -51,7 +52,7 @@ KINDS = {kind.name: kind for kind in (
     btrfs("btrfs-nocow", "nodatacow"),
     Kind("vfat", 32, ("mkfs.vfat",), "dosfstools", "vfat", "", "", ("vfat", "nls_cp437", "nls_ascii"), shows_stale=True),
     Kind("exfat", 32, ("mkfs.exfat",), "exfatprogs", "exfat", "", "", ("exfat", "nls_utf8"), shows_stale=True),
-    # Linux before 6.5 does not always flush the disk when a file on it is synced.
+    # Linux before 6.5 does not always flush the disk when a file on this file system is synced.
     ext("ext4-nojournal", "", "-O", "^has_journal")._replace(often="", shows_stale=True),
     # This file system loses acknowledged data.
     ext("ext4-nobarrier", "nobarrier"),
@@ -61,9 +62,9 @@ KINDS = {kind.name: kind for kind in (
 
 
 class Case(NamedTuple):
-    """A case: what is done first and synced, what is done then and not synced, the arguments of the program, and the name of its file in the
-    search after the cut. `begins`: the number of commands in the session by then. `is_kept`: the session existed durably before. `has_room`: the
-    session has room for all commands."""
+    """A case: the actions that are synced first, the actions after that which are not synced, the program's arguments, and the name of its file in
+    the search after the cut. `begins`: the number of commands in the session at the beginning. `is_kept`: the session already existed durably.
+    `has_room`: the session has room for all commands."""
     name: str
     setup: str
     before: str
@@ -77,7 +78,7 @@ class Case(NamedTuple):
 LONG = "a_session_with_a_long_name_that_takes_several_slots_of_a_folder_on_a_file_system_of_that_sort.mcs"
 SEED = "mcs4 new seed < /dev/null > /dev/null"
 OTHERS = "for i in 1 2 3 4 5 6 7 8 9 10; do : > f$i; done"
-# Sessions that are copied to the machine: with a number of commands, and of version 1.
+# Sessions that are copied to the machine: one with a number of commands, and one of version 1.
 SERVED, FIRST = "served.mcs", "first.mcs"
 SERVED_COMMANDS, FIRST_COMMANDS = 60, 30
 
@@ -99,22 +100,22 @@ CASES = {case.name: case for case in (
     Case("served", f"cp /{SERVED} s.mcs", "", "open s.mcs", "s.mcs", begins=SERVED_COMMANDS, is_kept=True),
     Case("carried", f"cp /{FIRST} s.mcs", "", "open s.mcs", "s.mcs", begins=FIRST_COMMANDS, is_kept=True),
     Case("carried-copied", "", f"cp /{FIRST} s.mcs", "open s.mcs", "s.mcs", begins=FIRST_COMMANDS),
-    # Only FILE's folder is synced: new folders above it can be lost.
+    # The program syncs only the file's own folder, so new folders above it can be lost.
     Case("folders", "", "mkdir -p d/e", "new d/e/s.mcs", "d/e/s.mcs"),
 )}
 NEW = ("new-long", "new-full", "new-empty", "new-folder")
 OPENED = ("linked", "copied", "moved", "replaced", "long-copied", "long-moved", "folder-copied", "folder-moved", "carried-copied")
 
-# --- what a run tries
+# --- the trials of a run
 
 # The numbers of commands in a new session, in a session that continues, and in the case with a name.
 ALL_COMMANDS, MORE_COMMANDS, FEW_COMMANDS = 110, 24, 12
 
 
 class Trial(NamedTuple):
-    """A case on a kind of file system: the number of images to look at after the first cut, and how many times one of them becomes the disk and
-    the power is cut again. `is_busy`: something else happens in the file system meanwhile, and it commits each second. `wrong`: what the program
-    or the mount omits; the trial must detect it, by the given loss."""
+    """A case on a kind of file system. `images` is the number of images to examine after the first cut. `generations` is how many times one of them
+    becomes the disk and the power is cut again. `is_busy`: other work uses the file system, which commits every second. `wrong`: the step that the
+    program or the mount omits; the trial must detect the loss."""
     kind: str
     case: str
     images: int
@@ -124,12 +125,12 @@ class Trial(NamedTuple):
 
     @property
     def name(self) -> str:
-        """The name of the trial, for messages."""
+        """The trial's name in messages."""
         return f"{self.kind}, {self.case}{', ' * bool(self.wrong)}{self.wrong}"
 
 
 NO_BARRIER = "no barrier"
-# Errors that must be detected. The last but one is an `open` that does not sync FILE's folder.
+# Errors that must be detected. The last but one is an `open` that does not sync the file's folder.
 WRONG = (
     Trial("ext4-nobarrier", "served", 60, wrong=NO_BARRIER),
     Trial("ext4", "served", 60, wrong="no sync"),
@@ -146,7 +147,7 @@ WRONG = (
 
 
 def cases_of(kind: str) -> list[str]:
-    """Returns the short cases for a file system: FAT and exFAT have no links."""
+    """Returns the short cases for a file system. FAT and exFAT have no links."""
     return [*NEW, *([] if KINDS[kind].shows_stale else ["new-link"]), *OPENED]
 
 
@@ -161,7 +162,7 @@ def long_trials() -> list[Trial]:
 
 
 def short_trials() -> list[Trial]:
-    """Returns the trials of `checks/power`: two file systems, each with the cases in which data is lost most easily."""
+    """Returns the trials of `checks/power`: two file systems, each with the cases in which data is most easily lost."""
     found = [Trial("vfat", case, 10) for case in ("new-folder", "long-copied", "folder-copied", "folder-moved")]
     found += [Trial(kind, "carried", 30, 2) for kind in ("ext4", "vfat")]
     found += [Trial(kind, "new", 60, 1, is_busy=True) for kind in ("ext4", "vfat")]

@@ -1,7 +1,7 @@
-"""A disk of a virtual machine that this process serves, and the list of the events on it.
+"""A virtual machine's disk, which this process serves, and the list of its events.
 
-QEMU reads and writes the disk as a client of NBD, over a Unix socket. So each write and each flush has two events: its arrival and its
-answer. What is written between the two can be lost by a power cut, whatever the machine assumes.
+QEMU reads and writes the disk as an NBD client over a Unix socket. Each write and each flush therefore has two events: its arrival and its
+answer. A power cut between the two can lose the written data, whatever the machine assumes.
 """
 
 from __future__ import annotations
@@ -16,22 +16,22 @@ from typing import NamedTuple
 
 MAGIC, OPTION_MAGIC, REPLY_MAGIC, REQUEST_ANSWER = 0x4E42444D41474943, 0x49484156454F5054, 0x3E889045565A9, 0x67446698
 FIXED_NEWSTYLE_NO_ZEROES = 3
-# Options, the kinds of their replies, and the content of a reply with information.
+# NBD option codes, the kinds of their replies, and the contents of a reply with information.
 ABORT, INFO, GO = 2, 6, 7
 ACKNOWLEDGED, INFORMED, UNSUPPORTED = 1, 3, (1 << 31) + 1
 EXPORT, BLOCK_SIZE = 0, 3
-# Flags of the disk (it has flags, and accepts flushes), and the kinds of requests.
+# Flags of the disk (it has flags and accepts flushes), and the kinds of requests.
 HAS_FLAGS, SEND_FLUSH = 1, 4
 READ, WRITE, LEAVE, FLUSH = 0, 1, 2, 3
 OPTION_HEAD, REQUEST_HEAD = 16, 28
 
 
 class Fault(Exception):
-    """An error that stops the check: the machine, or the program in it, does not do what it must do."""
+    """An error that stops the check: the machine or the program in it does not behave as required."""
 
 
 class Event(NamedTuple):
-    """An event. For the disk: a `write` arrived and was answered (`wrote`), a `flush` arrived and was answered (`flushed`); each pair has a
+    """An event. For the disk: a `write` arrived and was answered (`wrote`), or a `flush` arrived and was answered (`flushed`). Each such pair has a
     number. For the program: a command was `sent` or `answered`, by its number."""
     what: str
     number: int
@@ -40,8 +40,8 @@ class Event(NamedTuple):
 
 
 class Disk:
-    """Bytes in memory that a machine reads and writes as a disk. If `events` is a list, it gets the events. If `late` is true, writes and flushes
-    are answered late and out of order, as by the queue of a real disk."""
+    """Bytes in memory that a machine reads and writes as a disk. If `events` is a list, events are added to it. If `late` is true, writes and flushes
+    are answered late and out of order, as a real disk's queue does."""
 
     def __init__(self, size: int, seed: int = 0) -> None:
         self.memory = os.memfd_create("disk")
@@ -55,7 +55,7 @@ class Disk:
 
     @property
     def file(self) -> str:
-        """A name by which a program on this host can open the bytes."""
+        """The path with which a program on this host can open the bytes."""
         return f"/proc/{os.getpid()}/fd/{self.memory}"
 
     def close(self) -> None:
@@ -64,7 +64,7 @@ class Disk:
         os.close(self.memory)
 
     def put(self, place: int, data: bytes) -> None:
-        """Writes bytes; if `undo` is a list, it gets the old bytes."""
+        """Writes bytes. If `undo` is a list, adds the old bytes to it."""
         if self.undo is not None:
             self.undo.append((place, self.bytes[place:place + len(data)]))
         self.bytes[place:place + len(data)] = data
@@ -76,13 +76,13 @@ class Disk:
         self.undo = None
 
     def happened(self, what: str, number: int, place: int = 0, data: bytes = b"") -> None:
-        """Adds an event to the list, if there is one."""
+        """Adds an event to the list if there is one."""
         if self.events is not None:
             self.events.append(Event(what, number, place, data))
 
 
 class Connection:
-    """QEMU's connection to a disk: the handshake in which it names the disk, and its requests."""
+    """QEMU's connection to a disk: the handshake that names the disk, and the requests."""
 
     def __init__(self, disks: dict[str, Disk], channel: socket.socket, leave: Callable[[socket.socket], None]) -> None:
         self.disks, self.channel, self.leave = disks, channel, leave
@@ -109,7 +109,7 @@ class Connection:
         self.channel.sendall(struct.pack(">QIII", REPLY_MAGIC, option, kind, len(data)) + data)
 
     def serve_option(self) -> bool:
-        """Serves an option of the handshake, if it has arrived completely; returns whether it has."""
+        """Serves an option of the handshake if it has arrived completely. Returns true if it has."""
         if not self.is_begun and len(self.input) >= 4:
             del self.input[:4]
             self.is_begun = True
@@ -136,7 +136,7 @@ class Connection:
         return True
 
     def serve_request(self, disk: Disk) -> bool:
-        """Serves a request, if it has arrived completely; returns whether it has."""
+        """Serves a request if it has arrived completely. Returns true if it has."""
         if len(self.input) < REQUEST_HEAD:
             return False
         _, _, kind, handle, place, length = struct.unpack(">IHHQQI", self.input[:REQUEST_HEAD])
@@ -169,13 +169,13 @@ class Connection:
         self.channel.sendall(struct.pack(">IIQ", REQUEST_ANSWER, 0, handle) + data)
 
     def wait(self, what: str, handle: int, disk: Disk) -> None:
-        """Answers a request later if the disk is late, otherwise now."""
+        """Answers a request later if the disk is late, otherwise immediately."""
         self.waiting.append((what, disk.count, handle))
         if not disk.late:
             self.answer_one()
 
     def answer_one(self) -> None:
-        """Answers one of the waiting requests."""
+        """Answers one of the waiting requests, chosen at random."""
         assert self.disk is not None
         what, number, handle = self.waiting.pop(self.disk.chance.randrange(len(self.waiting)))
         self.disk.happened(what, number)

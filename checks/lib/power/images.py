@@ -1,8 +1,8 @@
 """The images that a power cut can leave on a disk, computed from the list of events on it.
 
 A write is durable once a flush has been answered that arrived after the write was answered. All other writes are pending. An image has none
-of the pending writes (`none`), all of them (`all`), or all, nothing or random sectors of each one (`some`). The same list has the program's
-acknowledgements. So at each place the bounds of what must be found are known: at least the acknowledged commands, at most one more that was
+of the pending writes (`none`), all of them (`all`), or all, none or random sectors of each one (`some`). The same list contains the program's
+acknowledgements. So the bounds of what must be found are known at each place: at least the acknowledged commands, at most one more that was
 sent after them.
 """
 
@@ -21,10 +21,10 @@ PARTS, MAX_PENDING = 12, 4
 # The number of events after the first answer that still count as the beginning.
 BEGINNING = 20
 
-# The phase of a cut: before the program's first answer, soon after it, while a snapshot is written, or otherwise.
+# The phase of a cut: before the program's first answer, soon after it, while a snapshot is written, or at any other time.
 Phase = Literal["opening", "beginning", "snapshot", "serving"]
 PHASES: tuple[Phase, ...] = ("opening", "beginning", "snapshot", "serving")
-# The part of a pending write that an image has: None for the whole write, otherwise the size of a sector, and a bit for each new sector.
+# The part of a pending write that an image contains: None for the whole write, otherwise the size of a sector, and a bit for each new sector.
 Part = tuple[int, int] | None
 
 
@@ -93,7 +93,7 @@ class History:
         return at
 
     def all_images(self) -> list[Image]:
-        """Returns all possible images, each once, in the order of time."""
+        """Returns all possible images, each once, in chronological order."""
         found: dict[bytes, Image] = {}
         answered, sent, first_answer = self.start, self.first, 0
         durable, pending = 0, list[int]()
@@ -131,7 +131,7 @@ class History:
         return found
 
     def part_of(self, pending: list[int]) -> dict[int, Part]:
-        """Returns a random part of these writes: of each one all, nothing, or some of its sectors."""
+        """Returns a random part of these writes: all, none or some of the sectors of each one."""
         unit = BLOCK if self.whole_blocks else self.chance.choice((SECTOR, BLOCK))
         found: dict[int, Part] = {}
         for write in pending:
@@ -143,7 +143,7 @@ class History:
         return found
 
     def draw(self, images: list[Image], count: int) -> list[Image]:
-        """Returns at most `count` of these images, in the order of time: equally many from each phase, and more if another phase has too few."""
+        """Returns at most `count` of these images, in chronological order: the same number from each phase, and more if another phase has too few."""
         groups = sorted(([image for image in images if image.phase == phase] for phase in PHASES), key=len)
         drawn: list[Image] = []
         for index, group in enumerate(groups):
@@ -152,7 +152,7 @@ class History:
 
 
 class Builder:
-    """Writes the images of a history to the disk as it was at the beginning, one after another, in the order of time."""
+    """Writes the images of a history to the disk as it was at the beginning, one after another, in chronological order."""
 
     def __init__(self, disk: Disk, history: History) -> None:
         self.disk, self.history = disk, history
@@ -161,7 +161,7 @@ class Builder:
         self.replaced: list[tuple[int, bytes]] = []
 
     def build(self, image: Image) -> None:
-        """Writes an image to the disk: its durable writes permanently, the others until `disk.take_back`. Writes are done in the order in which
+        """Writes an image to the disk: the durable writes permanently, the others until `disk.take_back`. Writes are done in the order in which
         they arrived."""
         rank = self.history.rank
         while self.placed < len(self.order) and rank[self.order[self.placed].number] < image.durable:
@@ -193,7 +193,7 @@ class Builder:
         self.placed, self.replaced = 0, []
 
     def settle(self, image: Image) -> None:
-        """Writes an image to the disk permanently, whatever was there before."""
+        """Writes an image to the disk permanently, regardless of its previous contents."""
         self.rewind()
         self.build(image)
         self.disk.undo = None

@@ -1,9 +1,4 @@
-"""A virtual machine: QEMU without KVM, a kernel of Debian, and an initramfs of busybox, modules, the program and its libraries.
-
-Its first serial line goes to a file. The second one is a shell, and the third one has the program's input and output. This process serves
-both lines and the disks (disk.py) in one thread. So the list of events is in order: whatever the program acknowledges on its line, the disk
-had answered before.
-"""
+"""A virtual machine: QEMU without KVM, a Debian kernel, and an initramfs with busybox, modules, the program and its libraries."""
 
 from __future__ import annotations
 
@@ -21,7 +16,7 @@ from typing import NamedTuple
 
 from power.disk import Connection, Disk, Fault
 
-# The machine's first script: it loads modules, silences the lines, and then runs each line that arrives and prints its status.
+# The machine's init script: it loads modules, silences the lines, and then runs each line that arrives and prints its status.
 FIRST = r"""#!/bin/busybox sh
 /bin/busybox --install -s /bin
 mount -t proc proc /proc
@@ -34,7 +29,7 @@ exec < /dev/ttyS1 > /dev/ttyS1 3<> /dev/vport0p1
 echo ready
 while read -r line; do eval "$line"; echo "done $?"; done
 """
-# `clearcpuid=cx16`: Linux 6.12 hits an error of CMPXCHG16B in QEMU 7.2 without KVM. `no_timer_check`: on a busy host, the kernel would consider
+# `clearcpuid=cx16`: Linux 6.12 triggers a bug of CMPXCHG16B in QEMU 7.2 without KVM. `no_timer_check`: on a busy host, the kernel would consider
 # its timer broken. The default processor is too old for Debian's glibc.
 KERNEL_WORDS = "console=ttyS0 loglevel=5 panic=-1 mitigations=off random.trust_cpu=on clearcpuid=cx16 no_timer_check cryptomgr.notests"
 PROCESSOR = "Nehalem"
@@ -55,12 +50,12 @@ class Kernel(NamedTuple):
         return self.image.name.removeprefix("vmlinuz-")
 
     def has(self, module: str) -> bool:
-        """Returns whether the kernel has a module, loadable or built in."""
+        """Returns true if the kernel has a module, loadable or built in."""
         built_in = self.modules / "modules.builtin"
         return module in self.module_files() or (built_in.exists() and f"/{module}.ko\n" in built_in.read_text())
 
     def module_files(self) -> dict[str, pathlib.Path]:
-        """The files of the modules, by name."""
+        """Returns the files of the modules, by name."""
         return {file.name.split(".ko")[0].replace("-", "_"): file for file in self.modules.rglob("*.ko*")}
 
 
@@ -71,7 +66,7 @@ def module_bytes(file: pathlib.Path) -> bytes:
 
 
 def modules_of(kernel: Kernel, names: list[str]) -> dict[str, bytes]:
-    """Returns these modules and those that they need, in loading order. A module that does not exist is built into the kernel."""
+    """Returns these modules and their dependencies, in loading order. A module that does not exist is built into the kernel."""
     files = kernel.module_files()
     order: dict[str, bytes] = {}
 
@@ -92,13 +87,13 @@ def modules_of(kernel: Kernel, names: list[str]) -> dict[str, bytes]:
 
 
 def libraries_of(program: str) -> dict[str, str]:
-    """Returns the shared libraries of a program, by their paths in the machine; none if it is linked statically."""
+    """Returns the shared libraries of a program, by their paths in the machine. There are none if it is linked statically."""
     listed = subprocess.run(["ldd", program], stdout=subprocess.PIPE, stderr=subprocess.DEVNULL, text=True, check=False).stdout
     return {place.lstrip("/"): place for place in re.findall(r"(/\S+) \(0x", listed)}
 
 
 def initramfs(folder: pathlib.Path, kernel: Kernel, names: list[str], files: dict[str, str]) -> pathlib.Path:
-    """Makes an archive of busybox, modules, and files, each with its path in the machine and its path here."""
+    """Creates an archive of busybox, modules and files. Each file has its path in the machine and its path on this host."""
     root = folder / "root"
     shutil.rmtree(root, ignore_errors=True)
     for name in ("bin", "dev", "proc", "sys", "mnt", "modules", "tmp"):
@@ -158,7 +153,7 @@ class Machine:
             listener.listen()
             self.selector.register(listener, selectors.EVENT_READ, name)
         self.started = time.monotonic()
-        # It ends with this process, in whatever way this process ends.
+        # It ends with this process, however this process ends.
         words = ["setpriv", "--pdeathsig", "KILL", *self.words(folder, kernel, archive)]
         with open(self.errors, "wb") as errors:
             self.process = subprocess.Popen(words, stdin=subprocess.DEVNULL, stderr=errors)
@@ -176,7 +171,7 @@ class Machine:
         return words
 
     def boot(self) -> float:
-        """Waits until the machine accepts lines; returns the seconds since its start."""
+        """Waits until the machine accepts lines. Returns the number of seconds since its start."""
         if self.hear(self.shell, BOOT_SECONDS) != "ready":
             raise Fault(f"the machine does not begin; its last lines:\n{self.last_lines()}")
         return time.monotonic() - self.started
@@ -199,13 +194,13 @@ class Machine:
             self.selector.register(channel, selectors.EVENT_READ, line)
 
     def leaves(self, channel: socket.socket) -> None:
-        """Handles that QEMU has closed its connection to a disk."""
+        """Handles the end of QEMU's connection to a disk."""
         self.connections = [connection for connection in self.connections if connection.channel is not channel]
         self.selector.unregister(channel)
         channel.close()
 
     def turn(self, seconds: float) -> None:
-        """Serves data that has arrived, or arrives within some seconds. If none arrives, sends late answers."""
+        """Serves data that has arrived or arrives within a number of seconds. If none arrives, sends late answers."""
         waiting = [connection for connection in self.connections if connection.waiting]
         found = self.selector.select(LATE if waiting else seconds)
         for key, _ in found:
@@ -230,7 +225,7 @@ class Machine:
         return line.texts.pop(0)
 
     def do(self, text: str) -> tuple[list[str], int]:
-        """Runs a line of shell; returns its lines of output, and its status."""
+        """Runs a line of shell. Returns its lines of output and its status."""
         self.shell.say(text)
         lines: list[str] = []
         while not re.fullmatch(r"done \d+", line := self.hear(self.shell)):
@@ -238,7 +233,7 @@ class Machine:
         return lines, int(line.split()[1])
 
     def must(self, text: str) -> list[str]:
-        """Runs a line of shell that must have status 0; returns its lines of output."""
+        """Runs a line of shell that must have status 0. Returns its lines of output."""
         lines, status = self.do(text)
         if status:
             raise Fault(f"{text}: status {status}, {lines}; the machine's last lines:\n{self.last_lines()}")

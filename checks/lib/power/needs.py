@@ -1,4 +1,4 @@
-"""The requirements of the check: programs, a kernel, space."""
+"""The requirements of the check: programs, a kernel and space."""
 
 from __future__ import annotations
 
@@ -27,7 +27,7 @@ def path_with_system() -> str:
 
 
 def memory_folder() -> str | None:
-    """Returns a folder in memory, if there is one: the program syncs its file some thousand times."""
+    """Returns a folder in memory, if there is one, because the program syncs its file thousands of times."""
     return "/dev/shm" if os.access("/dev/shm", os.W_OK) else None
 
 
@@ -56,7 +56,7 @@ def find_kernels(folders: list[str]) -> list[Kernel]:
 
 
 def fetch_kernel() -> int:
-    """Downloads and unpacks Debian's kernel for virtual machines, without installing it; returns the exit status."""
+    """Downloads and unpacks Debian's kernel for virtual machines, without installing it. Returns the exit status."""
     FETCHED.mkdir(parents=True, exist_ok=True)
     depends = subprocess.run(["apt-cache", "depends", KERNEL_PACKAGE], stdout=subprocess.PIPE, stderr=subprocess.PIPE, text=True, check=False)
     found = re.search(r"Depends: (linux-image-\S+)", depends.stdout)
@@ -79,7 +79,7 @@ def fetch_kernel() -> int:
 
 
 def lack_of_room(folder: pathlib.Path, disk: int) -> str:
-    """Returns a message about missing memory for a machine and a disk of this size, or about missing space for its images; "" if there is
+    """Returns a message about missing memory for a machine and a disk of this size, or about missing space for its images, or "" if there is
     enough."""
     needed = MEMORY * MEGA + 3 * disk
     memory = pathlib.Path("/proc/meminfo").read_text()

@@ -1,7 +1,4 @@
-"""The sessions that are served: their commands, the state after each command, and which of these states a file has.
-
-The program itself, run on this host, reports the states; other checks verify its answers.
-"""
+"""The sessions that are served: their commands, the state after each command, and which of these states a file contains."""
 
 from __future__ import annotations
 
@@ -16,7 +13,7 @@ from session_file import LENGTH_BYTES, SLOTS, read
 
 ROMS = 16
 BOARD = "wire\n" + "".join(f'[[rom]]\nchip = {chip}\nport = "0000"\n' for chip in range(ROMS)) + "[[ram]]\nbank = 0\nchips = 4\n."
-# Counts in all nibbles of bank 0, so each run leaves another state.
+# Counts in all nibbles of bank 0, so each run leaves a different state.
 PROGRAM = """asm
 again:  FIM P0, 0x00
 next:   SRC P0
@@ -28,9 +25,9 @@ next:   SRC P0
         ISZ R4, next
         JUN again
 ."""
-# Questions about everything on a board: registers and chips, RAM, ROM.
+# Queries about everything on a board: registers and chips, RAM, ROM.
 QUERIES = "state\nram 0\n" + "".join(f"list {256 * chip} 256\n" for chip in range(ROMS))
-# Before this command the cycles fill the log, after it the bytes.
+# Before this command, cycles fill the log. After it, bytes fill it.
 SHORT_COMMANDS = 48
 # The number of bytes in a long text.
 LINES, BYTES_OF_LINE = 37, 100
@@ -39,8 +36,8 @@ VERSION_PLACE, VERSION_2 = 4, 2
 
 
 def commands(count: int) -> list[str]:
-    """Returns the texts of commands. A snapshot is written at the 49th, when cycles have filled the log, and then at each 20th, when bytes have
-    filled it: three in four have a record of two blocks, of 4,213 bytes."""
+    """Returns the texts of commands. A snapshot is written at the 49th, when cycles have filled the log, and then at every 20th, when bytes have
+    filled it: three in four commands have a record of two blocks, with 4,213 bytes."""
     found = [BOARD, PROGRAM]
     for number in range(len(found), count):
         if number >= SHORT_COMMANDS and number % 4:
@@ -54,7 +51,7 @@ def commands(count: int) -> list[str]:
 
 
 def carried_back(data: bytes) -> bytes:
-    """Returns the version 1 form of a session file whose snapshot, of version 2, has no watches: without the byte of the version and without the
+    """Returns the version 1 form of a session file whose snapshot, of version 2, has no watches: without the version byte and without the
     number of watches."""
     slot = SLOTS[data[8] % 2]
     begin = slot + LENGTH_BYTES
@@ -66,7 +63,7 @@ def carried_back(data: bytes) -> bytes:
 
 
 def is_first(data: bytes) -> bool:
-    """Returns whether a file has a session of version 1."""
+    """Returns true if a file contains a session of version 1."""
     found = read(data)
     return found is not None and found[0][VERSION_PLACE] != VERSION_2
 
@@ -77,7 +74,7 @@ def digest(answers: bytes) -> str:
 
 
 class Sessions:
-    """The sessions after each number of commands, as the program reports them, and the sessions in files that are found."""
+    """The sessions after each number of commands, as the program reports them, and the sessions in the files that are found."""
 
     def __init__(self, program: str, folder: pathlib.Path, count: int) -> None:
         self.program, self.folder = program, folder
@@ -88,13 +85,13 @@ class Sessions:
         self.serve_all()
 
     def run(self, words: list[str], text: str) -> tuple[str, bytes]:
-        """Runs the program to its end; returns its first answer, and the other answers."""
+        """Runs the program until it ends. Returns its first answer and the other answers."""
         done = subprocess.run([self.program, *words], input=text.encode(), stdout=subprocess.PIPE, stderr=subprocess.DEVNULL, check=False)
         first, _, others = done.stdout.partition(b"\n")
         return first.decode(errors="replace"), others
 
     def serve_all(self) -> None:
-        """Records the state after each command, and the commands at which a snapshot is written; makes the sessions that are copied to the
+        """Records the state after each command, and the commands at which a snapshot is written, and creates the sessions that are copied to the
         machine."""
         file = self.folder / "model.mcs"
         slot = 0
@@ -129,14 +126,14 @@ class Sessions:
         return begun.decode().split(" ")[0], digest(state)
 
     def found_in(self, data: bytes) -> int | str:
-        """Returns the number of commands in a session file, if its state is the one after them; otherwise a message."""
+        """Returns the number of commands in a session file, if its state is the one after these commands, otherwise a message."""
         key = hashlib.sha256(data).digest()
         if key not in self.verdicts:
             self.verdicts[key] = self.opened(data)
         return self.verdicts[key]
 
     def opened(self, data: bytes) -> int | str:
-        """Returns the result of opening a file by the program: its number of commands, or a message."""
+        """Opens a file with the program, and returns its number of commands, or a message."""
         file = self.folder / "found.mcs"
         file.write_bytes(data)
         first, state = self.run(["open", str(file)], QUERIES)

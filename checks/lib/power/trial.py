@@ -1,4 +1,4 @@
-"""A trial: a session is served in the machine, the images that a cut can leave are mounted there in turn, and the results are judged.
+"""A trial: a session is served in the machine, the images that a cut can leave are mounted there in turn, and the results are evaluated.
 
 Then one of the images becomes the disk, the session is opened there and continues, and the power is cut again: while the file system
 recovers, while the session is opened, and later.
@@ -25,15 +25,15 @@ from power.sessions import Sessions, is_first
 from session_file import SIZE
 
 MEGA = 1 << 20
-# Another program that writes meanwhile, so that the file system commits in between.
+# Another program that writes at the same time, so that the file system commits between the writes of the program.
 BUSY = "(cd /; n=/mnt/noise; while :; do echo noise >> $n/a; mv $n/a $n/b; sleep 0.3; mv $n/b $n/a; done) & busy=$!"
-# BEGIN starts the program on its line, and reports an unexpected end. END stops everything in the file system; a process can still run there for
+# BEGIN starts the program on its line, and reports an unexpected end. END stops everything in the file system, where a process can still run for
 # a moment.
 BEGIN = "{{ {wrong} mcs4 {words} <&3 >&3; reported=$?; [ -e /tmp/end ] || echo ended with status $reported >&3; }} &"
 END = "cd /; : > /tmp/end; kill $busy; killall mcs4; wait; rm /tmp/end; umount /mnt || { sleep 1; umount /mnt; }"
 # What `new` can leave before its first answer, on a file system that shows only written data.
 BEFORE_NEW = ("absent", "size 0", "blank", 0)
-# The maximum number of errors to report for a recording, and of images to store in all.
+# The maximum number of errors to report for each recording, and of images to store in total.
 SHOWN, KEPT = 2, 6
 
 # A number of commands, or a description of what was found.
@@ -41,7 +41,7 @@ Found = int | str
 
 
 class Seen(NamedTuple):
-    """The result of looking at an image. `is_old`: the file has version 1."""
+    """The result of examining an image. `is_old` is true if the file has version 1."""
     image: Image
     found: Found
     is_old: bool
@@ -63,7 +63,7 @@ class Outcome:
 
 @dataclasses.dataclass
 class Stage:
-    """The serving of a session: the arguments of the program, the command just before it, the number in the first answer, the last command, and
+    """How a session is served: the arguments of the program, the shell command just before it, the number in the first answer, the last command, and
     whether the session existed durably before."""
     words: str
     before: str
@@ -74,10 +74,10 @@ class Stage:
 
 
 class Runner:
-    """Runs trials on a machine with the disks `disk` and `out`; found files are copied to `out`."""
+    """Runs trials on a machine with the disks `disk` and `out`. Files that are found are copied to `out`."""
 
     def __init__(self, machine: Machine, sessions: Sessions, keep: pathlib.Path, show: str, seed: int) -> None:
-        """Images with errors are stored in `keep`. `show` is the command line that looks at a stored image again, without its name."""
+        """Images with errors are stored in `keep`. `show` is the command line that examines a stored image again, without the name of the image."""
         self.machine, self.sessions, self.keep, self.show = machine, sessions, keep, show
         self.disk, self.out = machine.disks["disk"], machine.disks["out"]
         self.chance = random.Random(seed)
@@ -85,7 +85,7 @@ class Runner:
         self.kept = 0
 
     def run(self, trial: Trial) -> Outcome:
-        """Runs a trial; returns its result."""
+        """Runs a trial, and returns its result."""
         kind, case = KINDS[trial.kind], CASES[trial.case]
         self.make(kind, trial, case)
         last = ALL_COMMANDS if case.takes_all else case.begins + (MORE_COMMANDS if case.is_kept else FEW_COMMANDS)
@@ -126,9 +126,9 @@ class Runner:
         for place in range(0, size, MEGA):
             blank.bytes[place:place + MEGA] = self.junk
         words = [*kind.make, blank.file]
-        made = subprocess.run(words, stdout=subprocess.PIPE, stderr=subprocess.STDOUT, text=True, check=False)
-        if made.returncode:
-            raise Fault(f"{' '.join(words)}: {made.stdout}")
+        result = subprocess.run(words, stdout=subprocess.PIPE, stderr=subprocess.STDOUT, text=True, check=False)
+        if result.returncode:
+            raise Fault(f"{' '.join(words)}: {result.stdout}")
         self.disk.bytes[:size] = blank.bytes[:]
         blank.close()
         if case.setup:
@@ -136,7 +136,7 @@ class Runner:
             self.machine.must(f"cd /mnt; {case.setup}; cd /; umount /mnt")
 
     def record(self, kind: Kind, trial: Trial, case: Case, stage: Stage) -> History:
-        """Serves a session; returns the events on the disk meanwhile. The disk is restored to its state before."""
+        """Serves a session, and returns the events on the disk during that time. The disk is then restored to its previous state."""
         self.disk.undo = []
         self.disk.events = events = list[Event]()
         self.disk.late = True
@@ -190,7 +190,7 @@ class Runner:
 
     @contextlib.contextmanager
     def looking(self) -> Iterator[None]:
-        """While this context is active, the machine looks at disks (look.c)."""
+        """While this context is active, the machine examines disks (look.c)."""
         self.machine.shell.say("look")
         yield
         self.machine.shell.say("")
@@ -200,7 +200,7 @@ class Runner:
 
     @staticmethod
     def verdict(trial: Trial, seen: Seen) -> str:
-        """Returns `good`, or a note, or "" for an error."""
+        """Returns `good`, a note, or "" for an error."""
         kind, case = KINDS[trial.kind], CASES[trial.case]
         image, found = seen.image, seen.found
         if found == "not mounted" and image.is_torn:
@@ -211,7 +211,7 @@ class Runner:
         return "good" if isinstance(found, int) and image.least <= found <= image.most else ""
 
     def judge(self, trial: Trial, generation: int, history: History, seen: list[Seen], builder: Builder, seconds: float) -> Outcome:
-        """Reports what was found on the images of a recording; stores some of those with errors."""
+        """Reports what was found on the images of a recording, and stores some of the images with errors."""
         notes: collections.Counter[str] = collections.Counter()
         wrong = []
         for one in seen:
@@ -250,7 +250,7 @@ class Runner:
     # --- stored images, and the next disk
 
     def keep_image(self, trial: Trial, generation: int, builder: Builder, image: Image) -> None:
-        """Stores an image in a file, with the expected result, and reports the command line that looks at it again."""
+        """Stores an image in a file, with the expected result, and reports the command line that examines it again."""
         kind, case = KINDS[trial.kind], CASES[trial.case]
         if self.kept == KEPT:
             return
@@ -266,7 +266,7 @@ class Runner:
         print(f"    look at it again: {self.show} --show {name}", flush=True)
 
     def show_again(self, name: pathlib.Path) -> bool:
-        """Reports what is found on a stored image; returns whether it is right."""
+        """Reports what is found on a stored image. Returns true if it is right."""
         about = json.loads(name.with_suffix(".json").read_text())
         kind, image = KINDS[about["kind"]], name.read_bytes()
         self.disk.bytes[:len(image)] = image
@@ -278,9 +278,9 @@ class Runner:
         return is_good
 
     def next_disk(self, trial: Trial, generation: int, seen: list[Seen]) -> Seen:
-        """Returns the image that becomes the disk of the next generation. It alternates between an image that was cut while a snapshot was
-        written and one that was cut while the session was opened, if there are any. For a session of version 1 it prefers one that still has
-        version 1; for the first of a new session, a blank file."""
+        """Returns the image that becomes the disk of the next generation. Alternates between an image that was cut while a snapshot was
+        written and one that was cut while the session was opened, if there are any. For a session of version 1, prefers one that still has
+        version 1. For the first generation of a new session, prefers a blank file."""
         case = CASES[trial.case]
         is_carried = case.name.startswith("carried")
         wanted: Phase = "opening" if is_carried or generation % 2 else "snapshot"
@@ -298,7 +298,7 @@ class Runner:
 
     @staticmethod
     def next_stage(case: Case, found: Found, images: int) -> Stage:
-        """Returns the serving of the session in the next generation: it continues, or is created if the file is blank."""
+        """Returns how the session is served in the next generation: it continues, or is created if the file is blank."""
         if not isinstance(found, int):
             return Stage(case.words, "", 0, MORE_COMMANDS, False, images)
         return Stage(f"open {case.file}", "", found, found + MORE_COMMANDS, True, images)

@@ -1,4 +1,4 @@
-// `mcs4 back`: restores a session to its state before the last N commands.
+// `mcs4 back`: returns a session to its state before the last N commands.
 import { spawn } from "node:child_process";
 import { once } from "node:events";
 import { closeSync, constants, fsyncSync, openSync, writeSync } from "node:fs";
@@ -10,16 +10,16 @@ import { CommandError, print } from "../output.mjs";
 import { checkWritableFile } from "../user_files.mjs";
 
 const MAX_COMMANDS = 99999;
-/** The offsets in a session file, from docs/FORMAT.md. */
+/** The offsets of fields in a session file, as docs/FORMAT.md defines them. */
 const OFFSETS = { active: 8, slots: [16, 81936], log: 16384, logSize: 65536 };
 const COMMITTED = 1;
-/** The exit status of flock if another process has the lock. */
+/** The exit status of flock if another process holds the lock. */
 const IS_LOCKED = 75;
 
 /**
- * Takes the lock of a session file, as the native program does while it serves the file; returns a function that releases the lock. The
- * lock is also released when this process ends.
- * @param {string} session its file
+ * Acquires the lock of a session file, as the native program does while it serves the file. Returns a function that releases the lock. The end of
+ * this process also releases it.
+ * @param {string} session the session's file name
  */
 async function lock(session) {
   const child = spawn("flock", ["-n", "-E", String(IS_LOCKED), session, "sh", "-c", "echo; exec cat"], { stdio: ["pipe", "pipe", "ignore"] });
@@ -36,8 +36,8 @@ async function lock(session) {
 }
 
 /**
- * Returns the offsets of the commit bytes of all records in the log of the active slot.
- * @param {Uint8Array} bytes of a session file
+ * Returns the offsets of the commit bytes of all records in the active slot's log.
+ * @param {Uint8Array} bytes the contents of a session file
  */
 function commitOffsets(bytes) {
   const begin = OFFSETS.slots[bytes[OFFSETS.active] % 2] + OFFSETS.log;
@@ -47,9 +47,9 @@ function commitOffsets(bytes) {
 }
 
 /**
- * Ends the log of a session file at a record, by clearing the record's commit byte.
- * @param {string} session its file
- * @param {number} offset of the commit byte
+ * Truncates a session's log before a record by clearing the record's commit byte.
+ * @param {string} session the session's file name
+ * @param {number} offset the offset of the record's commit byte
  */
 function endLog(session, offset) {
   try {
@@ -66,9 +66,9 @@ function endLog(session, offset) {
 }
 
 /**
- * Removes the last commands of a session; returns the line to print.
- * @param {string} session its file
- * @param {number} count the number of commands to remove; 0 only returns how many can be removed
+ * Removes the last commands of a session. Returns the line to print.
+ * @param {string} session the session's file name
+ * @param {number} count the number of commands to remove; 0 only reports how many can be removed
  */
 async function goBack(session, count) {
   const engine = await startEngine();

@@ -1,4 +1,4 @@
-// `mcs4 cover`: prints which lines of a program were run, and how often.
+// `mcs4 cover`: prints how often each line of a program ran.
 import { LineAccount } from "../../core/testing/account.js";
 import { coverageText, lcovOf } from "../../core/testing/coverage_text.js";
 import { NO_LCOV } from "../../words/commands.js";
@@ -6,7 +6,7 @@ import { print } from "../output.mjs";
 import { testOrCount } from "../test_commands.mjs";
 import { checkOutputFile, writeUserFile } from "../user_files.mjs";
 
-/** The beginning of a file in LCOV's format. */
+/** The text at the beginning of an LCOV file. */
 const LCOV_BEGIN = "TN:";
 
 /** @type {import("./table.mjs").CommandModule["run"]} */

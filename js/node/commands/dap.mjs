@@ -1,4 +1,4 @@
-// `mcs4 dap`: the debug adapter of js/core/adapter over standard input and output. It runs on the WebAssembly module from the page.
+// `mcs4 dap`: the debug adapter of js/core/adapter on standard input and output. It uses the WebAssembly module from the page.
 import { AdapterConnection } from "../../core/adapter/adapter_connection.js";
 import { DebugAdapter } from "../../core/adapter/debug_adapter.js";
 import { Engine } from "../../core/engine/engine.js";
@@ -12,7 +12,7 @@ const end = exitAfterOutput("dap");
 async function serve() {
   const connection = new AdapterConnection((bytes) => process.stdout.write(bytes));
   const adapter = new DebugAdapter(connection, await Engine.load(moduleOfPage()), dataOfPage(), { ...host, end });
-  // The client has ended without a disconnect request, or sent unreadable data. The work so far is saved.
+  // The client has ended without a disconnect request or has sent unreadable data. Save the work so far.
   listen(connection, (words) => {
     connection.turn.then(() => adapter.leave()).then((left) => end(1, words || left));
   });

@@ -1,4 +1,4 @@
-// `mcs4 debug`: the debugger prompt of js/core/prompt, at a terminal or with commands from standard input. It runs on the WebAssembly module
+// `mcs4 debug`: the debugger prompt of js/core/prompt, interactive at a terminal or with commands from standard input. It uses the WebAssembly module
 // from the page.
 import { createInterface } from "node:readline";
 import { Prompt } from "../../core/prompt/debugger_prompt.js";
@@ -20,7 +20,7 @@ import { NO_BREAKPOINTS_FILE, noSessionToDebug } from "../../words/commands.js";
 
 const isByHand = process.stdin.isTTY === true && process.stdout.isTTY === true;
 
-/** Runs commands from standard input, and counts their lines in `at`; returns the exit status, 1 if a command was rejected. */
+/** Runs commands from standard input. Counts their lines in `at`. Returns the exit status, which is 1 if a command was rejected. */
 async function runScript(prompt, at) {
   let isRefused = false;
   for await (const line of createInterface({ input: process.stdin, crlfDelay: Infinity })) {
@@ -31,10 +31,10 @@ async function runScript(prompt, at) {
   return isRefused ? 1 : 0;
 }
 
-/** Passes the calls of the prompt to the view, which is made later. */
+/** Forwards the prompt's calls to the view, which is created later. */
 const viewCalls = { toggle: () => viewCalls.view.toggle(), turn: (isOn) => viewCalls.view.turn(isOn), view: null };
 
-/** Serves the lines typed at a terminal; returns the exit status. Ctrl-L and a resize draw the view again. */
+/** Runs an interactive prompt. Ctrl-L and a resize redraw the view. Returns the exit status. */
 async function runByHand(prompt, holder) {
   const terminal = new TerminalPrompt(prompt, {
     output: process.stdout, served: () => view.draw(), left: () => view.leave(), entered: () => view.again(),
@@ -55,7 +55,7 @@ async function runByHand(prompt, holder) {
   return status;
 }
 
-/** Debugs the files of a board, a program and a session, each undefined if there is none; returns the exit status. */
+/** Debugs a board, a program and a session, by their file names (undefined for none). Returns the exit status. */
 async function serve(given) {
   const engine = await Engine.load(moduleOfPage());
   const data = dataOfPage();

@@ -1,4 +1,4 @@
-// `mcs4 display`: prints the text that a board's display shows, from answers about the lamps.
+// `mcs4 display`: prints the text on a board's display, from the bench's answers about lamps.
 import { joinLines } from "../../core/bench/inputs.js";
 import { shownAnswers } from "../../core/board/shown_answers.js";
 import { checkArguments, projectFor } from "../arguments.mjs";
@@ -15,7 +15,7 @@ export async function run({ folder }, positionals) {
   const [name] = words;
   const texts = new GivenTexts();
   const boardText = texts.text(name, "wire");
-  // Standard input is read before the engine starts, so a signal ends the process at once while it waits.
+  // Read standard input before the engine starts, so that a signal ends the waiting process immediately.
   const answers = texts.answers("display");
   const { board, face } = await boardAndFace(await startEngine(), boardText);
   const { lines, words: error } = shownAnswers(face, board, name, answers);

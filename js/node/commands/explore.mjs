@@ -1,4 +1,4 @@
-// `mcs4 explore`: searches for keys that break a property, with the modules of js/core/explore. It runs on the WebAssembly module from the
+// `mcs4 explore`: searches for key sequences that break a property, with the modules of js/core/explore. It uses the WebAssembly module from the
 // page.
 import { join } from "node:path";
 import { isRight, tapOf, testsOfReport } from "../../core/explore/report.js";
@@ -10,14 +10,14 @@ import { temporaryFolder } from "../temporary.mjs";
 import { checkOutputFile, writeUserFile } from "../user_files.mjs";
 import { NO_FINDS, NO_REPORT, excludeEachOther } from "../../words/commands.js";
 
-/** The beginnings of the files that the command writes. */
+/** The texts at the beginning of the files that the command writes. */
 const FINDS_BEGIN = "# Found by ";
 const REPORT_BEGIN = "{\"form\":\"explore 1\"";
-/** The maximum of each option, and its default. */
+/** The maximum and the default of each numeric option. */
 const SECONDS = { most: 86400, usual: 10 };
 const JOBS = { most: 64, usual: 1 };
 const SEED = { most: 99999999, usual: 1 };
-/** The options that only a search has; they exclude --merge. */
+/** The options of a search, which are not allowed with --merge. */
 const SEARCH_OPTIONS = ["folder", "seconds", "jobs", "seed", "allow-model"];
 
 /** @type {(name: string, word: string | undefined, range: { most: number, usual: number }) => number} */
@@ -46,8 +46,8 @@ export async function run(values, positionals) {
 }
 
 /**
- * Runs a search; returns the report.
- * @param {string[]} names of the files of board, program and properties
+ * Runs a search. Returns its report.
+ * @param {string[]} names the file names of board, program and properties
  * @param {Omit<import("../explore_processes.mjs").Settings, "folder" | "texts">} limits
  */
 function explore([board, program, properties], limits) {

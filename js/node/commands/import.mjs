@@ -1,4 +1,4 @@
-// `mcs4 import`: converts a program from the spelling of Intel's assembler or of AS to the bench's spelling.
+// `mcs4 import`: converts a program from the syntax of Intel's assembler or of AS to the bench's syntax.
 import { importProgram } from "../../core/import/program_import.js";
 import { readProgram } from "../../core/engine/program_check.js";
 import { faultsOfText } from "../../core/testing/prepared.js";
@@ -11,8 +11,8 @@ import { CommandError, printFile } from "../output.mjs";
 const UTF8_MARK = /^\u00ef\u00bb\u00bf/;
 
 /**
- * Throws the error for a converted program that the bench rejects. Its lines have the same numbers as those of the source.
- * @param {string} name of the source
+ * Throws an error if the bench rejects a converted program. Its lines have the same numbers as the lines of the source.
+ * @param {string} name the file name of the source
  * @param {string} source
  * @param {string} text the converted program
  */
@@ -21,7 +21,7 @@ async function tryOnBench(name, source, text) {
   const unsent = faultsOfText("program", text);
   const { refusal } = unsent.length > 0 ? { refusal: null } : readProgram(engine, sentText(text, ";"));
   if (!refusal && unsent.length === 0) return;
-  // Uses the message of the refusal. The message about the line would be about the bench's spelling.
+  // Use the message of the refusal, because a message about the line would describe the bench's syntax.
   const { wordsOfRefusal } = await import("../refused_texts.mjs");
   const faults = refusal ? [{ text: /** @type {const} */ ("program"), ...refusal, words: wordsOfRefusal(refusal.number) }] : unsent;
   throw await rejectedTextsError(engine, { program: { name, text: source, before: 0 } }, faults);
@@ -31,7 +31,7 @@ async function tryOnBench(name, source, text) {
 export async function run(values, words) {
   checkArguments(words, ["PROGRAM"]);
   const [name] = words;
-  // Latin 1 has one character for each byte, so comments in any encoding keep their bytes.
+  // Latin 1 has one character per byte, so comments in any encoding keep their bytes.
   const source = new GivenTexts().read(name, MAX_TEXT_BYTES).toString("latin1").replace(UTF8_MARK, "").replace(/\r\n?/g, "\n");
   const { text, faults } = importProgram(source);
   if (faults.length > 0) throw new CommandError(faults.map(({ line, words: why }) => `${name}:${line}: ${why}`).join("\n"));

@@ -1,4 +1,4 @@
-// `mcs4 keys`: prints session lines that press keys by their names, or presses the keys on a session until a run stops.
+// `mcs4 keys`: prints session lines that press keys by name, or presses the keys in a session until a run stops.
 import { isStop, refusalOf } from "../../core/bench/answers.js";
 import { joinLines } from "../../core/bench/inputs.js";
 import { USUAL_PACE } from "../../core/testing/press_lines.js";
@@ -12,8 +12,8 @@ import { CommandError, print, printFile } from "../output.mjs";
 const MAX_CYCLES = 100000;
 
 /**
- * Serves lines on a session and prints the answers, up to the first run that stops; returns the exit status.
- * @param {string} session its file
+ * Serves lines in a session up to the first run that stops, and prints the answers. Returns the exit status.
+ * @param {string} session the session's file name
  * @param {string[]} lines
  */
 async function pressOn(session, lines) {

@@ -1,4 +1,4 @@
-// `mcs4 listing`: prints an assembler listing of a program, or its names with their values.
+// `mcs4 listing`: prints an assembler listing of a program, or the program's names with their values.
 import { joinLines } from "../../core/bench/inputs.js";
 import { namesOfProgram, programListing } from "../../core/machine/program_listing.js";
 import { excludeEachOther } from "../../words/commands.js";

@@ -1,4 +1,4 @@
-// `mcs4 lsp`: the language server of js/core/server over standard input and output. It runs on the WebAssembly module from the page.
+// `mcs4 lsp`: the language server of js/core/server on standard input and output. It uses the WebAssembly module from the page.
 import { Connection } from "../../core/server/connection.js";
 import { LanguageServer } from "../../core/server/language_server.js";
 import { Engine } from "../../core/engine/engine.js";
@@ -9,7 +9,7 @@ import { isInside, readUserText } from "../user_files.mjs";
 
 const end = exitAfterOutput("lsp");
 
-/** Returns the text of a file; null if it cannot be read, or is outside of its project's folder. `folder` is "" without a project. */
+/** Returns the contents of a file, or null if the file cannot be read or is outside its project's folder. `folder` is "" without a project. */
 function readFile(uri, folder) {
   try {
     const address = new URL(uri);
@@ -26,7 +26,7 @@ const pause = () => new Promise((resume) => {
 async function serve() {
   const connection = new Connection((bytes) => process.stdout.write(bytes), end);
   const server = new LanguageServer(connection, await Engine.load(moduleOfPage()), dataOfPage(), { readFile, pause });
-  // A client must send a shutdown request before it closes the stream; otherwise the exit status is 1.
+  // A client must send a shutdown request before it closes the stream. Otherwise the exit status is 1.
   listen(connection, (words) => end(server.connection.state === "shut" && words === "" ? 0 : 1, words));
 }
 

@@ -1,4 +1,4 @@
-// `mcs4 names`: replaces the names of a program in session lines by their addresses.
+// `mcs4 names`: replaces a program's names in session lines with their addresses.
 import { replaceNames } from "../../core/bench/names_in_lines.js";
 import { inLine } from "../../words/commands.js";
 import { checkArguments, projectFor } from "../arguments.mjs";

@@ -1,4 +1,4 @@
-// `mcs4 open` at a terminal. (Without a terminal, the starter runs the native program directly.)
+// `mcs4 open` at a terminal. (Without a terminal, the starter script runs the native program directly.)
 import { checkArguments } from "../arguments.mjs";
 import { servePrompt } from "../session_terminal.mjs";
 

@@ -1,4 +1,4 @@
-// `mcs4 panel`: the front panel of a board in a terminal, with live keys. The native program writes every command into the session's file.
+// `mcs4 panel`: the board's front panel in a terminal, with live keys. The native program records every command in the session's file.
 import { basename } from "node:path";
 import { codesOf } from "../../core/engine/rom_codes.js";
 import { listQueries, PAGES } from "../../core/bench/rom_bytes.js";
@@ -24,7 +24,7 @@ import { openProgram } from "../program_on_file.mjs";
  */
 
 const FAILED = 1;
-/** The milliseconds between two frames. */
+/** The interval between two frames in milliseconds. */
 const FRAME_INTERVAL = 100;
 
 /**
@@ -43,7 +43,7 @@ async function namesOf({ folder, source }, words) {
 }
 
 /**
- * Serves lines; returns the lines of their answers.
+ * Serves lines. Returns the lines of their answers.
  * @param {SessionProgram} session
  * @param {string} lines
  */
@@ -55,9 +55,9 @@ async function answersOf(session, lines) {
 }
 
 /**
- * Reads board and program; throws an error if they differ from the session's board or from the bytes in its ROM.
+ * Reads the board and the program. Throws an error if the board differs from the session's board, or the program from the contents of its ROM.
  * @param {SessionProgram} session
- * @param {string} name of the session
+ * @param {string} name the session's file name
  * @param {{ board: GivenText, program: GivenText | null }} texts
  */
 async function readTexts(session, name, texts) {
@@ -72,9 +72,9 @@ async function readTexts(session, name, texts) {
 }
 
 /**
- * Returns a message about the first part that the front panel mentions and the board lacks; "" if there is none.
+ * Returns a message about the first part that the front panel mentions but the board does not have, or "" if there is none.
  * @param {Awaited<ReturnType<typeof readTexts>>} known
- * @param {number} before the number of lines before the text in its file
+ * @param {number} before the number of lines before the board's text in its file
  */
 function missingPartNote({ board, face }, before) {
   const [note] = sortedByLine([...face.faults, ...missingParts(face, board)]);
@@ -95,7 +95,7 @@ async function drawFrame(terminal, panel, screen) {
 }
 
 /**
- * Handles the keys that are typed until the next frame is due. While the machine is paused, a frame is due after each key.
+ * Handles typed keys until the next frame is due. While time is paused, a frame is due after each key.
  * @param {PanelTerminal} terminal
  * @param {Panel} panel
  * @param {number} next the time of the next frame, in milliseconds
@@ -110,7 +110,7 @@ async function handleKeys(terminal, panel, next) {
 }
 
 /**
- * Shows the panel until it ends; returns the exit status.
+ * Shows the panel until it ends. Returns the exit status.
  * @param {PanelTerminal} terminal
  * @param {Panel} panel
  */
@@ -134,7 +134,7 @@ export async function run(values, words) {
   const board = texts.text(names.board, "wire");
   const program = names.program === undefined ? null : texts.text(names.program, "asm");
   texts.read(names.session, MAX_TEXT_BYTES);
-  // Throws an error if there is no program, before the terminal changes.
+  // If there is no native program, fail before the terminal changes.
   programPath();
   const terminal = new PanelTerminal();
   const session = await openProgram("open", names.session);

@@ -1,4 +1,4 @@
-// `mcs4 profile`: prints where a program spends its machine cycles.
+// `mcs4 profile`: prints in which parts a program spends its machine cycles.
 import { Account } from "../../core/testing/account.js";
 import { profileText } from "../../core/testing/profile_text.js";
 import { print } from "../output.mjs";

@@ -1,4 +1,4 @@
-// `mcs4 project`: splits a project file of the page into files in a folder, and joins such files into a project file.
+// `mcs4 project`: splits the page's project file into the files of a folder, and joins such files into a project file.
 import { existsSync, realpathSync } from "node:fs";
 import { basename, join } from "node:path";
 import { MAX_PROJECT_BYTES, NotAProject, projectText, readProject, wordsOfLength } from "../../core/session/project_file.js";
@@ -14,11 +14,11 @@ import { isInside, checkOutputFile, readUserFile, statOfInput, writeNewFiles, wr
 
 const PROJECT_BEGINS = "fethsaim project ";
 const SESSION_BEGINS = "MCS4BEN1";
-/** The kinds of texts that a folder can have several of, and a project file only one. */
+/** The kinds of texts that a folder can have several of. A project file can have only one of each. */
 const LIST_KINDS = /** @type {const} */ (["tests", "properties"]);
 
 /**
- * Calls `act` and returns its result; if a text is not a project, throws an error with the name of its file.
+ * Calls `act` and returns its result. If a text is not a valid project, throws an error that names the file.
  * @template Result
  * @param {string} name
  * @param {() => Result} act
@@ -32,8 +32,8 @@ function withFileName(name, act) {
 }
 
 /**
- * Splits a project file into files in a new folder.
- * @param {string} name of the project file
+ * Splits a project file into the files of a new folder.
+ * @param {string} name the name of the project file
  * @param {string} folder
  */
 function split(name, folder) {
@@ -44,9 +44,9 @@ function split(name, folder) {
 // --- join ---
 
 /**
- * Reads a file in a folder; throws an error if a link leads out of the folder.
+ * Reads a file in a folder. Throws an error if a link leads out of the folder.
  * @param {string} folder
- * @param {string} name the path of the file, with the folder
+ * @param {string} name the path of the file, including the folder
  */
 function readPart(folder, name) {
   const bytes = readUserFile(name, MAX_TEXT_BYTES);
@@ -55,9 +55,9 @@ function readPart(folder, name) {
 }
 
 /**
- * Reads a UTF-8 text in a folder; throws an error if the file is not a text.
+ * Reads a UTF-8 text in a folder. Throws an error if the file is not valid UTF-8.
  * @param {string} folder
- * @param {string} name the path of the file, with the folder
+ * @param {string} name the path of the file, including the folder
  */
 function readText(folder, name) {
   const bytes = readPart(folder, name);
@@ -70,7 +70,7 @@ function readText(folder, name) {
 }
 
 /**
- * Returns the paths of the texts: those in `mcs4.toml`, or without it the standard names of the files that exist.
+ * Returns the paths of the texts. They come from `mcs4.toml`, or are the standard names of the files that exist.
  * @param {string} folder
  * @returns {Promise<{ board: string, program: string, tests: string, properties: string }>} "" for a text that does not exist
  */
@@ -86,7 +86,7 @@ async function textPaths(folder) {
 }
 
 /**
- * Returns the bytes of the session file in a folder. If there is none, makes a new session from the texts.
+ * Returns the bytes of the session file in a folder. If there is none, creates a new session from the texts.
  * @param {string} folder
  * @param {{ board: string, program: string }} names the paths of the texts
  * @param {{ boardText: string, programText: string }} texts
@@ -107,7 +107,7 @@ async function sessionOf(folder, names, texts) {
 }
 
 /**
- * Returns the name of the project in a folder: the line in its name file, or the name of the folder.
+ * Returns the name of the project in a folder: the first line of its name file, or the folder's name.
  * @param {string} folder
  */
 function projectName(folder) {
@@ -119,7 +119,7 @@ function projectName(folder) {
 }
 
 /**
- * Reads the list in a text in a folder; returns an empty list if the text does not exist.
+ * Parses the list in a text file of a folder. Returns an empty list if the file does not exist.
  * @template Item
  * @param {string} folder
  * @param {string} part
@@ -133,7 +133,7 @@ function listIn(folder, part, read) {
 /**
  * Joins the files in a folder into a project file.
  * @param {string} folder
- * @param {string} name of the project file
+ * @param {string} name the name of the project file
  */
 async function joinFiles(folder, name) {
   if (!statOfInput(folder)?.isDirectory()) throw new CommandError(say.noFolder(folder));
@@ -159,7 +159,7 @@ export async function run(values, [action, ...words]) {
   if (action !== "split" && action !== "join") throw new UsageError(say.neitherSplitNorJoin(action));
   checkArguments(words, action === "split" ? ["FILE", "FOLDER"] : ["FOLDER", "FILE"]);
   const [from, to] = words;
-  // A signal must not leave a partly written file.
+  // A signal must not leave a partially written file.
   endOnSignals();
   if (action === "split") split(from, to);
   else await joinFiles(from, to);

@@ -1,4 +1,4 @@
-// `mcs4 prove`: proves that properties hold for all inputs. The program mcs4-prove searches, and the bench confirms each counterexample.
+// `mcs4 prove`: proves that properties hold for all inputs. The program mcs4-prove searches for counterexamples, and the bench confirms each one.
 import { statusOf, tapHead, tapOfJudged } from "../../core/prove/verdicts.js";
 import { namesWithProperties, parseCount, checkArguments } from "../arguments.mjs";
 import { GivenTexts } from "../given_texts.mjs";
@@ -7,10 +7,10 @@ import { ProgressLine } from "../progress_line.mjs";
 import { beginProving } from "../proving.mjs";
 import { provingSoFar } from "../../words/prove.js";
 
-/** The maximum number of states to search, and the default. */
+/** The maximum and the default of the number of states to search. */
 const STATES = { most: 999999999, usual: 1000000 };
 
-/** The maximum memory for the states, in MB. */
+/** The maximum of the memory option, in MB. */
 const MAX_MEMORY = 1000000;
 
 /** @type {import("./table.mjs").CommandModule["run"]} */
@@ -26,7 +26,7 @@ export async function run({ folder, most: word, memory: size }, positionals) {
 }
 
 /**
- * Judges all properties, and prints the result of each as soon as it is known; returns the exit status.
+ * Judges all properties. Prints the result of each as soon as it is known. Returns the exit status.
  * @param {import("../../core/prove/judging.js").Judging} judging
  * @param {string} file the name of the properties file
  */

@@ -1,4 +1,4 @@
-// `mcs4 resume`: continues a script that was interrupted.
+// `mcs4 resume`: continues an interrupted script.
 import { spawn } from "node:child_process";
 import { once } from "node:events";
 import { refusalOf } from "../../core/bench/answers.js";
@@ -13,7 +13,7 @@ import { wordsOfRefusal } from "../refused_texts.mjs";
 const OPENED = /^session \d+\n/;
 
 /**
- * Prints answers as they arrive; returns null. If the first line is a refusal to open the session, returns that line instead.
+ * Prints answers as they arrive and returns null. If the first line is not a session's opening, prints nothing and returns that line.
  * @param {import("node:stream").Readable} stream
  */
 async function printAnswers(stream) {
@@ -30,8 +30,8 @@ async function printAnswers(stream) {
 }
 
 /**
- * Serves bytes on a session, and prints the answers; returns the exit status.
- * @param {string} session its file
+ * Serves bytes in a session and prints the answers. Returns the exit status.
+ * @param {string} session the session's file name
  * @param {Buffer} bytes
  */
 async function serveOn(session, bytes) {
@@ -49,7 +49,7 @@ async function serveOn(session, bytes) {
 }
 
 /**
- * Returns the bytes after the first lines.
+ * Returns the bytes after a number of lines.
  * @param {Buffer} bytes
  * @param {number} lines the number of lines to skip
  */
@@ -69,7 +69,7 @@ export async function run(_, positionals) {
   const texts = new GivenTexts();
   const bytes = texts.read(scriptName, MAX_SCRIPT);
   const before = texts.read(session, MAX_TEXT_BYTES);
-  // Throws an error if there is no program, before anything else.
+  // If there is no native program, fail before anything else.
   programPath();
   const engine = await startEngine();
   const { lines, words, differing } = await begunScript(

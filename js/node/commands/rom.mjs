@@ -1,4 +1,4 @@
-// `mcs4 rom`: converts ROM images to session lines, and answers to ROM images.
+// `mcs4 rom`: converts ROM images to session lines, and the bench's answers to ROM images.
 import { refusalOf } from "../../core/bench/answers.js";
 import { hex, numberOf } from "../../core/bench/numbers.js";
 import { ADDRESSES, MAX_LISTED, NO_BYTE, bytesOf } from "../../core/bench/rom_bytes.js";
@@ -18,7 +18,7 @@ const ACTION_FORMATS = { load: ["hex", "srec", "bnpf", "binary"], ask: [], save:
 const PARSERS = { hex: readHex, srec: readSRecords, bnpf: readBnpf };
 
 /**
- * Returns the image format that an option names; null if none does.
+ * Returns the image format that an option names, or null if there is no such option.
  * @param {string} action
  * @param {import("./table.mjs").Values} values
  * @returns {ImageForm | null}
@@ -32,7 +32,7 @@ function chosenFormat(action, values) {
 }
 
 /**
- * Parses an image; returns its bytes, from an address on.
+ * Parses an image. Returns its bytes, placed from an address.
  * @param {ImageForm} form
  * @param {Buffer} file
  * @param {number} address
@@ -42,7 +42,7 @@ function bytesOfImage(form, file, address) {
 }
 
 /**
- * Prints the session lines that put an image into ROM.
+ * Prints the session lines that load an image into ROM.
  * @param {ImageForm | null} given
  * @param {string[]} words
  */
@@ -64,7 +64,7 @@ function load(given, words) {
 }
 
 /**
- * Parses the first address and the number of bytes of a range.
+ * Parses the first address and the byte count of a range.
  * @param {string[]} words
  */
 function rangeOf(words) {
@@ -76,7 +76,7 @@ function rangeOf(words) {
 }
 
 /**
- * Prints the session lines that ask for the bytes of a range.
+ * Prints the session lines that query the bytes of a range.
  * @param {string[]} words
  */
 function ask(words) {
@@ -89,12 +89,12 @@ function ask(words) {
 }
 
 /**
- * Returns the bytes of a range from answers; a later answer overrides an earlier one.
+ * Returns the bytes of a range from answers. A later answer overrides an earlier one.
  * @param {string} answers
  * @param {{ first: number, count: number }} range
  */
 function bytesInAnswers(answers, { first, count }) {
-  // A last line without a line feed is cut off, so it is left out.
+  // A last line without a line feed is truncated, so ignore it.
   const lines = answers.split("\n").slice(0, -1).map((line) => line.replace(/\r$/, ""));
   const refusedAt = lines.findIndex((line) => refusalOf(line));
   if (refusedAt >= 0) throw new CommandError(say.answersRefusal(refusedAt + 1, lines[refusedAt]));

@@ -1,4 +1,4 @@
-// `mcs4 script`: prints session lines that wire a board, load a program, press keys, and ask for the lamps.
+// `mcs4 script`: prints session lines that wire a board, load a program, press keys, and query the lamps.
 import { MAX_LINE_LENGTH, joinLines } from "../../core/bench/inputs.js";
 import { USUAL_PACE } from "../../core/testing/press_lines.js";
 import { prepare } from "../../core/testing/prepared.js";
@@ -11,7 +11,7 @@ import { rejectedTextsError, startEngine } from "../native_program.mjs";
 import { printFile } from "../output.mjs";
 
 /**
- * Returns a text with its comments; if that is too long for the bench, without them.
+ * Returns a text with its comments, or without them if it would be too long for the bench.
  * @param {string} text
  * @param {import("../../core/text/text_fault.js").CommentMark} mark
  */

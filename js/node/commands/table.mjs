@@ -1,17 +1,17 @@
-// The table of commands, which drives argument parsing, help, manual pages and completions. The descriptions are in js/words/commands.js,
-// by the same names. The module of a command exports `run(values, positionals)`, which returns the exit status or a promise for it.
+// The command table. Argument parsing, help, manual pages and completions are generated from it. The descriptions are in js/words/commands.js, under
+// the same names. A command's module exports `run(values, positionals)`, which returns the exit status or a promise of it.
 
 /**
  * @typedef {import("../../words/commands.js").CommandName} CommandName
  *
- * An option, as `parseArgs` of node:util takes it. `value` is the name of its value in the help.
+ * An option in the form that `parseArgs` of node:util accepts. `value` is the name of its value in the help.
  * @typedef {{ type: "string" | "boolean", short?: string, multiple?: boolean, value?: string }} Option
  *
- * The values of options by their long names; and the module of a command.
+ * `Values` are the options' values by their long names. `CommandModule` is the module of a command.
  * @typedef {Record<string, any>} Values
  * @typedef {{ run: (values: Values, positionals: string[]) => Promise<number> | number }} CommandModule
  *
- * A command: its group in the help, its usage lines, its options by their long names, and the function that loads its module.
+ * A command: its group in the help, its usage lines, its options by their long names, and a function that loads its module.
  * @typedef {{ group: "tests" | "session" | "texts", usage: string[], options: Record<string, Option>, load: () => Promise<CommandModule> }} Command
  */
 

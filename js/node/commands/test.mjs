@@ -1,4 +1,4 @@
-// `mcs4 test`: runs tests of a program, and prints the results as TAP.
+// `mcs4 test`: runs tests of a program and prints the results as TAP.
 import { NoAccount } from "../../core/testing/account.js";
 import { tapOfTest } from "../../core/testing/tap.js";
 import { runTestCommand } from "../test_commands.mjs";

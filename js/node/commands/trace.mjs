@@ -12,7 +12,7 @@ const MAX_LAST = 10000;
 const MAX_CYCLES_WITH_LAST = 100000000;
 
 /**
- * Returns the name of the program that labels or lines come from; undefined if there is none.
+ * Returns the file name of the program that supplies labels or source lines, or undefined if there is none.
  * @param {import("./table.mjs").Values} values
  */
 async function programFor({ folder, names, source }) {

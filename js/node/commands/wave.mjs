@@ -1,4 +1,4 @@
-// `mcs4 wave`: prints the lines of a board over time as a VCD file, or writes the sound of a buzzer as a WAV file.
+// `mcs4 wave`: prints a board's lines over time as a VCD file, or writes a buzzer's sound as a WAV file.
 import { readBoard } from "../../core/bench/answers.js";
 import { hasOutput } from "../../core/board/face_board.js";
 import { Face } from "../../core/board/face.js";
@@ -27,11 +27,11 @@ import { checkOutputFile, writeUserFile } from "../user_files.mjs";
  */
 
 const MAX_CYCLES = 10000000;
-/** The beginning of a WAV file. */
+/** The text at the beginning of a WAV file. */
 const WAV_BEGINS = "RIFF";
 
 /**
- * Returns the file names of board and program, from the options or from the named project; undefined if there is none.
+ * Returns the file names of board and program, from the options or from the project (undefined for none).
  * @param {Values} values
  */
 async function textsFor({ folder, board, names }) {
@@ -40,7 +40,7 @@ async function textsFor({ folder, board, names }) {
 }
 
 /**
- * Throws an error if a board's text differs from the session's board, or if its front panel names parts that the board lacks.
+ * Throws an error if a board's text does not describe the session's board, or if its front panel names parts that the board does not have.
  * @param {Wired["engine"]} engine
  * @param {GivenText} given
  * @param {string[]} wanted the session's answers to `board`
@@ -54,7 +54,7 @@ async function checkBoard(engine, given, wanted) {
 }
 
 /**
- * Opens a session, and reads its board and its program.
+ * Opens a session and reads its board and program.
  * @param {string} session
  * @param {{ board: string | undefined, program: string | undefined }} names
  * @returns {Promise<Wired>}
@@ -77,7 +77,7 @@ async function wired(session, { board: boardName, program: programName }) {
 const boardTextOf = ({ boardText }) => (boardText ? boardText.text : "");
 
 /**
- * Calls `choose` and returns its result; throws a CommandError for a line that the board lacks.
+ * Calls `choose` and returns its result. Throws a CommandError if a line does not exist on the board.
  * @template Result
  * @param {() => Result} choose
  */
@@ -95,7 +95,7 @@ function reportStop({ isStuck, cycles }, wanted) {
 }
 
 /**
- * Prints the VCD file.
+ * Prints the recording as a VCD file.
  * @param {Wired} opened
  * @param {number} cycles
  * @param {string[]} words
@@ -119,7 +119,7 @@ async function printVcd(opened, cycles, words) {
 }
 
 /**
- * Returns the name of the line that drives the buzzer: `word`, or the line that the board's front panel names.
+ * Returns the line that drives the buzzer: `word`, or the line that the front panel names.
  * @param {Wired} opened
  * @param {string | undefined} word
  */
@@ -136,11 +136,11 @@ function buzzerLine({ board, boardText, face: { buzzer } }, word) {
 }
 
 /**
- * Writes the WAV file.
+ * Writes the buzzer's sound as a WAV file.
  * @param {Wired} opened
  * @param {number} cycles
  * @param {string | undefined} word
- * @param {string} name of the file
+ * @param {string} name the file name
  */
 async function writeWav(opened, cycles, word, name) {
   const { engine, state, board } = opened;

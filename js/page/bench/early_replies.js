@@ -1,19 +1,18 @@
-// A faster way for replies to reach the page. After a key press Chromium delivers a worker's messages only at the next frame, but messages
-// of a broadcast channel at once. Broadcast messages can be lost, for example while a page is frozen. Therefore each reply is also sent as
-// an ordinary message.
+// Delivers worker replies to the page faster. After a key press, Chromium delivers a worker's messages only at the next frame, but broadcast channel
+// messages at once. A broadcast message can be lost, for example while the page is frozen, so each reply is also sent as an ordinary message.
 
 /**
  * @typedef {import("../../core/bench/bench_client.js").WorkerLike} WorkerLike
  * @typedef {import("../../core/bench/protocol.js").Early} Early
  */
 
-/** Returns a random name that no other page knows. */
+/** Returns a random channel name that no other page can guess. */
 function secretName() {
   return crypto.getRandomValues(new Uint32Array(4)).join("-");
 }
 
 /**
- * Returns the broadcast channel with this name. Returns null in older browsers, and in Firefox if the data of sites is blocked.
+ * Returns the broadcast channel with this name. Returns null for an empty name, in older browsers, and in Firefox if site data is blocked.
  * @param {string} name
  */
 function channelOf(name) {
@@ -26,7 +25,7 @@ function channelOf(name) {
 }
 
 /**
- * Starts a worker whose early replies are handled like its other messages.
+ * Starts a worker. Its early replies reach the same listeners as its ordinary messages.
  * @param {string} address
  * @returns {WorkerLike}
  */
@@ -48,8 +47,8 @@ export function startWorker(address) {
 }
 
 /**
- * Returns the function that sends early replies from the worker. It copies the contents of the reply.
- * @param {string} name the worker's name
+ * Returns the function that sends early replies from the worker. The channel copies the reply's contents.
+ * @param {string} name the worker's name, which is also the channel name
  * @returns {(early: Early) => void}
  */
 export function earlySender(name) {

@@ -1,4 +1,4 @@
-// The displays of a board: seven-segment digits as drawings, and their content as text.
+// The board's displays: seven-segment digits as drawings, and their content as text.
 
 import { Announcer } from "../../core/board/announcer.js";
 import { Cell, Switch, block, element } from "../ui/dom.js";
@@ -14,23 +14,23 @@ import { upTo } from "../../core/bench/numbers.js";
  */
 
 const SVG = "http://www.w3.org/2000/svg";
-/** The SVG paths of the segments a to g and of the point. */
+/** The SVG paths of segments a to g and of the decimal point. */
 const SHAPES = [
   "M5 3 8 1h20l3 2-4 4H9z", "M32 4l2 3v20l-2 2-3-3V8z", "M32 31l2 2v20l-2 3-3-4V34z", "M5 57l4-4h18l4 4-3 2H8z",
   "M4 31l3 3v18l-3 4-2-3V33z", "M4 4l3 4v18l-3 3-2-2V7z", "M5 30l4-3h18l4 3-4 3H9z", "M38 54h5v5h-5z",
 ];
-/** A drawn digit. It changes the page only if the brightness of a segment has changed. */
+/** A drawn digit. It updates the page only if a segment's brightness has changed. */
 class Digit {
   /**
-   * @param {boolean} isSign whether the digit has only a minus
+   * @param {boolean} isSign true if the digit consists only of a minus sign
    * @param {boolean} hasPoint
    */
   constructor(isSign, hasPoint) {
     /** The brightness of each segment, from 0 to 1. */
     this.shines = SHAPES.map(() => 0);
-    /** The pattern of the segments that count as on. */
+    /** The bit pattern of the segments that are shown as on. */
     this.lit = 0;
-    /** The pattern of a steady digit; NOT_LIT if segments have duty cycles. */
+    /** The bit pattern of a steady digit, or NOT_LIT if the segments have duty cycles. */
     this.whole = 0;
     this.node = document.createElementNS(SVG, "svg");
     this.node.setAttribute("viewBox", isSign ? "2 0 32 60" : "0 0 44 60");
@@ -44,7 +44,7 @@ class Digit {
     });
   }
 
-  /** @param {number} pattern the segments that are on at this instant, or steadily */
+  /** @param {number} pattern the bit pattern of the segments that are on, at this instant or steadily */
   set(pattern) {
     const lit = pattern === NOT_LIT ? 0 : pattern;
     if (lit === this.whole) return;
@@ -55,7 +55,7 @@ class Digit {
 
   /**
    * @param {import("../../core/board/brightness.js").SeenDigit} seen
-   * @param {number} turns the number of turns in a scan: the digit is on in one of them
+   * @param {number} turns the number of digits in the scan; each digit is on for at most one turn of the scan
    */
   shine(seen, turns) {
     if (seen.steady !== NOT_LIT) {
@@ -67,8 +67,8 @@ class Digit {
   }
 
   /**
-   * @param {number} lit the segments that count as on
-   * @param {number[]} parts the duty cycle of each segment
+   * @param {number} lit the bit pattern of the segments that are shown as on
+   * @param {number[]} parts the duty cycle of each segment, from 0 to 1
    */
   shineBy(lit, parts) {
     this.whole = NOT_LIT;
@@ -76,8 +76,8 @@ class Digit {
   }
 
   /**
-   * @param {number} lit the segments that count as on
-   * @param {number[]} parts the duty cycle of each segment
+   * @param {number} lit the bit pattern of the segments that are shown as on
+   * @param {number[]} parts the duty cycle of each segment, from 0 to 1
    */
   show(lit, parts) {
     for (let at = 0; at < this.segments.length; at++) {
@@ -90,7 +90,7 @@ class Digit {
   }
 }
 
-/** A drawn display. */
+/** A drawn display: a row of digits. */
 class Display {
   /** @param {Group} group */
   constructor(group) {
@@ -105,7 +105,7 @@ class Display {
 
   /** @param {import("../../core/board/brightness.js").SeenDigit[]} seen */
   shine(seen) {
-    // Scanned digits take turns, so each can be on for only a part of the time.
+    // Scanned digits take turns, so each digit is on for only a part of the time.
     const turns = isScanned(this.group) ? this.group.rows : 1;
     seen.forEach((digit, index) => this.digits[index].shine(digit, turns));
   }
@@ -144,7 +144,7 @@ export class DisplayView {
     this.announcer.begin();
   }
 
-  /** @param {string} marks a `*` for each lamp that is on at this instant */
+  /** @param {string} marks one character per lamp: `*` if the lamp is on at this instant */
   show(marks) {
     if (this.displays.length === 0) return;
     for (const display of this.displays) display.show(marks);
@@ -161,7 +161,7 @@ export class DisplayView {
   }
 
   /**
-   * Shows the minus. It belongs to the display, so a steady minus does not fade as a lamp does.
+   * Shows the minus sign as a part of the display: while it is steady, it does not fade as a lamp does.
    * @param {import("../../core/board/brightness.js").Brightness} brightness
    * @param {number} lamp
    */

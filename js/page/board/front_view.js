@@ -1,4 +1,4 @@
-// The front panel of a board: its title, its displays and lamps, and its keys, with the switch at its TEST pin.
+// The board's front panel: its title, displays, lamps, keys and the switch at its TEST pin.
 
 import { hintOfKeys, keysOf } from "../../core/board/board_keys.js";
 import { Brightness } from "../../core/board/brightness.js";
@@ -18,11 +18,11 @@ import * as say from "../../words/board.js";
  * @typedef {BoardKey & { button: HTMLButtonElement, down: import("../ui/dom.js").Switch }} ShownKey
  */
 
-/** The maximum number of errors that are shown. */
+/** The maximum number of error messages in the list. */
 const MAX_FAULTS = 20;
 
 /**
- * Returns whether a board has neither chips nor lamps. The page then offers ways to begin.
+ * Returns true if a board has neither chips nor lamps.
  * @param {Board} board
  */
 function isEmptyBoard({ roms, banks, chains, lamps }) {
@@ -31,33 +31,33 @@ function isEmptyBoard({ roms, banks, chains, lamps }) {
 
 const AS_SEEN = say.averagedBrightness(EYE_MS);
 
-/** The maximum length of a legend in large letters. */
+/** The maximum length of a key legend in large letters. */
 const MAX_LARGE_LEGEND = 4;
 
 export class FrontView {
   /**
-   * @param {(button: HTMLButtonElement, key: BoardKey) => void} listen makes a button press its key
-   * @param {(face: string, number: number) => void} watch asks the bench how long lamps are on, for a front panel and its number
+   * @param {(button: HTMLButtonElement, key: BoardKey) => void} listen connects a button to its key
+   * @param {(face: string, number: number) => void} watch asks the bench to measure lamp duty cycles for a front panel (its comments and its number)
    */
   constructor(listen, watch) {
     this.listen = listen;
     this.watch = watch;
-    /** @type {ShownKey[]} the keys, with the switch at TEST if the front panel has one */
+    /** @type {ShownKey[]} the keys, including the switch at TEST if the front panel has one */
     this.keys = [];
     this.down = new KeysDown();
-    /** The level of the TEST pin. */
+    /** The level of the TEST pin: "0" or "1", or "" before the first answer. */
     this.level = "";
     /** The last answer to `lamps`. */
     this.marks = "";
-    /** The comments in the board's text that declare the front panel. */
+    /** The comments in the board's text that declare this front panel. */
     this.faceComments = "";
     this.columns = 1;
     this.lamps = new LampsView();
     this.display = new DisplayView();
-    /** The number of front panels drawn so far, which is also the number of the last one. */
+    /** The number of front panels drawn so far. The current front panel has this number. */
     this.faces = 0;
     this.brightness = new Brightness(new Face(""), 0);
-    /** True if lamps are shown as perceived, false if as they are at an instant. */
+    /** True if the lamps show the perceived brightness, false if they show an instant. */
     this.isShining = false;
     this.brightnessStatus = new Cell(block("brightness-status"));
     this.block = block("keys");
@@ -76,8 +76,8 @@ export class FrontView {
   }
 
   /**
-   * Draws a changed front panel of the same board. If the text has no front panel, the user may still be writing it: the board keeps its
-   * former front panel until a board is applied.
+   * Draws a changed front panel of the same board. A text without front panel comments leaves the drawn front panel as it is, because the user may
+   * still be writing.
    * @param {Board} board
    * @param {Face} face
    */
@@ -108,7 +108,7 @@ export class FrontView {
   }
 
   /**
-   * Shows the errors of the front panel's comments: malformed ones, and parts that the board lacks.
+   * Lists the errors in the front panel's comments: malformed comments, and comments about parts that the board does not have.
    * @param {Board} board
    * @param {Face} face
    */
@@ -132,7 +132,7 @@ export class FrontView {
     this.block.replaceChildren(...this.keys.map((key) => key.button));
     this.block.hidden = this.keys.length === 0;
     block("typing-label").hidden = this.keys.length === 0;
-    // The front panel has its own switch at TEST.
+    // A front panel with its own switch at TEST replaces the TEST button.
     button("test").hidden = face.test !== null;
     makeFirstTabStop(this.block);
     block("keys-hint").textContent = isEmptyBoard(board) ? "" : hintOfKeys(this.keys);
@@ -157,7 +157,7 @@ export class FrontView {
     return { ...boardKey, button: node, down: pressedSwitch(node) };
   }
 
-  /** @param {string} marks a `*` for each lamp that is on at this instant */
+  /** @param {string} marks one character per lamp: `*` if the lamp is on at this instant */
   showLamps(marks) {
     this.marks = marks;
     this.isShining = false;
@@ -167,10 +167,10 @@ export class FrontView {
   }
 
   /**
-   * Shows lamps as perceived during the time that has passed.
-   * @param {string} marks a `*` for each lamp that is on at the end of that time
+   * Shows the lamps as perceived during the last frame.
+   * @param {string} marks one character per lamp: `*` if the lamp is on at the end of the frame
    * @param {LitShares} litShares
-   * @param {number} time the duration of that time in milliseconds
+   * @param {number} time the duration of the frame in milliseconds
    */
   shine(marks, litShares, time) {
     if (!this.isShining) this.brightness.begin(this.marks);
@@ -183,8 +183,8 @@ export class FrontView {
   }
 
   /**
-   * Shows the keys that are down, as the bench reports them.
-   * @param {string[]} down
+   * Shows which keys are down.
+   * @param {string[]} down the keys that the bench reports as down
    */
   showKeys(down) {
     this.down = new KeysDown(down);
@@ -195,7 +195,7 @@ export class FrontView {
     for (const shown of this.keys) shown.down.set(this.isDown(shown.key));
   }
 
-  /** @param {string} level the level of the TEST pin */
+  /** @param {string} level the level of the TEST pin: "0" or "1" */
   showTest(level) {
     if (this.level === level) return;
     this.level = level;

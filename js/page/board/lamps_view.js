@@ -1,5 +1,5 @@
-// The lamps of a board. A lamp is at its position on the front panel, if it has one. All other lamps are in rows, with their own names or
-// those of their lines.
+// The board's lamps. A lamp with a position on the front panel is drawn there. All other lamps are in rows and have their own names or the names of
+// their lines.
 
 import { block, element } from "../ui/dom.js";
 import { brightnessOf } from "../../core/board/brightness.js";
@@ -15,7 +15,7 @@ import * as say from "../../words/board.js";
  * @typedef {import("../../core/board/seen_lamps.js").SeenLamp} SeenLamp
  */
 
-/** A drawn lamp. It changes the page only if its brightness has changed. */
+/** A drawn lamp. It updates the page only if the lamp's brightness has changed. */
 class Lamp {
   /**
    * @param {SeenLamp} seen
@@ -36,7 +36,7 @@ class Lamp {
 
   /**
    * @param {number} part the duty cycle, from 0 to 1
-   * @param {boolean} isOn whether the lamp counts as on
+   * @param {boolean} isOn true if the lamp is shown as on
    */
   show(part, isOn) {
     if (part !== this.part) this.showShine(brightnessOf(part));
@@ -57,14 +57,14 @@ class Lamp {
 }
 
 /**
- * Returns the list of a group's lamps.
+ * Returns the HTML list of the lamps in a group.
  * @param {Group} group
- * @param {(at: number, words: string) => HTMLElement} lamp returns the lamp at an index in the group, with a default name
+ * @param {(at: number, words: string) => HTMLElement} lamp returns the lamp element for an index in the group and a default name
  */
 function listOf({ kind, rows, columns }, lamp) {
   const cells = upTo(rows * columns).map((at) => {
-    const words = rows > 1 ? say.rowAndColumn(Math.floor(at / columns), at % columns) : say.lampOfRow(at + 1, columns);
-    return element("li", {}, lamp(at, words));
+    const defaultName = rows > 1 ? say.rowAndColumn(Math.floor(at / columns), at % columns) : say.lampOfRow(at + 1, columns);
+    return element("li", {}, lamp(at, defaultName));
   });
   const list = element("ul", { className: `group ${kind}` }, ...cells);
   list.setAttribute("aria-label", kind);
@@ -72,7 +72,7 @@ function listOf({ kind, rows, columns }, lamp) {
   return list;
 }
 
-/** @param {string} line for example `ram0.3.2`, line 2 of the port `ram0.3` */
+/** @param {string} line for example `ram0.3.2`: line 2 of port `ram0.3` */
 function portOf(line) {
   return line.slice(0, line.lastIndexOf("."));
 }
@@ -88,7 +88,7 @@ export class LampsView {
   }
 
   /**
-   * @param {string[]} lines the lines of the board's lamps
+   * @param {string[]} lines the line of each lamp
    * @param {Face} face
    */
   draw(lines, face) {
@@ -120,7 +120,7 @@ export class LampsView {
   }
 
   /**
-   * @param {number} at the lamp whose colour is used
+   * @param {number} at the lamp that determines the colour
    * @param {SeenLamp} seen
    * @param {string} name
    * @param {string} line
@@ -133,7 +133,7 @@ export class LampsView {
   }
 
   /**
-   * Returns the list of a die, a bar or a matrix.
+   * Returns the HTML list for a die, a bar or a matrix.
    * @param {Group} group
    */
   drawGroup(group) {
@@ -141,7 +141,7 @@ export class LampsView {
   }
 
   /**
-   * Returns the list of a multiplexed group, whose lamps can each be on for only a part of the time.
+   * Returns the HTML list for a multiplexed group. Each of its lamps is on for only a part of the time.
    * @param {Group} group
    * @param {number} number the index of the group among the scanned groups
    */
@@ -168,7 +168,7 @@ export class LampsView {
   }
 
   /**
-   * Returns the rows of lamps without a position. Named lamps share a row; unnamed ones have a row for each port.
+   * Returns the rows of lamps without a position. Neighbouring named lamps share a row, and so do unnamed lamps of the same port.
    * @param {number[]} loose
    */
   drawRows(loose) {
@@ -190,7 +190,7 @@ export class LampsView {
     });
   }
 
-  /** @param {string} marks a `*` for each lamp that is on at this instant */
+  /** @param {string} marks one character per lamp: `*` if the lamp is on at this instant */
   show(marks) {
     for (const lamp of this.lamps) {
       const isOn = lamp.seen.isLit(marks);

@@ -1,4 +1,4 @@
-// Presses of keys by pointers and by the keyboard, while time is running and while it is paused.
+// Key presses by pointer and keyboard, while time is running and while it is paused.
 
 import { textOfKey } from "../../core/board/key_place.js";
 
@@ -8,38 +8,38 @@ import { textOfKey } from "../../core/board/key_place.js";
  */
 
 /**
- * The calls that presses of keys make.
+ * The callbacks of Pressing.
  * @typedef {object} PressingCalls
- * @property {() => boolean} isRunning Returns whether time is running, so that presses are queued.
- * @property {(key: Key) => boolean} isDown Returns whether a key will be down after all queued presses.
+ * @property {() => boolean} isRunning Returns true if time is running, so that presses are queued.
+ * @property {(key: Key) => boolean} isDown Returns true if a key will be down after all queued presses and releases.
  * @property {(key: Key) => void} press Queues a press of a key while time is running.
  * @property {(key: Key) => void} release Queues a release of a key while time is running.
- * @property {(word: "press" | "release", key: Key) => void} change Presses or releases a key at once, while time is paused.
- * @property {(event: KeyboardEvent) => BoardKey | undefined} meant Returns the board's key for a key of the keyboard; undefined if there is
- *   none, or if another element receives the key.
+ * @property {(word: "press" | "release", key: Key) => void} change Presses or releases a key immediately while time is paused.
+ * @property {(event: KeyboardEvent) => BoardKey | undefined} meant Returns the board's key for a keyboard event. Returns undefined if there is none,
+ *   or if another element handles the event.
  */
 
 /**
- * A key that a finger holds: whether the key keeps its position when the finger is lifted, and the function that undoes the press.
+ * A key that a finger holds down. If `stays` is true, the key stays down when the finger lifts. `takeBack` undoes the press.
  * @typedef {{ key: Key, stays: boolean, takeBack: () => void }} Held
  */
 
-/** The delay in milliseconds before a touch presses a key. By then the browser has recognised a swipe over the page. */
+/** The delay in milliseconds before a touch presses a key. Within this time the browser recognises a scroll gesture. */
 const SWIPE_TIME = 60;
-/** The time in milliseconds after a finger was lifted in which a click comes from that finger, whatever the click's type. */
+/** The time in milliseconds after a finger lifts during which a click belongs to that finger, whatever type the click has. */
 const TAP_TIME = 500;
 
 export class Pressing {
   /** @param {PressingCalls} calls */
   constructor(calls) {
     this.calls = calls;
-    /** @type {Map<string, Held>} the keys that fingers hold, by their names */
+    /** @type {Map<string, Held>} the keys that fingers hold, by key name */
     this.held = new Map();
-    /** @type {Map<number, number>} the timers of touches that can become swipes, by pointer id */
+    /** @type {Map<number, number>} the timers of touches that may still become swipes, by pointer id */
     this.resting = new Map();
   }
 
-  /** Forgets all fingers, because the keys have changed. */
+  /** Forgets all held keys and pending touches, because the board's keys have changed. */
   forget() {
     this.held.clear();
     for (const timer of this.resting.values()) clearTimeout(timer);
@@ -62,7 +62,7 @@ export class Pressing {
     });
     button.addEventListener("pointerup", (event) => {
       lifted = event.timeStamp;
-      // A tap is shorter than SWIPE_TIME, so it has not pressed the key yet.
+      // A tap shorter than SWIPE_TIME has not pressed the key yet.
       if (this.lift(event.pointerId)) this.down(boardKey, false);
       this.up(key);
     });
@@ -73,7 +73,7 @@ export class Pressing {
     button.addEventListener("contextmenu", (event) => event.preventDefault());
     button.addEventListener("keydown", (event) => this.activate(event, () => this.down(boardKey, event.shiftKey)));
     button.addEventListener("keyup", (event) => this.activate(event, () => this.up(key)));
-    // A click without a pointer or a key, for example from a screen reader, is a short press.
+    // A click without a pointer or a keyboard, for example from a screen reader, is a short press.
     button.addEventListener("click", (event) => {
       if (event.detail !== 0 || event.timeStamp - lifted < TAP_TIME) return;
       if (event instanceof PointerEvent && event.pointerId > 0) return;
@@ -94,7 +94,7 @@ export class Pressing {
   }
 
   /**
-   * Presses a key after SWIPE_TIME, unless the touch is lifted or becomes a swipe.
+   * Presses a key after SWIPE_TIME, unless the touch ends or becomes a swipe before.
    * @param {number} pointer
    * @param {BoardKey} boardKey
    */
@@ -106,7 +106,7 @@ export class Pressing {
   }
 
   /**
-   * Handles the end of a touch. Returns whether the touch has not pressed its key yet.
+   * Cancels the delayed press of a touch. Returns true if the touch had not pressed its key yet.
    * @param {number} pointer
    */
   lift(pointer) {
@@ -115,7 +115,7 @@ export class Pressing {
   }
 
   /**
-   * Presses a key, or releases a key that stayed down. A switch, or a key that is pressed with Shift, stays in its new position.
+   * Presses a key, or releases it if it is already down. A switch keeps its new position, and so does a key pressed with Shift.
    * @param {Pick<BoardKey, "key" | "isSwitch">} boardKey
    * @param {boolean} hasShift
    */
@@ -128,7 +128,7 @@ export class Pressing {
       change(isDown ? "release" : "press", key);
       this.held.set(name, { key, stays: true, takeBack: () => change(isDown ? "press" : "release", key) });
     } else if (isDown) {
-      // The key stayed down after an earlier press.
+      // An earlier press left the key down.
       release(key);
       this.held.set(name, { key, stays: true, takeBack: () => press(key) });
     } else {
@@ -149,7 +149,7 @@ export class Pressing {
   }
 
   /**
-   * Releases a key when its finger is lifted. If time is paused meanwhile, the key goes up when time resumes.
+   * Releases a key when its finger lifts, unless the key stays down. If time was paused in between, the release takes effect when time resumes.
    * @param {Key} key
    */
   up(key) {
@@ -164,7 +164,7 @@ export class Pressing {
     for (const { key } of [...this.held.values()]) this.up(key);
   }
 
-  /** Lets the keyboard press keys of the board, unless another element receives the key. */
+  /** Lets the computer's keyboard press the board's keys, unless another element handles the key. */
   listenToKeyboard() {
     /** @type {Map<string, Key>} */
     const typedAt = new Map();
@@ -190,7 +190,7 @@ export class Pressing {
 }
 
 /**
- * Returns whether an element handles a key of the keyboard itself.
+ * Returns true if an element handles a keyboard key itself.
  * @param {EventTarget | null} target
  * @param {string} typed
  */

@@ -1,4 +1,4 @@
-// The printout of a board: the characters that its program has sent to the printer of the front panel.
+// The printout: the characters that the program has sent to the front panel's printer.
 
 import { block, button, element, onClick } from "../ui/dom.js";
 import { printerOf } from "../../core/board/face_board.js";
@@ -12,16 +12,16 @@ import { printoutLines } from "../../core/board/strip.js";
  */
 
 /**
- * The calls that the printer's view makes.
+ * The callbacks of the printer view.
  * @typedef {object} PrinterCalls
- * @property {(printer: { strobe: string, port: string } | null) => void} printOn Asks the bench to report the codes that are sent to a
- *   printer; null for no printer.
- * @property {() => void} clear Clears the printout.
+ * @property {(printer: { strobe: string, port: string } | null) => void} printOn Asks the bench to report the codes sent to a printer; null for no
+ *   printer.
+ * @property {() => void} clear Clears the bench's copy of the printout.
  */
 
-/** The maximum number of lines that are shown: the last ones. */
+/** The maximum number of lines on the page: the last ones of the printout. */
 const MAX_LINES = 400;
-/** The maximum number of pixels below the visible part at which the end of the printout stays in view. */
+/** The largest scroll distance from the end, in pixels, at which new lines still scroll into view. */
 const END_DISTANCE = 24;
 
 export class PrinterView {
@@ -32,14 +32,14 @@ export class PrinterView {
     this.printer = null;
     /** @type {number[]} the codes that were sent to the printer */
     this.codes = [];
-    /** @type {string[]} the lines that are shown */
+    /** @type {string[]} the lines on the page */
     this.lines = [];
     this.root = block("strip");
     this.paper = block("paper");
-    /** True if the end of the printout stays in view. */
+    /** True if new lines scroll into view. */
     this.follows = true;
     this.paper.addEventListener("scroll", () => this.scrolled());
-    // Lines can arrive while the printout is hidden.
+    // Lines can arrive while the printout is hidden, so scroll again when its size changes.
     new ResizeObserver(() => this.toEnd()).observe(this.paper);
     onClick(button("clear-printout"), () => this.clear());
   }
@@ -59,8 +59,8 @@ export class PrinterView {
   }
 
   /**
-   * Draws a changed front panel of the same board. If the text has no front panel, or no printer that the board has, the user may still be
-   * writing it: the printout stays until another board or another front panel is drawn.
+   * Draws a changed front panel of the same board. If its text has no front panel, or no printer on this board, the user may still be writing: the
+   * printout stays.
    * @param {Board} board
    * @param {Face} face
    */
@@ -69,7 +69,7 @@ export class PrinterView {
   }
 
   /**
-   * Returns whether these are the lines of the printer.
+   * Returns true if the current printer has this strobe line and port.
    * @param {{ strobe: string, port: string }} lines
    */
   isPrinter({ strobe, port }) {
@@ -91,7 +91,7 @@ export class PrinterView {
     this.paper.focus();
   }
 
-  /** Shows the lines of the printout. Elements of unchanged lines stay. */
+  /** Shows the lines of the printout. Reuses the elements of unchanged leading lines. */
   show() {
     const lines = this.printer ? printoutLines(this.codes, this.printer.words).slice(-MAX_LINES) : [];
     if (lines[lines.length - 1] === "") lines.pop();

@@ -1,4 +1,4 @@
-// The sound of a board's buzzer: in real time, Web Audio plays the edges of the buzzer's line, if the user has switched sound on.
+// The sound of the board's buzzer. In real time, Web Audio plays the edges of the buzzer's line if sound is on.
 
 import { CYCLES_PER_SECOND } from "../../core/time/mcs4_time.js";
 import { Cell, block, button, onClick, pressedSwitch } from "../ui/dom.js";
@@ -10,29 +10,29 @@ import * as say from "../../words/board.js";
  */
 
 /**
- * The calls that the buzzer makes.
+ * The callbacks of Sound.
  * @typedef {object} SoundCalls
  * @property {(line: string) => void} listen Asks the bench to report the edges of a line; "" for no line.
- * @property {() => boolean} isReal Returns whether time is running at the speed of the real chip. Otherwise the buzzer is silent.
+ * @property {() => boolean} isReal Returns true if time is running at the real chip's speed. At other speeds the buzzer is silent.
  */
 
 /** The number of cycles in one block of samples: 45 ms. */
 const BLOCK_CYCLES = 4200;
-/** The seconds from a cycle to its sound. */
+/** The delay in seconds between a cycle and its sound. */
 const DELAY = 0.09;
-/** The maximum of these seconds. Later blocks are left out. */
+/** The maximum delay in seconds. Blocks that would play even later are dropped. */
 const MAX_DELAY = 0.4;
-/** The gain of the sound. */
+/** The gain of the sound, from 0 to 1. */
 const VOLUME = 0.12;
-/** The lowest audible pitch in hertz. A line that stays at 1 is silent. */
+/** The cut-off frequency of the high-pass filter in hertz. The filter makes a line that stays at 1 silent. */
 const MIN_PITCH = 30;
 
-/** Plays samples, one block after the other. */
+/** Plays blocks of samples in sequence. */
 class Player {
   constructor() {
     this.context = new AudioContext();
     this.pieces = new SoundPieces(BLOCK_CYCLES);
-    /** The end of the last block, in seconds of the audio context. */
+    /** The end time of the last block, in seconds of the audio context. */
     this.end = 0;
     const volume = new GainNode(this.context, { gain: VOLUME });
     const filter = new BiquadFilterNode(this.context, { type: "highpass", frequency: MIN_PITCH });
@@ -45,7 +45,7 @@ class Player {
     const samples = this.pieces.add(heard);
     const now = this.context.currentTime;
     if (!samples || this.end > now + MAX_DELAY) return;
-    // The time of an audio context is 0 until it runs.
+    // An audio context's time is 0 until it runs.
     if (this.end <= now) this.end = now + DELAY;
     const buffer = this.context.createBuffer(1, samples.length, CYCLES_PER_SECOND);
     buffer.copyToChannel(samples, 0);
@@ -61,7 +61,7 @@ export class Sound {
   constructor(calls) {
     this.calls = calls;
     this.line = "";
-    /** @type {Player | null} null while sound is off */
+    /** @type {Player | null} null if sound is off */
     this.player = null;
     this.status = new Cell(block("sound-status"));
     this.pressed = pressedSwitch(button("sound-button"));
@@ -69,8 +69,8 @@ export class Sound {
   }
 
   /**
-   * Sets the buzzer of another board or front panel, null if it has none.
-   * @param {{ place: string, name: string } | null} buzzer
+   * Sets the buzzer of another board or front panel.
+   * @param {{ place: string, name: string } | null} buzzer null if the board has no buzzer
    */
   draw(buzzer) {
     const line = buzzer ? buzzer.place : "";
@@ -100,7 +100,7 @@ export class Sound {
     this.check();
   }
 
-  /** Updates the button, the status and the line that the bench reports. */
+  /** Updates the button and the status, and asks the bench for the edges of the buzzer's line or for none. */
   check() {
     const isOn = this.player !== null;
     this.pressed.set(isOn);

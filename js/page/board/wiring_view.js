@@ -1,4 +1,4 @@
-// The wiring of the board as a picture with the levels of its lines, and as text.
+// The board's wiring: a picture that shows the level of each line, and a description as text.
 
 import { BITS_PER_CHIP } from "../../core/bench/board_form.js";
 import { Switch, block, element } from "../ui/dom.js";
@@ -15,58 +15,58 @@ import * as say from "../../words/board.js";
  * @typedef {import("../../core/board/wiring.js").Part} Part
  * @typedef {import("../../core/board/wiring.js").Pin} Pin
  * @typedef {import("../../core/board/wiring.js").Wire} Wire
- * @typedef {(Switch | undefined)[]} Levels the levels of a port or a chain; undefined for lines without a wire
+ * @typedef {(Switch | undefined)[]} Levels the levels of a port or a chain; undefined for lines that are not drawn
  */
 
-/** The radius around a pin in which the pointer is on that pin. */
+/** The radius of a pin's clickable area. */
 const REACH = 9;
 /** The length of a chip's leg. */
 const LEG = 7;
-/** Half the width of a chip's notch. */
+/** Half the width of the notch in a chip's outline. */
 const NOTCH = 6;
-/** The minimum size of the picture: a small board has space around it, for parts that are dropped there. */
+/** The minimum size of the picture. Around a small board, the picture has room to drop parts. */
 const MIN_WIDTH = 560;
 const MIN_HEIGHT = 240;
 
 export class WiringView {
-  /** @param {() => boolean} isShown whether the picture is in front */
+  /** @param {() => boolean} isShown returns true if the picture is in front */
   constructor(isShown) {
     this.isShown = isShown;
     this.root = block("wiring-picture");
     this.words = block("wiring-words");
-    /** @type {Map<string, Switch>} the level of each line, by the line's name; "" is the pin TEST */
+    /** @type {Map<string, Switch>} the level of each line, by line name; "" is the TEST pin */
     this.levels = new Map();
-    /** @type {Map<string, SVGElement>} the parts and the pins by their names, in drawing order */
+    /** @type {Map<string, SVGElement>} the parts and pins by name, in drawing order */
     this.items = new Map();
     /** @type {Map<string, Part>} */
     this.parts = new Map();
-    /** @type {Map<string, string[]>} the pins at the ends of each line's wires */
+    /** @type {Map<string, string[]>} the pins at the ends of each line's wires, by line name */
     this.linePins = new Map();
-    /** @type {WeakMap<Element, string>} the name of an element's part or pin */
+    /** @type {WeakMap<Element, string>} the part or pin to which an element belongs */
     this.names = new WeakMap();
-    /** @type {{ mask: string, levels: Levels }[]} the lines of each ROM, and its port in the board's text */
+    /** @type {{ mask: string, levels: Levels }[]} the lines of each ROM chip, with the port as the board's text declares it */
     this.roms = [];
     /** @type {Levels[]} */
     this.chains = [];
     /** @type {Map<string, Levels>} the lines of each RAM chip, by `bank.chip` */
     this.rams = new Map();
     this.marked = "";
-    /** The part or the pin that the Tab key reaches. */
+    /** The part or pin that the Tab key reaches. */
     this.stop = "";
     /** @type {Ports | null} */
     this.ports = null;
     /** @type {Map<string, string>} */
     this.ramPorts = new Map();
     this.isTestHigh = false;
-    /** True while a part is dragged. The picture keeps its size until the part is dropped. */
+    /** True while the user drags a part. The picture keeps its size until the drop. */
     this.isHeld = false;
-    /** The visible part of the picture's plane. */
+    /** The SVG viewBox of the picture. */
     this.viewBox = "";
     /** The wire that the user is drawing. */
     this.pencil = svgElement("path", { class: "wire pencil" });
   }
 
-  /** Forgets the levels, because another board is in use. */
+  /** Forgets the levels when another board comes into use. */
   forget() {
     this.ports = null;
     this.ramPorts.clear();
@@ -75,7 +75,7 @@ export class WiringView {
   /** Shows the last reported levels. Called only while the picture is in front. */
   showLevels() {
     const { ports } = this;
-    // While a session is opened, its first levels can arrive before its board is drawn.
+    // While a session opens, its first levels can arrive before its board is drawn.
     if (ports && ports.roms.length === this.roms.length && ports.chains.length === this.chains.length) {
       this.roms.forEach(({ mask, levels }, at) => setAll(levels, (line) => isHighAtRom(mask, ports.roms[at], line)));
       this.chains.forEach((levels, at) => setAll(levels, (bit) => ports.chains[at][bit] === "1"));
@@ -88,8 +88,8 @@ export class WiringView {
    * Draws another board.
    * @param {Board} board
    * @param {import("../../core/board/wiring.js").Appearance} look
-   * @param {{ moved: import("../../core/board/wiring.js").Moved, isWired: boolean }} how the positions of dragged parts, and whether this
-   *   board is the one in use, whose lines have levels
+   * @param {{ moved: import("../../core/board/wiring.js").Moved, isWired: boolean }} how the positions of dragged parts, and whether this board is
+   *   the one in use, whose lines have levels
    */
   draw(board, look, { moved, isWired }) {
     const { parts, wires, ...size } = drawBoard(board, look, moved);
@@ -122,7 +122,7 @@ export class WiringView {
   }
 
   /**
-   * Groups the levels of the lines by chip and by chain.
+   * Groups the lines' levels by chip and by chain.
    * @param {Board | null} board null if the board is not in use
    */
   groupLevels(board) {
@@ -136,7 +136,7 @@ export class WiringView {
   }
 
   /**
-   * Returns the elements of a wire: its path, and the wider area in which the pointer is on the wire.
+   * Returns a wire's elements: its path, and a wider invisible path that makes the wire easier to hit.
    * @param {Wire} wire
    * @param {string} d the wire's SVG path
    * @param {Map<string, SVGElement[]>} nodes
@@ -176,7 +176,7 @@ export class WiringView {
   }
 
   /**
-   * Returns the element of a pin, with its label inside the part. The pin of a lamp is drawn as the lamp.
+   * Returns a pin's element, with its label inside the part. A lamp's pin is drawn as the lamp.
    * @param {Part} part
    * @param {Pin} pin
    * @param {Map<string, SVGElement[]>} nodes
@@ -203,7 +203,7 @@ export class WiringView {
   }
 
   /**
-   * Returns a text that says which pins a pin is wired to.
+   * Returns a text with the pins that a pin is wired to.
    * @param {Pin} pin
    */
   wordsOfPin({ id, line }) {
@@ -213,7 +213,7 @@ export class WiringView {
   }
 
   /**
-   * Returns the name of an element's part or pin, or "" if it has none.
+   * Returns the name of the part or pin to which an element belongs, or "" if there is none.
    * @param {Element | null} node
    */
   nameAt(node) {
@@ -225,7 +225,7 @@ export class WiringView {
   }
 
   /**
-   * Makes one item the picture's only stop of the Tab key.
+   * Makes one item the picture's only tab stop.
    * @param {string} name
    */
   setStop(name) {
@@ -246,7 +246,7 @@ export class WiringView {
   }
 
   /**
-   * Shows the selection, the pin where a wire begins, and the pins where it can end.
+   * Shows the selection, the start pin of the wire in progress, and the pins where that wire can end.
    * @param {string} chosen
    * @param {string} begun
    * @param {Set<string>} ends
@@ -263,8 +263,8 @@ export class WiringView {
   }
 
   /**
-   * Draws the wire in progress, from a pin to the pointer.
-   * @param {string} name the name of the pin, "" for no wire
+   * Draws the wire in progress from a pin to the pointer.
+   * @param {string} name the pin's name; "" removes the wire
    * @param {import("../../core/board/wiring.js").Point | null} to
    */
   drawPencil(name, to) {
@@ -273,7 +273,7 @@ export class WiringView {
   }
 
   /**
-   * Converts a point in the window to coordinates of the picture.
+   * Converts window coordinates to picture coordinates.
    * @param {{ clientX: number, clientY: number }} event
    */
   pointOf({ clientX, clientY }) {
@@ -285,7 +285,7 @@ export class WiringView {
   }
 
   /**
-   * Marks the part at the caret in the board's text.
+   * Marks the part that the line at the caret of the board's text describes.
    * @param {string} name `rom 1`, `ram 0`, `lamp 3`, `test`; "" for none
    */
   mark(name) {
@@ -314,7 +314,7 @@ export class WiringView {
     if (this.isShown()) this.showLevels();
   }
 
-  /** @param {boolean} isOn whether the TEST pin is at 1 */
+  /** @param {boolean} isOn true if the TEST pin is at 1 */
   showTest(isOn) {
     this.isTestHigh = isOn;
     if (this.isShown()) this.showLevels();
@@ -322,7 +322,7 @@ export class WiringView {
 }
 
 /**
- * Returns the pins at the ends of wires, by line.
+ * Returns the pins at the ends of wires, grouped by line.
  * @param {Wire[]} wires
  */
 function linePinsOf(wires) {

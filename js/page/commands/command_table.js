@@ -1,5 +1,4 @@
-// The table of all commands of the page. Toolbar, menus, palette, the list of keys in the help and the keys themselves are created from
-// this table.
+// The table of all page commands. The toolbar, the menus, the palette, the key list in the help and the key bindings are created from this table.
 
 import { SPEEDS } from "../../core/time/speeds.js";
 import { KEYBOARD } from "../../words/help.js";
@@ -8,31 +7,30 @@ import * as say from "../../words/page_commands.js";
 
 /**
  * @typedef {import("../ui/icons.js").IconName} IconName
- * @typedef {"everywhere" | "texts" | "source" | "board" | "tests" | "properties"} KeyPlace the part of the page in which keys work
+ * @typedef {"everywhere" | "texts" | "source" | "board" | "tests" | "properties"} KeyPlace the part of the page in which a key works
  * @typedef {"system" | "light" | "dark"} Theme
  *
- * A command. `id` names it in the page's own modules; `words` is its label; `group` is its group in lists; `icon` is its icon, if it has
- * one; `keys` are its keys, the first of which is shown; `place` is the part of the page in which these keys work; `act` executes the
- * command; `wordsNow` returns the label, if it depends on whether time is running; `whyNot` returns the reason why the command cannot be
- * executed now, "" if it can.
+ * A command. `id` names it within the page's modules. `words` is its label. `group` is its group in lists. `icon` is its optional icon. `keys` are
+ * its keys; lists show the first one. `place` is the part of the page in which the keys work. `act` executes the command. `wordsNow` returns a label
+ * that depends on whether time is running. `whyNot` returns the reason why the command cannot run now, or "" if it can.
  * @typedef {{ id: string, words: string, group: keyof typeof say.GROUPS, icon?: IconName, keys: string[], place: KeyPlace,
  *   wordsNow?: (calls: CommandCalls) => string,
  *   act: (calls: CommandCalls) => void, whyNot: (calls: CommandCalls) => string }} Command
  *
  * @typedef {"find" | "replace" | "line" | "comment" | "complete" | "define" | "uses" | "rename" | "fold" | "unfold" | "foldAll" |
- * "unfoldAll" | "undo" | "redo"} TextAct an action in a text
+ * "unfoldAll" | "undo" | "redo"} TextAct an editing action
  */
 
 /**
- * The calls that commands make to the page. A call that opens or sends something reports its own failure.
+ * The callbacks through which commands reach the page. A call that opens or sends something reports its own failure.
  * @typedef {object} CommandCalls
- * @property {() => boolean} isRunning Returns whether time is running.
+ * @property {() => boolean} isRunning Returns true if time is running.
  * @property {() => void} runOrStop Resumes or pauses time.
  * @property {() => void} step Executes one instruction.
  * @property {(goal: import("../../core/debug/goals.js").Goal) => void} goOn Runs until a goal is reached.
  * @property {(goal: import("../../core/engine/going_back.js").BackGoal) => void} goBack Goes back to a goal.
  * @property {() => void} goForward Returns to the state before the last move back.
- * @property {() => boolean} canGoForward Returns whether a move back can be undone.
+ * @property {() => boolean} canGoForward Returns true if a move back can be undone.
  * @property {() => void} runToCursor Runs to the line of the caret in the source.
  * @property {(line: string) => void} serve Serves one line of the bench and logs its answer.
  * @property {() => void} test Changes the level of the TEST pin.
@@ -40,34 +38,32 @@ import * as say from "../../words/page_commands.js";
  * @property {(theme: Theme) => void} setTheme Sets the colours of the page.
  * @property {() => void} print Prints the page.
  * @property {(name: string) => void} show Brings a text or a panel to the front, by its name.
- * @property {(button: string, shown: string) => void} press Clicks a button by its id, after the text or panel `shown` has come to the
- *   front.
- * @property {(button: string) => boolean} isOffered Returns whether a button, by its id, can be used.
- * @property {(field: string, shown: string) => void} enter Puts the caret into a field by its id, after the text or panel `shown` has
- *   come to the front.
- * @property {(text: TextName) => void} send Sends a text, as its first button does.
+ * @property {(button: string, shown: string) => void} press Brings the text or panel `shown` to the front, then clicks a button by its id.
+ * @property {(button: string) => boolean} isOffered Returns true if the button with an id can be used.
+ * @property {(field: string, shown: string) => void} enter Brings the text or panel `shown` to the front, then focuses a field by its id.
+ * @property {(text: TextName) => void} send Sends a text, as the first button of its editor does.
  * @property {(box: string) => void} toggle Toggles a check box by its id.
- * @property {(isSource: boolean) => boolean} hasText Returns whether a text is in front; with `isSource`, whether it is the source.
- * @property {(what: TextAct) => void} inText Does an action in the text that is in front.
- * @property {(what?: import("../machine/breakpoint_row.js").BreakpointField) => void} breakpoint Sets or removes the breakpoint at the
- *   caret's line; with a field, opens that field of the breakpoint.
+ * @property {(isSource: boolean) => boolean} hasText Returns true if a text is in front. With `isSource`, returns whether the source is in front.
+ * @property {(what: TextAct) => void} inText Performs an editing action in the text that is in front.
+ * @property {(what?: import("../machine/breakpoint_row.js").BreakpointField) => void} breakpoint Toggles the breakpoint at the caret's line. With a
+ *   field, opens that field of the breakpoint.
  * @property {() => void} open Asks for a file to open.
  * @property {() => void} save Saves the project to a file.
  * @property {() => void} saveSession Saves only the session file.
- * @property {() => void} exportFiles Opens the dialog that exports texts and ROM images.
+ * @property {() => void} exportFiles Opens the dialog to export texts and ROM images.
  * @property {() => void} projects Opens the list of projects.
- * @property {() => void} share Makes a link to the session.
+ * @property {() => void} share Creates a link to the session.
  * @property {() => void} notices Opens the list of notices.
- * @property {() => boolean} hasNotices Returns whether the list of notices has an entry.
+ * @property {() => boolean} hasNotices Returns true if the list of notices has entries.
  * @property {() => void} scanKeys Inserts a key scan routine into the source.
- * @property {() => boolean} hasKeys Returns whether the board has a key matrix.
+ * @property {() => boolean} hasKeys Returns true if the board has a key matrix.
  * @property {(id: string) => void} togglePanel Shows or hides a panel by its id.
- * @property {(id: string) => void} fullPanel Makes a panel as large as the page, or restores its size.
+ * @property {(id: string) => void} fullPanel Maximises a panel, or restores its size.
  * @property {() => void} resetLayout Restores the initial layout.
- * @property {() => void} toggleHelp Opens the help at the word at the caret, or closes it.
+ * @property {() => void} toggleHelp Closes the help, or opens it at the word at the caret.
  * @property {() => void} examples Opens the list of examples.
  * @property {() => void} welcome Opens the welcome cards.
- * @property {(wanted?: string) => void} help Opens the help, at an entry if it is given.
+ * @property {(wanted?: string) => void} help Opens the help, at an entry if one is given.
  * @property {(begin: string) => void} palette Opens the palette with an initial text in its field.
  */
 
@@ -95,7 +91,7 @@ function command(id, group, act, options = {}) {
  * @param {Command["group"]} group
  * @param {string} button
  * @param {string} shown the text or panel that has the button
- * @param {string} [why] the reason why the command cannot be executed while the button is not offered
+ * @param {string} [why] the message that explains why the button is not available
  * @param {Partial<Command>} [options]
  */
 function buttonCommand(id, group, button, shown, why = say.NOT_NOW, options = {}) {
@@ -103,11 +99,11 @@ function buttonCommand(id, group, button, shown, why = say.NOT_NOW, options = {}
 }
 
 /**
- * Returns a command for the text in front.
+ * Returns a command that acts on the text in front.
  * @param {CommandId} id
  * @param {TextAct} what
  * @param {string[]} keys
- * @param {boolean} [isSource] whether the command is for the source only
+ * @param {boolean} [isSource] true if the command applies only to the source
  */
 function textCommand(id, what, keys, isSource = false) {
   return command(id, "text", (calls) => calls.inText(what), { keys, place: isSource ? "source" : "texts",
@@ -231,7 +227,7 @@ const WIRING = [
 ];
 
 /**
- * Returns a command that clicks a button for the recorded waves.
+ * Returns a command for a button that needs recorded waves.
  * @param {CommandId} id
  * @param {string} button
  */
@@ -270,7 +266,7 @@ const HELP = [
 ];
 
 /**
- * Returns one of several similar commands, for example one for each panel.
+ * Returns one of several similar commands, such as the command that shows one panel.
  * @param {string} id
  * @param {string} words
  * @param {Command["group"]} group
@@ -286,7 +282,7 @@ const SHOWN = [...Object.entries(say.TEXTS), ...Object.entries(say.PANELS)].map(
   labelledCommand(`show.${name}`, say.showText(words), "show", (calls) => calls.show(name))));
 
 /**
- * Commands that close panels, open them again and make them full size.
+ * Commands that show, hide and maximise panels.
  * @type {Command[]}
  */
 const ARRANGED = [
@@ -304,7 +300,7 @@ const SETTINGS = [
     labelledCommand(`theme.${name}`, words, "settings", (calls) => calls.setTheme(/** @type {Theme} */ (name)), "theme"))),
 ];
 
-/** All commands that are always available, in the order of lists. */
+/** The commands that do not depend on the session, in the order in which lists show them. */
 export const COMMANDS = [
   ...TIME, ...TEXT, ...DEBUG, ...TESTS, ...PROJECT, ...BOARD, ...SHOW, ...SHOWN, ...WIRING, ...WAVES, ...ARRANGED,
   ...SETTINGS, ...HELP,

@@ -1,10 +1,10 @@
-// Empty panels say what they are for, and offer the command that fills them.
+// Fills empty panels: says what each is for, and offers the command that fills it.
 
 import { block, element, onClick } from "../ui/dom.js";
 import { commandOf } from "./command_table.js";
 import * as say from "../../words/page_commands.js";
 
-/** The command that fills each panel, by the id of the panel's list or picture. */
+/** The id of the command that fills each panel, by the id of the panel's list or picture. */
 const FILLS = {
   "watched-list": "debug.watch", "breakpoint-list": "debug.breakpoint", "waves": "waves.record", "log": "debug.console",
 };

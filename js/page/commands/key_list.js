@@ -1,4 +1,4 @@
-// The list of keys in the help: the keys from the table of commands, before other keys of the same section.
+// The table of keys in the help. It has the command keys first, then the section's other keys.
 
 import { COMMANDS } from "./command_table.js";
 import { KEYBOARD } from "../../words/help.js";
@@ -10,7 +10,7 @@ import * as say from "../../words/page_commands.js";
  */
 
 /**
- * Returns a row for each command that has keys: its keys, and its name.
+ * Returns a table row for each command with keys: its keys and its name.
  * @returns {string[][]}
  */
 export function keyRows() {
@@ -19,7 +19,7 @@ export function keyRows() {
 }
 
 /**
- * Returns the manual with the table of keys before the other tables in the section about the keyboard.
+ * Returns the manual with the command keys as the first table of the keyboard section.
  * @param {ManualSection[]} manual
  * @returns {ManualSection[]}
  */

@@ -1,4 +1,4 @@
-// Keys of commands: keys that work everywhere, and keys of an editor.
+// Key bindings of commands: keys that work everywhere, and keys of an editor.
 
 import { COMMANDS, commandOf } from "./command_table.js";
 
@@ -9,7 +9,7 @@ import { COMMANDS, commandOf } from "./command_table.js";
  */
 
 /**
- * Returns the name of a key with its modifiers, as the table of commands has it. Command counts as Control.
+ * Returns the name of a key with its modifiers, as the command table writes it. Command counts as Control.
  * @param {Typed} event
  */
 export function keyNameOf({ key, ctrlKey, metaKey, altKey, shiftKey }) {
@@ -17,12 +17,12 @@ export function keyNameOf({ key, ctrlKey, metaKey, altKey, shiftKey }) {
   return `${held}${key.length === 1 ? key.toUpperCase() : key}`;
 }
 
-/** The commands whose keys work everywhere, by their keys. */
+/** The commands whose keys work everywhere, by key name. */
 const EVERYWHERE = new Map(COMMANDS.filter(({ place }) => place === "everywhere").flatMap((command) => (
   command.keys.map((key) => [key, command]))));
 
 /**
- * Returns the command of a key that works everywhere, or undefined if another part of the page has handled the key.
+ * Returns the command of a key that works everywhere. Returns undefined for other keys, or if another part of the page has handled the event.
  * @param {Typed & { defaultPrevented: boolean }} event
  * @returns {Command | undefined}
  */
@@ -31,7 +31,7 @@ export function commandOfKey(event) {
 }
 
 /**
- * Listens to the keys that work everywhere. While a dialog is open, neither the commands nor the browser's defaults are executed.
+ * Listens to the keys that work everywhere. While a dialog is open, these keys execute neither the command nor the browser's default action.
  * @param {(command: Command) => void} act
  * @param {() => boolean} isBlocked
  * @param {Pick<Window, "addEventListener">} target
@@ -46,7 +46,7 @@ export function listenToKeys(act, isBlocked, target = window) {
 }
 
 /**
- * Returns the keys of a command as an editor names them, with its action.
+ * Returns the key bindings of a command for an editor: the editor's key names with the action.
  * @template Editor
  * @param {CommandId} id
  * @param {(editor: Editor) => void} act

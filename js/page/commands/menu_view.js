@@ -1,12 +1,12 @@
-// Menus as ARIA describes them, below a button or at a point. Arrows move from item to item, Escape closes the menu.
+// Menus with the ARIA menu pattern, below a button or at a point. Arrow keys move between items; Escape closes the menu.
 
 import { element } from "../ui/dom.js";
 import { icon } from "../ui/icons.js";
 import { putBelow } from "../ui/popup_message.js";
 
 /**
- * An item of a menu: its id, if it has one; its label, icon and key; and its action. `isChosen` returns whether an alternative is the
- * chosen one. `isNarrow` is true for an item that a wide window has in the toolbar instead.
+ * A menu item: its id, label, icon, key and action. `isChosen` returns whether this alternative is selected. A wide window has the items with
+ * `isNarrow` in the toolbar instead.
  * @typedef {{ id?: string, words: string, icon?: import("../ui/icons.js").IconName, key?: string, act: () => void,
  *   isChosen?: () => boolean, isNarrow?: boolean }} MenuItem
  */
@@ -16,7 +16,7 @@ class MenuList {
   /**
    * @param {string} id
    * @param {string} label the name of the menu
-   * @param {() => void} close called to close the menu, after a choice or on Escape
+   * @param {() => void} close closes the menu after a choice or on Escape
    */
   constructor(id, label, close) {
     this.close = close;
@@ -62,7 +62,7 @@ class MenuList {
     });
   }
 
-  /** The buttons that are visible at the present width of the window. */
+  /** The buttons that are visible at the window's present width. */
   get shown() {
     return this.buttons.filter((button) => button.offsetParent !== null);
   }
@@ -93,7 +93,7 @@ class MenuList {
 }
 
 /**
- * Calls `left` when the user presses outside a menu or moves the focus out of it.
+ * Calls `left` when the user clicks outside a menu or moves the focus out of it.
  * @param {HTMLElement} node
  * @param {() => void} left
  */
@@ -115,7 +115,7 @@ export class MenuView {
   constructor(button, id, label, items) {
     this.button = button;
     this.menu = new MenuList(id, label, () => {
-      // The focus returns from the menu to the button.
+      // When the menu closes, the focus returns to the button.
       if (this.node.contains(document.activeElement)) this.button.focus();
       this.show(false);
     });
@@ -154,7 +154,7 @@ export class MenuView {
   }
 }
 
-/** A menu at a point of the window, for the element at that point. */
+/** A context menu, which opens at a point of the window. */
 export class ContextMenu {
   /**
    * @param {string} id
@@ -164,7 +164,7 @@ export class ContextMenu {
     this.menu = new MenuList(id, label, () => this.close());
     const { node } = this.menu;
     document.body.append(node);
-    /** @type {Element | null} the element that had the focus before the menu */
+    /** @type {Element | null} the element that had the focus before the menu opened */
     this.before = null;
     node.addEventListener("keydown", (event) => this.menu.typed(event));
     listenToLeaving(node, () => this.menu.show(false));
@@ -183,7 +183,7 @@ export class ContextMenu {
     this.menu.focus(0);
   }
 
-  /** Closes the menu, and returns the focus to the element that had it before. */
+  /** Closes the menu and returns the focus to the element that had it before. */
   close() {
     if (this.before instanceof HTMLElement) this.before.focus();
     this.menu.show(false);

@@ -1,7 +1,7 @@
-// Decides whether a button can be used once its text or panel is in front.
+// Determines whether a button can be used once its text or panel is in front.
 
 /**
- * Returns whether an element is a text or a panel. If it is hidden, another one is in front of it.
+ * Returns true if an element is a text, a panel or the view menu. Such an element is hidden only while another one is in front of it.
  * @param {Element} node
  */
 function isTextOrPanel(node) {
@@ -9,8 +9,7 @@ function isTextOrPanel(node) {
 }
 
 /**
- * Returns whether a button is enabled, and neither the button nor its container is hidden. A text or a panel behind another one counts as
- * visible.
+ * Returns true if a button is enabled and visible. A text or panel that is behind another one counts as visible.
  * @param {HTMLButtonElement} button
  */
 export function isOffered(button) {

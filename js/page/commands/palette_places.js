@@ -1,4 +1,4 @@
-// The places that the palette can go to: the texts, labels, addresses, lines of the source, projects and examples.
+// The destinations that the palette offers: texts, labels, addresses, source lines, projects and examples.
 
 import { goalOf } from "../../core/machine/go_to.js";
 import { hex } from "../../core/bench/numbers.js";
@@ -10,14 +10,14 @@ import * as say from "../../words/page_commands.js";
  */
 
 /**
- * The calls that the places of the palette make.
+ * The callbacks of the palette's destinations.
  * @typedef {object} PlaceCalls
- * @property {() => SourceMap | null} map Returns the map of the program in ROM; null if the source is not in ROM.
+ * @property {() => SourceMap | null} map Returns the source map of the program in ROM, or null if ROM does not match the source.
  * @property {() => string[]} examples Returns the names of the examples.
  * @property {() => { id: string, name: string }[]} projects Returns the ids and names of the saved projects.
  * @property {(name: string) => void} show Brings a text to the front, by the name of its tab.
  * @property {(line: number) => void} line Shows a line of the source, from 1.
- * @property {(address: number) => void} address Shows the line of an address in source and listing.
+ * @property {(address: number) => void} address Shows an address in the source and in the disassembly.
  * @property {(name: string) => void} example Begins a new session from the example with a name.
  * @property {(id: string) => void} project Shows the project with an id.
  */
@@ -28,7 +28,7 @@ const LINE = /^:\s*(\d+)$/;
 const entry = (words, hint, act, isFound = false) => ({ words, hint, why: "", keys: [], isFound, act });
 
 /**
- * Returns the entry of a typed line number, address, or name with an offset; an empty list for any other text.
+ * Returns the entry for a typed line number, address, or name with an offset. Returns an empty list for any other text.
  * @param {string} wanted
  * @param {PlaceCalls} calls
  */
@@ -42,7 +42,7 @@ function typedPlace(wanted, calls) {
 }
 
 /**
- * Returns the entries of all places.
+ * Returns the entries of all destinations.
  * @param {string} wanted the typed text
  * @param {PlaceCalls} calls
  * @returns {Entry[]}

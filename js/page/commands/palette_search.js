@@ -1,8 +1,8 @@
-// The search of the palette: finds the entries that contain all words of the query, the best matches first.
+// The palette's search: finds the entries that contain all words of the query, best matches first.
 
 /**
- * An entry: its label; the text next to it; the reason why it cannot be executed, "" if it can; its keys and its icon; and its action. If
- * `isFound`, another search has found the entry, so it is listed whatever its label is.
+ * A palette entry. `words` is its label and `hint` the text next to it. `why` is the reason why it cannot run, or "" if it can. `isFound` is true if
+ * another search has found the entry, which is then listed whatever its label is.
  * @typedef {{ words: string, hint: string, why: string, keys: string[], icon?: import("../ui/icons.js").IconName, isFound?: boolean,
  *   act: () => void }} Entry
  */
@@ -13,8 +13,8 @@ export function wordsOfQuery(query) {
 }
 
 /**
- * Returns the rank of an entry: 0 if its label begins with the query, 1 if each word of the query begins a word of the label, 2 if the
- * label contains each word, 3 if the label, the hint and the keys together contain each word, or -1 if the entry does not match.
+ * Returns an entry's rank, from best to worst: 0 if its label begins with the query; 1 if each query word begins a word of the label; 2 if the label
+ * contains each query word; 3 if label, hint and keys together contain each query word. Returns -1 if the entry does not match.
  * @param {Entry} entry
  * @param {string[]} wanted
  */
@@ -29,7 +29,7 @@ export function rankOf({ words, hint, keys, isFound }, wanted) {
 }
 
 /**
- * Returns the entries that match a query, the best ones first. Entries of one rank keep their order.
+ * Returns the entries that match a query, best first. Entries of equal rank keep their order.
  * @param {Entry[]} entries
  * @param {string} query
  */

@@ -1,5 +1,5 @@
-// The command palette: a field that filters commands or places, and the list of matches. It is a combobox with a listbox, as ARIA describes
-// it: the field keeps the focus, arrows choose an entry, Enter executes it.
+// The command palette: a field that filters commands or destinations, and the list of matches. It follows the ARIA pattern of a combobox with a
+// listbox: the field keeps the focus, arrow keys choose an entry, and Enter executes it.
 
 import { element } from "../ui/dom.js";
 import { icon } from "../ui/icons.js";
@@ -8,10 +8,10 @@ import * as say from "../../words/page_commands.js";
 
 /**
  * @typedef {import("./palette_search.js").Entry} Entry
- * @typedef {{ commands: () => Entry[], places: (wanted: string) => Entry[] }} Sources return the entries
+ * @typedef {{ commands: () => Entry[], places: (wanted: string) => Entry[] }} Sources return the entries of commands and of destinations
  */
 
-/** The character at the beginning of the field that asks for commands. */
+/** The first character of a query for commands. Without it, the query is for destinations. */
 export const COMMAND_SIGN = ">";
 /** The maximum number of entries that are drawn. */
 const MAX_DRAWN = 500;
@@ -34,7 +34,7 @@ export class PaletteView {
     this.field.addEventListener("input", () => this.draw());
     this.field.addEventListener("keydown", (event) => this.typed(event));
     this.list.addEventListener("click", (event) => this.clicked(event));
-    // A press on an entry leaves the focus in the field.
+    // A click on an entry leaves the focus in the field.
     this.list.addEventListener("pointerdown", (event) => event.preventDefault());
     // A click outside the palette closes it.
     this.dialog.addEventListener("click", (event) => event.target === this.dialog && this.dialog.close());
@@ -51,7 +51,7 @@ export class PaletteView {
     this.field.setSelectionRange(begin.length, begin.length);
   }
 
-  /** True if the field asks for commands, false if it asks for places. */
+  /** True if the query is for commands, false if it is for destinations. */
   get isCommands() {
     return this.field.value.startsWith(COMMAND_SIGN);
   }
@@ -81,14 +81,14 @@ export class PaletteView {
   option({ words, hint, why, keys, icon: name }, at) {
     const option = element("li", { "id": `palette-${at}`, "role": "option", "aria-selected": "false" });
     if (why) option.setAttribute("aria-disabled", "true");
-    // The labels of all commands begin in one column.
+    // An empty icon keeps the labels of all commands aligned.
     const place = this.isCommands ? [element("span", { className: "icon" })] : [];
     option.append(...(name ? [icon(name)] : place), element("span", { className: "grow" }, words), element("small", {}, why || hint),
       ...keys.slice(0, 1).map((key) => element("kbd", {}, key)));
     return option;
   }
 
-  /** Lists the entries again; the selected one stays selected. */
+  /** Lists the destinations again. The same index stays selected. */
   refresh() {
     if (!this.dialog.open || this.isCommands) return;
     const { chosen } = this;
@@ -136,7 +136,7 @@ export class PaletteView {
   }
 
   /**
-   * Closes the palette and executes an entry. For a disabled entry it shows the reason instead, and stays open.
+   * Closes the palette and executes an entry. For a disabled entry, the palette stays open and shows the reason.
    * @param {number} at
    */
   act(at) {

@@ -1,4 +1,4 @@
-// The toolbar: a row of buttons and menus, created from the table of commands.
+// The toolbar: a row of buttons and menus, created from the command table.
 
 import { block, element, onClick } from "../ui/dom.js";
 import { icon } from "../ui/icons.js";
@@ -13,9 +13,9 @@ import * as say from "../../words/page_commands.js";
  * @typedef {import("../ui/tooltips.js").Tooltips} Tooltips
  */
 
-/** @typedef {{ id: string, tip?: string, isWide?: boolean }} ButtonLook `isWide`: its label is visible */
+/** @typedef {{ id: string, tip?: string, isWide?: boolean }} ButtonLook the id and tooltip of a button; if `isWide`, its label is visible */
 
-/** The ids of buttons, by their commands. */
+/** The id of each command's button. */
 const TRANSPORT = {
   "time.stepBack": "back-instruction", "time.continue": "run", "time.over": "over", "time.into": "step", "time.out": "out",
   "time.reset": "reset",
@@ -24,7 +24,7 @@ const FILE = {
   "project.open": "open-button", "project.save": "save-button", "project.saveSession": "save-session-button",
   "project.export": "export-button", "project.print": "print-button", "project.all": "projects-button",
 };
-/** The commands that a narrow window has in the menu instead of the toolbar, with the ids of their items. */
+/** The commands that a narrow window shows in the menu instead of the toolbar, with the ids of their menu items. */
 const NARROW = {
   "project.examples": "examples-narrow", "project.share": "share-narrow", "settings.palette": "palette-narrow",
   "go.notices": "notices-narrow", "help.open": "help-narrow", "help.welcome": "welcome-narrow",
@@ -37,7 +37,7 @@ export class ToolbarView {
    */
   constructor(tips, theme) {
     this.tips = tips;
-    /** @type {(command: Command) => void} executes a command, when the page exists */
+    /** @type {(command: Command) => void} executes a command; the page sets it after it has been created */
     this.act = () => {};
     this.word = element("span", { className: "word" });
     this.transport = Object.entries(TRANSPORT).map(([command, id]) => this.button(commandOf(command), { id, tip: say.TIPS[command] }));
@@ -57,7 +57,7 @@ export class ToolbarView {
   }
 
   /**
-   * Returns a button with an icon. The command's label is its name, and is in its tooltip with the command's key.
+   * Returns a button with an icon. Its accessible name is the command's label. Its tooltip shows the command's first key.
    * @param {Command} command
    * @param {ButtonLook} look
    */
@@ -73,7 +73,7 @@ export class ToolbarView {
   }
 
   /**
-   * Makes the run button show the action of a click: continue or pause.
+   * Shows on the run button what a click does: continue or pause.
    * @param {boolean} isRunning
    */
   showRunning(isRunning) {
@@ -103,7 +103,7 @@ export class ToolbarView {
     return node;
   }
 
-  /** Returns the menu of files. In a narrow window this menu has the rest of the toolbar, too. */
+  /** Returns the file menu. In a narrow window, this menu also has the commands that do not fit into the toolbar. */
   fileMenu() {
     /** @type {(command: Command, id: string, isNarrow: boolean) => import("./menu_view.js").MenuItem} */
     const item = (command, id, isNarrow) => ({ id, words: command.words, icon: command.icon, key: command.keys[0], isNarrow,

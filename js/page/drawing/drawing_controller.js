@@ -1,4 +1,4 @@
-// Controls the picture in the Wiring tab, which is drawn from the board's text in the Board tab.
+// Controls the picture in the Wiring tab. The picture is drawn from the board's text in the Board tab.
 
 import { wantsKey } from "../board/pressing.js";
 import { button, isDialogOpen, onClick } from "../ui/dom.js";
@@ -17,22 +17,21 @@ import { PictureZoom } from "./picture_zoom.js";
  */
 
 /**
- * The calls that the picture makes to the page.
+ * The callbacks through which the picture reaches the page.
  * @typedef {object} PictureOwnCalls
- * @property {() => boolean} isInFront Returns whether the picture is in front. Another picture is drawn later.
+ * @property {() => boolean} isInFront Returns true if the picture is in front. Otherwise it is drawn when it comes to the front.
  * @property {() => void} putInFront Brings the picture to the front.
- * @property {() => Promise<string>} wire Applies the text as the board. Resolves to the message about that.
+ * @property {() => Promise<string>} wire Applies the text as the board. Resolves to the message about the result.
  * @property {(board: Board) => void} scanKeys Inserts a key scan routine for a board into the source.
  * @property {(part: string) => void} find Shows the lines of a part in the text. The part is named as in the picture, for example `rom 1`.
- * @property {() => KeptSession | null} session Returns the session that is shown, whose record has the moved parts; null if there is
- *   none.
+ * @property {() => KeptSession | null} session Returns the current session, whose record stores the moved parts, or null if there is none.
  * @property {() => void} touched Saves the session after the user has moved parts.
  * @property {(fault: unknown) => void} failed Reports an error that a call threw.
  */
 
 /** @typedef {DrawingCalls & PictureOwnCalls} PictureCalls */
 
-/** The time in milliseconds from the last edit until the picture follows the text. */
+/** The delay in milliseconds between the last edit and the update of the picture. */
 const DRAW_DELAY = 300;
 
 export class DrawingController {
@@ -88,7 +87,7 @@ export class DrawingController {
   }
 
   /**
-   * Handles a key with Control while the picture is in front, unless a text has the focus.
+   * Handles a key with Control or Command while the picture is in front, unless the focused element handles the key.
    * @param {KeyboardEvent} event
    */
   typed(event) {
@@ -114,20 +113,20 @@ export class DrawingController {
     if (this.calls.isInFront()) this.reportFailure(this.drawing.look());
   }
 
-  /** Draws the picture after a pause, because a text was edited. */
+  /** Draws the picture again DRAW_DELAY after the last edit of the text. */
   edited() {
     clearTimeout(this.editing);
     this.editing = window.setTimeout(() => this.drawing.text !== this.calls.text() && this.followText(), DRAW_DELAY);
   }
 
-  /** Forgets the drawing, because the texts of another session are shown. */
+  /** Forgets the drawing, because another session has been opened. */
   begin() {
     this.drawing.forget();
     this.drawing.movedParts.begin(this.kept);
   }
 
   /**
-   * Handles a board that was applied.
+   * Updates the drawing after a board was applied.
    * @param {string[]} answers the answers to `board`
    */
   handleBoard(answers) {
@@ -136,8 +135,8 @@ export class DrawingController {
   }
 
   /**
-   * Adds a part from the shelf, with its head at a point of the sheet. A part that joins an existing one, as a lamp joins other lamps, is
-   * not moved to the point.
+   * Adds a part from the shelf with its head at a point of the sheet. A part that joins an existing part is not moved: for example, a lamp joins the
+   * other lamps.
    * @param {import("../../core/drawing/acts.js").Act} act
    * @param {import("../../core/board/wiring.js").Point | null} point
    */
@@ -160,7 +159,7 @@ export class DrawingController {
     this.drawing.say(await this.calls.wire());
   }
 
-  /** The positions of dragged parts, which the browser saves with the session. */
+  /** The positions of dragged parts, as stored with the session. */
   get kept() {
     const session = this.calls.session();
     return (session && session.record.places) || [];

@@ -1,4 +1,4 @@
-// The controls around the picture of a board: the shelf of parts, the fields of the selected part, and the message about the last action.
+// The controls around the board's picture: the shelf of parts, the fields of the selected part, and the message about the last action.
 
 import { Cell, block, button, element, field, onClick } from "../ui/dom.js";
 import { buzzerOf, lampColours } from "../../core/board/face_board.js";
@@ -16,20 +16,21 @@ import * as say from "../../words/drawing.js";
  */
 
 /**
- * The calls that the shelf, the buttons and the fields of the drawing make.
+ * The callbacks of the shelf, the buttons and the fields.
  * @typedef {object} ViewCalls
- * @property {(act: Act) => void} act Does an action on the board's text, if the bench accepts it.
+ * @property {(act: Act) => void} act Performs an action on the board's text, if the bench accepts the result.
  * @property {(which: "undo" | "redo") => void} undoOrRedo Undoes or redoes the last step.
  * @property {() => void} wire Applies the text as the board.
  * @property {(part: string) => void} find Shows the lines of a part in the text. The part is named as in the picture, for example `rom 1`.
  * @property {() => void} tidy Moves all parts to their default positions.
  * @property {() => void} scanKeys Inserts a key scan routine into the source.
- * @property {(act: Act, point: Point | null) => void} drop Adds a part at a point of the sheet, or at its default position, and focuses it.
+ * @property {(act: Act, point: Point | null) => void} drop Adds a part and focuses it. The part is at a point of the sheet, or at its default
+ *   position for null.
  */
 
-/** Parts that have a number of digits. */
+/** The parts for which the user chooses a number of digits. */
 const WITH_DIGITS = new Set(["digit", "segments", "scanned"]);
-/** Parts that are wired to the line on which they are dropped. */
+/** The parts that are wired to the line on which the user drops them. */
 const AT_LINES = new Set(["lamp", "buzzer"]);
 
 export class DrawingView {
@@ -44,17 +45,17 @@ export class DrawingView {
     this.state = new Cell(block("drawing-state"));
     /** @type {Map<Shelved, HTMLButtonElement>} */
     this.shelf = new Map();
-    /** The description of the last drawing, to detect changes. */
+    /** The input of the last drawing as JSON, to detect changes. */
     this.drawn = "";
     /** @type {import("../../core/board/wiring.js").Moved} */
     this.moved = new Map();
     /** @type {Shown | null} */
     this.shown = null;
-    /** The description of the last fields, to detect changes. */
+    /** The layout of the current fields as JSON, to detect changes. */
     this.form = "";
     /** @type {(HTMLInputElement | HTMLSelectElement)[]} */
     this.fields = [];
-    /** @type {WeakMap<HTMLElement, string>} the last value that each field has shown */
+    /** @type {WeakMap<HTMLElement, string>} the value that each field last showed */
     this.values = new WeakMap();
     this.makeShelf();
     onClick(button("drawing-undo"), () => calls.undoOrRedo("undo"));
@@ -98,7 +99,7 @@ export class DrawingView {
 
   /**
    * @param {Shelved} part
-   * @param {string} [line] the line of the part, "" for the next free one
+   * @param {string} [line] the line to which the part is wired; "" for the next free line
    * @returns {Act}
    */
   actOf(part, line = "") {
@@ -122,7 +123,7 @@ export class DrawingView {
     button("drawing-wire").classList.toggle("due", fault === "" && !isWired);
   }
 
-  /** Draws the board if it has changed, or another part was dragged. */
+  /** Draws the board if it has changed or if a part has been dragged. */
   showPicture() {
     const { shown, moved } = this;
     if (!shown) return;
@@ -145,7 +146,7 @@ export class DrawingView {
   }
 
   /**
-   * Shows the fields of the selection. Unchanged fields stay, with their present values, so that typing is not interrupted.
+   * Shows the fields of the selection. Fields whose layout is unchanged stay, so that typing is not interrupted.
    * @param {Shown} shown
    */
   showFields({ fields: { title, part, fields, buttons }, fault }) {
@@ -156,7 +157,7 @@ export class DrawingView {
   }
 
   /**
-   * Sets the value of a field. Text that the user is typing stays, even if it was rejected.
+   * Sets the value of a field. Text that the user is typing stays, even if the bench rejected it.
    * @param {HTMLInputElement | HTMLSelectElement} node
    * @param {string} value
    */
@@ -167,7 +168,7 @@ export class DrawingView {
   }
 
   /**
-   * Draws other fields. The focus stays if there is a field with the same label.
+   * Replaces the fields. The focus stays if a new field or button has the same label.
    * @param {string} title
    * @param {string} part
    * @param {Field[]} fields

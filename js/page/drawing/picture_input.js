@@ -1,29 +1,29 @@
-// Mouse, fingers and keys on the picture of a board. A wire is drawn from pin to pin, by dragging or by two clicks. A part is dragged.
-// Arrow keys move the focus from part to part and from pin to pin.
+// Mouse, touch and keyboard input on the board's picture. The user draws a wire from pin to pin, by dragging or by two clicks, and drags parts. Arrow
+// keys move the focus between parts and between pins.
 
 /**
  * @typedef {import("../board/wiring_view.js").WiringView} WiringView
  * @typedef {import("../../core/board/wiring.js").Point} Point
  *
- * The part or the pin that the pointer holds: its name, the point where the pointer went down, and the initial position of the part.
+ * The part or pin under the pressed pointer: its name, the point where the pointer went down, and the part's initial position.
  * @typedef {{ name: string, isPart: boolean, at: Point, start: Point, isDragged: boolean }} Held
  */
 
 /**
- * The calls that mouse, fingers and keys on the picture make. Parts and pins are named as in the picture.
+ * The callbacks of the picture's input. Parts and pins have the picture's names.
  * @typedef {object} InputCalls
- * @property {(name: string) => void} pressed Handles a press on a part or a pin.
+ * @property {(name: string) => void} pressed Handles a click on a part or a pin.
  * @property {(from: string, to: string) => void} wired Draws a wire that was dragged from one pin to another.
- * @property {(part: string, point: Point) => void} moved Moves a part to a point of the picture, in its units.
- * @property {() => void} dropped Handles the end of a drag.
+ * @property {(part: string, point: Point) => void} moved Moves a part to a point in the picture's units.
+ * @property {() => void} dropped Handles the end of a part's drag.
  * @property {(name: string) => void} deleted Deletes a part or a wire.
- * @property {() => void} left Cancels the begun wire or the selection.
+ * @property {() => void} left Cancels the wire in progress or the selection.
  * @property {(which: "undo" | "redo") => void} undoOrRedo Undoes or redoes the last step.
  */
 
-/** The distance that the pointer moves before it drags anything, in units of the picture. */
+/** The distance that the pointer must move to start a drag, in the picture's units. */
 const DRAG_DISTANCE = 4;
-/** The distance that a key moves a part, in units of the picture. */
+/** The distance that an arrow key moves a part, in the picture's units. */
 const STEP = 12;
 /** @type {Record<string, { x: number, y: number }>} */
 const ARROWS = { ArrowLeft: { x: -1, y: 0 }, ArrowRight: { x: 1, y: 0 }, ArrowUp: { x: 0, y: -1 }, ArrowDown: { x: 0, y: 1 } };
@@ -38,7 +38,7 @@ export class PictureInput {
     this.calls = calls;
     /** @type {Held | null} */
     this.held = null;
-    /** @type {Set<string>} the pins where the begun wire can end */
+    /** @type {Set<string>} the pins where the wire in progress can end */
     this.ends = new Set();
     this.begun = "";
     const { root } = view;
@@ -72,7 +72,7 @@ export class PictureInput {
     const name = this.view.nameAt(/** @type {Element} */ (event.target));
     const part = this.view.parts.get(name);
     this.held = { name, isPart: part !== undefined, at: this.view.pointOf(event), start: part || { x: 0, y: 0 }, isDragged: false };
-    // The picture also receives events of the pointer outside of it.
+    // With the capture, the picture also receives pointer events from outside of it.
     if (event.pointerType !== "touch") this.view.root.setPointerCapture(event.pointerId);
     if (name) this.view.focus(name);
   }
@@ -86,11 +86,11 @@ export class PictureInput {
     }
     const now = view.pointOf(event);
     if (!held.isDragged && Math.hypot(now.x - held.at.x, now.y - held.at.y) < DRAG_DISTANCE) return;
-    // A finger on a part scrolls the picture. On a pin it draws a wire.
+    // A finger on a part scrolls the picture; a finger on a pin draws a wire.
     if (held.name === "" || (held.isPart && event.pointerType === "touch")) return;
     if (!held.isDragged && !held.isPart && this.begun !== held.name) this.calls.pressed(held.name);
     held.isDragged = true;
-    // The picture keeps its size until the part is dropped, because the pointer determines the part's position.
+    // The part's position depends on the pointer, so the picture keeps its size until the drop.
     view.isHeld = held.isPart;
     if (held.isPart) this.calls.moved(held.name, { x: held.start.x + now.x - held.at.x, y: held.start.y + now.y - held.at.y });
     else view.drawPencil(held.name, now);
@@ -114,7 +114,7 @@ export class PictureInput {
     else this.calls.left();
   }
 
-  /** Ends a drag when the browser takes over the pointer, for example to scroll. The part stays at its present position. */
+  /** Ends a drag when the browser takes over the pointer, for example to scroll. The part stays where it is. */
   cancel() {
     const { held } = this;
     this.release();
@@ -135,7 +135,7 @@ export class PictureInput {
   }
 
   /**
-   * Does the action of a key. Returns whether the key has one.
+   * Executes the action of a key. Returns true if the key has an action.
    * @param {KeyboardEvent} event
    */
   handleKey(event) {
@@ -159,8 +159,8 @@ export class PictureInput {
   }
 
   /**
-   * Handles an arrow key. It moves the focus to the next part or pin. While a wire is drawn, it moves the focus to the next pin where the
-   * wire can end, and from the last such pin to the first. With Shift it moves the part.
+   * Handles an arrow key: moves the focus to the next part or pin. During a wire, the focus moves between the pins where the wire can end, from the
+   * last to the first. With Shift, moves the part instead. Returns true if the key has an action.
    * @param {KeyboardEvent} event
    * @param {string} name
    */

@@ -1,14 +1,14 @@
-// The size of a board's picture: as wide as its panel, or larger or smaller by buttons, keys and the wheel.
+// The zoom of the board's picture. It fits the width of its panel until buttons, keys or the wheel change its size.
 
 import { button, onClick } from "../ui/dom.js";
 
-/** The zoom factor of a button, a key or a turn of the wheel. */
+/** The zoom factor of one click, key press or wheel step. */
 const STEP = 1.25;
-/** The minimum size, relative to the natural size. A picture that does not fit can be made smaller, until it fits. */
+/** The minimum scale. A picture that still does not fit at this scale can be made smaller until it fits. */
 const MIN_SCALE = 0.35;
-/** The maximum size, relative to the natural size. */
+/** The maximum scale. */
 const MAX_SCALE = 4;
-/** Sizes that differ by less count as equal. */
+/** Scales that differ by less than this count as equal. */
 const TOLERANCE = 0.001;
 
 export class PictureZoom {
@@ -24,19 +24,19 @@ export class PictureZoom {
     root.addEventListener("wheel", (event) => this.turn(event), { passive: false });
   }
 
-  /** The picture's box on the page. */
+  /** The bounding box of the picture on the page. */
   get box() {
     const picture = this.root.querySelector("svg");
     return picture ? picture.getBoundingClientRect() : new DOMRect();
   }
 
-  /** The present size, relative to the natural size. */
+  /** The present scale: displayed width by natural width, or 0 if there is no picture. */
   get scale() {
     const width = parseFloat(this.root.style.getPropertyValue("--picture-width"));
     return width > 0 ? this.box.width / width : 0;
   }
 
-  /** The minimum and the maximum size. The present size is between them. */
+  /** The minimum and maximum scale. They always include the present scale. */
   get bounds() {
     const { root, scale, box } = this;
     const height = parseFloat(getComputedStyle(root).maxHeight) || root.clientHeight;
@@ -45,9 +45,9 @@ export class PictureZoom {
   }
 
   /**
-   * Zooms the picture. The part of the picture at a point of the panel stays there.
+   * Zooms the picture. The point `at` of the picture stays under the same point of the panel.
    * @param {number} factor
-   * @param {{ x: number, y: number }} [at] the point, by default the middle of the panel
+   * @param {{ x: number, y: number }} [at] a point in the panel, by default its centre
    */
   zoom(factor, at = { x: this.root.clientWidth / 2, y: this.root.clientHeight / 2 }) {
     const { root, scale } = this;
@@ -66,7 +66,7 @@ export class PictureZoom {
     this.showBounds();
   }
 
-  /** Marks a button as disabled at its limit. The button keeps the focus. */
+  /** Marks each button as disabled at its limit with aria-disabled, so that the button keeps the focus. */
   showBounds() {
     const { scale, bounds: { min, max } } = this;
     this.smaller.setAttribute("aria-disabled", String(scale <= min + TOLERANCE));

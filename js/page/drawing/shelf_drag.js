@@ -1,6 +1,5 @@
-// Drags parts from the shelf onto the sheet, by mouse, pen or finger. A part is added where it is dropped. A lamp or a buzzer that is
-// dropped on a line is wired to it. A click adds a part at its default position. Shift and Enter add a part and focus it on the sheet,
-// where arrow keys move it.
+// Drags parts from the shelf onto the sheet, by mouse, pen or touch. A lamp or a buzzer that is dropped on a line is wired to that line. A click adds
+// a part at its default position. Shift and Enter add a part and focus it on the sheet, where arrow keys can move it.
 
 import { element } from "../ui/dom.js";
 
@@ -8,18 +7,18 @@ import { element } from "../ui/dom.js";
  * @typedef {import("../../core/drawing/acts.js").Shelved} Shelved
  * @typedef {{ clientX: number, clientY: number }} Place
  *
- * The part that the pointer holds, with its button, the point where the pointer went down, and whether it has been dragged since.
+ * The part under the pressed pointer, with its button, the point where the pointer went down, and whether the part has been dragged since then.
  * @typedef {{ part: Shelved, node: HTMLElement, from: Place, isDragged: boolean }} Held
  *
- * The calls that the shelf makes.
+ * The callbacks of the shelf.
  * @typedef {object} ShelfCalls
- * @property {(place: Place) => boolean} isSheet Returns whether the sheet is at a point.
+ * @property {(place: Place) => boolean} isSheet Returns true if a point of the window is on the sheet.
  * @property {(part: Shelved, place: Place) => void} dropped Adds a part that was dropped on the sheet.
  * @property {(part: Shelved) => void} goTo Adds a part and focuses it on the sheet.
  * @property {(isOver: boolean) => void} over Shows whether a dragged part is over the sheet.
  */
 
-/** The distance in pixels that the pointer moves before it drags a part. */
+/** The distance in pixels that the pointer must move to start a drag. */
 const DRAG_DISTANCE = 6;
 
 export class ShelfDrag {
@@ -29,7 +28,7 @@ export class ShelfDrag {
     /** @type {Held | null} */
     this.held = null;
     this.wasDragged = false;
-    /** The image of a part that follows the pointer. */
+    /** The image of the dragged part, next to the pointer. */
     this.ghost = element("div", { id: "shelf-ghost", hidden: true });
     document.body.append(this.ghost);
     addEventListener("keydown", (event) => {
@@ -44,7 +43,7 @@ export class ShelfDrag {
    * @param {Shelved} part
    */
   listen(node, part) {
-    // A browser sends a click after a drag, even if Escape has ended the drag. It does not count.
+    // Browsers send a click after a drag, even if Escape has cancelled the drag. Ignore that click.
     node.addEventListener("click", (event) => {
       if (this.wasDragged && event.detail > 0) event.stopImmediatePropagation();
       this.wasDragged = false;

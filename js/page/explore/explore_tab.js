@@ -1,4 +1,4 @@
-// The tab of properties: their text with its errors, a button that searches for counterexamples in a worker of its own, and the results.
+// The Properties tab: the properties with their errors, a button that searches for counterexamples in a separate worker, and the results.
 
 import { countOfFaults } from "../../core/bench/words.js";
 import { Cell, button, field, onClick } from "../ui/dom.js";
@@ -19,28 +19,27 @@ import * as say from "../../words/explore.js";
  * @typedef {import("../../core/bench/own_worker.js").Ended} Ended
  * @typedef {import("../prove/proofs.js").ProofsCalls} ProofsCalls
  *
- * The results of a search: its texts, its report, and the session file of each counterexample, by the number of its property.
+ * The results of a search: its texts, its report, and the session file of each counterexample, by property number.
  * @typedef {{ texts: ExploredTexts, report: Report | null, files: Map<number, Uint8Array>, isStopped: boolean }} Explored
  */
 
 /**
- * The calls that the tab of properties makes to the page. Its text also uses `labels`, `texts`, `edited` and `failed`.
+ * The callbacks of the Properties tab. Its text editor also uses `labels`, `texts`, `edited` and `failed`.
  * @typedef {object} ExploreCalls
  * @property {() => Omit<ExploredTexts, "propertiesText">} texts Returns the present texts of board, source and tests.
  * @property {() => string[]} labels Returns the labels of the program in ROM.
  * @property {(texts: ExploredTexts) => Promise<TextFault[]>} faults Resolves to the errors of all texts.
- * @property {(texts: ExploredTexts, asked: Asked, signal: AbortSignal, showProgress: (progress: Progress) => void)
- *   => Promise<Ended>} explore
- *   Searches until the time is over, everything is found, or `signal` is aborted. Calls `showProgress` with the progress. Resolves to the
- *   errors in texts, and to whether the search was stopped.
+ * @property {(texts: ExploredTexts, asked: Asked, signal: AbortSignal, showProgress: (progress: Progress) => void) => Promise<Ended>} explore
+ *   Searches until the time is up, every property has a counterexample, or `signal` is aborted. Calls `showProgress` with each progress report.
+ *   Resolves to the errors in the texts and whether the search was stopped.
  * @property {(number: number) => string} wordsOfRefusal Returns the message of a refusal.
  * @property {(line: number) => void} goToSource Shows a line of the source, from 1.
  * @property {(name: string, file: Uint8Array, texts: ExploredTexts) => void} open Opens a new session from a file, with the texts of the
  *   search.
  * @property {ProofsCalls["prove"]} prove Proves properties.
  * @property {ProofsCalls["open"]} openAfter Opens a new session with the texts, and executes lines in it.
- * @property {(test: string) => string} addTest Adds a test to the tests of the program. Returns the message about that.
- * @property {(words: string, isGood?: boolean) => void} mark Shows a short text on the tab, which can report a success; "" for none.
+ * @property {(test: string) => string} addTest Adds a test to the program's tests. Returns the message about the result.
+ * @property {(words: string, isGood?: boolean) => void} mark Shows a short text on the tab; "" removes it. If `isGood`, the text reports a success.
  * @property {() => void} edited Handles an edit of the properties.
  * @property {(fault: unknown) => void} failed Reports an error that a call threw.
  */
@@ -77,13 +76,13 @@ export class ExploreTab {
       open: (property) => this.open(property),
       add: (property) => this.add(property),
     });
-    /** The results of each session, by its id, while the page is open. */
+    /** The results of each session since the page was opened, by session id. */
     this.explored = /** @type {Map<string, Explored>} */ (new Map());
-    /** The id of the session that is shown. */
+    /** The id of the current session. */
     this.session = "";
     /** The last message about the search. */
     this.lastMessage = "";
-    /** @type {AbortController | null} stops the present search */
+    /** @type {AbortController | null} the controller that stops the current search; null if no search is running */
     this.controller = null;
     this.exploreButton = new Cell(button("explore"));
     this.exploreButton.set(say.EXPLORE);
@@ -114,12 +113,12 @@ export class ExploreTab {
     return { ...this.calls.texts(), propertiesText: this.editor.text };
   }
 
-  /** The results of the session that is shown. */
+  /** The results of the current session. */
   get shown() {
     return this.explored.get(this.session) || null;
   }
 
-  /** Checks the text, because the tab came to the front. */
+  /** Checks the text when the tab comes to the front. */
   refresh() {
     this.textTab.refresh();
   }
@@ -134,7 +133,7 @@ export class ExploreTab {
   }
 
   /**
-   * Stops the search, and shows another session with its former results.
+   * Stops the search and shows the earlier results of another session.
    * @param {string} session the id of the session
    */
   begin(session) {
@@ -155,19 +154,19 @@ export class ExploreTab {
     this.show();
   }
 
-  /** Updates the mark of the tab, and the button that clears results. */
+  /** Updates the tab's mark and the button that clears results. */
   showProofs() {
     this.mark(this.faultCount);
     this.offerClear();
   }
 
-  /** Shows the button that clears results, if there are any and nothing is running. */
+  /** Shows the button that clears results if there are results and nothing is running. */
   offerClear() {
     const { proofs } = this;
     button("clear-finds").hidden = this.controller !== null || proofs.controller !== null || !(this.shown || proofs.shown);
   }
 
-  /** Shows the results of the session so far. */
+  /** Shows the session's results so far. */
   show() {
     const { shown } = this;
     const isRunning = this.controller !== null;
@@ -179,7 +178,7 @@ export class ExploreTab {
   }
 
   /**
-   * Shows a message if it has changed. Otherwise messages about other actions stay.
+   * Shows a message if it differs from the last one. Otherwise a message about another action stays.
    * @param {string} words
    */
   showMessage(words) {
@@ -206,7 +205,7 @@ export class ExploreTab {
   }
 
   /**
-   * Returns the duration of the search and its seed, or null after a message if a field has no valid number.
+   * Returns the duration and the seed of the search. If a field has no valid number, shows a message and returns null.
    * @returns {Asked | null}
    */
   readRequest() {

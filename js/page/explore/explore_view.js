@@ -1,4 +1,4 @@
-// The results of a search for counterexamples: a row for each property, and the coverage of the program.
+// The results of a search for counterexamples: a row for each property, and the program's coverage.
 
 import { Cell, Switch, block, buttonOf, descendant, element } from "../ui/dom.js";
 import { andMore } from "../../words/debug.js";
@@ -12,18 +12,18 @@ import { wordsOfLine } from "../../words/stops.js";
  */
 
 /**
- * The calls that the results of a search make. Properties are numbered from 0.
+ * The callbacks of the search results. Properties are numbered from 0.
  * @typedef {object} FindCalls
- * @property {(line: number) => void} goTo Shows a line of the text of properties, from 1.
+ * @property {(line: number) => void} goTo Shows a line of the properties text, from 1.
  * @property {(line: number) => void} goToSource Shows a line of the source, from 1.
- * @property {(property: number) => void} open Opens the session of a counterexample as a new one.
- * @property {(property: number) => void} add Adds the test of a counterexample to the tests of the program.
+ * @property {(property: number) => void} open Opens a counterexample as a new session.
+ * @property {(property: number) => void} add Adds a counterexample's test to the program's tests.
  */
 
-/** The maximum number of lines in the list of lines that never ran. */
+/** The maximum number of lines listed as never executed. */
 const MAX_LINES = 60;
 
-/** The row of a property. Its counterexample is inserted once, so that controls in use do not disappear. */
+/** A property's row. The counterexample is inserted only once, so that controls in use do not disappear. */
 class Row {
   /**
    * @param {PropertyResult} property
@@ -78,7 +78,7 @@ export class ExploreView {
       return { name, root, bar: descendant(root, "progress", HTMLProgressElement), words: new Cell(descendant(root, "span", HTMLElement)) };
     });
     this.left = block("never-run");
-    /** The lines that never ran, as they are shown, to detect changes. */
+    /** The line numbers in the list of lines that never ran, to detect changes. */
     this.leftLines = "";
     /** @type {Row[]} */
     this.rows = [];
@@ -94,7 +94,7 @@ export class ExploreView {
 
   /**
    * @param {Report} report
-   * @param {boolean} isRunning whether the search is running
+   * @param {boolean} isRunning true if the search is running
    */
   show(report, isRunning) {
     if (this.rows.length === 0) {
@@ -102,7 +102,7 @@ export class ExploreView {
       this.list.replaceChildren(...this.rows.map(({ node }) => node));
     }
     this.rows.forEach((row, at) => row.show(report.properties[at], report, isRunning));
-    // If proofs settle all properties, there is nothing to search.
+    // If proofs settle all properties, no search takes place.
     const isSearched = isRunning || report.steps > 0;
     this.figures.set(isSearched ? wordsOfFigures(report) : say.NO_STEPS);
     this.showCoverage(report, isRunning, isSearched);
@@ -112,7 +112,7 @@ export class ExploreView {
   /**
    * @param {Report} report
    * @param {boolean} isRunning
-   * @param {boolean} isSearched whether any step was run
+   * @param {boolean} isSearched true if the search has executed a step
    */
   showCoverage(report, isRunning, isSearched) {
     const covered = coverageOf(report);
@@ -123,7 +123,7 @@ export class ExploreView {
       bar.value = part;
       words.set(label);
     }
-    // During a search this list changes all the time.
+    // The list would change continuously during a search, so it is empty until the end.
     this.showLeft(isRunning || !isSearched ? [] : covered.left);
   }
 

@@ -1,4 +1,4 @@
-// The guides: the help, the tour with the first program, the stories of examples, and the input of the console.
+// The guide: the help, the tour with the first program, the example stories, and the console's input.
 
 import { withKeys } from "../commands/key_list.js";
 import { HelpView } from "./help_view.js";
@@ -18,15 +18,15 @@ import * as say from "../../words/help.js";
  */
 
 /**
- * The calls that the guide makes to the page.
+ * The callbacks through which the guide reaches the page.
  * @typedef {object} GuideOwnCalls
- * @property {(example: Example) => Promise<boolean>} begin Begins a new session from an example. Resolves to whether it was created.
+ * @property {(example: Example) => Promise<boolean>} begin Begins a new session from an example. Resolves to true if it was created.
  * @property {() => void} showSource Brings the source to the front.
  * @property {() => string} program Returns the text of the source.
- * @property {(program: string) => void} edit Replaces the source by a program, as one edit.
- * @property {(target: import("../../core/help/tour.js").Target) => void} reveal Scrolls the target of a step into view.
- * @property {(program: string, words: string) => void} replace Replaces the source by a program, with a message that offers undo.
- * @property {import("../../core/help/story_acts.js").ActCalls} acts The actions of the links in stories.
+ * @property {(program: string) => void} edit Replaces the source with a program, as one edit.
+ * @property {(target: import("../../core/help/tour.js").Target) => void} reveal Scrolls the target of a tour step into view.
+ * @property {(program: string, words: string) => void} replace Replaces the source with a program, and shows a message that offers undo.
+ * @property {import("../../core/help/story_acts.js").ActCalls} acts The callbacks for links in stories.
  * @property {() => void} left Handles the end of the tour or of a story.
  * @property {(words: string) => void} refuse Shows the reason why a story cannot be shown.
  */
@@ -67,7 +67,7 @@ export class Guide {
   }
 
   /**
-   * Opens the story of an example next to the session that is shown.
+   * Opens an example's story next to the current session.
    * @param {string} name the name of the example
    * @param {Example[]} examples
    */
@@ -78,7 +78,7 @@ export class Guide {
     else this.calls.refuse(say.noSuchStory(shortName(name)));
   }
 
-  /** Closes the story, because another session is shown. */
+  /** Closes the story when another session is opened. */
   endStory() {
     if (this.tour.isOn && this.tour.isStory) this.tour.close();
   }

@@ -34,7 +34,7 @@ export class HelpView {
     this.search = field("help-search");
     this.sections = descendant(this.root, "#help-sections", HTMLElement);
     this.status = new Cell(descendant(this.root, "#help-status", HTMLElement));
-    /** @type {string | null} the search text of the drawn sections; null before the first drawing */
+    /** @type {string | null} the query for which the sections are drawn; null before the first drawing */
     this.drawn = null;
     this.isOpen = false;
     onClick(button("help-close"), () => this.close());
@@ -48,7 +48,7 @@ export class HelpView {
 
   /**
    * Shows the help.
-   * @param {string} [wanted] the search text
+   * @param {string} [wanted] the query; by default, the query stays
    */
   open(wanted) {
     if (wanted !== undefined) this.search.value = wanted;
@@ -59,7 +59,7 @@ export class HelpView {
     this.search.focus();
   }
 
-  /** @param {string} wanted the initial search text, "" for the last one */
+  /** @param {string} wanted the initial query; "" keeps the last query */
   toggle(wanted) {
     if (this.isOpen) this.close();
     else this.open(wanted || undefined);
@@ -69,11 +69,11 @@ export class HelpView {
     this.isOpen = false;
     this.root.hidden = true;
     this.switch.setAttribute("aria-expanded", "false");
-    // On a phone the help button is in the menu, which is closed.
+    // On a phone, the help button is in the closed menu. The menu button receives the focus instead.
     (this.switch.offsetParent ? this.switch : button("menu-button")).focus();
   }
 
-  /** Draws the sections that match the search. Without a search text all sections are folded. */
+  /** Draws the sections that match the query. Without a query, all sections are folded. */
   draw() {
     const wanted = this.search.value.trim();
     if (wanted === this.drawn) return;

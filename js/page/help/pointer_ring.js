@@ -1,8 +1,8 @@
-// A ring around the target of a step of the tour. It follows a moving target, and scrolls it into view.
+// A ring around the target of a tour step. It scrolls the target into view and follows it when it moves.
 
 import { element } from "../ui/dom.js";
 
-/** The interval in milliseconds at which the ring moves to its target. */
+/** The interval in milliseconds at which the ring's position is updated. */
 const MOVE_INTERVAL = 200;
 /** The distance in pixels between the ring and its target. */
 const GAP = 4;
@@ -13,7 +13,7 @@ export class PointerRing {
     document.body.append(this.node);
     /** @type {() => Element | null} */
     this.target = () => null;
-    /** @type {Element | null} the last target that was scrolled into view */
+    /** @type {Element | null} the target that was last scrolled into view */
     this.seen = null;
     this.timer = 0;
   }

@@ -1,4 +1,4 @@
-// A tour next to the bench, step by step: the first program, or the story of an example.
+// The panel of a step-by-step tour next to the bench: the first program, or an example's story.
 
 import { PointerRing } from "./pointer_ring.js";
 import { Cell, block, button, element, onClick } from "../ui/dom.js";
@@ -13,19 +13,19 @@ import * as say from "../../words/help.js";
  */
 
 /**
- * The calls that the panel of a tour makes.
+ * The callbacks of the tour panel.
  * @typedef {object} TourCalls
- * @property {(example: Example) => Promise<boolean>} begin Begins a new session from an example. Resolves to whether it was created.
+ * @property {(example: Example) => Promise<boolean>} begin Begins a new session from an example. Resolves to true if it was created.
  * @property {(program: string) => void} put Puts a program into the source.
- * @property {(act: import("../../core/help/story.js").Act) => Promise<string>} act Does the action of a story's link. Resolves to the
- *   reason why it failed, or to "".
- * @property {(program: string) => boolean} isPut Returns whether the source is `program`.
+ * @property {(act: import("../../core/help/story.js").Act) => Promise<string>} act Executes the action of a story's link. Resolves to the reason why
+ *   the action failed, or to "".
+ * @property {(program: string) => boolean} isPut Returns true if the source is `program`.
  * @property {(target: Target) => void} reveal Scrolls the target of a step into view.
  * @property {() => void} left Handles the end of the tour.
  */
 
 /**
- * The element of each target.
+ * The element that each target names.
  * @type {Record<Target, () => Element | null>}
  */
 const TARGETS = {
@@ -76,7 +76,7 @@ export class TourView {
     this.calls.left();
   }
 
-  /** True for the story of an example. */
+  /** True for an example's story, false for the first program. */
   get isStory() {
     return this.watch.steps !== TOUR;
   }
@@ -100,8 +100,8 @@ export class TourView {
   }
 
   /**
-   * Scrolls the target of the step into view, and puts a ring around the element that the user needs next: the button that inserts the
-   * program, then the target, then the button that continues.
+   * Scrolls the step's target into view. A ring marks the element that the user needs next: first the button that inserts the program, then the
+   * target, then the button that continues.
    */
   pointOut() {
     const { program, target } = this.watch.step;

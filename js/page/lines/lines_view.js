@@ -1,26 +1,26 @@
-// The input of the console: Enter sends lines, the arrow keys recall earlier ones, and the text below it shows how a line can continue.
+// The console input. Enter sends lines, the arrow keys recall earlier lines, and a hint below shows how a line can continue.
 
 import { Cell, block, button, byId, onClick } from "../ui/dom.js";
 import { fittingLines } from "../../core/help/manual.js";
 import * as say from "../../words/page.js";
 
 /**
- * The calls that the input of the console makes.
+ * The callbacks of the console input.
  * @typedef {object} LinesCalls
- * @property {(lines: string) => Promise<string | null>} send Serves lines. Resolves to the first answer, or to null after a failure that
- *   was reported.
- * @property {(answer: string) => string} wordsOf Returns an answer, with its message if it is a refusal.
+ * @property {(lines: string) => Promise<string | null>} send Serves lines. Resolves to the first answer, or to null after a failure. A failure has
+ *   already been reported.
+ * @property {(answer: string) => string} wordsOf Returns an answer. A refusal is followed by its message.
  * @property {(wanted: string) => void} help Opens the help at an entry.
  */
 
-/** The maximum number of sent lines that can be recalled. */
+/** The maximum number of sent lines that the arrow keys can recall. */
 const MAX_LINES = 200;
-/** The maximum number of lines of the bench that are explained below the input. */
+/** The maximum number of commands that the hint explains in full. */
 const MAX_HINTS = 4;
 
 export class LinesView {
   /**
-   * @param {{ form: string, does: string }[]} lines the lines of the bench
+   * @param {{ form: string, does: string }[]} lines the forms of the bench's commands, with their explanations
    * @param {LinesCalls} calls
    */
   constructor(lines, calls) {
@@ -31,11 +31,11 @@ export class LinesView {
     this.hint.set(say.LINES_HINT);
     /** The answer to the last line, for screen readers. */
     this.status = new Cell(block("answer-status"));
-    /** @type {string[]} the sent lines, the newest last */
+    /** @type {string[]} the sent lines, oldest first */
     this.sent = [];
-    /** The index of the recalled line; the number of sent lines if none is recalled. */
+    /** The index of the recalled line, or the number of sent lines if none is recalled. */
     this.at = 0;
-    /** The typed text before a sent line was recalled. */
+    /** The text that was in the input before a sent line was recalled. */
     this.typed = "";
     onClick(button("send"), () => this.send());
     this.area.addEventListener("keydown", (event) => this.pressed(event));
@@ -76,7 +76,7 @@ export class LinesView {
   }
 
   /**
-   * Recalls the previous or the next sent line.
+   * Recalls the previous or the next line that was sent.
    * @param {KeyboardEvent} event
    * @param {number} by -1 or 1
    */
@@ -95,7 +95,7 @@ export class LinesView {
     return this.text.slice(this.text.lastIndexOf("\n") + 1);
   }
 
-  /** Completes the typed word if only one line of the bench begins with it. */
+  /** Completes the typed word if it begins exactly one command. */
   complete() {
     const words = new Set(fittingLines(this.lines, this.lastLine).map(({ form }) => form.split(" ")[0]));
     const [word] = words;

@@ -1,4 +1,4 @@
-// The log of the console: the lines that were sent, and their answers. Lines are shown after they have been saved.
+// The console log: the lines that were sent, and their answers. A line appears only after the session has been saved.
 
 import { refusalOf } from "../../core/bench/answers.js";
 import { block, element } from "../ui/dom.js";
@@ -11,7 +11,7 @@ import * as say from "../../words/page.js";
  * @typedef {import("../../core/bench/words.js").Words} Words
  */
 
-/** The maximum number of entries. Older ones are removed. */
+/** The maximum number of entries. Older entries are removed. */
 const MAX_ENTRIES = 400;
 
 export class LogView {
@@ -19,34 +19,34 @@ export class LogView {
   constructor(words) {
     this.words = words;
     this.block = block("log");
-    /** The runs since the last save, which are not shown yet. */
+    /** The runs since the last save, which are not in the log yet. */
     this.waiting = new RunLog();
-    /** @type {{ entry: RanEntry, node: HTMLElement } | null} the runs at the end of the log, to which further ones are added */
+    /** @type {{ entry: RanEntry, node: HTMLElement } | null} the last entry of the log if it shows runs; further runs extend this entry */
     this.runs = null;
   }
 
   /**
-   * Collects runs, which are shown after the next save.
+   * Collects runs. They appear in the log after the next save.
    * @param {RanEntry[]} entries
    */
   collect(entries) {
     this.waiting.add(entries);
   }
 
-  /** Returns the collected runs, and removes them. */
+  /** Removes and returns the collected runs. */
   take() {
     return this.waiting.take();
   }
 
   /**
    * @param {RanEntry[]} entries
-   * @param {string} fault the reason why the runs could not be saved, "" if they were saved
+   * @param {string} fault the reason why the runs could not be saved; "" if they were saved
    */
   showRan(entries, fault) {
     if (entries.length === 0) return;
     const shown = new RunLog();
     const { runs } = this;
-    // Runs continue in the entry of the runs before them.
+    // Consecutive runs share one entry.
     if (runs && entries[0].runs > 0 && fault === "" && runs.node === this.block.lastElementChild) {
       shown.add([runs.entry]);
       runs.node.remove();
@@ -60,9 +60,9 @@ export class LogView {
   }
 
   /**
-   * Shows lines that the user or a button has sent, with their answers.
+   * Shows lines that the user or a button has sent, and their answers.
    * @param {Answered[]} entries
-   * @param {string} fault the reason why the lines could not be saved, "" if they were saved
+   * @param {string} fault the reason why the lines could not be saved; "" if they were saved
    */
   show(entries, fault) {
     this.add(entries.map(({ line, textLines, answers }) => (
@@ -95,7 +95,7 @@ export class LogView {
   }
 
   /**
-   * Returns an answer, with its message if it is a refusal.
+   * Returns an answer. A refusal is followed by its message.
    * @param {string} answer
    */
   wordsOf(answer) {

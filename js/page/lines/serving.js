@@ -1,4 +1,4 @@
-// Serves lines that change the session: the lines are served and saved, and then their answers are shown.
+// Serves lines that change the session. First the bench executes the lines, then the session is saved, and then the answers appear.
 
 import { refusalOf } from "../../core/bench/answers.js";
 import { Cancelled } from "../../core/bench/faults.js";
@@ -21,19 +21,19 @@ import { stoppedAt } from "../../words/stops.js";
  */
 
 /**
- * The calls that serving lines makes to the page.
+ * The callbacks of Serving.
  * @typedef {object} ServingCalls
- * @property {() => SourceMap | null} map Returns the map of the program in ROM, with the names for `@NAME`; null if the source is not in
- *   ROM.
- * @property {<Result>(words: string, work: (ways: Ways) => Promise<Result>) => Promise<Result>} work Does long work, described by `words`,
- *   and shows its progress. Rejects with `Cancelled` if the user cancels it.
- * @property {() => string} counter Returns the program counter that is shown, as three hexadecimal digits.
+ * @property {() => SourceMap | null} map Returns the source map of the program in ROM, with the names for `@NAME`, or null if ROM does not match the
+ *   source.
+ * @property {<Result>(words: string, work: (ways: Ways) => Promise<Result>) => Promise<Result>} work Performs long work, described by `words`, and
+ *   shows its progress. Rejects with `Cancelled` if the user cancels the work.
+ * @property {() => string} counter Returns the program counter on the page, as three hexadecimal digits.
  * @property {(result: ServedLines) => void} show Shows the session after the lines.
  * @property {() => void} checkSource Compares the source with ROM again.
  * @property {() => Promise<string>} keep Saves the session. Resolves to the reason why it could not be saved, or to "".
- * @property {(entries: Answered[], fault: string) => void} log Logs lines with their answers, and why the session could not be saved.
- * @property {(tally: Tally) => void} counted Shows the hits and the notes of breakpoints.
- * @property {() => boolean} isRunning Returns whether time is running.
+ * @property {(entries: Answered[], fault: string) => void} log Logs lines with their answers, and the reason if the session could not be saved.
+ * @property {(tally: Tally) => void} counted Shows the hit counts and log messages of breakpoints.
+ * @property {() => boolean} isRunning Returns true if time is running.
  * @property {() => void} forgetGoal Forgets the goal of the run, because the bench was reset.
  * @property {(stop: Stop) => string} reasonOf Returns the message with the reason why a run stopped.
  * @property {(words: string) => void} showMessage Shows a message in the status line.
@@ -55,7 +55,7 @@ export class Serving {
   }
 
   /**
-   * Serves lines that change the session, saves it, and shows their answers. Resolves to the first answer, or to null after a failure.
+   * Serves lines that change the session, saves the session and shows the answers. Resolves to the first answer, or to null after a failure.
    * @param {string} lines
    * @returns {Promise<string | null>}
    */
@@ -65,7 +65,7 @@ export class Serving {
   }
 
   /**
-   * Serves typed lines, in which `@NAME` is replaced by a name's value. A run among them ends at each breakpoint.
+   * Serves typed lines after replacing each `@NAME` with the value of that name. A run in these lines stops at each breakpoint.
    * @param {string} typed
    */
   async send(typed) {
@@ -86,7 +86,7 @@ export class Serving {
   }
 
   /**
-   * Does other work that changes the session, saves it, and shows the result. Resolves to the result, or to null after a failure.
+   * Performs other work that changes the session, saves the session and shows the result. Resolves to the result, or to null after a failure.
    * @template {ServedLines} Result
    * @param {string} words the description of the work
    * @param {(ways: Ways) => Promise<Result>} work
@@ -97,7 +97,7 @@ export class Serving {
     try {
       result = await this.calls.work(words, work);
     } catch (fault) {
-      // After a cancellation, running time resumes.
+      // After a cancellation, time resumes if it was running.
       if (fault instanceof Cancelled) this.notice.show(this.words.ofFailure(fault));
       else this.calls.failed(fault);
       return null;
@@ -119,8 +119,8 @@ export class Serving {
   }
 
   /**
-   * Updates the status line after lines. Its message about the last stop must not stay when the program counter has moved.
-   * @param {string} before the program counter before the lines
+   * Updates the status line after lines were served. A message about the last stop must not stay after the program counter has moved.
+   * @param {string} before the program counter before the lines, as three hexadecimal digits
    * @param {Answered[]} entries
    */
   showCounter(before, entries) {

@@ -1,5 +1,5 @@
-// The row that edits the condition, the hit count and the log message of a breakpoint. The row is below the breakpoint's line of the
-// source, or in the list of breakpoints if the breakpoint has no line. Enter applies the changes, Escape discards them.
+// The form that edits a breakpoint's condition, hit count and log message. It appears below the breakpoint's source line, or in the list of
+// breakpoints if the breakpoint has no line. Enter applies the changes, Escape discards them.
 
 import { parseCount } from "../../core/bench/numbers.js";
 import { Cell, buttonOf, element } from "../ui/dom.js";
@@ -13,16 +13,17 @@ import * as say from "../../words/machine.js";
  */
 
 /**
- * The calls that the row of a breakpoint makes.
+ * The callbacks of the breakpoint form.
  * @typedef {object} RowCalls
- * @property {(id: number, changes: BreakpointWords) => void} change Changes the breakpoint with an id, and sends the change to the bench.
- * @property {(id: number, changes: BreakpointWords) => void} type Shows the typed text without sending it to the bench.
- * @property {() => Promise<void>} settled Resolves when the bench has all changes.
- * @property {(breakpoint: Breakpoint, node: HTMLElement) => void} place Puts the row below the line of its breakpoint, or into the list of
+ * @property {(id: number, changes: BreakpointWords) => void} change Changes a breakpoint, by its id, and sends the change to the bench.
+ * @property {(id: number, changes: BreakpointWords) => void} type Shows the typed text in the breakpoint's mark and list entry, without sending it to
+ *   the bench.
+ * @property {() => Promise<void>} settled Resolves when the bench has received all changes.
+ * @property {(breakpoint: Breakpoint, node: HTMLElement) => void} place Puts the form below the breakpoint's source line, or into the list of
  *   breakpoints if the breakpoint has no line.
- * @property {(act: () => void) => void} whenPlaced Calls `act` when the row is in the page and can receive the focus.
- * @property {(node: HTMLElement) => void} leave Removes the row.
- * @property {(breakpoint: Breakpoint) => void} left Moves the focus back to the breakpoint.
+ * @property {(act: () => void) => void} whenPlaced Calls `act` when the form is in the page and can receive the focus.
+ * @property {(node: HTMLElement) => void} leave Removes the form.
+ * @property {(breakpoint: Breakpoint) => void} left Returns the focus to the breakpoint.
  */
 
 const MAX_HITS = 999999999;
@@ -43,7 +44,7 @@ export class BreakpointRow {
   /** @param {RowCalls} calls */
   constructor(calls) {
     this.calls = calls;
-    /** @type {Breakpoint | null} the edited breakpoint, in its initial state */
+    /** @type {Breakpoint | null} the breakpoint before the edits; null if the form is closed */
     this.edited = null;
     const parts = {
       condition: makeField(say.CONDITION, { "placeholder": say.CONDITION_EXAMPLE, "aria-description": say.CONDITION_HINT }),
@@ -75,14 +76,14 @@ export class BreakpointRow {
       event.stopPropagation();
       this.cancel();
     });
-    // The row stays open, so that nothing moves below the pointer.
+    // The form stays open when it loses the focus, so that nothing moves under the pointer.
     node.addEventListener("focusout", ({ relatedTarget }) => {
       if (!(relatedTarget instanceof Node && node.contains(relatedTarget))) this.change();
     });
   }
 
   /**
-   * Opens the row for a breakpoint, with the caret in a field.
+   * Opens the form for a breakpoint, with the caret in one of its fields.
    * @param {Breakpoint} breakpoint
    * @param {string} fault
    * @param {BreakpointField} what
@@ -101,13 +102,13 @@ export class BreakpointRow {
       fields[what].focus();
       fields[what].select();
     };
-    // A line that is out of view has no position yet.
+    // A line that is out of view has no position yet, so the focus must wait.
     if (this.node.isConnected) focus();
     else this.calls.whenPlaced(focus);
   }
 
   /**
-   * Handles a changed list of breakpoints.
+   * Updates the form after the list of breakpoints has changed.
    * @param {(id: number) => Breakpoint | undefined} find
    * @param {Map<number, string>} faults
    */
@@ -129,7 +130,7 @@ export class BreakpointRow {
   }
 
   /**
-   * Returns the typed text, or null if the count cannot be read.
+   * Returns the contents of the fields, or null if the hit count is not a valid number.
    * @returns {BreakpointWords | null}
    */
   read() {
@@ -139,14 +140,14 @@ export class BreakpointRow {
     return count < 1 ? null : { condition: condition.value.trim(), from: count, note: note.value.trim() };
   }
 
-  /** Applies the typed text. Returns whether it can be read. */
+  /** Applies the contents of the fields. Returns false if the hit count is not a valid number. */
   change() {
     const changes = this.edited && this.read();
     if (this.edited && changes) this.calls.change(this.edited.id, changes);
     return changes !== null;
   }
 
-  /** Applies the typed text, and closes the row if there is no error in the text. */
+  /** Applies the contents of the fields. Closes the form if the condition has no error. */
   async apply() {
     const { edited } = this;
     if (!edited || !this.change()) return;
@@ -154,7 +155,7 @@ export class BreakpointRow {
     if (this.edited === edited && this.status.text === "") this.finish(edited);
   }
 
-  /** Restores the initial state of the breakpoint, and closes the row. */
+  /** Restores the breakpoint as it was before the edits, and closes the form. */
   cancel() {
     const { edited } = this;
     if (!edited) return;
@@ -169,7 +170,7 @@ export class BreakpointRow {
     if (hadFocus) this.calls.left(edited);
   }
 
-  /** Removes the row. */
+  /** Removes the form. */
   close() {
     if (!this.edited) return;
     this.edited = null;

@@ -1,5 +1,5 @@
-// The breakpoints of the session that is shown: their list, their marks in the margin and in the listing, their panel, the row that edits
-// one of them, and the menu of the margin.
+// Controls the breakpoints of the current session: their list, their marks in the margin and in the disassembly, their panel, the form that edits one
+// of them, and the margin menu.
 
 import { BreakpointKeeper } from "../../core/debug/breakpoint_keeper.js";
 import { marksOf } from "../../core/machine/breakpoint_marks.js";
@@ -25,25 +25,25 @@ import * as say from "../../words/machine.js";
  */
 
 /**
- * The calls that breakpoints make to the page. Lines of the source count from 1.
+ * The callbacks of the breakpoints controller. Source lines count from 1.
  * @typedef {object} BreakpointsCalls
- * @property {() => KeptSession | null} session Returns the session that is shown, whose record has the breakpoints; null if there is
- *   none.
+ * @property {() => KeptSession | null} session Returns the current session, whose record stores the breakpoints, or null if there is none.
  * @property {() => void} touched Saves the session after the user has changed breakpoints.
- * @property {() => { board: string, program: string }} texts Returns the present texts of board and source.
- * @property {(result: ServedLines) => Promise<void>} served Saves, shows and logs the lines that set breakpoints of the bench.
- * @property {(result: ServedLines) => void} showSession Shows the session after breakpoints were set without lines.
- * @property {(lines: Map<number, BreakpointMark>, addresses: Map<number, BreakpointMark>) => void} showMarks Shows marks at lines of the
- *   source and at addresses of the listing.
- * @property {(address: number) => void} goTo Shows the line of an address in source and listing.
+ * @property {() => { board: string, program: string }} texts Returns the current texts of board and source.
+ * @property {(result: ServedLines) => Promise<void>} served Saves, shows and logs the result of lines that set the bench's breakpoints.
+ * @property {(result: ServedLines) => void} showSession Shows the session after breakpoints were set without any lines.
+ * @property {(lines: Map<number, BreakpointMark>, addresses: Map<number, BreakpointMark>) => void} showMarks Shows marks at source lines and at
+ *   addresses of the disassembly.
+ * @property {(address: number) => void} goTo Shows an address in the source and in the disassembly.
  * @property {(line: number) => void} reveal Scrolls the source to a line.
- * @property {(line: number, node: HTMLElement | null) => void} showBelow Shows an element below a line of the source; null removes it.
- * @property {(act: () => void) => void} whenMeasured Calls `act` after the source was laid out again.
+ * @property {(line: number, node: HTMLElement | null) => void} showBelow Shows an element below a source line; null removes the element.
+ * @property {(act: () => void) => void} whenMeasured Calls `act` after the next layout of the source.
  * @property {() => void} showSource Brings the source to the front.
  * @property {() => void} focusSource Moves the focus to the source.
  * @property {(line: number) => void} runTo Runs to a line of the source.
- * @property {() => Promise<void>} freshSource Compares the source with ROM if it was edited since the last comparison. Resolves after that.
- * @property {() => Promise<void>} checkSource Compares the source with ROM in any case. Resolves after that.
+ * @property {() => Promise<void>} freshSource Compares the source with ROM if the source was edited since the last comparison. Resolves when the
+ *   comparison is complete.
+ * @property {() => Promise<void>} checkSource Compares the source with ROM in any case. Resolves when the comparison is complete.
  * @property {(words: string) => void} showMessage Shows a message near the user's last action.
  * @property {(fault: unknown) => void} failed Reports an error that a call threw.
  */
@@ -112,9 +112,9 @@ export class BreakpointsController {
   }
 
   /**
-   * Opens the row of a breakpoint, below its line if it has one.
+   * Opens the form for a breakpoint, below its source line if it has one.
    * @param {Breakpoint} breakpoint
-   * @param {BreakpointField} what the field for the caret
+   * @param {BreakpointField} what the field that receives the caret
    */
   edit(breakpoint, what) {
     const { line } = breakpoint;
@@ -124,7 +124,7 @@ export class BreakpointsController {
   }
 
   /**
-   * Opens the menu of a line of the source, at its margin.
+   * Opens the margin menu for a source line.
    * @param {number} line
    * @param {{ left: number, bottom: number }} point
    */
@@ -145,14 +145,14 @@ export class BreakpointsController {
     ], point);
   }
 
-  /** Returns the texts that define the names in conditions. */
+  /** Returns the texts that define the names used in conditions. */
   texts() {
     const { board, program } = this.calls.texts();
     return { board, program: this.keeper.map ? this.keeper.map.text : program, watched: this.keeper.watched };
   }
 
   /**
-   * Sends breakpoints to the bench. Resolves to the ids of those that cannot be read, each with its error.
+   * Sends breakpoints to the bench. Resolves to the id and the error of each breakpoint whose condition or message has an error.
    * @param {Placed[]} placed
    * @returns {Promise<[number, string][]>}
    */
@@ -188,7 +188,7 @@ export class BreakpointsController {
   }
 
   /**
-   * Opens a field of the breakpoint at a line. Sets the breakpoint if there is none.
+   * Opens a field of the breakpoint at a line. Creates the breakpoint first if there is none.
    * @param {number} line
    * @param {BreakpointField} what
    */
@@ -199,8 +199,8 @@ export class BreakpointsController {
   }
 
   /**
-   * Handles a source that was loaded into ROM. Resolves when the breakpoints are at their lines.
-   * @param {boolean} isBegun whether hit counts are reset
+   * Updates the breakpoints after the source was loaded into ROM. Resolves when they are at their lines.
+   * @param {boolean} isBegun true if the hit counts are reset
    */
   async assembled(isBegun) {
     if (isBegun) this.keeper.forgetHits();
@@ -208,7 +208,7 @@ export class BreakpointsController {
     await this.keeper.settled;
   }
 
-  /** @param {Tally} tally the hits and the notes of breakpoints */
+  /** @param {Tally} tally the hit counts and log messages since the last frame */
   count(tally) {
     this.keeper.count(tally);
     this.view.log(tally, this.keeper);

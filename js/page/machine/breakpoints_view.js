@@ -1,4 +1,4 @@
-// The list of breakpoints, each with its switch, its place, its action and its hit count, and the log below the list.
+// The list of breakpoints and the log below it. An entry has an enable switch, a location, an action and a hit count.
 
 import { wordsOfCycles } from "../../core/time/cycles.js";
 import { wordsOfAddress, wordsOfLine } from "../../words/stops.js";
@@ -20,20 +20,20 @@ import * as say from "../../words/machine.js";
  */
 
 /**
- * The calls that the list of breakpoints makes.
+ * The callbacks of the breakpoint list.
  * @typedef {object} BreakpointCalls
- * @property {(id: number, changes: Partial<KeptBreakpoint>) => void} change Changes properties of the breakpoint with an id, for example
- *   whether it is on.
- * @property {(breakpoint: Breakpoint) => void} edit Opens the row that edits a breakpoint.
+ * @property {(id: number, changes: Partial<KeptBreakpoint>) => void} change Changes a breakpoint's properties, by its id; for example, enables or
+ *   disables it.
+ * @property {(breakpoint: Breakpoint) => void} edit Opens the form that edits a breakpoint.
  * @property {(id: number) => void} remove Removes the breakpoint with an id.
- * @property {(isOn: boolean) => void} switchAll Switches all breakpoints on or off.
+ * @property {(isOn: boolean) => void} switchAll Enables or disables all breakpoints.
  * @property {() => void} removeAll Removes all breakpoints.
  * @property {() => void} forgetHits Sets all hit counts to 0.
- * @property {(breakpoint: Breakpoint) => void} goTo Shows the line of a breakpoint, or its address if it has none.
+ * @property {(breakpoint: Breakpoint) => void} goTo Shows a breakpoint's source line, or its address if it has no line.
  */
 
 /**
- * Returns a text with the place of a breakpoint.
+ * Returns a text with a breakpoint's location.
  * @param {Breakpoint} breakpoint
  * @param {SourceMap | null} map
  */
@@ -128,7 +128,7 @@ export class BreakpointsView {
   }
 
   /**
-   * Shows the log.
+   * Appends the log messages of breakpoints to the log.
    * @param {Tally} tally
    * @param {Keeper} keeper
    */
@@ -148,7 +148,7 @@ export class BreakpointsView {
   }
 
   /**
-   * Returns the row of a breakpoint in the list.
+   * Returns the list element of a breakpoint, or undefined if there is none.
    * @param {number} id
    */
   rootOf(id) {
@@ -162,7 +162,7 @@ export class BreakpointsView {
     if (row) row.edit.focus();
   }
 
-  /** Clears the log, because another session is shown. */
+  /** Clears the log, because another session has been opened. */
   forget() {
     this.notes.replaceChildren();
     this.notes.hidden = true;

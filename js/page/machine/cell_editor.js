@@ -1,26 +1,25 @@
-// Cells that can be edited in place. A double click, or Enter or F2 on a cell, opens a small field over it. Enter sets the value, Escape
-// closes the field.
+// In-place editing of cells. A double click, or Enter or F2 on a cell, opens a field over the cell. Enter sets the value, Escape closes the field.
 
 import { element } from "../ui/dom.js";
 import { putBelow } from "../ui/popup_message.js";
 import * as say from "../../words/machine.js";
 
 /**
- * A cell that can be edited: its place in a `poke` line, its name, and its number of digits.
+ * An editable cell: its place in the `poke` command, its name, and its number of digits.
  * @typedef {{ place: string, name: string, digits: number }} Poked
  */
 
 /**
- * The calls that the cell editor makes.
+ * The callbacks of the cell editor.
  * @typedef {object} EditorCalls
- * @property {(place: string, value: string) => Promise<string>} poke Sets a place to a value, both as in a `poke` line. Resolves to "", or
- *   to the reason why the bench rejects it.
- * @property {(words: string, at: HTMLElement) => void} showMessage Shows a message at a cell that cannot be edited now.
+ * @property {(place: string, value: string) => Promise<string>} poke Sets a place to a value, both in the syntax of the `poke` command. Resolves to
+ *   "", or to the reason why the bench rejects the value.
+ * @property {(words: string, at: HTMLElement) => void} showMessage Shows a message at a cell that cannot be edited at present.
  */
 
 
 /**
- * Returns the value in a text as a `poke` line accepts it, or "" if the text is not a hexadecimal number.
+ * Returns a typed value in the syntax of the `poke` command, or "" if the text is not a hexadecimal number.
  * @param {string} text
  */
 export function valueOf(text) {
@@ -36,7 +35,7 @@ export class CellEditor {
     this.poked = new WeakMap();
     /** @type {WeakMap<HTMLElement, string>} the reason why a cell cannot be edited */
     this.fixed = new WeakMap();
-    /** @type {HTMLElement | null} the cell that is edited */
+    /** @type {HTMLElement | null} the cell that is being edited */
     this.cell = null;
     this.label = element("span", { className: "unseen" });
     this.field = element("input", { autocomplete: "off", spellcheck: false, maxLength: 12 });
@@ -60,7 +59,7 @@ export class CellEditor {
   }
 
   /**
-   * Makes a cell say why it cannot be edited.
+   * Makes a cell show a message when the user tries to edit it.
    * @param {HTMLElement} cell
    * @param {string} why
    */
@@ -104,7 +103,7 @@ export class CellEditor {
     this.field.setAttribute("aria-invalid", String(words !== ""));
   }
 
-  /** @param {boolean} returns whether the focus returns to the cell */
+  /** @param {boolean} returns true if the focus returns to the cell */
   close(returns) {
     const { cell } = this;
     if (!cell) return;
@@ -128,7 +127,7 @@ export class CellEditor {
     if (!poked) return;
     const value = valueOf(this.field.value);
     const refusal = value === "" ? say.NOT_HEXADECIMAL : await this.calls.poke(poked.place, value);
-    // The user can have left the field meanwhile.
+    // The user may have left the field in the meantime.
     if (this.cell !== cell) return;
     if (refusal === "") this.close(true);
     else this.showMessage(refusal);

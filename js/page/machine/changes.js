@@ -1,17 +1,17 @@
-// Marks the values that differ from those at the previous stop. While time is running nothing is marked, so that nothing flickers.
+// Marks the values that have changed since the previous pause. While time is running, nothing is marked, because the marks would flicker.
 
 /** @typedef {import("../ui/dom.js").Cell} Cell */
 
 export class Changes {
   constructor() {
-    /** @type {Map<Cell, string>} the text of each cell at the last stop */
+    /** @type {Map<Cell, string>} the text of each cell at the last pause */
     this.before = new Map();
     /** @type {Set<Cell>} */
     this.marked = new Set();
   }
 
   /**
-   * Shows a value. The first value of a cell is not a change.
+   * Shows a value. The first value of a cell is not marked as a change.
    * @param {Cell} cell
    * @param {string} text
    */
@@ -25,9 +25,7 @@ export class Changes {
     if (this.marked.size > 0) this.clear();
   }
 
-  /**
-   * Marks the differences. Called for each snapshot while time is paused. Without a difference nothing has happened, and the marks stay.
-   */
+  /** Marks the changed values. Called for each snapshot while time is paused. If nothing has changed, the earlier marks stay. */
   stops() {
     const changed = [...this.before].filter(([cell, before]) => cell.text !== before).map(([cell]) => cell);
     if (changed.length === 0) return;
@@ -44,7 +42,7 @@ export class Changes {
     this.marked.clear();
   }
 
-  /** Forgets all cells, because the page replaces them. */
+  /** Forgets all cells, because the page is about to replace them. */
   forget() {
     this.clear();
     this.before.clear();

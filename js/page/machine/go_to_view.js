@@ -1,18 +1,18 @@
-// The field with which the listing goes to an address, and the button that sets a breakpoint there.
+// The field that shows an address in the disassembly, and the button that sets a breakpoint there.
 
 import { Cell, block, button, byId, element, field, onClick } from "../ui/dom.js";
 import { goalOf } from "../../core/machine/go_to.js";
 
 /**
  * @typedef {import("../../core/machine/source_map.js").SourceMap} SourceMap
- * @typedef {{ goTo: (address: number) => void }} Goes goes to an address
+ * @typedef {{ goTo: (address: number) => void }} Goes a view that can show an address
  */
 
 export class GoToView {
   /**
    * @param {Goes} listing
    * @param {(address: number) => void} toggleBreakpoint
-   * @param {(address: number) => void} went called after the listing went to an address
+   * @param {(address: number) => void} went called after the disassembly has scrolled to an address
    */
   constructor(listing, toggleBreakpoint, went) {
     this.listing = listing;
@@ -23,7 +23,7 @@ export class GoToView {
     /** @type {SourceMap | null} */
     this.map = null;
     this.field.addEventListener("change", () => this.go());
-    // Enter works even if the text is unchanged.
+    // Enter also works if the text is unchanged.
     this.field.addEventListener("keydown", (event) => event.key === "Enter" && this.go());
     const breakButton = button("break-there");
     onClick(breakButton, () => {
@@ -32,14 +32,14 @@ export class GoToView {
     });
   }
 
-  /** @param {SourceMap | null} map the map of the program in ROM, whose names are offered */
+  /** @param {SourceMap | null} map the source map of the program in ROM; the field offers its names */
   takeNames(map) {
     this.map = map;
     const names = map ? [...map.names.keys()].sort() : [];
     this.names.replaceChildren(...names.map((name) => element("option", { value: name })));
   }
 
-  /** Goes to the address in the field. Returns the address, or null if the field has none. */
+  /** Shows the address in the field. Returns the address, or null if the field does not contain one. */
   go() {
     const { address, words } = goalOf(this.field.value, this.map);
     this.status.set(words);

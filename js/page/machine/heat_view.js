@@ -1,5 +1,5 @@
-// The heat map of RAM nibbles: the colour of a cell shows how often or how recently its value changed. While time is paused, the changes
-// are counted in the past, which stays as it is. While time is running, the bench reports the changes.
+// The heat map of RAM nibbles. A cell's colour shows how often or how recently its value changed. While time is paused, the bench counts the changes
+// in the recorded past. While time is running, the bench reports the changes as they happen.
 
 import { block, byId, field } from "../ui/dom.js";
 import { parseCount } from "../../core/bench/numbers.js";
@@ -15,22 +15,22 @@ import * as say from "../../words/machine.js";
  */
 
 /**
- * The calls that the heat map of RAM makes.
+ * The callbacks of the heat map.
  * @typedef {object} HeatCalls
- * @property {() => boolean} isRunning Returns whether time is running.
- * @property {(cycles: number, signal: AbortSignal) => Promise<Heat | null>} count Counts the changes in the last `cycles` cycles. Resolves
- *   to null if `signal` is aborted, or after a failure that was reported.
+ * @property {() => boolean} isRunning Returns true if time is running.
+ * @property {(cycles: number, signal: AbortSignal) => Promise<Heat | null>} count Counts the changes in the last `cycles` cycles. Resolves to null if
+ *   `signal` is aborted or if the count fails. A failure has already been reported.
  * @property {(isOn: boolean) => void} watch Switches the bench's reports of RAM changes on or off.
- * @property {(warm: Map<string, Warm>) => void} show Shows the heat level of each cell, by its place; other cells have none.
- * @property {(place: string) => string} nameOf Returns the name of a place in the program.
- * @property {() => SourceMap | null} map Returns the map of the program in ROM; null if the source is not in ROM.
+ * @property {(warm: Map<string, Warm>) => void} show Shows the heat level of cells, by place. Cells that are not in the map have no colour.
+ * @property {(place: string) => string} nameOf Returns the program's name for a place.
+ * @property {() => SourceMap | null} map Returns the source map of the program in ROM, or null if ROM does not match the source.
  */
 
-/** The time in milliseconds without input, while time is paused, before changes are counted. */
+/** The time in milliseconds without input, while time is paused, after which the count begins. */
 const REST_TIME = 300;
-/** The maximum number of cycles in which changes are counted. */
+/** The maximum number of cycles over which changes are counted. */
 const MAX_CYCLES = 10000000;
-/** The interval in milliseconds at which cells are drawn while time is running. */
+/** The interval in milliseconds at which the cells are updated while time is running. */
 const DRAW_INTERVAL = 200;
 
 export class HeatView {
@@ -46,18 +46,18 @@ export class HeatView {
     this.status = block("heat-status");
     this.resting = 0;
     this.request = new AbortController();
-    /** True if the heat map does not show the present state. */
+    /** True if the heat map may be out of date. */
     this.isOld = true;
-    /** @type {Heat | null} the last counts */
+    /** @type {Heat | null} the result of the last count */
     this.heat = null;
     this.passing = new PassingHeat();
-    /** The time of the last drawing while time was running, in milliseconds. */
+    /** The time of the last update while time was running, in milliseconds. */
     this.drawn = 0;
     this.kind.value = choices.get("heat");
     this.cycles.value = choices.get("heat-cycles") || this.cycles.value;
     this.kind.addEventListener("change", () => this.choose());
     this.cycles.addEventListener("change", () => this.choose());
-    // The user's next action does not wait for a count.
+    // Input cancels a count, so that the user's next action does not wait for it.
     for (const kind of ["keydown", "pointerdown"]) addEventListener(kind, () => this.wait(), true);
     this.showReach();
   }
@@ -73,7 +73,7 @@ export class HeatView {
     this.wait();
   }
 
-  /** Returns the number of cycles in the field, or 0 after a message if the field has no such number. */
+  /** Returns the number of cycles in the field. If the number is not valid, shows a message and returns 0. */
   readCycles() {
     const cycles = parseCount(this.cycles.value, MAX_CYCLES);
     this.cycles.setAttribute("aria-invalid", String(cycles === 0));
@@ -84,7 +84,7 @@ export class HeatView {
     return cycles;
   }
 
-  /** Switches the bench's reports of RAM changes on or off, as the chosen heat map needs them. Called when a board is in use. */
+  /** Switches the bench's reports of RAM changes on if a heat map is selected, otherwise off. Called when the selection or the board changes. */
   updateWatch() {
     this.calls.watch(this.kind.value !== "");
   }
@@ -94,12 +94,12 @@ export class HeatView {
   }
 
   /**
-   * Handles a frame of running time.
+   * Updates the heat map with a frame of running time.
    * @param {{ warmed: PassedHeat | null, cycles: number }} frame
    */
   handleFrame({ warmed, cycles }) {
     if (this.kind.value === "") return;
-    // The message about the past does not apply to running time. A board without RAM has no other message.
+    // A message about the past does not apply while time is running. Without RAM, there is no other message.
     if (!warmed) this.showStatus("");
     const limit = parseCount(this.cycles.value, MAX_CYCLES);
     if (!warmed || limit === 0) return;
@@ -111,7 +111,7 @@ export class HeatView {
     this.showStatus(wordsOfPassing(warmed, warmed.cycles >= cycles));
   }
 
-  /** Handles a new snapshot. */
+  /** Marks the heat map as out of date after a new snapshot. */
   handleSnapshot() {
     if (this.kind.value === "") return;
     this.isOld = true;
@@ -132,7 +132,7 @@ export class HeatView {
     if (this.status.textContent !== words) this.status.textContent = words;
   }
 
-  /** Cancels a count, and begins another one after REST_TIME if it is needed. */
+  /** Cancels the current count. If the heat map is out of date and time is paused, starts another count after REST_TIME. */
   wait() {
     clearTimeout(this.resting);
     this.request.abort();

@@ -1,5 +1,5 @@
-// The tooltip about the last change of a cell. While time is paused, it says when the value of the cell at the pointer or with the focus
-// changed last, and which line changed it. The bench searches the past for this change.
+// The tooltip about a cell's last change. While time is paused, it says when the value under the pointer or with the focus last changed, and which
+// line changed it. The bench searches the recorded past for this change.
 
 import { element } from "../ui/dom.js";
 import { putBelow } from "../ui/popup_message.js";
@@ -9,17 +9,17 @@ import { putBelow } from "../ui/popup_message.js";
  */
 
 /**
- * The calls that the message about a cell's last change makes.
+ * The callbacks of the tooltip.
  * @typedef {object} LastChangeCalls
- * @property {() => boolean} isRunning Returns whether time is running. There is no tooltip then.
- * @property {(poked: Poked, signal: AbortSignal) => Promise<string>} wordsOf Resolves to a text about the last change of a place; to "" if
- *   `signal` is aborted.
- * @property {(cell: HTMLElement) => Poked | undefined} pokedAt Returns the place whose value a cell shows; undefined if it shows none.
+ * @property {() => boolean} isRunning Returns true if time is running. The tooltip appears only while time is paused.
+ * @property {(poked: Poked, signal: AbortSignal) => Promise<string>} wordsOf Resolves to a text about the last change of a place, or to "" if
+ *   `signal` is aborted or the search fails.
+ * @property {(cell: HTMLElement) => Poked | undefined} pokedAt Returns the place whose value a cell shows, or undefined if the cell shows none.
  */
 
-/** The time in milliseconds that the pointer or the focus stays on a cell before the tooltip opens. */
+/** The time in milliseconds for which the pointer or the focus must stay on a cell before the tooltip opens. */
 const REST_TIME = 400;
-/** The distance in pixels between a cell and the tooltip below it. */
+/** The distance in pixels between a cell and its tooltip. */
 const BELOW_CELL = 4;
 
 export class LastChangeView {
@@ -38,7 +38,7 @@ export class LastChangeView {
       for (const kind of ["pointerover", "focusin"]) panel.addEventListener(kind, ({ target }) => this.point(target));
       for (const kind of ["pointerout", "focusout"]) panel.addEventListener(kind, () => this.leave());
     }
-    // The user's next action does not wait for the search.
+    // Input cancels the search, so that the user's next action does not wait for it.
     for (const kind of ["keydown", "pointerdown"]) addEventListener(kind, () => this.leave(), true);
   }
 
@@ -64,9 +64,9 @@ export class LastChangeView {
     if (this.calls.isRunning()) return;
     const request = new AbortController();
     this.request = request;
-    const words = await this.calls.wordsOf(poked, request.signal);
-    if (words === "" || request.signal.aborted || !cell.isConnected || this.calls.isRunning()) return;
-    this.tip.textContent = words;
+    const text = await this.calls.wordsOf(poked, request.signal);
+    if (text === "" || request.signal.aborted || !cell.isConnected || this.calls.isRunning()) return;
+    this.tip.textContent = text;
     this.tip.hidden = false;
     putBelow(this.tip, cell.getBoundingClientRect(), BELOW_CELL);
   }

@@ -1,4 +1,4 @@
-// The visible rows of the listing: one button for each line that has room.
+// The visible rows of the disassembly: one button for each line that fits.
 
 import { Cell, Switch, element, onClick, pressedSwitch } from "../ui/dom.js";
 import * as say from "../../words/machine.js";
@@ -8,13 +8,13 @@ import * as say from "../../words/machine.js";
  *
  * @typedef {import("../../core/machine/breakpoint_marks.js").BreakpointMark} BreakpointMark
  *
- * A row. `marked` is the address of the breakpoint in its line, or the address of the line if there is no breakpoint.
+ * A row. `marked` is the address of the breakpoint in the row's line, or the line's own address if there is no breakpoint.
  * @typedef {{ button: HTMLButtonElement, address: number, marked: number, mark: Cell, bytes: Cell, labels: Cell,
  *   instruction: Cell, breakpoint: Switch, next: Switch }} Row
  */
 
 /**
- * Returns the mark of a breakpoint at the second byte of an instruction, if there is one.
+ * Returns the mark for a breakpoint at an instruction's second byte, or undefined if there is none.
  * @param {string} address
  * @param {Map<string, BreakpointMark>} breakpoints
  * @returns {BreakpointMark | undefined}
@@ -35,7 +35,7 @@ export class ListingRows {
     this.toggleBreakpoint = toggleBreakpoint;
     /** @type {Row[]} */
     this.rows = [];
-    /** The number of rows that show a line. */
+    /** The number of visible rows. */
     this.used = 0;
     root.addEventListener("focusin", (event) => this.setStop(event.target));
   }
@@ -72,7 +72,7 @@ export class ListingRows {
   }
 
   /**
-   * Makes one row the listing's only stop of the Tab key.
+   * Makes one row the only tab stop of the disassembly.
    * @param {EventTarget | null} stop
    */
   setStop(stop) {
@@ -82,7 +82,7 @@ export class ListingRows {
   /**
    * @param {NamedLine[]} lines
    * @param {number} counter
-   * @param {Map<string, BreakpointMark>} breakpoints the marks of breakpoints, by address
+   * @param {Map<string, BreakpointMark>} breakpoints the breakpoint marks, by address
    */
   show(lines, counter, breakpoints) {
     this.used = Math.min(lines.length, this.rows.length);
@@ -106,7 +106,7 @@ export class ListingRows {
   }
 
   /**
-   * Returns the address of the row that contains a node, or null if none does.
+   * Returns the address of the row that contains a node, or null if no row does.
    * @param {Node} node
    */
   addressAt(node) {
@@ -114,7 +114,7 @@ export class ListingRows {
     return found ? found.address : null;
   }
 
-  /** Returns the index of the row with the focus; -1 if none has it. */
+  /** The index of the row with the focus, or -1 if no row has it. */
   get focused() {
     return this.rows.findIndex(({ button }) => button === document.activeElement);
   }
@@ -124,7 +124,7 @@ export class ListingRows {
     this.rows[Math.max(0, Math.min(at, this.used - 1))].button.focus({ preventScroll: true });
   }
 
-  /** Moves the first row to the end. The focus then moves to another element, so that a screen reader announces it. */
+  /** Moves the first row to the end. If it had the focus, the focus moves on, and a screen reader announces the new row. */
   turn() {
     const [first] = this.rows.splice(0, 1);
     this.rows.push(first);

@@ -1,19 +1,19 @@
-// The scrolling of the listing: a box with the height of all 4,096 bytes, in which only the visible rows exist. The browser handles the
-// scroll bar, the wheel and fingers. Keys move from row to row and from page to page.
+// Scrolling of the disassembly. The box is as high as all 4,096 rows, but only the visible rows exist. The browser handles the scroll bar, the wheel
+// and touch. Keys move by rows and by pages.
 
 import { ADDRESSES } from "../../core/bench/rom_bytes.js";
 import { element } from "../ui/dom.js";
 
 /**
- * The calls that the scrolling of the listing makes.
+ * The callbacks of the disassembly's scrolling.
  * @typedef {object} ScrollCalls
- * @property {(rows: number) => void} resized Handles a box that now has room for `rows` rows.
- * @property {(address: number) => void} scrolled Shows the listing from an address on, to which the user has scrolled.
- * @property {(rows: number) => void} went Moves the focus by rows, up if `rows` is negative.
- * @property {(end: "first" | "last") => void} wentTo Moves the focus to the first or the last row of the listing.
+ * @property {(rows: number) => void} resized Handles a resize: the box now has room for `rows` rows.
+ * @property {(address: number) => void} scrolled Shows the disassembly from the address to which the user has scrolled.
+ * @property {(rows: number) => void} went Moves the focus by a number of rows; negative numbers move up.
+ * @property {(end: "first" | "last") => void} wentTo Moves the focus to the first or last row of the disassembly.
  */
 
-/** The height in pixels of a row before one has been laid out. */
+/** The assumed height of a row in pixels before a row has been laid out. */
 const DEFAULT_HEIGHT = 24;
 
 export class ListingScroll {
@@ -27,12 +27,12 @@ export class ListingScroll {
     this.rows = element("div", { className: "rows" });
     this.length = element("div", { className: "length" }, this.rows);
     this.rowHeight = DEFAULT_HEIGHT;
-    /** The scroll position that this module itself has set. */
+    /** The last scroll position that is already handled. */
     this.placed = 0;
     root.append(this.length);
     root.addEventListener("scroll", () => this.scrolled(), { passive: true });
     root.addEventListener("keydown", (event) => this.typed(event));
-    // A ResizeObserver must not change sizes itself.
+    // A ResizeObserver must not change sizes in its own callback.
     new ResizeObserver(() => requestAnimationFrame(() => this.measure())).observe(root);
   }
 
@@ -46,7 +46,7 @@ export class ListingScroll {
   }
 
   /**
-   * Scrolls the box so that its first row shows an address.
+   * Scrolls the box so that an address is in the first row.
    * @param {number} address
    */
   beginAt(address) {

@@ -1,4 +1,4 @@
-// The disassembly around the program counter, or from a chosen address on, with its breakpoints.
+// The disassembly: around the program counter or from a chosen address, with breakpoints.
 
 import { block, field } from "../ui/dom.js";
 import { namedLine, widthOfLabels } from "../../core/machine/listing_names.js";
@@ -17,28 +17,31 @@ import { LAST_ADDRESS } from "../../core/bench/numbers.js";
 
 /** The number of rows before the page has been laid out. */
 const DEFAULT_ROWS = 18;
-/** The number of bytes before the program counter, if there is room for them. */
+/** The number of bytes before the program counter, if they fit. */
 const BYTES_BEFORE = 10;
-/** The interval in milliseconds at which the listing follows the program counter while time is running: slow enough to read. */
+/** The interval in milliseconds at which the disassembly follows the program counter while time is running. It is long enough to read the lines. */
 const FOLLOW_INTERVAL = 300;
 
 export class ListingView {
   /**
-   * @param {(lines: string) => Promise<string[]>} ask returns the answers to queries
+   * @param {(lines: string) => Promise<string[]>} ask resolves to the bench's answers to queries
    * @param {(address: number) => void} toggleBreakpoint
-   * @param {() => void} moved called when the listing must show other lines
+   * @param {() => void} moved called when the disassembly must show other lines
    */
   constructor(ask, toggleBreakpoint, moved) {
     this.reader = new ListingReader(ask);
     this.moved = moved;
     this.block = block("lines-of-program");
     this.follows = true;
-    /** The program counter when the user went to another address. When the counter changes, the listing follows it again; -1 for never. */
+    /**
+     * The program counter when the user went to another address. When the counter changes, the disassembly follows it again. -1 if the disassembly is
+     * not waiting for such a change.
+     */
     this.leftAt = -1;
-    /** The first address of a listing that does not follow the program counter. */
+    /** The first address when the disassembly does not follow the program counter. */
     this.from = 0;
     this.counter = 0;
-    /** @type {Map<string, import("../../core/machine/breakpoint_marks.js").BreakpointMark>} the marks of breakpoints, by address */
+    /** @type {Map<string, import("../../core/machine/breakpoint_marks.js").BreakpointMark>} the breakpoint marks, by address */
     this.breakpoints = new Map();
     /** @type {Listed[]} */
     this.lines = [];
@@ -46,11 +49,11 @@ export class ListingView {
     this.named = [];
     /** @type {SourceMap | null} the program in ROM */
     this.map = null;
-    // The number of requests. A listing that arrives after a newer request is not shown.
+    // The number of requests. Lines that arrive after a newer request are discarded.
     this.requestCount = 0;
-    /** True if time was running when the listing was last shown. */
+    /** True if time was running when the disassembly was last shown. */
     this.isRunning = false;
-    /** The time at which the listing last followed the program counter, in milliseconds. */
+    /** The time in milliseconds when the disassembly last followed the program counter. */
     this.followed = 0;
     this.scroll = new ListingScroll(this.block, {
       resized: (rows) => this.resize(rows),
@@ -73,14 +76,14 @@ export class ListingView {
     });
   }
 
-  /** Reads the lines again, from the same address on. */
+  /** Reads the lines again from the same address. */
   readAgain() {
     if (!this.follows && this.lines.length > 0) this.from = this.lines[0].address;
     this.forget();
     this.moved();
   }
 
-  /** @param {number} rows the number of rows that have room */
+  /** @param {number} rows the number of rows that fit */
   resize(rows) {
     if (rows === this.rows.count) return;
     this.rows.resize(rows);
@@ -88,7 +91,7 @@ export class ListingView {
   }
 
   /**
-   * Makes the listing begin at an address and no longer follow the program counter.
+   * Fixes the disassembly's first address. The disassembly no longer follows the program counter.
    * @param {number} address
    */
   stayAt(address) {
@@ -97,7 +100,7 @@ export class ListingView {
   }
 
   /**
-   * Shows the listing from an address on. A listing that followed the counter while time was paused follows it again when the counter
+   * Shows the disassembly from an address. If the disassembly followed the counter while time was paused, it will follow again when the counter
    * changes.
    * @param {number} address
    */
@@ -114,7 +117,7 @@ export class ListingView {
     this.take(this.lines);
   }
 
-  /** Discards all lines, because the bytes of ROM can have changed. */
+  /** Discards all lines, because the contents of ROM may have changed. */
   forget() {
     this.take([]);
     this.requestCount += 1;
@@ -131,7 +134,7 @@ export class ListingView {
   }
 
   /**
-   * Shows the position of the program counter, and reads other lines if needed.
+   * Shows the line of the program counter. Reads other lines if needed.
    * @param {boolean} isRunning
    */
   async show(isRunning) {
@@ -153,8 +156,8 @@ export class ListingView {
   }
 
   /**
-   * Returns whether other lines must be read. A listing that does not follow the counter reads its lines again if the counter is inside one
-   * of them.
+   * Returns true if other lines must be read. Lines that do not follow the counter are read again if the counter points into the middle of one of
+   * them.
    * @param {boolean} isRunning
    */
   mustMove(isRunning) {
@@ -164,7 +167,7 @@ export class ListingView {
   }
 
   /**
-   * Returns whether the line of the program counter is shown, with some lines around it.
+   * Returns true if the visible lines include the program counter's line and some lines around it.
    * @param {number} counter
    */
   showsCounter(counter) {
@@ -175,9 +178,9 @@ export class ListingView {
   }
 
   /**
-   * Reads lines and shows them. Resolves to false if other lines were requested meanwhile.
+   * Reads lines and shows them. Resolves to false if other lines were requested in the meantime.
    * @param {Goal} goal
-   * @param {boolean} isScrolled whether the user has scrolled to the lines; then the scroll position stays
+   * @param {boolean} isScrolled true if the user has scrolled to the lines; the scroll position then stays
    */
   async read(goal, isScrolled = false) {
     this.requestCount += 1;
@@ -197,14 +200,14 @@ export class ListingView {
   /** @param {number} address */
   scrolledTo(address) {
     this.stayAt(Math.max(0, Math.min(address, LAST_ADDRESS)));
-    // If the address is near, the lines that are shown determine where its instructions begin.
+    // If the address is near the visible lines, their instruction boundaries are used.
     const known = this.lines.find((line) => line.address >= this.from);
     const isNear = known && Math.abs(this.lines[0].address - this.from) <= this.rows.count;
     this.read({ from: this.from, anchor: known && isNear ? known.address : null }, true);
   }
 
   /**
-   * Moves the focus by rows, and scrolls if the focus leaves the visible lines.
+   * Moves the focus by a number of rows. Scrolls if the focus leaves the visible lines.
    * @param {number} rows
    */
   async go(rows) {
@@ -220,7 +223,7 @@ export class ListingView {
   }
 
   /**
-   * Moves the listing by lines, up if `count` is negative. Resolves to false if other lines were requested meanwhile.
+   * Moves the disassembly by a number of lines; a negative `count` moves up. Resolves to false if other lines were requested in the meantime.
    * @param {number} count
    */
   async goBy(count) {
@@ -243,7 +246,7 @@ export class ListingView {
   }
 
   /**
-   * Focuses a row after the listing has moved, so that a screen reader announces it.
+   * Focuses a row after the disassembly has moved. The focus gets a new element, so a screen reader announces it.
    * @param {number} at the index of the row
    */
   focusRow(at) {

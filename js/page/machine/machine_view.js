@@ -1,4 +1,4 @@
-// The views of registers, ports and shift-register chains. Each view shows an answer of the bench.
+// The views of registers, ports and shift-register chains. Each view shows one answer of the bench.
 
 import { Cell, Switch, block, element, makeFirstTabStop, makeOneTabStop } from "../ui/dom.js";
 import { upTo } from "../../core/bench/numbers.js";
@@ -11,7 +11,7 @@ import * as say from "../../words/machine.js";
  * @typedef {import("./cell_editor.js").CellEditor} CellEditor
  * @typedef {import("./changes.js").Changes} Changes
  * @typedef {import("../../core/board/face.js").Face} Face
- * @typedef {(name: string) => string} Explain returns the description of a cell, "" for none
+ * @typedef {(name: string) => string} Explain returns the description of a cell, or "" if there is none
  */
 
 /**
@@ -33,7 +33,7 @@ function nodesOf(cellList) {
   return cellList.map((cell) => cell.node);
 }
 
-/** The number of digits of each register that has more than one. */
+/** The number of digits of each register with more than one digit. */
 const DIGITS = new Map([["pc", 3]]);
 
 export class RegistersView {
@@ -107,7 +107,7 @@ export class PortsView {
 
   /**
    * @param {Board} board
-   * @param {Face} face the front panel, with the names of ports and chains
+   * @param {Face} face the front panel, which names ports and chains
    */
   draw(board, face) {
     /** @type {(place: string) => string} */
@@ -150,7 +150,7 @@ export class PortsView {
   }
 
   /**
-   * Shows the selections of SRC: `10` for the ROMs, `0.10` for bank 0.
+   * Shows the addresses that SRC has selected: `10` for the ROM chips, `0.10` for bank 0.
    * @param {string[]} sources
    */
   showSources(sources) {

@@ -1,4 +1,4 @@
-// The RAM of a board, with a table for each bank. A click on a nibble watches it, and nibbles can be edited in place.
+// The board's RAM as a table for each bank. A click on a nibble watches the nibble. Nibbles can be edited in place.
 
 import { Cell, block, byId, element, makeFirstTabStop, makeOneTabStop, pressedSwitch } from "../ui/dom.js";
 import { hex, upTo } from "../../core/bench/numbers.js";
@@ -12,7 +12,7 @@ import * as say from "../../words/machine.js";
  * @typedef {import("./changes.js").Changes} Changes
  * @typedef {import("./heat_view.js").Warm} Warm
  * @typedef {import("../ui/dom.js").Switch} Switch
- * @typedef {{ bank: number, chip: number, register: number }} Register the position of a register
+ * @typedef {{ bank: number, chip: number, register: number }} Register the location of a register
  * @typedef {{ characters: Cell[], status: Cell[], names: HTMLElement, shown: string }} ShownRegister
  */
 
@@ -22,7 +22,7 @@ function wordsOf({ bank, chip, register }) {
 }
 
 /**
- * Returns the names of a register's nibbles, each after the number of its nibble.
+ * Returns the labels of a register's named nibbles: the number of the nibble, then its name.
  * @param {string} register the register as `bank.chip.register`
  * @param {ReadonlyMap<string, string[]>} names
  */
@@ -37,7 +37,7 @@ function namesIn(register, names) {
   ];
 }
 
-/** The number of nibbles that stay together in a line. */
+/** The number of nibbles in a group that does not wrap. */
 const HALF = CHARACTERS / 2;
 
 /** @param {Cell[]} cells */
@@ -55,15 +55,15 @@ export class RamView {
     this.changes = changes;
     this.editor = editor;
     this.toggleWatch = toggleWatch;
-    /** @type {Map<string, Switch>} the watch mark of each nibble, by its name in answers */
+    /** @type {Map<string, Switch>} the watch mark of each nibble, by the nibble's name in the bench's answers */
     this.watched = new Map();
     /** @type {Map<string, ShownRegister>} */
     this.registers = new Map();
-    /** @type {Map<string, { node: HTMLElement, title: string }>} the nibbles, by their places in `poke` lines */
+    /** @type {Map<string, { node: HTMLElement, title: string }>} the nibbles, by their places in the `poke` command */
     this.characters = new Map();
-    /** @type {ReadonlyMap<string, string[]>} the names of nibbles, by their places */
+    /** @type {ReadonlyMap<string, string[]>} the names of nibbles, by place */
     this.names = new Map();
-    /** @type {ReadonlyMap<string, Warm>} the nibbles that changed recently, by their places */
+    /** @type {ReadonlyMap<string, Warm>} the nibbles that changed recently, by place */
     this.warm = new Map();
     /** @type {Map<string, Cell>} */
     this.ports = new Map();
@@ -76,7 +76,7 @@ export class RamView {
   }
 
   /**
-   * Draws the banks that have chips.
+   * Draws a table for each bank that has chips.
    * @param {Board} board
    */
   draw(board) {
@@ -100,7 +100,7 @@ export class RamView {
     this.showBank();
   }
 
-  /** Shows only the chosen bank. */
+  /** Shows only the selected bank. */
   showBank() {
     this.tables.forEach((table, at) => {
       table.hidden = this.chooser.value !== String(at);
@@ -143,7 +143,7 @@ export class RamView {
     button.addEventListener("click", (event) => {
       if (event.detail > 0) button.blur();
       if (event.detail > 2) return;
-      // The second click of a double click undoes the effect of the first one.
+      // The second click of a double click undoes the first.
       wasOn = event.detail === 2 ? !wasOn : watched.isOn;
       this.toggleWatch(bank, source, wasOn, button);
     });
@@ -163,7 +163,7 @@ export class RamView {
 
   /**
    * Makes a nibble editable.
-   * @param {string} place the nibble's place in a `poke` line
+   * @param {string} place the nibble's place in the `poke` command
    * @param {HTMLButtonElement} node
    */
   offer(place, node) {
@@ -198,8 +198,8 @@ export class RamView {
   }
 
   /**
-   * Returns the name of a RAM nibble, or its place if it has none.
-   * @param {string} place the nibble's place in a `poke` line
+   * Returns a RAM nibble's name, or its description if it has no name.
+   * @param {string} place the nibble's place in the `poke` command
    */
   nameOf(place) {
     const [name] = this.names.get(place) || [];
@@ -207,7 +207,7 @@ export class RamView {
     return name || (found ? found.title : place);
   }
 
-  /** @param {ReadonlyMap<string, string[]>} names the names of nibbles, by their places */
+  /** @param {ReadonlyMap<string, string[]>} names the names of nibbles, by place */
   showNames(names) {
     this.names = names;
     for (const place of this.characters.keys()) this.titleOf(place);
@@ -217,7 +217,7 @@ export class RamView {
     }
   }
 
-  /** @param {ReadonlyMap<string, Warm>} warm the nibbles that changed recently, by their places */
+  /** @param {ReadonlyMap<string, Warm>} warm the nibbles that changed recently, by place */
   showWarm(warm) {
     const before = this.warm;
     this.warm = warm;
@@ -232,7 +232,7 @@ export class RamView {
   }
 
   /**
-   * Sets the title of a RAM nibble: its name, its place and its last change.
+   * Sets a RAM nibble's tooltip: its name, its description and its last change.
    * @param {string} place
    */
   titleOf(place) {

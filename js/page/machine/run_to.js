@@ -1,12 +1,12 @@
-// Runs to a line: to a line of the listing by Control and a click, the second button, or Control and Enter; to the caret's line in the
-// source by Control and F10.
+// Runs to a line. In the disassembly, the user runs to a line by a click with Control, a right click, or Control and Enter. In the source, a key runs
+// to the caret's line.
 
 import { commandOf } from "../commands/command_table.js";
 import { keyNameOf } from "../commands/keys.js";
 
 /**
- * @param {HTMLElement} root the listing
- * @param {(node: Node) => number | null} addressAt returns the address of the line that contains a node, or null
+ * @param {HTMLElement} root the disassembly
+ * @param {(node: Node) => number | null} addressAt returns the address of the line that contains a node, or null if there is none
  * @param {(address: number) => void} runTo
  */
 export function listenToHere(root, addressAt, runTo) {
@@ -28,7 +28,7 @@ export function listenToHere(root, addressAt, runTo) {
 }
 
 /**
- * @param {HTMLElement} root the editor of the source
+ * @param {HTMLElement} root the source editor
  * @param {() => void} runToCaret
  */
 export function listenToCaret(root, runToCaret) {

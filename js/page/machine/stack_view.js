@@ -1,4 +1,4 @@
-// The call stack: the program counter and the return addresses. While time is paused, each has its name and its line in the source.
+// The call stack: the program counter and the return addresses. While time is paused, each address has its name and its source line.
 
 import { Cell, Switch, block, element, makeFirstTabStop, makeOneTabStop, onClick } from "../ui/dom.js";
 import { joinLines, matchAnswers, readInputs } from "../../core/bench/inputs.js";
@@ -14,7 +14,7 @@ import * as say from "../../words/machine.js";
  * @typedef {{ button: HTMLButtonElement, value: Cell, note: Cell, isLive: Switch }} Row
  */
 
-/** The offsets of the first byte of ROM in a line of a listing. */
+/** The columns of the first ROM byte in a line of the bench's `list` answer. */
 const BYTE_FROM = 4;
 const BYTE_END = 6;
 
@@ -22,19 +22,19 @@ export class StackView {
   /**
    * @param {Changes} changes
    * @param {(name: string) => string} explain returns the description of a cell
-   * @param {(lines: string) => Promise<string[]>} ask returns the answers to queries
+   * @param {(lines: string) => Promise<string[]>} ask resolves to the bench's answers to queries
    * @param {(address: number) => void} goTo shows an address in the program
    */
   constructor(changes, explain, ask, goTo) {
     this.changes = changes;
     this.ask = ask;
-    /** @type {number[]} the program counter, then the return addresses, the newest first */
+    /** @type {number[]} the program counter, then the return addresses, newest first */
     this.addresses = [];
-    /** The addresses that the notes describe. */
+    /** The addresses that the current notes describe. */
     this.noted = "";
     /** @type {SourceMap | null} */
     this.map = null;
-    // The number of requests. An answer for former addresses is not shown.
+    // The number of requests. An answer for earlier addresses is discarded.
     this.requestCount = 0;
     this.rows = ["pc", "ret 1", "ret 2", "ret 3"].map((name, at) => (
       this.makeRow(name, explain(name), () => goTo(this.addressOf(at)))));
@@ -48,7 +48,7 @@ export class StackView {
 
   /**
    * @param {string} name
-   * @param {string} title the description of the row
+   * @param {string} title the tooltip of the row's name
    * @param {() => void} act
    * @returns {Row}
    */
@@ -62,7 +62,7 @@ export class StackView {
   }
 
   /**
-   * Returns the address that a click on a row shows: the program counter, or the call before a return address.
+   * Returns the address that a click on a row shows: the program counter, or the address of the call that pushed the return address.
    * @param {number} at
    */
   addressOf(at) {
@@ -77,13 +77,13 @@ export class StackView {
     this.addresses = texts.map((text) => parseInt(text, 16));
   }
 
-  /** Makes the next `explain` read ROM again, because its bytes can have changed. */
+  /** Makes the next `explain` read ROM again, because its contents may have changed. */
   forget() {
     this.noted = "";
   }
 
   /**
-   * Describes the addresses while time is paused, and removes the notes while time is running.
+   * Describes the addresses while time is paused. Removes the notes while time is running.
    * @param {SourceMap | null} map the program in ROM
    * @param {boolean} isRunning
    */

@@ -1,5 +1,5 @@
-// The list of common mistakes that the bench has reported since time began to run. Each row has the line of the mistake, and a switch that
-// stops time at the next mistake of its kind.
+// The list of common mistakes that the bench has reported since time last started. Each row has the line of the mistake, and a check box that makes
+// time stop at the next mistake of this kind.
 
 import { block, element, onClick } from "../ui/dom.js";
 import { KINDS } from "../../words/debug.js";
@@ -11,14 +11,14 @@ import * as say from "../../words/machine.js";
  */
 
 /**
- * The calls that the list of common mistakes makes.
+ * The callbacks of the list of common mistakes.
  * @typedef {object} MistakesCalls
- * @property {(address: number) => string} wordsOf Returns a text with an address, its name and its line.
- * @property {(address: number) => void} goTo Shows the line of an address in source and listing.
- * @property {(kinds: Kind[]) => void} stopAt Makes time stop at these kinds of mistakes.
+ * @property {(address: number) => string} wordsOf Returns a text with an address, its name and its source line.
+ * @property {(address: number) => void} goTo Shows an address in the source and in the disassembly.
+ * @property {(kinds: Kind[]) => void} stopAt Asks the bench to stop time at mistakes of these kinds.
  * @property {(count: number) => void} counted Reports the number of mistakes in the list.
- * @property {() => string} chosen Returns the kinds that `choose` stored, "" for none.
- * @property {(kinds: string) => void} choose Stores the chosen kinds as one text.
+ * @property {() => string} chosen Returns the kinds that `choose` stored last, or "".
+ * @property {(kinds: string) => void} choose Stores the chosen kinds, separated by spaces.
  */
 
 export class MistakesView {
@@ -32,9 +32,7 @@ export class MistakesView {
     this.stops = new Set(/** @type {Kind[]} */ (Object.keys(KINDS)).filter((kind) => chosen.includes(kind)));
   }
 
-  /**
-   * Clears the list, because time begins to run or another session is shown. The worker can be a new one, so it receives the kinds again.
-   */
+  /** Clears the list when time starts or another session is opened. The worker may be a new one, so it receives the chosen kinds again. */
   clear() {
     this.calls.stopAt([...this.stops]);
     this.block.hidden = true;

@@ -1,4 +1,4 @@
-// The list of watched expressions, each with its name and its present value. Values can be edited in place.
+// The watch list: expressions with their names and current values. The values can be edited in place.
 
 import { Cell, block, element, field, onClick } from "../ui/dom.js";
 import { MAX_WATCHED, readAllWatched, readWatched } from "../../core/debug/watched.js";
@@ -12,13 +12,13 @@ import * as say from "../../words/machine.js";
  */
 
 /**
- * The calls that the watch list makes.
+ * The callbacks of the watch list.
  * @typedef {object} WatchedCalls
  * @property {import("../text/meaning_view.js").Offer} offer Makes a cell that shows a value editable.
- * @property {() => MachineState | null} standing Returns the state with the values; null while time is running.
- * @property {() => Names} names Returns the names that an expression can use.
- * @property {() => void} listed Handles a changed list.
- * @property {(texts: string[]) => void} keep Saves the texts of the list.
+ * @property {() => MachineState | null} standing Returns the state that has the values, or null while time is running.
+ * @property {() => Names} names Returns the names that expressions can use.
+ * @property {() => void} listed Called after the list has changed.
+ * @property {(texts: string[]) => void} keep Saves the expressions as texts.
  */
 
 export class WatchedView {
@@ -37,7 +37,7 @@ export class WatchedView {
     });
   }
 
-  /** @param {unknown} texts the expressions that were saved with a session */
+  /** @param {unknown} texts the expressions that were saved with a session, not yet validated */
   open(texts) {
     const { all, fault } = readAllWatched(texts);
     this.status.textContent = fault;
@@ -85,7 +85,7 @@ export class WatchedView {
     return { root, value, shape: "", cells: [] };
   }
 
-  /** Shows the present values. While time is running, the last values stay. */
+  /** Shows the current values. While time is running, the last values stay. */
   show() {
     const standing = this.calls.standing();
     if (!standing) return;
@@ -96,7 +96,7 @@ export class WatchedView {
   /**
    * @param {Row} row
    * @param {Watched} watched
-   * @param {import("../../core/debug/value_words.js").Piece[]} pieces the present value of the expression
+   * @param {import("../../core/debug/value_words.js").Piece[]} pieces the expression's current value, as texts and editable parts
    */
   showRow(row, watched, pieces) {
     const shape = pieces.map((piece) => (typeof piece === "string" ? piece : piece.place)).join("\n");

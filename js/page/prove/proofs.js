@@ -1,5 +1,5 @@
-// Proofs of properties: a button that proves them for all inputs in a worker of its own, and the verdicts. A verdict is shown while its
-// texts are unchanged.
+// Proofs of properties: a button that proves them for all inputs in a separate worker, and the verdicts. A verdict is visible as long as its texts
+// are unchanged.
 
 import { Cell, button, field, onClick } from "../ui/dom.js";
 import { lineNow, stillStands } from "../../core/prove/still_valid.js";
@@ -14,22 +14,22 @@ import { ProofsView } from "./proofs_view.js";
  * @typedef {import("../../core/prove/bounded_proof.js").JudgedLine} JudgedLine
  * @typedef {import("../../core/testing/prepared.js").TextFault} TextFault
  *
- * The proof of a session's properties: its texts, the maximum number of states for a question, and its progress.
+ * The proof of a session's properties: its texts, the maximum number of states for each question, and its progress.
  * @typedef {{ texts: ExploredTexts, maxStates: number, progress: Progress }} Proved
  *
- * The calls that proofs make to the page.
+ * The callbacks of Proofs.
  * @typedef {object} ProofsCalls
- * @property {() => ExploredTexts} texts Returns the present texts.
- * @property {(texts: ExploredTexts, maxStates: number, signal: AbortSignal, report: (progress: Progress) => void) => Promise<Ended>} prove
- *   Proves properties, with at most `maxStates` states for a question, and calls `report` with the progress. Resolves to the errors in
- *   texts, and to whether `signal` has cancelled the proof.
- * @property {(line: number) => void} goTo Shows a line of the properties, from 1.
+ * @property {() => ExploredTexts} texts Returns the current texts.
+ * @property {(texts: ExploredTexts, maxStates: number, signal: AbortSignal, report: (progress: Progress) => void) => Promise<Ended>} prove Proves
+ *   properties with at most `maxStates` states for each question. Calls `report` with each progress report. Resolves to the errors in the texts and
+ *   whether `signal` has cancelled the proof.
+ * @property {(line: number) => void} goTo Shows a line of the properties text, from 1.
  * @property {(words: string) => void} showMessage Shows a message next to the buttons.
  * @property {(faults: TextFault[]) => void} refuse Shows the errors that prevented the proof.
  * @property {(name: string, lines: string, texts: ExploredTexts, words: string) => Promise<void>} open Opens a new session with the texts,
  *   executes lines in it, and shows a message.
- * @property {(test: string) => string} addTest Adds a test to the tests of the program. Returns the message about that.
- * @property {() => void} changed Handles changed verdicts, for example by a new mark of the tab.
+ * @property {(test: string) => string} addTest Adds a test to the program's tests. Returns the message about the result.
+ * @property {() => void} changed Handles changed verdicts, for example updates the tab's mark.
  * @property {(fault: unknown) => void} failed Reports an error that a call threw.
  */
 
@@ -46,29 +46,29 @@ export class Proofs {
       },
       open: ({ text, isGoal }, { before }) => {
         const { shown } = this;
-        const words = isGoal ? say.nextStepReaches(text) : say.nextStepBreaks(text);
-        if (shown) calls.open(text, before, shown.texts, words).catch(calls.failed);
+        const description = isGoal ? say.nextStepReaches(text) : say.nextStepBreaks(text);
+        if (shown) calls.open(text, before, shown.texts, description).catch(calls.failed);
       },
       add: (found) => calls.showMessage(calls.addTest(found.text)),
     });
-    /** The results of each session, by its id, while the page is open. */
+    /** The results of each session since the page was opened, by session id. */
     this.proved = /** @type {Map<string, Proved>} */ (new Map());
-    /** The id of the session that is shown. */
+    /** The id of the current session. */
     this.session = "";
-    /** @type {AbortController | null} cancels the present proof */
+    /** @type {AbortController | null} the controller that cancels the current proof; null if no proof is running */
     this.controller = null;
     this.button = new Cell(button("prove"));
     this.button.set(say.PROVE);
     onClick(button("prove"), () => this.proveOrCancel());
   }
 
-  /** The results of the session that is shown. */
+  /** The results of the current session. */
   get shown() {
     return this.proved.get(this.session) || null;
   }
 
   /**
-   * Cancels the proof, and shows another session with its results.
+   * Cancels the proof and shows the results of another session.
    * @param {string} session the id of the session
    */
   begin(session) {
@@ -86,29 +86,29 @@ export class Proofs {
     this.show();
   }
 
-  /** Updates the verdicts after an edit. A verdict about other texts is hidden, and appears again if these texts are restored. */
+  /** Updates the verdicts after an edit. A verdict about other texts is hidden until the user restores those texts. */
   edited() {
     if (this.shown) this.show();
   }
 
-  /** The verdicts about the present texts. */
+  /** The verdicts about the current texts. */
   get currentVerdicts() {
     const { shown } = this;
     return shown ? shown.progress.judged.filter(this.isCurrent(shown)) : [];
   }
 
-  /** A short text about these verdicts. */
+  /** A short text about the current verdicts. */
   get mark() {
     return this.shown ? markOfTab(this.currentVerdicts) : "";
   }
 
-  /** True if none of these verdicts is a counterexample. */
+  /** True if no current verdict is a counterexample. */
   get isGood() {
     return this.currentVerdicts.every((judged) => judged.verdict.kind === "open" || isRight(judged));
   }
 
   /**
-   * Returns a function that returns whether a verdict is about the present texts.
+   * Returns a predicate that is true if a verdict is about the current texts.
    * @param {Proved} shown
    * @returns {(judged: JudgedLine) => boolean}
    */
@@ -134,7 +134,7 @@ export class Proofs {
     else this.prove().catch(this.calls.failed);
   }
 
-  /** Returns the maximum number of states for a question, or 0 after a message if the field has no valid number. */
+  /** Returns the maximum number of states for each question. If the field has no valid number, shows a message and returns 0. */
   readMaxStates() {
     const { value } = field("prove-states");
     const isNumber = /^\d{1,9}$/.test(value.trim()) && Number(value) >= 1 && Number(value) <= MAX_STATES;

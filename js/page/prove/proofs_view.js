@@ -1,4 +1,4 @@
-// The results of proofs: a row for each property with its verdict, and the progress.
+// The results of proofs: a row with the verdict of each property, and the progress.
 
 import { Cell, Switch, block, buttonOf, descendant, element } from "../ui/dom.js";
 import { isRight, markOf, wordsOfVerdict, wordsSoFar } from "../../words/proved.js";
@@ -10,14 +10,14 @@ import { wordsOfLine } from "../../words/stops.js";
  * @typedef {import("../../core/prove/prover.js").Progress} Progress
  * @typedef {import("../../core/prove/bounded_proof.js").JudgedLine} JudgedLine
  *
- * The calls that the results of proofs make.
+ * The callbacks of the proof results.
  * @typedef {object} ProofCalls
- * @property {(judged: JudgedLine) => void} goTo Shows the line of a property in the text.
+ * @property {(judged: JudgedLine) => void} goTo Shows the line of a property in the properties text.
  * @property {(judged: JudgedLine, found: Counterexample) => void} open Opens a counterexample in the debugger.
- * @property {(found: Counterexample) => void} add Adds the test of a counterexample to the tests of the program.
+ * @property {(found: Counterexample) => void} add Adds a counterexample's test to the program's tests.
  */
 
-/** The row of a property. Its verdict is inserted once, so that controls in use do not disappear. */
+/** A property's row. The verdict is inserted only once, so that controls in use do not disappear. */
 class Row {
   /**
    * @param {JudgedLine} judged
@@ -28,7 +28,7 @@ class Row {
     const { text, line, isGoal, verdict } = judged;
     const mark = element("b", {});
     const words = element("span", { className: "time" });
-    // A common mistake, for which every program is checked, has no line in the text.
+    // A common mistake has no line in the text, because all programs are checked for it.
     const name = line === 0 ? element("span", { className: "name" }, text)
       : buttonOf(text, () => calls.goTo(judged), { className: "name", title: wordsOfLine(line) });
     this.node = element("li", {}, element("p", {}, mark, " ", name, " ", words));
@@ -55,7 +55,7 @@ class Row {
     ];
   }
 
-  /** @param {boolean} isCurrent whether the verdict is about the present texts */
+  /** @param {boolean} isCurrent true if the verdict is about the current texts */
   show(isCurrent) {
     const { judged } = this;
     this.mark.set(isCurrent ? markOf(judged) : "");
@@ -86,9 +86,9 @@ export class ProofsView {
 
   /**
    * @param {Progress} progress
-   * @param {number} maxStates the maximum number of states for a question
-   * @param {boolean} isRunning whether properties are being judged
-   * @param {(judged: JudgedLine) => boolean} isCurrent returns whether a verdict is about the present texts
+   * @param {number} maxStates the maximum number of states for each question
+   * @param {boolean} isRunning true if a proof is running
+   * @param {(judged: JudgedLine) => boolean} isCurrent returns true if a verdict is about the current texts
    */
   show(progress, maxStates, isRunning, isCurrent) {
     const more = progress.judged.slice(this.rows.length).map((judged) => new Row(judged, this.calls));

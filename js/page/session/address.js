@@ -1,5 +1,5 @@
-// The page's address. The part after its `#` names a saved session, an example, or the texts of a link. The part after its `?` names the
-// example whose story is shown.
+// The page's address. The part after `#` names a saved session, an example, or the texts of a link. The part after `?` names the example whose story
+// is open.
 
 /** @typedef {"session" | "example" | "link"} AddressKind */
 
@@ -13,26 +13,27 @@ function decoded(text) {
 }
 
 /**
- * Returns the example whose story is to be shown, by its name or by the name of its folder; "" for none.
+ * Returns the name of the example whose story the address requests, or "" if the address requests none. The name can also be the example's folder
+ * name.
  * @param {string} search
  */
 export function storyOf(search) {
   return new URLSearchParams(search).get("story")?.replace(/_/g, " ") || "";
 }
 
-/** Removes the story from the page's address. */
+/** Removes the story from the address bar. */
 export function forgetStory() {
   const address = new URL(location.href);
   address.search = "";
   try {
     history.replaceState(null, "", address);
   } catch {
-    // Some browsers do not change the address of a file. A reload then shows the story again.
+    // Some browsers do not change the address of a local file. A reload then opens the story again.
   }
 }
 
 /**
- * Returns the target in an address, without trailing blanks that were copied with it.
+ * Returns the target of an address. Removes trailing spaces, which users can copy with an address.
  * @param {string} hash
  * @returns {{ kind: AddressKind | "", value: string }}
  */

@@ -1,4 +1,4 @@
-// The session that is shown: replaces it, saves it, and displays its name.
+// The current session: replaces it, saves it, and displays its name.
 
 import { field, block } from "../ui/dom.js";
 import { wordsOfInterrupted } from "../../words/stops.js";
@@ -21,23 +21,24 @@ import * as say from "../../words/session.js";
  */
 
 /**
- * The calls that the current session makes to the page.
+ * The callbacks of CurrentSession.
  * @typedef {object} CurrentCalls
- * @property {(record: SessionRecord) => void} begin Shows the texts and the choices of another session, from its record.
- * @property {(shown: Shown) => void} show Shows the present state of the session.
- * @property {() => Promise<void>} checkSource Compares the source with ROM. Resolves when the names of the program are shown.
- * @property {() => void} run Resumes time, which was running when the session was left.
- * @property {(words: string) => void} halted Shows that time is paused, and why.
+ * @property {(record: SessionRecord) => void} begin Shows the texts and the settings of another session, from its record.
+ * @property {(shown: Shown) => void} show Shows the current state of the session.
+ * @property {() => Promise<void>} checkSource Compares the source with ROM. Resolves when the program's names are visible.
+ * @property {() => void} run Resumes time in a session that was left while time was running.
+ * @property {(words: string) => void} halted Shows that time is paused, and the reason.
  * @property {() => Promise<void>} standStill Stops time. Resolves when the worker has stopped.
- * @property {() => string} where Returns a text with the program counter, its name and its line.
- * @property {() => void} touched Handles a change of the session by the user.
- * @property {() => RanEntry[]} ran Returns the entries of the runs since the last call, and removes them.
- * @property {(ran: RanEntry[], fault: string) => void} showRan Logs runs, and why the session could not be saved, "" if it was saved.
- * @property {(words: string) => void} notKept Shows the reason why the session is not saved; "" hides the message.
+ * @property {() => string} where Returns a text with the program counter, its name and its source line.
+ * @property {() => void} touched Called when the user changes the session.
+ * @property {() => RanEntry[]} ran Removes and returns the log entries of the runs since the last call.
+ * @property {(ran: RanEntry[], fault: string) => void} showRan Logs runs. `fault` is the reason why the session could not be saved, or "" if it was
+ *   saved.
+ * @property {(words: string) => void} notKept Shows the reason why the session is not saved; "" hides the reason.
  * @property {(state: "example" | "saved" | "failed") => void} saved Shows in the status line whether the session is saved.
  */
 
-/** The parts of the page that are hidden until a session is shown. */
+/** The parts of the page that stay hidden until a session is open. */
 const SHOWN_WITH_SESSION = ["bench", "session-bar", "clock", "tools", "statusbar"];
 
 export class CurrentSession {
@@ -54,17 +55,17 @@ export class CurrentSession {
     this.past = past;
     /** @type {KeptSession | null} */
     this.session = null;
-    /** The time of the last save. */
+    /** The time of the last save, in milliseconds. */
     this.kept = 0;
-    /** True while a session is opened whose time will run. No line of its source is marked as the next one. */
+    /** True while a session is being opened in which time will run. In this time, no source line is marked as the next one. */
     this.willRun = false;
   }
 
   /**
-   * Replaces the session. If the new session is rejected, the present one stays.
+   * Replaces the session. If the new session is rejected, the current session stays.
    * @param {SessionRecord} record
    * @param {Release} release
-   * @param {string} example the name of the example, if nothing has changed in the session since; otherwise ""
+   * @param {string} example the example's name if the session is still unchanged, otherwise ""
    */
   async use(record, release, example) {
     const { bench, store, calls } = this;
@@ -87,9 +88,7 @@ export class CurrentSession {
     await this.remember();
   }
 
-  /**
-   * Shows the parts of the page. They stay invisible until the names of the source arrive, which would move them.
-   */
+  /** Shows the parts of the page. They stay invisible until the source's names have arrived, because the names would move them. */
   async showParts() {
     const isFirst = block("bench").hidden;
     document.body.classList.toggle("settling", isFirst);
@@ -98,7 +97,7 @@ export class CurrentSession {
     document.body.classList.remove("settling");
   }
 
-  /** Restores the past from before a reload of the page, so that the user can go back to it. */
+  /** Restores the history from before a page reload, so that the user can go back to it. */
   async remember() {
     const { bench, past } = this;
     const recalled = past.recalled();
@@ -106,10 +105,7 @@ export class CurrentSession {
     if (count >= 0) past.goOn(recalled, count);
   }
 
-  /**
-   * Stops the session that is left, and saves it. Its record still says whether time was running, so that time resumes on the user's
-   * return.
-   */
+  /** Stops and saves the session that the user leaves. Its record keeps whether time was running, so that time can resume on return. */
   async leave() {
     await this.calls.standStill();
     await this.keep();
@@ -146,8 +142,8 @@ export class CurrentSession {
   }
 
   /**
-   * Shows the session's name in its field and in the title of the tab. The address becomes that of the session, or of the example while
-   * nothing has changed in it.
+   * Shows the session's name in its field and in the window title. The address bar gets the session's address, or the example's address if the
+   * session is an unchanged example.
    */
   showName() {
     if (!this.session) return;
@@ -158,7 +154,7 @@ export class CurrentSession {
   }
 
   /**
-   * Names the session after the title in its texts, if the user has not named it.
+   * Names the session after the title in its texts, unless the user has named it.
    * @param {string} title
    */
   takeTitle(title) {
@@ -178,7 +174,7 @@ export class CurrentSession {
     await this.keep();
   }
 
-  /** Notes that the user has changed the session. From then on it is saved. */
+  /** Records that the user has changed the session. From then on, the session is saved. */
   touch() {
     if (!this.session) return;
     this.calls.touched();
@@ -187,13 +183,13 @@ export class CurrentSession {
     this.keep();
   }
 
-  /** Notes a change, and saves the session at once. Resolves to the reason why it was not saved, or to "". */
+  /** Records a change and saves the session. Resolves to the reason why the session could not be saved, or to "". */
   touchAndKeep() {
     this.touch();
     return this.keep();
   }
 
-  /** Writes the session to the store, and then logs the runs before. Resolves to the reason why it was not saved, or to "". */
+  /** Writes the session to the store, then logs the runs before this save. Resolves to the reason why the session could not be saved, or to "". */
   async keep() {
     if (!this.session) return "";
     const { calls } = this;
@@ -206,7 +202,7 @@ export class CurrentSession {
     return fault;
   }
 
-  /** Saves the session of a page that is being left. */
+  /** Saves the session when the user leaves the page. */
   keepNow() {
     if (!this.session) return;
     this.session.keepNow();

@@ -1,13 +1,13 @@
-// Downloads a file to the user.
+// Offers a file to the user as a download.
 
 import { element } from "../ui/dom.js";
 
-/** The time in milliseconds for which the bytes of a file are held for the browser. */
+/** The time in milliseconds for which the file's bytes stay available to the browser. */
 const HELD_TIME = 10000;
 
 /**
  * @param {string} name
- * @param {string} ending the extension of the file's name
+ * @param {string} ending the file extension
  * @param {Blob} bytes
  */
 export function download(name, ending, bytes) {

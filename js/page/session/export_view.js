@@ -1,22 +1,22 @@
-// The dialog that exports a part of the session as a file: a text, or the bytes of ROM.
+// The dialog that exports a part of the session as a file: a text, or the contents of ROM.
 
 import { element, onClick } from "../ui/dom.js";
 import { download } from "./download.js";
 import * as say from "../../words/session.js";
 
 /**
- * A file to export: its extension, its description, and the function that returns its content.
+ * A file to export: its extension, its description, and a function that returns its contents.
  * @typedef {{ ending: string, what: string, make: () => string | Uint8Array | Promise<string | Uint8Array> }} ExportedFile
  */
 
 /**
- * The calls that the export of files makes.
+ * The callbacks of the export dialog.
  * @typedef {object} ExportCalls
- * @property {() => string} name Returns the name of the session, from which file names are made.
+ * @property {() => string} name Returns the session's name, which is used for file names.
  * @property {() => string} board Returns the board's text.
  * @property {() => string} program Returns the source.
- * @property {() => Promise<string>} hex Resolves to the bytes of all ROMs in Intel HEX.
- * @property {() => Promise<Uint8Array>} image Resolves to the bytes of all ROMs, one after the other.
+ * @property {() => Promise<string>} hex Resolves to the bytes of all ROM chips in Intel HEX format.
+ * @property {() => Promise<Uint8Array>} image Resolves to the concatenated bytes of all ROM chips.
  * @property {(fault: unknown) => void} failed Reports an error that a call threw.
  */
 
@@ -58,12 +58,12 @@ export class ExportView {
 
   /** @param {ExportedFile} file */
   async save({ ending, what, make }) {
-    const made = await make();
-    if (made.length === 0) {
+    const contents = await make();
+    if (contents.length === 0) {
       this.status.textContent = say.nothingSaved(what);
       return;
     }
-    download(this.calls.name(), ending, new Blob([made], { type: "application/octet-stream" }));
+    download(this.calls.name(), ending, new Blob([contents], { type: "application/octet-stream" }));
     this.dialog.close();
   }
 }

@@ -1,15 +1,15 @@
-// Reads the files of a dropped folder, or of several files that include a project file.
+// Reads the files in a dropped folder, or a selection of files that includes a project file.
 
 import { PROJECT_FILE } from "../../core/project/project_toml.js";
 
-/** @typedef {{ name: string, files: Map<string, File> }} Folder its files, by their paths in the folder */
+/** @typedef {{ name: string, files: Map<string, File> }} Folder a folder's files, by their paths in the folder */
 
-/** The maximum number of files in a folder that is read, and the maximum depth of its folders. A project has less. */
+/** The maximum number of files read from a folder, and the maximum depth of subfolders. No project needs more. */
 const MAX_FILES = 400;
 const MAX_DEPTH = 6;
 
 /**
- * Returns the folders among dropped items. They must be read during the event.
+ * Returns the folders among dropped items. Must be called during the event.
  * @param {DataTransfer | null} data
  * @returns {FileSystemDirectoryEntry[]}
  */
@@ -20,7 +20,7 @@ export function foldersOf(data) {
 }
 
 /**
- * Resolves to all entries of a folder, which the browser reports in parts.
+ * Resolves to all entries of a folder. The browser returns them in batches.
  * @param {FileSystemDirectoryEntry} folder
  * @returns {Promise<FileSystemEntry[]>}
  */
@@ -38,7 +38,7 @@ async function entriesIn(folder) {
 
 /**
  * @param {FileSystemDirectoryEntry} folder
- * @param {string} before the path of the folder in the dropped folder
+ * @param {string} before the folder's path in the dropped folder, with a trailing slash
  * @param {Map<string, File>} files
  * @param {number} depth
  */
@@ -67,7 +67,7 @@ export async function readFolder(entry) {
 }
 
 /**
- * Returns several files as a folder if one of them is a project file, otherwise null.
+ * Returns several files as a folder if one of them is a project file, otherwise returns null.
  * @param {File[]} files
  * @returns {Folder | null}
  */

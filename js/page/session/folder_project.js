@@ -1,4 +1,4 @@
-// The texts of a folder with a project file, for a new session.
+// Reads the texts of a project folder for a new session.
 
 import { ProjectFault, readProject } from "../../core/project/project_folder.js";
 import { LONGEST_PROJECT_FILE, PROJECT_FILE } from "../../core/project/project_toml.js";
@@ -11,12 +11,12 @@ import * as say from "../../words/session.js";
  * @typedef {import("../../core/engine/examples.js").Example} Example
  * @typedef {import("../../core/session/opened_file.js").FileTexts} FileTexts
  *
- * The texts, the requested speed ("" for none), and a message about files that were left out.
+ * The texts, the requested speed ("" for none), and a message about omitted files.
  * @typedef {{ texts: Example, speed: string, words: string }} FolderTexts
  */
 
 /**
- * Resolves to the bytes of a file, and to one byte more than `limit` if it is too long.
+ * Resolves to the bytes of a file. Reads at most one byte more than `limit`, so that the caller can detect a file that is too long.
  * @param {File} file
  * @param {number} limit
  */
@@ -25,7 +25,7 @@ async function bytesOf(file, limit) {
 }
 
 /**
- * Resolves to the text of one kind in a file of a folder, or to "" if there is no such file.
+ * Resolves to the text of one kind in a folder's file, or to "" if the folder has no such file.
  * @param {Map<string, File>} files
  * @param {string} path
  * @param {"board" | "program" | "tests" | "properties"} kind
@@ -40,7 +40,7 @@ async function textIn(files, path, kind) {
 }
 
 /**
- * Returns a message about the files that were left out, "" for none. The page has one text of each kind.
+ * Returns a message about the omitted files, or "" if there are none. A session has only one text of each kind.
  * @param {string[][]} lists
  */
 function leftOut(lists) {
@@ -49,7 +49,7 @@ function leftOut(lists) {
 }
 
 /**
- * Resolves to the texts of a folder. Throws an error if the folder is not a project, or if one of its files has the wrong content.
+ * Resolves to the texts of a project folder. Throws an error if the folder is not a project, or if one of its files has the wrong contents.
  * @param {Folder} folder
  * @returns {Promise<FolderTexts>}
  */

@@ -1,4 +1,4 @@
-// Draws the pictures of examples.
+// Draws the preview pictures of examples and sessions.
 
 import { galleryPicture } from "../../core/session/gallery_picture.js";
 import { icon } from "../ui/icons.js";
@@ -23,7 +23,7 @@ function nodesOf(shape) {
     svgElement("text", { class: `digits ${shape.colour}`, x: x + width - 5, y: base + 6 }, shape.digits)];
 }
 
-/** Returns the picture of a board with an empty front panel: a chip. */
+/** Returns the picture for a board with an empty front panel: a chip. */
 function emptyPicture() {
   const picture = icon("chip");
   picture.classList.add("picture", "empty-picture");
@@ -31,7 +31,7 @@ function emptyPicture() {
 }
 
 /**
- * Returns a picture of a board's front panel. Screen readers skip it, because the words of the example are next to it.
+ * Returns a picture of a board's front panel. Screen readers skip the picture, because a description is next to it.
  * @param {string} boardText
  */
 export function pictureOf(boardText) {

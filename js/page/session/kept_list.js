@@ -1,4 +1,5 @@
-// The list of the saved sessions. Sessions are opened and copied one by one, deleted one by one or several at once, and restored.
+// The list of saved sessions. The user opens and copies sessions one at a time, and deletes one or several sessions. Deleted sessions can be
+// restored.
 
 import { block, button, element, field } from "../ui/dom.js";
 import { pictureOf } from "./gallery_view.js";
@@ -9,17 +10,17 @@ import * as say from "../../words/session.js";
  */
 
 /**
- * The calls that the list of projects makes. A session is named by its id.
+ * The callbacks of the list. Sessions are identified by id.
  * @typedef {object} ListCalls
- * @property {(id: string) => boolean} isShown Returns whether a session is the one that is shown.
- * @property {(id: string) => Promise<boolean>} open Shows a session. Resolves to false after a failure that was reported.
- * @property {(id: string) => Promise<boolean>} copy Makes a copy of a session and shows it. Resolves to false if that failed.
- * @property {(records: SessionRecord[]) => Promise<void>} remove Deletes sessions, which can then be restored.
+ * @property {(id: string) => boolean} isShown Returns true if a session is the current one.
+ * @property {(id: string) => Promise<boolean>} open Opens a session. Resolves to false after a failure. The failure has already been reported.
+ * @property {(id: string) => Promise<boolean>} copy Copies a session and opens the copy. Resolves to false if that fails.
+ * @property {(records: SessionRecord[]) => Promise<void>} remove Deletes sessions. Deleted sessions can be restored.
  * @property {() => SessionRecord[]} deleted Returns the sessions that can be restored.
  * @property {(records: SessionRecord[]) => Promise<void>} bringBack Restores deleted sessions.
- * @property {(act: () => Promise<boolean>) => void} choose Does `act`, and closes the dialog unless that resolves to false.
- * @property {(word: string, label: string, act: () => void) => HTMLButtonElement} button Returns a button with a word, a label for screen
- * readers, and its action.
+ * @property {(act: () => Promise<boolean>) => void} choose Executes `act`. Closes the dialog unless `act` resolves to false.
+ * @property {(word: string, label: string, act: () => void) => HTMLButtonElement} button Returns a button with a visible word, a label for screen
+ *   readers, and its action.
  */
 
 export class KeptList {
@@ -30,13 +31,13 @@ export class KeptList {
     this.bin = block("deleted");
     /** @type {SessionRecord[]} */
     this.records = [];
-    /** The ids of the sessions that are ticked. */
+    /** The ids of the selected sessions. */
     this.chosen = new Set();
     field("choose-all").addEventListener("change", () => this.chooseAll(field("choose-all").checked));
     button("delete-chosen").addEventListener("click", () => this.removeChosen());
   }
 
-  /** The sessions that can be deleted: all but the one that is shown. */
+  /** The sessions that can be deleted: all except the current session. */
   get removable() {
     return this.records.filter((record) => !this.calls.isShown(record.id));
   }
@@ -108,7 +109,7 @@ export class KeptList {
   }
 
   /**
-   * Deletes sessions. The focus then moves to the line that has taken the place of the first one.
+   * Deletes sessions. The focus then moves to the entry that is now at the first one's position.
    * @param {SessionRecord[]} records
    */
   async remove(records) {
@@ -127,7 +128,7 @@ export class KeptList {
 }
 
 /**
- * Returns the name of a session, with the time of its last change and its cycle count.
+ * Returns an element with a session's name, the time of its last change, and its cycle count.
  * @param {SessionRecord} record
  */
 function nameAndTime({ name, changed, cycles }) {

@@ -1,6 +1,5 @@
-// The recent past of the session that is shown, for going back after a reload. A segment of the past is the session's file at one moment,
-// and the commands since then. The past comes from the worker's reports. When the page is left, it is written to the browser's storage for
-// the tab.
+// The recent history of the current session, for going back after a page reload. A history segment is the session's file at one moment and the
+// commands since then. The history comes from the worker's reports. When the user leaves the page, it is written to the tab's session storage.
 
 import { fromBase64, toBase64 } from "../../core/session/base64.js";
 import * as say from "../../words/session.js";
@@ -13,16 +12,16 @@ import * as say from "../../words/session.js";
  */
 
 const KEY = "fethsaim.past";
-/** The maximum numbers of cycles, of commands, and of characters in commands after which a new segment begins. */
+/** A new segment begins when the last one reaches this number of cycles, of commands, or of characters in commands. */
 const MAX_CYCLES = 4000000;
 const MAX_ENTRIES = 4000;
 const MAX_CHARACTERS = 200000;
-/** The maximum number of cycles in one report. After a longer report the past begins with the present state. */
+/** The maximum number of cycles in one report. A longer report restarts the history at the current state. */
 const MAX_REPORT_CYCLES = 16000000;
-/** The number of segments that are kept. */
+/** The maximum number of stored segments. */
 const SEGMENTS = 2;
 
-/** Returns the browser's storage for this tab, or null if the page cannot use it. */
+/** Returns the tab's session storage, or null if the page cannot use it. */
 function tabStore() {
   try {
     return sessionStorage;
@@ -37,7 +36,7 @@ function cyclesOf(entries) {
 }
 
 /**
- * Returns whether a stored value is an entry.
+ * Returns true if a stored value is a valid history entry.
  * @param {any} entry
  */
 function isEntry(entry) {
@@ -63,20 +62,20 @@ export class KeptPast {
     this.segments = [];
     /** The number of cycles in the last segment. */
     this.cycles = 0;
-    /** The number of characters in the commands of the last segment. */
+    /** The number of characters in the last segment's commands. */
     this.characters = 0;
   }
 
-  /** @param {string} session the id of the session that is shown from then on */
+  /** @param {string} session the id of the session that becomes the current one */
   begin(session) {
     this.session = session;
     this.segments = [];
   }
 
   /**
-   * Adds the entries of a report to the past.
+   * Adds a report's entries to the history.
    * @param {News} news
-   * @param {{ file: Uint8Array, total: number, reset: number }} present the session after these entries
+   * @param {{ file: Uint8Array, total: number, reset: number }} present the session after the report's entries
    */
   take({ isNewPast, entries }, present) {
     const cycles = cyclesOf(entries);
@@ -99,13 +98,13 @@ export class KeptPast {
     this.characters = 0;
   }
 
-  /** Writes the past to the storage, because the page is left. */
+  /** Writes the history to the storage when the user leaves the page. */
   leave() {
     const segments = this.segments.map(({ file, ...more }) => ({ file: toBase64(file), ...more }));
     this.change((store) => store.setItem(KEY, JSON.stringify({ session: this.session, segments })));
   }
 
-  /** Returns the past of the session, as it was written when the page was left, and removes it from the storage. */
+  /** Removes the session's history from the storage and returns it. Returns an empty list if the storage has none for this session. */
   recalled() {
     /** @type {Recalled[]} */
     let found = [];
@@ -118,7 +117,7 @@ export class KeptPast {
   }
 
   /**
-   * Continues a past that the bench has restored. The entries since then follow it.
+   * Continues a history that the bench has restored. The entries since the reload are appended to it.
    * @param {Recalled[]} recalled
    * @param {number} count the number of restored entries in the last segment
    */
@@ -137,7 +136,7 @@ export class KeptPast {
     try {
       if (this.store) act(this.store);
     } catch {
-      // Without a stored past, the user can only go back to the reload.
+      // Without a stored history, the user can go back only to the reload.
     }
   }
 }

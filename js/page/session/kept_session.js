@@ -1,4 +1,4 @@
-// A session that is open in this tab: its record with the last state that the bench has reported, and how the record is saved.
+// A session that is open in this tab: its record, which has the last state from the bench, and the writes of the record to the store.
 
 import { shortName } from "../../core/session/names.js";
 import { inTime, wordsOfStoreFault } from "./store.js";
@@ -12,7 +12,7 @@ import { inTime, wordsOfStoreFault } from "./store.js";
 let createdCount = 0;
 
 /**
- * Returns a new record of a session, with an id of its own.
+ * Returns a new session record with a unique id.
  * @param {string} name
  * @param {Uint8Array} file
  * @param {{ boardText: string, programText: string, testText?: string, propertiesText?: string, breakpoints?: SessionRecord["breakpoints"],
@@ -33,22 +33,22 @@ export class KeptSession {
   /**
    * @param {SessionStore} store
    * @param {SessionRecord} record
-   * @param {Release} release releases the lock of the session
-   * @param {string} example the name of the example, if nothing has changed in the session since; such a session is not saved
+   * @param {Release} release releases the session's lock
+   * @param {string} example the example's name if the session is still unchanged, otherwise ""; an unchanged example is not saved
    */
   constructor(store, record, release, example = "") {
     this.store = store;
     this.record = record;
     this.release = release;
     this.example = example;
-    /** @type {Promise<string>} the present write */
+    /** @type {Promise<string>} the write in progress */
     this.writing = Promise.resolve("");
-    /** @type {Promise<string> | null} the write after that one */
+    /** @type {Promise<string> | null} the next write after the one in progress; null if there is none */
     this.waiting = null;
   }
 
   /**
-   * Stores the new bytes of the file. Returns the buffer of the old bytes, which is then free.
+   * Stores the file's new bytes. Returns the buffer with the old bytes for reuse.
    * @param {ArrayBuffer} file
    * @returns {ArrayBuffer}
    */
@@ -59,8 +59,8 @@ export class KeptSession {
   }
 
   /**
-   * Writes the session. Resolves to "" when it is on the disk, otherwise to an error message. Calls during a write share the next write. A
-   * store that does not answer counts as failed, and is written to again when it answers.
+   * Writes the session. Resolves to "" when the session is on the disk, otherwise to an error message. Calls during a write share the next write. If
+   * the store does not answer in time, the write counts as failed, and later writes wait until the store answers.
    * @returns {Promise<string>}
    */
   keep() {
@@ -80,8 +80,8 @@ export class KeptSession {
   }
 
   /**
-   * Writes the session of a page that is being left and cannot wait. Nothing is written if the store would have to answer first: the answer
-   * would not arrive any more, and the unfinished write would block other pages.
+   * Writes the session when the user leaves the page and the page cannot wait. Nothing is written if the store must answer a read first: the answer
+   * would arrive too late, and the unfinished write would block other pages.
    */
   keepNow() {
     return this.store.isWhole && !this.isUntouched ? this.write() : Promise.resolve("");
@@ -91,7 +91,7 @@ export class KeptSession {
     return this.example !== "";
   }
 
-  /** Notes that the user has changed the session. From then on it is saved. Returns whether this is the first change. */
+  /** Records that the user has changed the session. From then on, the session is saved. Returns true if this is the first change. */
   touch() {
     const { isUntouched } = this;
     this.example = "";

@@ -1,17 +1,17 @@
-// Locks of sessions: only one tab can open a session.
+// Session locks: a session can be open in only one tab at a time.
 
 import { inTime } from "./store.js";
 
-/** The number of attempts to acquire a lock, and the milliseconds between them. */
+/** The number of attempts to acquire a lock, and the time in milliseconds between attempts. */
 const TRIES = 6;
 const WAIT = 150;
-/** The name of a lock that tests whether locks work. A browser that blocks the data of sites rejects all requests for locks. */
+/** The name of a lock that tests whether locks work. A browser that blocks site data rejects all lock requests. */
 const PROBE = "fethsaim probe";
 
 /** @typedef {() => void} Release releases a lock */
 
 export class Locks {
-  /** Resolves to the browser's locks. If it has none that work, each lock is free. */
+  /** Resolves to the browser's locks. If the browser has no working locks, every lock is free. */
   static async find() {
     if (!navigator.locks) return new Locks(null);
     try {
@@ -22,15 +22,15 @@ export class Locks {
     }
   }
 
-  /** @param {LockManager | null} manager null if the browser has no locks: then each lock is free */
+  /** @param {LockManager | null} manager null if the browser has no working locks; every lock is then free */
   constructor(manager) {
     this.manager = manager;
     this.areAvailable = manager !== null;
   }
 
   /**
-   * Acquires the lock of a session for this tab. Resolves to a function that releases the lock, or to null if another tab has it. A page
-   * that is being reloaded can still have the lock for a moment, so the lock is requested more than once.
+   * Acquires a session's lock for this tab. Resolves to a function that releases the lock, or to null if another tab holds the lock. A page that is
+   * reloading can hold the lock for a moment longer, so there are several attempts.
    * @param {string} id
    * @returns {Promise<Release | null>}
    */

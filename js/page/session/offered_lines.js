@@ -1,4 +1,4 @@
-// Puts the lines of an example or of a file into the input of the console. A notice offers to restore the user's own text there.
+// Puts the lines of an example or a file into the console's input. If the input had the user's own text, a notice offers to restore it.
 
 import { byId } from "../ui/dom.js";
 import * as say from "../../words/session.js";
@@ -10,11 +10,11 @@ export class OfferedLines {
   constructor(notice) {
     this.notice = notice;
     this.area = byId("lines", HTMLTextAreaElement);
-    /** The lines that were offered last. */
+    /** The lines that were put into the input last. */
     this.offered = "";
   }
 
-  /** @param {string} lines "" if another session has none */
+  /** @param {string} lines the lines; "" for a session without lines */
   offer(lines) {
     const typed = this.area.value;
     const isOwn = typed.trim() !== "" && typed !== this.offered;

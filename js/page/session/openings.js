@@ -1,42 +1,42 @@
-// Remembers the openings of sessions that have not succeeded. A session can hang the page, for example by a text that takes too long, and
-// must not do so at each start. So a flag is set before a session is opened, and cleared after the page has shown it and still responds.
+// Detects sessions that hang the page while they are opened, for example through a text that takes too long. Such a session must not be opened
+// automatically at every start. A flag is set before a session is opened. The flag is cleared when the page shows the session and still responds.
 
 import { browserStore } from "../ui/choices.js";
 
 /** @typedef {Pick<Storage, "getItem" | "setItem" | "removeItem">} FlagStore */
 
 const KEY = "fethsaim.opening.";
-/** The time in milliseconds after which an opening has succeeded, because a hang would have happened by then. */
+/** The time in milliseconds after which an opened session counts as harmless. */
 const SETTLE_TIME = 1000;
 /**
- * The time in milliseconds for which an opening is recent. A page that is left by then has not hung, and another tab can still be opening
- * the session.
+ * The maximum age in milliseconds of a recent opening. If the user leaves the page within this time, the page has not hung. In another tab, the
+ * session may still be opening.
  */
 const RECENT_TIME = 2000;
-/** The events of a window whose page is left. Each browser has one of them. */
+/** The window events that announce that the user leaves the page. Every browser sends at least one of them. */
 const LEAVING = ["beforeunload", "pagehide"];
 
 export class Openings {
   /**
-   * @param {FlagStore | null} store null if the browser stores nothing
-   * @param {(act: () => void, time: number) => void} later
-   * @param {() => number} now returns the time in milliseconds
+   * @param {FlagStore | null} store null if the browser has no storage
+   * @param {(act: () => void, time: number) => void} later calls a function after a time in milliseconds
+   * @param {() => number} now returns the current time in milliseconds
    */
   constructor(store = browserStore(), later = (act, time) => { setTimeout(act, time); }, now = () => Date.now()) {
     this.store = store;
     this.later = later;
     this.now = now;
     /**
-     * @type {Map<string, { time: number, isEnded: boolean }>} the openings with a flag of this page: the time of their beginning, and
-     *   whether they have ended
+     * @type {Map<string, { time: number, isEnded: boolean }>} the openings whose flags this page has set: the start time, and whether the opening has
+     *   ended
      */
     this.begun = new Map();
   }
 
   /**
-   * Opens a session.
+   * Opens a session. Its flag is set while it is being opened and for SETTLE_TIME afterwards.
    * @param {string} id
-   * @param {() => Promise<void>} open opens the session; a rejection ends the opening, too
+   * @param {() => Promise<void>} open opens the session; a rejection also ends the opening
    */
   async during(id, open) {
     const opening = { time: this.now(), isEnded: false };
@@ -46,13 +46,13 @@ export class Openings {
       await open();
     } finally {
       opening.isEnded = true;
-      // The session can be opened again meanwhile.
+      // The session may have been opened again in the meantime.
       this.later(() => (this.begun.get(id) === opening ? this.forget(id) : undefined), SETTLE_TIME);
     }
   }
 
   /**
-   * Returns whether the last opening of a session has not ended. A recent opening does not count.
+   * Returns true if the last opening of a session has not ended. Ignores a recent opening, which may still be in progress.
    * @param {string} id
    */
   isUnended(id) {
@@ -64,27 +64,27 @@ export class Openings {
     return found !== null && !this.isRecent(Number(found));
   }
 
-  /** @param {number} time the time of a beginning */
+  /** @param {number} time the time at which an opening began, in milliseconds */
   isRecent(time) {
     const age = this.now() - time;
     return age >= 0 && age < RECENT_TIME;
   }
 
-  /** @param {string} id the id of a session whose opening has ended, or which is deleted */
+  /** @param {string} id the id of a session whose opening has ended, or which has been deleted */
   forget(id) {
     this.begun.delete(id);
     this.change((store) => store.removeItem(KEY + id));
   }
 
-  /** @param {Pick<Window, "addEventListener">} target the window of the page */
+  /** @param {Pick<Window, "addEventListener">} target the page's window */
   listen(target) {
-    // When a page is left, Firefox 153 often runs no function that has not run before. So all functions that are needed then run once now.
+    // When the user leaves a page, Firefox 153 often does not run functions that have never run. Run all functions needed at that time once now.
     this.begun.set("", { time: this.now(), isEnded: false });
     this.leave();
     for (const name of LEAVING) target.addEventListener(name, () => this.leave());
   }
 
-  /** Clears the flags of openings that have ended or are recent: a page that can still run this has not hung. */
+  /** Clears the flags of openings that have ended or are recent, because a page that still runs this function has not hung. */
   leave() {
     for (const [id, { time, isEnded }] of this.begun) if (isEnded || this.isRecent(time)) this.forget(id);
   }
@@ -94,7 +94,7 @@ export class Openings {
     try {
       if (this.store) act(this.store);
     } catch {
-      // Without storage, no session is opened automatically either.
+      // Without storage, no saved session is opened automatically.
     }
   }
 }

@@ -1,12 +1,12 @@
-// Asks the browser to keep the page's data even if space is short. Some browsers then ask the user, so the page asks only once, and only
-// when there is something to lose.
+// Asks the browser to keep the page's data even if disk space is short. Some browsers then ask the user. The page therefore asks only once, and only
+// when there is data to lose.
 
 /**
  * The browser's storage manager, or a substitute in tests.
  * @typedef {{ persist: () => Promise<boolean> }} Keeper
  */
 
-/** @returns {Keeper | null} null if the browser has none */
+/** @returns {Keeper | null} null if the browser has no storage manager */
 function ownKeeper() {
   const { storage } = navigator;
   return storage && typeof storage.persist === "function" ? storage : null;
@@ -27,7 +27,7 @@ export class Persistence {
     try {
       this.isPromised = await this.keeper.persist();
     } catch {
-      // A browser that blocks the data of sites can reject the request.
+      // A browser that blocks site data can reject the request.
     }
   }
 }

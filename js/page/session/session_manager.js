@@ -1,4 +1,4 @@
-// Opens, creates, copies and saves sessions and files. If a session cannot be opened, the present one stays unchanged.
+// Opens, creates, copies and saves sessions and files. If a session cannot be opened, the current session stays unchanged.
 
 import { download } from "./download.js";
 import { runsAtOnce } from "../../core/engine/examples.js";
@@ -23,19 +23,19 @@ import * as say from "../../words/session.js";
  */
 
 /**
- * The calls that the manager of sessions makes to the page.
+ * The callbacks of SessionManager.
  * @typedef {object} ManagerCalls
- * @property {() => KeptSession | null} session Returns the session that is shown; null if there is none.
+ * @property {() => KeptSession | null} session Returns the current session, or null if there is none.
  * @property {() => Promise<string>} keep Saves the session. Resolves to the reason why it could not be saved, or to "".
- * @property {(words: string, ...actions: NoticeAction[]) => void} refuse Shows why something was not done, with buttons.
- * @property {(id: string) => void} speed Sets the speed that a project names, by its id.
- * @property {(record: SessionRecord) => void} left Reports a session that was left for a new one, so that the user can return to it.
- * @property {(name: string, texts: import("../../core/session/opened_file.js").FileTexts) => Promise<void>} texts Loads the texts of the
- *   file `name` into the editors.
- * @property {(name: string, bytes: Int16Array) => Promise<void>} image Loads the bytes of the file `name` into ROM; -1 leaves a byte
- *   unchanged.
- * @property {(record: SessionRecord, release: Release, example: string) => Promise<void>} use Shows another session, whose lock `release`
- *   frees. `example` is the name of its example if nothing has changed in the session since, otherwise "".
+ * @property {(words: string, ...actions: NoticeAction[]) => void} refuse Shows a message about an action that was not executed, with buttons for
+ *   alternatives.
+ * @property {(id: string) => void} speed Sets the speed that a project requests, by its id.
+ * @property {(record: SessionRecord) => void} left Reports a session that the user has left for a new one, and offers to return to it.
+ * @property {(name: string, texts: import("../../core/session/opened_file.js").FileTexts) => Promise<void>} texts Loads the texts of a file into the
+ *   editors.
+ * @property {(name: string, bytes: Int16Array) => Promise<void>} image Loads the bytes of a file into ROM; -1 leaves a byte unchanged.
+ * @property {(record: SessionRecord, release: Release, example: string) => Promise<void>} use Makes a session the current one. `release` releases its
+ *   lock. `example` is the example's name if the session is still unchanged, otherwise "".
  */
 
 
@@ -55,7 +55,7 @@ export class SessionManager {
     this.calls = calls;
   }
 
-  /** Resolves to the saved sessions, the last changed one first. */
+  /** Resolves to the saved sessions, the most recently changed first. */
   async kept() {
     try {
       return (await this.store.all()).sort((a, b) => b.changed - a.changed);
@@ -74,7 +74,7 @@ export class SessionManager {
 
   /**
    * @param {string} words
-   * @param {NoticeAction[]} actions the buttons for alternatives
+   * @param {NoticeAction[]} actions buttons for alternatives
    * @returns {false}
    */
   refuse(words, ...actions) {
@@ -83,7 +83,7 @@ export class SessionManager {
   }
 
   /**
-   * Opens a saved session. Resolves to false after a report if the session is in use in another tab, deleted or damaged.
+   * Opens a saved session. If the session is open in another tab, deleted or damaged, reports that and resolves to false.
    * @param {string} id
    */
   async open(id) {
@@ -99,7 +99,7 @@ export class SessionManager {
   }
 
   /**
-   * Creates a session, acquires its lock and shows it. Resolves to whether the session was created.
+   * Creates a session, acquires its lock and opens it. Resolves to true if the session was created.
    * @param {() => Promise<SessionRecord>} make
    * @param {string} example
    */
@@ -132,7 +132,7 @@ export class SessionManager {
   }
 
   /**
-   * Resolves to a new record of an example that is a project, with the properties of the example.
+   * Resolves to a new record for an example that is a project, with the example's properties.
    * @param {Example} example
    */
   async recordOfExampleProject({ project, properties }) {
@@ -150,8 +150,7 @@ export class SessionManager {
   }
 
   /**
-   * Opens a file. A project or a session becomes a new session. Texts are loaded into the editors of the present session, and an image into
-   * its ROM.
+   * Opens a file. A project or a session file becomes a new session. Texts are loaded into the current session's editors, and an image into its ROM.
    * @param {File} file
    */
   async openFile(file) {
@@ -171,7 +170,7 @@ export class SessionManager {
   }
 
   /**
-   * Opens a folder with a project file as a new session.
+   * Opens a project folder as a new session.
    * @param {() => Promise<import("./folder_files.js").Folder>} read
    */
   async openFolder(read) {
@@ -195,7 +194,7 @@ export class SessionManager {
   }
 
   /**
-   * Resolves to a new record of a project. The bytes of its session stay unchanged.
+   * Resolves to a new record for a project. The bytes of its session stay unchanged.
    * @param {Uint8Array} bytes
    */
   async recordOfProject(bytes) {
@@ -205,18 +204,18 @@ export class SessionManager {
   }
 
   /**
-   * Resolves to a new record of a session file. Only the bench decides whether bytes are a session.
+   * Resolves to a new record for a session file. Only the bench decides whether the bytes are a valid session.
    * @param {string} fileName
    * @param {Uint8Array} bytes
    */
   async recordOfSession(fileName, bytes) {
-    // One byte more than a session has is enough for the bench to see that it is too long.
+    // One byte more than a session's size is enough for the bench to detect a file that is too long.
     const settled = await this.bench.call("settled", [bytes.slice(0, this.bench.size + 1)]);
     const texts = await this.bench.call("texts", [settled]);
     return newRecord(fileName.replace(/\.mcs$/i, ""), settled, texts);
   }
 
-  /** Saves the session with its texts as a project file, unless the file would be too long to be opened again. */
+  /** Saves the session with its texts as a project file, unless the file would be too long to open again. */
   save() {
     const session = this.calls.session();
     if (!session) return;

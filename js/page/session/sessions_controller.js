@@ -1,4 +1,4 @@
-// Controls the sessions on the page: opens the first one, handles the dialog of sessions, and follows the page's address.
+// Controls the sessions of the page: opens the first session, handles the sessions dialog, and follows changes of the page's address.
 
 import { readAddress } from "./address.js";
 import { Trash, namesOf } from "./trash.js";
@@ -22,20 +22,19 @@ import * as say from "../../words/session.js";
  */
 
 /**
- * The calls that the list of projects and the opening of sessions make to the page.
+ * The callbacks of SessionsController.
  * @typedef {object} ControllerCalls
- * @property {() => KeptSession | null} session Returns the session that is shown; null if there is none.
+ * @property {() => KeptSession | null} session Returns the current session, or null if there is none.
  * @property {() => Promise<string>} keep Saves the session. Resolves to the reason why it could not be saved, or to "".
- * @property {(name: string) => void} rename Renames the session that is shown.
- * @property {(id: string) => void} speed Sets the speed that a project names, by its id.
- * @property {(name: string, texts: import("../../core/session/opened_file.js").FileTexts) => Promise<void>} texts Loads the texts of the
- *   file `name` into the editors.
- * @property {(name: string, bytes: Int16Array) => Promise<void>} image Loads the bytes of the file `name` into ROM; -1 leaves a byte
- *   unchanged.
- * @property {(record: SessionRecord, release: Release, example: string) => Promise<void>} use Shows another session, whose lock `release`
- *   frees. `example` is the name of its example if nothing has changed in the session since, otherwise "".
- * @property {() => void} showLines Brings the console to the front, for an example that has only lines.
- * @property {(text: string) => Promise<void>} link Opens the session of a link by the text after its `#`.
+ * @property {(name: string) => void} rename Renames the current session.
+ * @property {(id: string) => void} speed Sets the speed that a project requests, by its id.
+ * @property {(name: string, texts: import("../../core/session/opened_file.js").FileTexts) => Promise<void>} texts Loads the texts of a file into the
+ *   editors.
+ * @property {(name: string, bytes: Int16Array) => Promise<void>} image Loads the bytes of a file into ROM; -1 leaves a byte unchanged.
+ * @property {(record: SessionRecord, release: Release, example: string) => Promise<void>} use Makes a session the current one. `release` releases its
+ *   lock. `example` is the example's name if the session is still unchanged, otherwise "".
+ * @property {() => void} showLines Brings the console to the front, for an example that consists only of lines.
+ * @property {(text: string) => Promise<void>} link Opens the session of a link, given the link's contents.
  */
 
 export class SessionsController {
@@ -49,9 +48,9 @@ export class SessionsController {
     this.locks = locks;
     this.notice = notice;
     this.examples = examples;
-    /** @type {(example: Example) => void} called to show the story of an example */
+    /** @type {(example: Example) => void} shows the story of an example */
     this.showExample = () => {};
-    /** Called after another session was shown. */
+    /** Called after another session has been opened. */
     this.used = () => {};
     this.persistence = new Persistence();
     this.openings = new Openings();
@@ -104,14 +103,14 @@ export class SessionsController {
   }
 
   /**
-   * Reports that a session was left for a new one, perhaps by accident, with a button that returns to it.
+   * Reports that the user has left a session for a new one. The notice has a button to return, because the change may have been an accident.
    * @param {SessionRecord} record
    */
   reportLeft({ id, name }) {
     this.notice.show(say.sessionLeft(name, this.store.keeps), "left", { word: say.BACK_TO_IT, act: () => this.open(id) });
   }
 
-  /** Handles a change of the session by the user: there is something to lose now, and the user has accepted this session. */
+  /** Called when the user changes the session. The user now has data to lose, and has accepted this session. */
   touched() {
     this.notice.hide("left");
     if (this.store.keeps) this.persistence.ask();
@@ -123,7 +122,7 @@ export class SessionsController {
   }
 
   /**
-   * Begins a new session from an example. The example's lines are put into the input of the console.
+   * Begins a new session from an example. The example's lines appear in the console's input.
    * @param {Example} example
    */
   async begin(example) {
@@ -134,7 +133,7 @@ export class SessionsController {
     return true;
   }
 
-  /** @param {string} name of an example */
+  /** @param {string} name the name of an example */
   async beginNamed(name) {
     const example = [...this.examples, FIRST_PROGRAM].find((candidate) => candidate.name === name);
     if (example) return this.begin(example);
@@ -143,7 +142,7 @@ export class SessionsController {
   }
 
   /**
-   * Deletes sessions, with a notice that can undo it.
+   * Deletes sessions and shows a notice that offers undo.
    * @param {SessionRecord[]} records
    */
   async remove(records) {
@@ -160,9 +159,9 @@ export class SessionsController {
   }
 
   /**
-   * Opens the first session: the target of the address, or the example whose story is shown, or the last used session that is not open in
-   * another tab, or the first example.
-   * @param {string} story the name of the example whose story is shown, "" for none
+   * Opens the first session of the page. This is the address's target, the example whose story is requested, the last used session that is not open
+   * in another tab, or the first example.
+   * @param {string} story the name of the example whose story is requested; "" for none
    */
   async openFirst(story) {
     const { hash } = location;
@@ -189,7 +188,7 @@ export class SessionsController {
     return kind === "example" ? this.beginNamed(value) : false;
   }
 
-  /** @param {boolean} isQuiet whether sessions that are open in other tabs are skipped silently */
+  /** @param {boolean} isQuiet true if sessions that are open in other tabs are skipped without a notice */
   async openLast(isQuiet) {
     const records = await this.manager.kept();
     const unended = records.filter(({ id }) => this.openings.isUnended(id));
@@ -202,20 +201,20 @@ export class SessionsController {
   }
 
   /**
-   * Reports a session that has perhaps hung the page at its last opening, and so is not opened automatically. Reports nothing if another
-   * tab has the session's lock.
+   * Reports a session that may have hung the page when it was last opened. Such a session is not opened automatically. Reports nothing if another tab
+   * holds the session's lock.
    * @param {SessionRecord} record
    */
   async reportUnended(record) {
     const release = await this.locks.take(record.id);
     if (!release) return;
     release();
-    const words = say.notOpenedAutomatically(shortName(record.name));
+    const message = say.notOpenedAutomatically(shortName(record.name));
     const remove = () => this.remove([record]);
-    this.notice.show(words, "unended", { word: say.OPEN_IT, act: () => this.open(record.id) }, { word: say.DELETE_IT, act: remove });
+    this.notice.show(message, "unended", { word: say.OPEN_IT, act: () => this.open(record.id) }, { word: say.DELETE_IT, act: remove });
   }
 
-  /** Shows the target of a new address, unless it is already shown. */
+  /** Opens the target of a changed address, unless it is already open. */
   async follow() {
     const { kind, value } = readAddress(location.hash);
     const session = this.calls.session();

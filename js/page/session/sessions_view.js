@@ -1,4 +1,4 @@
-// The dialog of sessions, with the saved sessions, the examples and the deleted sessions, and the fields for a file and the session's name.
+// The sessions dialog: the saved sessions, the examples, the deleted sessions, the button that opens a file, and the session's name field.
 
 import { pictureOf } from "./gallery_view.js";
 import { block, button, byId, element, field, onClick } from "../ui/dom.js";
@@ -14,26 +14,26 @@ import * as say from "../../words/session.js";
  */
 
 /**
- * The calls that the dialog of sessions makes. A call that opens something resolves to false if that failed.
+ * The callbacks of the sessions dialog. A call that opens something resolves to false if that fails.
  * @typedef {object} SessionsCalls
  * @property {() => Promise<SessionRecord[]>} kept Resolves to the saved sessions.
- * @property {(id: string) => boolean} isShown Returns whether a session is the one that is shown, by its id.
- * @property {(id: string) => Promise<boolean>} open Shows a session, by its id.
- * @property {(id: string) => Promise<boolean>} copy Makes a copy of a session, by its id, and shows it.
- * @property {(records: SessionRecord[]) => Promise<void>} remove Deletes sessions, which can then be restored.
+ * @property {(id: string) => boolean} isShown Returns true if a session, by its id, is the current one.
+ * @property {(id: string) => Promise<boolean>} open Opens a session by its id.
+ * @property {(id: string) => Promise<boolean>} copy Copies a session, by its id, and opens the copy.
+ * @property {(records: SessionRecord[]) => Promise<void>} remove Deletes sessions. Deleted sessions can be restored.
  * @property {() => SessionRecord[]} deleted Returns the sessions that can be restored.
  * @property {(records: SessionRecord[]) => Promise<void>} bringBack Restores deleted sessions.
  * @property {(example: Example) => Promise<boolean>} begin Begins a new session from an example.
  * @property {(example: Example) => Promise<boolean>} beginStory Begins a new session from an example, and shows its story.
  * @property {(file: File) => Promise<boolean>} openFile Opens a file: a project, a session or a text.
  * @property {(read: () => Promise<import("./folder_files.js").Folder>) => Promise<boolean>} openFolder Opens a project in a folder, which
- *   `read` reads.
- * @property {(name: string) => void} rename Renames the session that is shown.
- * @property {() => string} keptWhere Returns a text that says where the browser stores sessions.
+ * Opens the project in the folder that `read` reads.
+ * @property {(name: string) => void} rename Renames the current session.
+ * @property {() => string} keptWhere Returns a text about where the browser stores sessions.
  */
 
 /**
- * Returns the examples in their order on the page: the empty bench, with which a board of one's own begins, and then the short ones first.
+ * Returns the examples in page order: first the empty bench, on which the user can build a board, then the others in the order of ORDER.
  * @param {Example[]} examples
  */
 function inOrder(examples) {
@@ -47,14 +47,14 @@ function inOrder(examples) {
 export class SessionsView {
   /**
    * @param {Example[]} examples
-   * @param {Notice} notice the notices, which are inside the dialog while it is open
+   * @param {Notice} notice the notices, which move into the dialog while the dialog is open
    * @param {SessionsCalls} calls
    */
   constructor(examples, notice, calls) {
     this.calls = calls;
     this.notice = notice;
     this.dialog = byId("sessions", HTMLDialogElement);
-    /** True if the last button of the dialog was used by pointer. */
+    /** True if the user pressed the dialog's last button by pointer. */
     this.byPointer = false;
     this.keptList = new KeptList({
       ...calls,
@@ -83,7 +83,7 @@ export class SessionsView {
     this.notice.moveTo(this.dialog);
   }
 
-  /** Opens the dialog with the examples in view. */
+  /** Opens the dialog and scrolls to the examples. */
   async openExamples() {
     await this.open();
     block("examples").scrollIntoView();
@@ -95,7 +95,8 @@ export class SessionsView {
 
   closed() {
     this.notice.moveTo(document.body);
-    // The browser returns the focus to the button that opened the dialog. After a click by pointer, the board must receive the keys.
+    // The browser returns the focus to the button that opened the dialog. After a click by pointer, drop the focus so that the board receives the
+    // keys.
     if (this.byPointer && document.activeElement instanceof HTMLElement) document.activeElement.blur();
   }
 
@@ -105,7 +106,7 @@ export class SessionsView {
   }
 
   /**
-   * Changes the saved sessions, and draws their list.
+   * Changes the saved sessions and draws their list again.
    * @param {() => Promise<void>} act
    */
   async changeKept(act) {
@@ -120,8 +121,8 @@ export class SessionsView {
     const toDo = Object.entries(TO_DO).find(([name]) => name === example.name);
     const title = element("span", { className: "grow" }, toDo ? exampleWords(example.title, toDo[1]) : example.title);
     if (!example.story) return element("li", {}, open, title);
-    const words = say.newStory(example.name);
-    return element("li", {}, open, title, this.button(say.WITH_STORY, words, () => this.choose(() => this.calls.beginStory(example))));
+    const description = say.newStory(example.name);
+    return element("li", {}, open, title, this.button(say.WITH_STORY, description, () => this.choose(() => this.calls.beginStory(example))));
   }
 
   /**
@@ -140,7 +141,7 @@ export class SessionsView {
   }
 
   /**
-   * Does an action. Closes the dialog, or draws it again if the action failed.
+   * Executes an action. Closes the dialog if it succeeds, otherwise draws the dialog again.
    * @param {() => Promise<boolean>} act
    */
   async choose(act) {
@@ -151,11 +152,11 @@ export class SessionsView {
   /** @param {HTMLInputElement} input */
   async take(input) {
     await this.openAll(input.files ? [...input.files] : []);
-    // The user can choose the same file again.
+    // With an empty value, the user can choose the same file again.
     input.value = "";
   }
 
-  /** @param {File[]} files the files to open one after the other */
+  /** @param {File[]} files the files, which are opened in sequence */
   async openAll(files) {
     const folder = folderOfFiles(files);
     if (folder) return this.openFolder(async () => folder);
@@ -169,7 +170,7 @@ export class SessionsView {
     if (await this.calls.openFolder(read)) this.close();
   }
 
-  /** Opens files and folders that are dropped anywhere on the page. The editors handle a dragged text. */
+  /** Opens files and folders that are dropped anywhere on the page. The editors handle dropped text themselves. */
   listenToDrops() {
     /** @type {(event: DragEvent) => boolean} */
     const hasFiles = (event) => event.dataTransfer !== null && event.dataTransfer.types.includes("Files");

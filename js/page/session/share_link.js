@@ -1,5 +1,5 @@
-// A link contains the name and the texts of a session, in the part of an address that browsers do not send. The link begins with its kind
-// of compression, 1 for deflate and 0 for none. Its content is a checksum, and then the lines of a project file up to the session.
+// A link contains a session's name and texts in the part of an address that browsers do not send to servers. The link begins with its compression
+// method: 1 for deflate, 0 for none. Its contents are a checksum, and then the lines of a project file up to the session.
 
 import { fromBase64, toBase64 } from "../../core/session/base64.js";
 import { checksum } from "../../core/session/checksum.js";
@@ -12,21 +12,21 @@ import * as say from "../../words/session.js";
  */
 
 /**
- * The maximum length of a link. Chromium leaves its address bar empty if an address has more than 32,768 characters, and users copy and
- * paste links there. Every program that the bench can assemble fits, unless it hardly compresses.
+ * The maximum length of a link. Chromium leaves its address bar empty if an address has more than 32,768 characters, and users copy and paste links
+ * there. Any program that fits into ROM fits into a link, unless its text hardly compresses.
  */
 export const LONGEST_LINK = 32000;
-/** The length of an address that all programs should accept (RFC 9110, 4.1); some programs cut longer ones. */
+/** The length of an address that all software should accept (RFC 9110, 4.1). Some software truncates longer addresses. */
 export const SAFE_LINK = 8000;
-/** The maximum number of bytes that are unpacked from a link. */
+/** The maximum number of bytes after decompression. */
 const MAX_BYTES = 1 << 20;
 
-/** The reason why a link cannot be opened. */
+/** The error of a link that cannot be opened. Its message is a text for the user. */
 export class NotALink extends Error {}
 
 
 /**
- * Returns a stream that compresses, or one that decompresses; null if this browser has none.
+ * Returns a compression or decompression stream, or null if this browser does not have it.
  * @param {"CompressionStream" | "DecompressionStream"} name
  * @returns {Through | null}
  */
@@ -56,13 +56,13 @@ function fromLetters(letters) {
 }
 
 /**
- * Resolves to the output of a stream for bytes. Throws an error if the output is longer than the maximum.
+ * Resolves to the output of a stream for an input. Throws an error if the output is longer than MAX_BYTES.
  * @param {Uint8Array} bytes
  * @param {Through} stream
  */
 async function outputOf(bytes, { readable, writable }) {
   const writer = writable.getWriter();
-  // The reader reports an error in the bytes.
+  // Errors in the input are reported through the reader.
   writer.write(bytes).catch(() => {});
   writer.close().catch(() => {});
   const reader = readable.getReader();
@@ -86,7 +86,7 @@ async function outputOf(bytes, { readable, writable }) {
 }
 
 /**
- * Resolves to the link of a session: the part of the address after `#link=`.
+ * Resolves to a session's link: the part of the address after `#link=`.
  * @param {Texts} texts
  */
 export async function linkOf({ name, boardText, programText, testText, propertiesText }) {
@@ -111,7 +111,7 @@ async function unpack(bytes) {
 }
 
 /**
- * Resolves to the name and the texts in a link. Throws an error if the link is damaged or newer than this page.
+ * Resolves to the name and the texts in a link. Throws an error if the link is damaged or needs a newer page.
  * @param {string} link
  * @returns {Promise<Texts>}
  */

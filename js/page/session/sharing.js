@@ -1,5 +1,4 @@
-// Links: the texts of a session in an address. Nothing is sent anywhere: the user copies a link, and its recipient opens it in a page of
-// their own.
+// Links that contain a session's texts. Nothing is sent anywhere: the user copies a link, and the recipient opens it in their own page.
 
 import { addressOf } from "./address.js";
 import { readBoard, refusalOf } from "../../core/bench/answers.js";
@@ -21,13 +20,13 @@ import * as say from "../../words/session.js";
  */
 
 /**
- * The calls that links to sessions make.
+ * The callbacks of Sharing.
  * @typedef {object} SharingCalls
- * @property {() => Texts | null} shown Returns the name and the texts of the session that is shown; null if there is none.
+ * @property {() => Texts | null} shown Returns the name and the texts of the current session, or null if there is none.
  * @property {() => void} address Puts the session's own address into the address bar.
- * @property {(texts: Texts, file: Uint8Array, runs: boolean) => Promise<boolean>} begin Begins a new session with texts and a file. Time is
- *   running in it if `runs`. Resolves to whether the session was created.
- * @property {() => void} save Saves the project as a file, because its link would be too long.
+ * @property {(texts: Texts, file: Uint8Array, runs: boolean) => Promise<boolean>} begin Begins a new session from texts and a file. If `runs`, time
+ *   is running in the session. Resolves to true if the session was created.
+ * @property {() => void} save Saves the project as a file. Called if the link would be too long.
  */
 
 /**
@@ -55,7 +54,7 @@ export class Sharing {
     this.calls = calls;
   }
 
-  /** Copies a link to the session that is shown. Offers a file instead if the link is too long. */
+  /** Copies a link to the current session. Offers a file instead if the link is too long. */
   async share() {
     const texts = this.calls.shown();
     if (!texts) return;
@@ -80,7 +79,7 @@ export class Sharing {
     }
   }
 
-  /** @param {string} size the length of the link, as a text */
+  /** @param {string} size the length of the link as a text */
   async offerFile(size) {
     const isSaved = await this.ask.ask({
       title: say.TOO_LONG_LINK,
@@ -92,7 +91,7 @@ export class Sharing {
   }
 
   /**
-   * Shows the link for the user to copy, because the browser cannot copy it.
+   * Shows the link for the user to copy. Called if the browser cannot copy the link.
    * @param {string} address
    * @param {string[]} messages
    */
@@ -111,20 +110,20 @@ export class Sharing {
   }
 
   /**
-   * Shows the contents of a link, and opens the link as a new session if the user agrees.
+   * Shows the contents of a link. Opens them as a new session if the user agrees.
    * @param {string} link
    */
   async open(link) {
     try {
       const texts = await readLink(link);
-      const tried = await this.bench.call("dryRun", [texts]);
+      const result = await this.bench.call("dryRun", [texts]);
       const isWanted = await this.ask.ask({
         title: say.openFromLink(texts.name),
-        words: this.wordsOf(texts, tried),
+        words: this.wordsOf(texts, result),
         accept: say.OPEN_AS_NEW,
         refuse: say.LEAVE_IT,
       });
-      if (isWanted) await this.calls.begin(texts, tried.file, tried.refused.length === 0 && texts.programText !== "");
+      if (isWanted) await this.calls.begin(texts, result.file, result.refused.length === 0 && texts.programText !== "");
     } catch (fault) {
       this.notice.show(say.linkNotOpened(this.words.ofFault(fault)), "session");
     } finally {

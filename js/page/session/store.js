@@ -1,5 +1,5 @@
-// The store of sessions in the browser's IndexedDB. The page writes to it, not the worker: the browser completes the requests of a page
-// that is being left, but ends a worker at once.
+// The session store in the browser's IndexedDB. The page writes to the store, not the worker. When the user leaves the page, the browser completes
+// the page's requests but terminates the worker immediately.
 
 import * as say from "../../words/session.js";
 
@@ -21,15 +21,14 @@ import * as say from "../../words/session.js";
  * makes all its requests at once
  */
 
-/** The error of a session that was not saved. Its message is a text for the user. */
+/** The error of a session that could not be saved or read. Its message is a text for the user. */
 export class NotKept extends Error {}
 
-/** The time in milliseconds after which a store without an answer counts as failed. Its requests can still succeed. */
+/** The time in milliseconds after which a store that does not answer counts as failed. Its requests may still succeed later. */
 const STORE_TIMEOUT = 10000;
 
 /**
- * Resolves to an answer of the browser's store or of another of its services. Rejects after some time, so that the page never waits for
- * ever.
+ * Resolves to the answer of a browser service, such as the store. Rejects after STORE_TIMEOUT, so that the page never waits forever.
  * @template Result
  * @param {Promise<Result>} answer
  * @returns {Promise<Result>}
@@ -56,7 +55,7 @@ function resultOf(request) {
 /** @implements {SessionStore} */
 export class Store {
   /**
-   * @param {boolean} hasLocks whether locks keep a session from being open in two tabs
+   * @param {boolean} hasLocks true if locks prevent a session from being open in two tabs
    * @returns {Promise<Store>}
    */
   static open(hasLocks) {
@@ -77,7 +76,7 @@ export class Store {
     this.database = database;
     this.keeps = true;
     this.isWhole = hasLocks;
-    // Without this handler a newer page in another tab would wait for ever.
+    // Without this handler, a newer page in another tab would wait forever.
     database.onversionchange = () => database.close();
   }
 
@@ -99,8 +98,8 @@ export class Store {
   }
 
   /**
-   * Stores a record. Resolves when the record is on the disk. All requests are made at once, so that they complete even if the page is
-   * being closed.
+   * Stores a record. Resolves when the record is on the disk. With locks, all requests are made at once, so they complete even while the page is
+   * closing.
    * @param {SessionRecord} record
    * @returns {Promise<void>}
    */
@@ -115,7 +114,7 @@ export class Store {
   }
 
   /**
-   * Stores a record in a browser without locks. Rejects a record that does not follow the stored one, so that two tabs never overwrite each
+   * Stores a record in a browser without locks. Rejects a record that is not based on the stored revision, so that two tabs never overwrite each
    * other's changes.
    * @param {SessionRecord} record
    * @returns {Promise<void>}
@@ -124,7 +123,7 @@ export class Store {
     return new Promise((done, fail) => {
       /** @type {Error | null} */
       let fault = null;
-      // The bytes of the record can change before the answer arrives.
+      // The record's bytes may change before the answer arrives, so copy them.
       const written = { ...record, file: record.file.slice(), revision: record.revision + 1 };
       const keep = () => {
         record.revision = written.revision;
@@ -144,7 +143,7 @@ export class Store {
   }
 
   /**
-   * Returns a transaction. Calls `done` when the transaction is on the disk, or `fail` if it is not completed.
+   * Returns a transaction. Calls `done` when the transaction is on the disk, or `fail` if the transaction is aborted.
    * @param {() => void} done
    * @param {(fault: Error) => void} fail
    */
@@ -167,7 +166,7 @@ export class Store {
 }
 
 /**
- * Returns a text with the reason why a session could not be saved.
+ * Returns a text about why a session could not be saved.
  * @param {unknown} error
  */
 export function wordsOfStoreFault(error) {
@@ -178,7 +177,7 @@ export function wordsOfStoreFault(error) {
 }
 
 /**
- * A store in memory, for a browser without a store of its own. It forgets all sessions when the page is closed.
+ * A store in memory, for browsers without a usable store. It loses all sessions when the page is closed.
  * @implements {SessionStore}
  */
 export class MemoryStore {

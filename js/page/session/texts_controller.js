@@ -1,4 +1,4 @@
-// The texts of the present session in the editors: saves them, and restores replaced ones.
+// Saves the current session's texts, replaces texts, and restores replaced texts.
 
 import { counted } from "../../core/bench/numbers.js";
 import * as say from "../../words/session.js";
@@ -12,34 +12,33 @@ import * as say from "../../words/session.js";
  */
 
 /**
- * The calls that the texts of a session make.
+ * The callbacks of TextsController.
  * @typedef {object} TextsCalls
- * @property {() => KeptSession | null} session Returns the session that is shown; null if there is none.
- * @property {() => void} touch Notes that the user has changed the session.
+ * @property {() => KeptSession | null} session Returns the current session, or null if there is none.
+ * @property {() => void} touch Records that the user has changed the session.
  * @property {() => Promise<string>} keep Saves the session. Resolves to the reason why it could not be saved, or to "".
  * @property {() => void} edited Handles an edit of a text.
- * @property {(boardText: string) => void} named Updates the names from the board's text, which can have changed.
- * @property {() => Promise<string>} source Resolves to a source text for the bytes in ROM. Rejects if the bench fails.
- * @property {(text: string) => Promise<boolean>} isNoProgram Resolves to whether each line of a text has an error, so that the text is not
+ * @property {(boardText: string) => void} named Updates the names that come from the board's text, which may have changed.
+ * @property {() => Promise<string>} source Resolves to a source text that assembles to the contents of ROM. Rejects if the bench fails.
+ * @property {(text: string) => Promise<boolean>} isNoProgram Resolves to true if every line of a text has an error, so that the text is probably not
  *   a program.
- * @property {(seen: TextName, lines: string) => void} took Handles texts that were loaded from a file: shows the text `seen`, and puts
- *   `lines` into the input of the console.
+ * @property {(seen: TextName, lines: string) => void} took Handles texts that were loaded from a file. Shows the text `seen` and puts `lines` into
+ *   the console's input.
  * @property {(fault: unknown) => void} failed Reports an error that a call threw.
  */
 
 /**
  * @typedef {keyof typeof say.WHICH_TEXT} TextName
  *
- * A text that was replaced: its name, the old text, the new one, and the step of the editor that restores the old one if nothing has
- * changed since.
+ * A replaced text: its name, the old text, the new text, and the editor step that restores the old text if nothing has changed since.
  * @typedef {{ name: TextName, old: string, now: string, way: "undo" | "redo" }} Replaced
  */
 
-/** The time in milliseconds from the last edit until the texts are saved. */
+/** The delay in milliseconds between the last edit and the save. */
 const EDIT_TIME = 600;
 
 /**
- * Returns the number of a text's lines, for example "12 lines".
+ * Returns the number of lines in a text as words, for example "12 lines".
  * @param {string} text
  */
 export function wordsOfLines(text) {
@@ -70,7 +69,7 @@ export class TextsController {
   }
 
   /**
-   * Shows the texts of another session.
+   * Shows another session's texts.
    * @param {{ id: string, boardText: string, programText: string, testText?: string, propertiesText?: string }} record
    */
   show({ id, boardText, programText, testText = "", propertiesText = "" }) {
@@ -81,7 +80,7 @@ export class TextsController {
     this.properties.open(id, propertiesText);
   }
 
-  /** Saves the texts EDIT_TIME after the last edit, and then updates the names from the board's text. */
+  /** Saves the texts EDIT_TIME after the last edit, and updates the names that come from the board's text. */
   edited() {
     const session = this.calls.session();
     if (!session) return;
@@ -100,7 +99,7 @@ export class TextsController {
   }
 
   /**
-   * Loads the texts of a file. Asks first about a text that is perhaps not a program.
+   * Loads a file's texts. Asks the user first if a text is probably not a program.
    * @param {string} name the name of the file
    * @param {import("../../core/session/opened_file.js").FileTexts} texts
    */
@@ -114,7 +113,7 @@ export class TextsController {
   }
 
   /**
-   * Loads the texts of a file into the editors. The former texts can be restored. The bench has none of the new texts yet.
+   * Loads a file's texts into the editors. The user can restore the previous texts. The bench does not have the new texts yet.
    * @param {string} name the name of the file
    * @param {import("../../core/session/opened_file.js").FileTexts} texts
    */
@@ -130,7 +129,7 @@ export class TextsController {
   }
 
   /**
-   * Loads a text of tests or of properties from a file into its editor.
+   * Loads a tests or properties text from a file into its editor.
    * @param {"tests" | "properties"} where
    * @param {string} name the name of the file
    * @param {string} text
@@ -142,7 +141,7 @@ export class TextsController {
   }
 
   /**
-   * Shows one notice about all texts of a file, with undo.
+   * Shows one notice about all texts of a file. The notice offers undo if a text was replaced.
    * @param {Replaced[]} replaced
    * @param {string} words
    */
@@ -188,7 +187,7 @@ export class TextsController {
   }
 
   /**
-   * Replaces a text. A notice offers to restore the former one.
+   * Replaces a text. A notice offers to restore the previous text.
    * @param {TextName} name
    * @param {string} text
    * @param {string} words the message
@@ -200,7 +199,7 @@ export class TextsController {
   }
 
   /**
-   * Replaces a text. Returns the former one, if it can be restored.
+   * Replaces a text. Returns an entry that can restore the previous text, or an empty list if there is nothing to restore.
    * @param {TextName} name
    * @param {string} text
    * @returns {Replaced[]}
@@ -214,9 +213,9 @@ export class TextsController {
   }
 
   /**
-   * Restores a text by the editor's own undo or redo. If the text was edited since, restoring it is another edit.
+   * Restores a text with the editor's own undo or redo. If the text was edited since then, restores it through a new edit.
    * @param {Replaced} replaced
-   * @returns {Replaced[]} the texts that were replaced in turn
+   * @returns {Replaced[]} entries that can restore the texts just replaced
    */
   restoreText({ name, old, now, way }) {
     const editor = this[name];
@@ -235,7 +234,7 @@ export class TextsController {
   }
 
   /**
-   * Restores texts. The texts that they replace can be restored in turn.
+   * Restores texts. A notice offers to reverse this.
    * @param {KeptSession} session
    * @param {Replaced[]} replaced
    * @param {string} words

@@ -1,4 +1,4 @@
-// Deleted sessions. Each one can be restored while the page is open.
+// Deleted sessions. They can be restored as long as the page is open.
 
 import { wordsOfStoreFault } from "./store.js";
 import * as say from "../../words/session.js";
@@ -24,12 +24,12 @@ export class Trash {
     this.store = store;
     this.locks = locks;
     this.refuse = refuse;
-    /** @type {SessionRecord[]} the sessions that were deleted since the page was opened, the last one first */
+    /** @type {SessionRecord[]} the sessions deleted since the page was opened, most recent first */
     this.deleted = [];
   }
 
   /**
-   * Deletes sessions. Resolves to the deleted ones. A session that is open in another tab stays, which is reported.
+   * Deletes sessions. Resolves to the deleted ones. Reports a session that is open in another tab, and keeps it.
    * @param {SessionRecord[]} records
    */
   async remove(records) {
@@ -47,7 +47,7 @@ export class Trash {
       return false;
     }
     try {
-      // Changes that another tab has made since the session was listed are kept.
+      // Include changes that another tab has made since the session was listed.
       const newest = await this.store.get(record.id);
       if (newest) Object.assign(record, newest);
       await this.store.remove(record.id);
@@ -61,13 +61,13 @@ export class Trash {
   }
 
   /**
-   * Restores sessions. If the store rejects one, it stays deleted, and that is reported.
+   * Restores sessions. If the store rejects a session, reports that, and the session stays deleted.
    * @param {SessionRecord[]} records
    */
   async bringBack(records) {
     for (const record of records.filter((candidate) => this.deleted.includes(candidate))) {
       try {
-        // The store has no former revision of the record.
+        // The store has no earlier revision of the record.
         record.revision = 0;
         await this.store.put(record);
         this.deleted = this.deleted.filter((candidate) => candidate !== record);

@@ -1,4 +1,4 @@
-// The dialog of the first visit: six cards, each of which begins something.
+// The dialog of the first visit: six cards, each with a way to begin.
 
 import { pictureOf } from "./gallery_view.js";
 import { buttonOf, element } from "../ui/dom.js";
@@ -11,12 +11,12 @@ import * as say from "../../words/example_notes.js";
  */
 
 /**
- * The calls that the cards make.
+ * The callbacks of the welcome cards.
  * @typedef {object} WelcomeCalls
  * @property {() => void} beginTour Begins the tour with the first program.
- * @property {(name: string) => Promise<boolean>} begin Begins a new session from the example with a name. Resolves to whether it was
+ * @property {(name: string) => Promise<boolean>} begin Begins a new session from an example, by its name. Resolves to true if the session was
  *   created.
- * @property {() => void} draw Brings the picture of the wiring to the front.
+ * @property {() => void} draw Brings the Wiring tab's picture to the front.
  * @property {() => void} seen Stores that the cards were shown.
  */
 

@@ -1,4 +1,4 @@
-// The tab of tests: their text with its errors, a button that runs them in the worker, and the results.
+// The Tests tab: the tests with their errors, a button that runs them in the worker, and the results.
 
 import { Cancelled } from "../../core/bench/faults.js";
 import { countOfFaults } from "../../core/bench/words.js";
@@ -18,21 +18,20 @@ import * as say from "../../words/testing.js";
  */
 
 /**
- * The calls that the tab of tests makes to the page. Its text also uses `labels`, `edited` and `failed`.
+ * The callbacks of the Tests tab. Its text editor also uses `labels`, `edited` and `failed`.
  * @typedef {object} TestsCalls
- * @property {() => { boardText: string, programText: string }} texts Returns the present texts of board and source.
+ * @property {() => { boardText: string, programText: string }} texts Returns the current texts of board and source.
  * @property {() => string[]} labels Returns the labels of the program in ROM.
  * @property {(texts: TestedTexts) => Promise<TextFault[]>} faults Resolves to the errors of all texts.
- * @property {(texts: Texts) => Promise<string>} sample Resolves to a sample test for board and source.
- * @property {(texts: TestedTexts) => Promise<Report>} run Runs the tests. Resolves to their results. Rejects with `Cancelled` if the user
- *   cancels them.
+ * @property {(texts: Texts) => Promise<string>} sample Resolves to a sample test for a board and a source.
+ * @property {(texts: TestedTexts) => Promise<Report>} run Runs the tests. Resolves to their results. Rejects with `Cancelled` if the user cancels the
+ *   run.
  * @property {(number: number) => string} wordsOfRefusal Returns the message of a refusal.
- * @property {(report: Report | null, programText: string) => void} showCounts Shows the counts of a program's lines in the margin; null
- *   removes them.
- * @property {(address: number) => void} goTo Shows the line of an address in source and listing.
- * @property {(name: string, file: Uint8Array, texts: TestedTexts) => void} open Opens a new session from a file, with the texts of the
- *   tests.
- * @property {(words: string, isGood?: boolean) => void} mark Shows a short text on the tab, which can report a success; "" for none.
+ * @property {(report: Report | null, programText: string) => void} showCounts Shows the execution counts of a program's lines in the margin; null
+ *   removes the counts.
+ * @property {(address: number) => void} goTo Shows an address in the source and in the disassembly.
+ * @property {(name: string, file: Uint8Array, texts: TestedTexts) => void} open Opens a new session from a file, with the tested texts.
+ * @property {(words: string, isGood?: boolean) => void} mark Shows a short text on the tab; "" removes it. If `isGood`, the text reports a success.
  * @property {() => void} edited Handles an edit of the tests.
  * @property {(fault: unknown) => void} failed Reports an error that a call threw.
  */
@@ -62,10 +61,10 @@ export class TestsTab {
       goToAddress: (address) => calls.goTo(address),
       open: (outcome) => this.open(outcome),
     });
-    /** @type {TestedTexts | null} the texts of the last run */
+    /** @type {TestedTexts | null} the texts of the last run; null if there are no results */
     this.tested = null;
     this.isRunning = false;
-    /** The number of sessions shown so far. The results of an earlier session are dropped. */
+    /** The number of sessions opened so far. Results of an earlier session are discarded. */
     this.round = 0;
     onClick(button("clear-tests"), () => this.clear());
   }
@@ -75,7 +74,7 @@ export class TestsTab {
     return { ...this.calls.texts(), testText: this.editor.text };
   }
 
-  /** Checks the text, because the tab came to the front. */
+  /** Checks the text when the tab comes to the front. */
   refresh() {
     this.textTab.refresh();
   }
@@ -86,7 +85,7 @@ export class TestsTab {
     else if (!this.tested) this.calls.mark("");
   }
 
-  /** Clears the results, because the texts of another session are shown. */
+  /** Clears the results, because another session has been opened. */
   forget() {
     this.round += 1;
     this.clear();

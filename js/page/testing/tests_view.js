@@ -1,4 +1,4 @@
-// The results of tests: a row for each test with its error, the coverage of the program, and its cycles.
+// The results of tests: a row for each test with its error, the program's coverage, and its cycle profile.
 
 import { Cell, block, buttonOf, descendant, element } from "../ui/dom.js";
 import { hex } from "../../core/bench/numbers.js";
@@ -15,11 +15,11 @@ import * as say from "../../words/testing.js";
  */
 
 /**
- * The calls that the results of tests make.
+ * The callbacks of the test results.
  * @typedef {object} ResultCalls
- * @property {(line: number) => void} goTo Shows a line of the text of tests, from 1.
- * @property {(address: number) => void} goToAddress Shows the line of an address in source and listing.
- * @property {(outcome: Outcome) => void} open Opens the session of a failure as a new one.
+ * @property {(line: number) => void} goTo Shows a line of the tests text, from 1.
+ * @property {(address: number) => void} goToAddress Shows an address in the source and in the disassembly.
+ * @property {(outcome: Outcome) => void} open Opens the session of a failed test as a new session.
  */
 
 /** @param {number} cycles */

@@ -1,8 +1,8 @@
-// The colours of a program's text.
+// Syntax colouring of assembly source.
 
 import { tokensOf } from "../../core/text/assembly.js";
 
-/** @type {Record<string, string>} the colour of each kind of word */
+/** @type {Record<string, string>} the style class of each token kind */
 const STYLES = {
   comment: "comment", label: "def", instruction: "keyword", directive: "keyword", register: "atom", number: "number", name: "variable-2",
   unknown: "error",

@@ -1,13 +1,13 @@
-// The colours of a board's text.
+// Syntax colouring of the board's text.
 
 import { tomlWords } from "../../core/text/toml_words.js";
 
 /** @typedef {import("./line_colours.js").Coloured} Coloured */
 
 /**
- * Returns the comment at the end of a line, if it has one.
+ * Returns the comment at the end of a line, or an empty list if there is none.
  * @param {string} line
- * @param {number} from the end of the line's last word
+ * @param {number} from the column after the line's last token
  * @returns {Coloured[]}
  */
 function commentAfter(line, from) {
@@ -16,7 +16,7 @@ function commentAfter(line, from) {
 }
 
 /**
- * Returns the style of a word. Words before the line's `=` are keys.
+ * Returns the style class of a token. Tokens before the line's `=` are keys.
  * @param {import("../../core/text/toml_words.js").TomlWord} word
  * @param {boolean} isKey
  */

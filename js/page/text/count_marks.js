@@ -1,4 +1,4 @@
-// The counts of a program's lines in the margin of its text. An edit removes the counts, because they belong to the text that was run.
+// Execution counts of source lines, in the margin of the source. An edit removes the counts, because they belong to the text that was run.
 
 import * as say from "../../words/text.js";
 
@@ -8,7 +8,7 @@ import * as say from "../../words/text.js";
  */
 
 /**
- * Returns the text in the margin of a line: its count, and for a jump how often it was taken and not taken.
+ * Returns the margin text of a line: its count. For a jump, also how often the jump was taken and not taken.
  * @param {Covered} covered
  */
 export function textOfCount({ count, isJump, taken }) {
@@ -22,7 +22,7 @@ function times(number) {
 }
 
 /**
- * Returns a sentence with the count of a line.
+ * Returns a sentence about a line's execution count.
  * @param {Covered} covered
  */
 export function wordsOfCount({ count, isJump, taken }) {
@@ -42,7 +42,7 @@ export class CountMarks {
     editor.onEdit(() => this.clear());
   }
 
-  /** @param {Covered[]} covered the counts of lines */
+  /** @param {Covered[]} covered the execution counts of lines */
   show(covered) {
     this.clear();
     const lines = new Map(covered.map((entry) => [entry.line, entry]));
@@ -52,7 +52,7 @@ export class CountMarks {
     editor.container.classList.add("counted");
     editor.container.style.setProperty("--counts-width", `${longest + 1}ch`);
     this.marks.showAt("counts", (line) => textAt(lines.get(line), textOfCount), (line) => textAt(lines.get(line), wordsOfCount));
-    // Lines that never ran, and jumps that were always or never taken.
+    // Highlight lines that never ran, and jumps that were always or never taken.
     const lacking = covered.filter(({ count, isJump, taken }) => count === 0 || (isJump && (taken === 0 || taken === count)));
     editor.showLineStyle("lacking", lacking.map(({ line }) => line - 1).filter((line) => line <= editor.lastLine()));
     editor.refresh();

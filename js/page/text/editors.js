@@ -1,4 +1,4 @@
-// The editors of board and program: they check their texts while the user types, and send them to the bench.
+// The editors of the board's text and of the source. They check their texts while the user types, and send them to the bench.
 
 import { readBoard, refusalOf } from "../../core/bench/answers.js";
 import { counted } from "../../core/bench/numbers.js";
@@ -33,26 +33,26 @@ import * as say from "../../words/text.js";
  */
 
 /**
- * The calls that the editors of board and source make. Lines count from 1.
+ * The callbacks of the two editors. Lines count from 1.
  * @typedef {object} EditorsCalls
- * @property {(edits: Edit[]) => void} edited Handles an edit of a text: the edits of the source, or an empty list for the board.
- * @property {(isBegun: boolean) => Promise<void>} assembled Handles a program that was loaded into ROM, with a reset if `isBegun`. Resolves
- *   when breakpoints are at their lines.
- * @property {(lines: string) => Promise<string | null>} act Serves lines. Resolves to the first answer, or to null after a failure that was
- *   reported.
+ * @property {(edits: Edit[]) => void} edited Handles an edit: the edits of the source, or an empty list for an edit of the board's text.
+ * @property {(isBegun: boolean) => Promise<void>} assembled Handles a program that was loaded into ROM; `isBegun` is true if the processor was reset.
+ *   Resolves when the breakpoints are at their lines.
+ * @property {(lines: string) => Promise<string | null>} act Serves lines. Resolves to the first answer, or to null after a failure. A failure has
+ *   already been reported.
  * @property {() => Promise<void>} stop Pauses time. Resolves when time is paused.
  * @property {() => void} run Resumes time.
- * @property {() => string} counter Returns the program counter that is shown, as three hexadecimal digits.
- * @property {(line: number) => void} toggleBreakpoint Sets or removes the breakpoint of a line of the source.
+ * @property {() => string} counter Returns the program counter on the page, as three hexadecimal digits.
+ * @property {(line: number) => void} toggleBreakpoint Sets or removes the breakpoint at a source line.
  * @property {(line: number, what: BreakpointField) => void} editBreakpoint Opens a field of the breakpoint at a line.
- * @property {(line: number, point: { left: number, bottom: number }) => void} askedMargin Opens the menu of a line's margin at a point of
- *   the page, in pixels.
- * @property {(name: string) => string} meaningOf Returns the description of a name in the program, "" for an unknown name.
- * @property {(text: string, at: number) => import("../../core/debug/value_words.js").Piece[]} valuesAt Returns the present values of the
- *   word at an offset in a line; an empty list while time is running.
+ * @property {(line: number, point: { left: number, bottom: number }) => void} askedMargin Opens the margin menu of a line at a point of the window,
+ *   in pixels.
+ * @property {(name: string) => string} meaningOf Returns the description of a name in the program, or "" if the name is unknown.
+ * @property {(text: string, at: number) => import("../../core/debug/value_words.js").Piece[]} valuesAt Returns the current values of the word at an
+ *   offset in a line. Returns an empty list while time is running.
  * @property {import("./meaning_view.js").Offer} offer Makes a cell that shows a value editable.
- * @property {(name: "program" | "board", count: number) => void} hasFaults Shows the number of a text's errors on its tab.
- * @property {(text: string, words: string) => void} replaceBoard Replaces the board's text, with a message that offers undo.
+ * @property {(name: "program" | "board", count: number) => void} hasFaults Shows the number of errors in a text on its tab.
+ * @property {(text: string, words: string) => void} replaceBoard Replaces the board's text and shows a message that offers undo.
  * @property {(fault: unknown) => void} failed Reports an error that a call threw.
  */
 
@@ -74,7 +74,7 @@ export class Editors {
     this.tables = boardTables(manual);
     this.program = this.makeProgram();
     this.board = this.makeBoard();
-    /** @type {string | null} the board's text while it is applied */
+    /** @type {string | null} the board's text while it is being applied; null at other times */
     this.wiring = null;
     this.all = this.allFaults(words);
     this.programFaults = new LiveFaults((isWanted) => this.all.ofProgram(this.program.text, isWanted),
@@ -101,7 +101,7 @@ export class Editors {
       mark: ";",
       colours: assemblyColours(new Set(this.instructions.keys())),
       gutters: ["breakpoints", "numbers", "addresses", "counts"],
-      // A new line begins with a tab, as a statement does.
+      // A new line begins with a tab, because most statements are indented.
       indent: "\t",
       folds: PARTS.program,
       isInstruction: (word) => this.instructions.has(word),
@@ -140,8 +140,8 @@ export class Editors {
   }
 
   /**
-   * Checks both texts, because another session is shown or the board has changed.
-   * @param {boolean} isEmpty whether the bench has no board
+   * Checks both texts after another session was opened or the board has changed.
+   * @param {boolean} isEmpty true if the bench has no board
    */
   checkTexts(isEmpty) {
     this.offerBoard(isEmpty);
@@ -150,7 +150,7 @@ export class Editors {
   }
 
   /**
-   * Offers a first board to an empty bench, or hides the offer. If the hidden offer had the focus, the front panel's heading receives it.
+   * Shows or hides the offer of a first board. When the offer disappears while it has the focus, the focus moves to the front panel's heading.
    * @param {boolean} isOffered
    */
   offerBoard(isOffered) {
@@ -162,7 +162,7 @@ export class Editors {
   }
 
   /**
-   * Resolves to the error with which the bench would reject a text. The session does not change.
+   * Resolves to the error with which the bench would reject a text. The session stays unchanged.
    * @param {"asm" | "wire"} word
    * @param {string} text
    */
@@ -182,9 +182,7 @@ export class Editors {
     this.calls.hasFaults(name, shownFaults.length);
   }
 
-  /**
-   * Loads the program into ROM without leftovers of other programs, resets the processor and runs.
-   */
+  /** Loads the program into ROM, clears leftovers of other programs, resets the processor and runs. */
   async assembleAndRun() {
     if (!(await this.hasNoFaults("program"))) return;
     await this.calls.stop();
@@ -201,7 +199,7 @@ export class Editors {
     this.calls.run();
   }
 
-  /** Loads the program's bytes into ROM. Nothing else changes. */
+  /** Loads the program's bytes into ROM and leaves everything else as it is. */
   async assembleOnly() {
     if (!(await this.hasNoFaults("program"))) return;
     const { sent } = this.program;
@@ -226,7 +224,7 @@ export class Editors {
     await this.programFaults.checkNow();
   }
 
-  /** Replaces the text of the board with a first board, and applies it. */
+  /** Replaces the board's text with the text of a first board, and applies it. */
   async wireFirst() {
     this.calls.replaceBoard(TOUR_BOARD, say.FIRST_BOARD);
     await this.wire();
@@ -238,7 +236,7 @@ export class Editors {
   }
 
   /**
-   * Checks a text before it is sent. Resolves to whether it has no errors. The first error is reported.
+   * Checks a text before it is sent. Resolves to true if the text has no errors. Otherwise shows the first error.
    * @param {"program" | "board"} name
    */
   async hasNoFaults(name) {
@@ -248,7 +246,7 @@ export class Editors {
   }
 
   /**
-   * Resolves to whether each line of code of a text has an error.
+   * Resolves to true if each code line of a text has an error.
    * @param {string} text
    */
   async isNoProgram(text) {
@@ -257,7 +255,7 @@ export class Editors {
   }
 
   /**
-   * Reports that a text with errors is not sent, and reveals the first error.
+   * Shows a message that a text with errors is not sent, and scrolls to the first error.
    * @param {"program" | "board"} name
    * @param {Fault[]} faults
    */
@@ -267,7 +265,7 @@ export class Editors {
     this[name].reveal(line);
   }
 
-  /** Resolves to the numbers of the ROMs on the board in use. */
+  /** Resolves to the numbers of the ROM chips on the current board. */
   async roms() {
     return new Set(readBoard(await this.bench.call("ask", ["board\n"])).roms.map(({ chip }) => chip));
   }

@@ -1,4 +1,4 @@
-// The errors of a text. Each error has a mark in the margin of its line, an underlined word, and an entry in the list below the text.
+// The errors of a text. Each error has a mark in the margin of its line, an underlined range, and an entry in the list below the text.
 
 import { element, onClick } from "../ui/dom.js";
 import { underlined } from "./line_layers.js";
@@ -29,7 +29,7 @@ export class FaultView {
 
   /**
    * @param {Fault[]} faults
-   * @param {string} more a text after the last error
+   * @param {string} more a text below the last error
    */
   show(faults, more = "") {
     if (faults.length === 0 && this.faults.length === 0) return;
@@ -44,12 +44,12 @@ export class FaultView {
   }
 
   /**
-   * Returns the underlined range of an error, or an empty list if the line is empty.
+   * Returns the range to underline for an error, or an empty list if the line is empty.
    * @param {Fault} fault
    */
   underline({ line, from, to, words }) {
     const length = (this.editor.getLine(line - 1) || "").length;
-    // A missing word has no position of its own: the character before it is marked.
+    // A missing word has no range of its own, so underline the character before it.
     const start = to > from ? from : Math.max(0, Math.min(from, length) - 1);
     const end = Math.max(to, start + 1);
     const [begin, stop] = [start, end].map((ch) => this.editor.offset({ line: line - 1, ch }));

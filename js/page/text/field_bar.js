@@ -1,18 +1,18 @@
-// A bar above a text with one input field, for example for the number of a line or for a new name.
+// A bar above a text with one input field, for example for a line number or a new name.
 
 import { Cell, element, onClick } from "../ui/dom.js";
 import * as say from "../../words/text.js";
 
 /**
- * A question: its label, the initial text of the field, the label of the button, and the action. The action returns an error message, or ""
- * if it succeeded.
+ * A question: its label, the initial text of the field, the label of the button, and the action. The action returns an error message, or "" if it
+ * succeeds.
  * @typedef {{ label: string, value: string, word: string, act: (typed: string) => string }} Asked
  */
 
 export class FieldBar {
   /**
    * @param {HTMLElement} parent receives the bar as its first child
-   * @param {() => void} closed called after the bar was closed
+   * @param {() => void} closed called after the bar has been closed
    */
   constructor(parent, closed) {
     this.closed = closed;
@@ -45,9 +45,9 @@ export class FieldBar {
   }
 
   finish() {
-    const words = this.done(this.field.value.trim());
-    if (words === "") this.close();
-    else this.status.set(words);
+    const message = this.done(this.field.value.trim());
+    if (message === "") this.close();
+    else this.status.set(message);
   }
 
   close() {

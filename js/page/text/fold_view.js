@@ -1,4 +1,4 @@
-// Folding of parts of a text, by the margin or by keys.
+// Folding of a text's parts, with the mouse in the margin or with keys.
 
 import { counted } from "../../core/bench/numbers.js";
 import { element } from "../ui/dom.js";
@@ -12,7 +12,7 @@ import * as say from "../../words/text.js";
  */
 
 /**
- * Returns a function that returns the lines of a document, as folding.js needs it.
+ * Adapts a document to the interface of folding.js: returns a function that returns the text of a line, by its number from 0.
  * @param {import("@codemirror/state").Text} doc
  * @returns {import("../../core/text/folding.js").LineAt}
  */
@@ -21,7 +21,7 @@ function linesOf(doc) {
 }
 
 /**
- * Returns the element that replaces folded lines.
+ * Returns the placeholder element for folded lines.
  * @param {number} count
  * @param {(event: Event) => void} unfoldIt
  */
@@ -32,7 +32,7 @@ function makeWidget(count, unfoldIt) {
 }
 
 /**
- * Returns the extensions of CodeMirror that fold parts of a text.
+ * Returns the CodeMirror extensions that fold the parts of a text.
  * @param {Parts} parts
  */
 export function folding(parts) {
@@ -51,7 +51,7 @@ export function folding(parts) {
 }
 
 /**
- * Returns the folding commands for a text with these parts.
+ * Returns the folding commands for a text with the given kind of parts.
  * @param {Parts} parts
  */
 export function actsOfFolding(parts) {
@@ -72,7 +72,7 @@ export function actsOfFolding(parts) {
 }
 
 /**
- * Folds all parts. Moves the caret to the beginning of its line first.
+ * Folds all parts. First moves the caret to the beginning of its line.
  * @param {LineEditor} editor
  */
 function foldAllOf(editor) {
@@ -81,7 +81,7 @@ function foldAllOf(editor) {
 }
 
 /**
- * Unfolds the folded parts that contain a line.
+ * Unfolds the parts that contain a line.
  * @param {LineEditor} editor
  * @param {number} line from 0
  */

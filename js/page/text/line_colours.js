@@ -1,11 +1,11 @@
-// The colours of a text's visible lines. The colours of a line depend on that line only.
+// Syntax colouring of the visible lines. The colouring of a line depends only on that line.
 
 import { Decoration, ViewPlugin } from "@codemirror/view";
 
 /**
  * @typedef {import("@codemirror/view").EditorView} View
  *
- * The coloured words of a line, in order, each with the name of its colour in the style sheet.
+ * A coloured range in a line, with its style class. The ranges of a line are in order.
  * @typedef {{ from: number, to: number, style: string }} Coloured
  * @typedef {(line: string) => Coloured[]} Colours
  */
@@ -40,7 +40,7 @@ function colour({ state: { doc }, visibleRanges }, colours) {
 }
 
 /**
- * Returns the plugin that colours the lines of an editor.
+ * Returns the CodeMirror plugin that colours the visible lines.
  * @param {Colours} colours
  */
 export function lineColours(colours) {

@@ -1,5 +1,5 @@
-// An editor of lines: the page's interface to CodeMirror 6. A position is a line and an offset in that line, both from 0. Each text has its
-// own state, with its undo history, its caret and its marks.
+// A line-based text editor: the page's interface to CodeMirror 6. A position is a line and an offset in that line, both from 0. Each text has its own
+// state with its undo history, caret and marks.
 
 import { defaultKeymap, history, historyKeymap, indentLess, insertTab, isolateHistory, redo, redoDepth, undo, undoDepth }
   from "@codemirror/commands";
@@ -18,29 +18,30 @@ import { descendant } from "../ui/dom.js";
  * @typedef {import("../../core/debug/breakpoints.js").Edit} Edit
  * @typedef {import("../../core/text/completion.js").Completion} Completion
  * @typedef {import("./line_layers.js").Layer} Layer
- * @typedef {Record<string, (editor: LineEditor) => void>} KeyMap actions by names of keys, for example `Shift-Ctrl-[`
+ * @typedef {Record<string, (editor: LineEditor) => void>} KeyMap actions by key name, for example `Shift-Ctrl-[`
  *
- * The options of an editor: its container; its name and its description for screen readers; the colours of its lines; its gutters, with
- * "numbers" for the gutter of line numbers; the indentation of a new line, by default that of the line before; its own keys; more
- * extensions of CodeMirror; and its calls.
+ * The options of an editor. `label` and `description` are for screen readers. `gutters` are the names of its gutters; "numbers" is the gutter of line
+ * numbers. `indent` is the indentation of a new line, by default that of the previous line. `keys` are its own keys, and `more` are further
+ * CodeMirror extensions.
  * @typedef {{ container: HTMLElement, label: string, description: string, colours: import("./line_colours.js").Colours, gutters: string[],
  *   indent?: string, keys: KeyMap, more: Extension[], calls: EditorCalls }} EditorParts
  */
 
 /**
- * The calls that an editor of lines makes.
+ * The callbacks of the line editor.
  * @typedef {object} EditorCalls
- * @property {(edits: Edit[]) => void} edited Handles the edits of the text, in their order.
- * @property {() => void} moved Handles a move of the caret.
+ * @property {(edits: Edit[]) => void} edited Handles the edits of the text in order.
+ * @property {() => void} moved Handles a caret move.
  * @property {(line: number) => void} clickedGutter Handles a click on a gutter at a line, from 0.
- * @property {(line: number, event: Event) => void} askedGutter Handles a click on a gutter with the second button at a line, from 0.
- * @property {(size: number) => boolean} takes Returns whether a pasted or dropped text of `size` characters is accepted.
- * @property {(position: Position) => Completion} complete Returns the possible completions of the word at a position.
+ * @property {(line: number, event: Event) => void} askedGutter Handles a right click on a gutter at a line, from 0.
+ * @property {(size: number) => boolean} takes Returns true if the editor accepts an edit by pasting or dropping that makes the text `size` characters
+ *   long.
+ * @property {(position: Position) => Completion} complete Returns the completions for the word at a position.
  */
 
 const INDENT = 8;
 const HISTORY = { minDepth: 1000, newGroupDelay: 1250 };
-/** The user events that insert a whole text. The size of the result is checked first. */
+/** The user events that insert a whole text at once. The size of the resulting text is checked first. */
 const AT_ONCE = ["input.paste", "input.drop"];
 
 keepRulesInSheet();
@@ -56,7 +57,7 @@ function positionIn(doc, offset) {
 }
 
 /**
- * Returns the edits of a transaction, the last one first, so that the positions of each are those in the former text.
+ * Returns the edits of a transaction, last edit first. All positions are therefore valid in the text before the transaction.
  * @param {Transaction} transaction
  */
 function editsOf(transaction) {
@@ -73,7 +74,7 @@ function editsOf(transaction) {
 }
 
 /**
- * Returns the name of a key in CodeMirror, which has letters in lower case.
+ * Converts a key name to CodeMirror's convention, which has letters in lower case.
  * @param {string} name
  */
 function keyName(name) {
@@ -91,13 +92,13 @@ export class LineEditor {
     this.marks = new Map(parts.gutters.filter((name) => name !== "numbers").map((name) => [name, markLayer()]));
     this.layers = { next: textLayer(), nextNumber: gutterLayer(), lacking: gutterLayer(), faults: textLayer(), values: textLayer(),
       below: belowLayer() };
-    /** @type {HTMLElement | null} the element that is shown below a line */
+    /** @type {HTMLElement | null} the element below a line, if there is one */
     this.below = null;
-    /** @type {(() => void)[]} called after each edit */
+    /** @type {(() => void)[]} listeners that are called after each edit */
     this.afterEdits = [];
     this.extensions = this.extensionsOf(parts);
     this.view = new EditorView({ parent: parts.container, state: this.stateOf("") });
-    // Scripts outside the page find the editor by its element.
+    // Scripts outside the page, such as tests, find the editor through its element.
     Object.assign(this.view.dom, { lineEditor: this });
   }
 
@@ -148,7 +149,7 @@ export class LineEditor {
   }
 
   /**
-   * Returns a new state of a text, without a history.
+   * Returns a new editor state for a text, with an empty undo history.
    * @param {string} text
    */
   stateOf(text) {
@@ -173,7 +174,7 @@ export class LineEditor {
   }
 
   /**
-   * Returns whether a transaction is accepted: a pasted or dropped text must not make the text too long.
+   * Returns false if a pasted or dropped text would make the text too long.
    * @param {Transaction} transaction
    */
   takes(transaction) {
@@ -182,7 +183,7 @@ export class LineEditor {
   }
 
   /**
-   * Begins a new line with the given indentation, by default that of the line before.
+   * Starts a new line with the given indentation, by default that of the previous line.
    * @param {string} [indent]
    */
   breakLine(indent) {
@@ -197,8 +198,8 @@ export class LineEditor {
   }
 
   /**
-   * Indents or unindents the selected lines; without a selection inserts a tab.
-   * @param {boolean} isOut
+   * Indents or unindents the selected lines. Without a selection, inserts a tab or unindents the caret's line.
+   * @param {boolean} isOut true to unindent
    */
   indent(isOut) {
     return (isOut ? indentLess : insertTab)(this.view);
@@ -216,7 +217,7 @@ export class LineEditor {
     return { from: pos - ch + from, to: pos - ch + to, options, filter: false };
   }
 
-  /** Shows the completions of the word at the caret. */
+  /** Shows the completions for the word at the caret. */
   complete() {
     startCompletion(this.view);
   }
@@ -226,7 +227,7 @@ export class LineEditor {
   }
 
   /**
-   * Replaces the whole text, as an edit.
+   * Replaces the whole text. The user can undo this.
    * @param {string} text
    */
   setValue(text) {
@@ -234,7 +235,7 @@ export class LineEditor {
   }
 
   /**
-   * Returns the text of a line, or undefined if there is no such line.
+   * Returns the text of a line, or undefined if the line does not exist.
    * @param {number} line from 0
    */
   getLine(line) {
@@ -250,7 +251,7 @@ export class LineEditor {
   }
 
   /**
-   * Returns the offset of a position in the text. A position outside the text is first moved to its nearest end.
+   * Converts a position to an offset in the text. A position outside the text is clamped.
    * @param {Position} position
    */
   offset({ line, ch }) {
@@ -263,12 +264,12 @@ export class LineEditor {
     return positionIn(this.doc, Math.min(Math.max(0, offset), this.doc.length));
   }
 
-  /** @param {"head" | "from" | "to"} which end of the selection */
+  /** @param {"head" | "from" | "to"} which the end of the selection */
   getCursor(which = "head") {
     return this.position(this.state.selection.main[which]);
   }
 
-  /** The offsets of the selection in the text. */
+  /** The selection as offsets in the text. */
   get selected() {
     const { from, to } = this.state.selection.main;
     return { from, to };
@@ -287,15 +288,15 @@ export class LineEditor {
     this.view.dispatch({ selection: { anchor: this.offset(anchor), head: this.offset(head) }, scrollIntoView: true, userEvent: "select" });
   }
 
-  /** @param {Position} position of the caret */
+  /** @param {Position} position the new position of the caret */
   setCursor(position) {
     this.setSelection(position);
   }
 
   /**
-   * Replaces the selection with a text, and puts the caret after it.
+   * Replaces the selection with a text and puts the caret after the text.
    * @param {string} text
-   * @param {string} [event] the name of the user event, if the edit is undone together with the text typed before
+   * @param {string} [event] the name of the user event; with it, one undo step can include text typed before
    */
   replaceSelection(text, event) {
     const { from, to } = this.state.selection.main;
@@ -304,7 +305,7 @@ export class LineEditor {
   }
 
   /**
-   * @param {string} text replaces the text between two positions
+   * @param {string} text the text that replaces the range between two positions
    * @param {Position} from
    * @param {Position} [to]
    */
@@ -313,7 +314,7 @@ export class LineEditor {
   }
 
   /**
-   * Makes successive edits as one undo step. The offsets of each edit are those in the text after the edits before it.
+   * Applies successive edits as one undo step. The offsets of each edit refer to the text after the previous edits.
    * @param {import("../../core/drawing/text_edits.js").TextEdit[]} edits
    */
   edit(edits) {
@@ -323,7 +324,7 @@ export class LineEditor {
   }
 
   /**
-   * Undoes or redoes the last step. Returns false if there is none.
+   * Undoes or redoes one step. Returns false if there is none.
    * @param {"undo" | "redo"} which
    */
   undoOrRedo(which) {
@@ -338,7 +339,7 @@ export class LineEditor {
   /**
    * Replaces the marks in a gutter.
    * @param {string} gutter
-   * @param {import("./line_layers.js").GutterMark[]} marks in the order of their lines
+   * @param {import("./line_layers.js").GutterMark[]} marks the marks in line order
    */
   showMarks(gutter, marks) {
     const layer = this.marks.get(gutter);
@@ -346,7 +347,7 @@ export class LineEditor {
   }
 
   /**
-   * Returns the lines, from 0, that have a mark in a gutter.
+   * Returns the line numbers, from 0, that have a mark in a gutter.
    * @param {string} gutter
    */
   marksIn(gutter) {
@@ -358,9 +359,9 @@ export class LineEditor {
   }
 
   /**
-   * Styles lines in the gutters, and in the text if `isWhole`.
+   * Styles the given lines in the gutters. The style "next" also applies to the text of the line.
    * @param {"next" | "lacking"} name
-   * @param {number[]} lines from 0, in their order
+   * @param {number[]} lines line numbers from 0, in ascending order
    */
   showLineStyle(name, lines) {
     const style = styleOfLine(name);
@@ -369,20 +370,20 @@ export class LineEditor {
     if (name === "next") this.layers.next.show(this.view, starts.map((from) => style.line.range(from)));
   }
 
-  /** @param {import("@codemirror/state").Range<any>[]} ranges the underlined words */
+  /** @param {import("@codemirror/state").Range<any>[]} ranges the underlined ranges */
   showFaults(ranges) {
     this.layers.faults.show(this.view, ranges);
   }
 
-  /** @param {import("@codemirror/state").Range<any>[]} ranges the words after lines */
+  /** @param {import("@codemirror/state").Range<any>[]} ranges the texts after lines */
   showValues(ranges) {
     this.layers.values.show(this.view, ranges);
   }
 
   /**
-   * Shows an element below a line.
+   * Shows an element below a line, or removes it.
    * @param {number} line from 0
-   * @param {HTMLElement | null} node null for none
+   * @param {HTMLElement | null} node null to remove the element
    */
   showBelow(line, node) {
     this.below = node;
@@ -390,7 +391,7 @@ export class LineEditor {
     this.layers.below.show(this.view, node ? [elementBelow(node).range(this.offset({ line, ch: Infinity }))] : []);
   }
 
-  /** Makes the element below a line no wider than the visible text. */
+  /** Limits the width of the element below a line to the visible part of the text. */
   fitBelow() {
     if (!this.below) return;
     const gutters = descendant(this.view.dom, ".cm-gutters", HTMLElement).offsetWidth;
@@ -411,7 +412,7 @@ export class LineEditor {
   }
 
   /**
-   * Returns the position nearest to a point of the window.
+   * Returns the text position nearest to a point of the window.
    * @param {{ left: number, top: number }} point
    */
   positionAt({ left, top }) {
@@ -423,7 +424,7 @@ export class LineEditor {
     return { top: scrollTop, width: scrollWidth, clientWidth, clientHeight };
   }
 
-  /** @param {number} top in pixels */
+  /** @param {number} top the scroll position in pixels */
   scrollTo(top) {
     this.view.scrollDOM.scrollTop = top;
   }
@@ -433,13 +434,13 @@ export class LineEditor {
     this.view.scrollDOM.addEventListener("scroll", act);
   }
 
-  /** @param {() => void} act called after each edit */
+  /** @param {() => void} act a listener that is called after each edit */
   onEdit(act) {
     this.afterEdits.push(act);
   }
 
   /**
-   * Returns the distance in pixels from the top of the text to a line.
+   * Returns the distance in pixels between the top of the text and a line.
    * @param {number} line
    */
   heightAtLine(line) {
@@ -455,31 +456,31 @@ export class LineEditor {
     this.view.dispatch({ effects: EditorView.scrollIntoView(this.offset(position), { yMargin: margin }) });
   }
 
-  /** @param {boolean} wraps whether long lines wrap */
+  /** @param {boolean} wraps true if long lines wrap */
   wrap(wraps) {
     if (wraps === this.wraps) return;
     this.wraps = wraps;
     this.view.dispatch({ effects: this.wrapping.reconfigure(wraps ? EditorView.lineWrapping : []) });
   }
 
-  /** Measures again, because the elements around the text have changed their sizes. */
+  /** Measures the layout again after elements around the text have changed their sizes. */
   refresh() {
     this.fitBelow();
     this.view.requestMeasure();
   }
 
-  /** @param {() => void} act called when the visible text has been measured and its scroll position is no longer restored */
+  /** @param {() => void} act called after the next measurement, when CodeMirror no longer restores the scroll position */
   whenMeasured(act) {
     this.view.requestMeasure({ read: () => null, write: () => queueMicrotask(act) });
   }
 
   /**
-   * Shows another state. Returns the former one.
+   * Shows another editor state. Returns the previous state.
    * @param {EditorState} state
    */
   swap(state) {
     const before = this.state;
-    // Otherwise CodeMirror would restore the scroll position relative to a line, because it measures heights.
+    // Without this, CodeMirror would adjust the scroll position to keep a line in place, because it measures line heights.
     this.scrollTo(0);
     this.view.setState(state);
     this.view.dispatch({ effects: this.wrapping.reconfigure(this.wraps ? EditorView.lineWrapping : []) });

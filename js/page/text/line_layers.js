@@ -1,5 +1,5 @@
-// Layers over an editor's lines: marks in the gutters, styles of lines, underlined words, and words after lines. Layers move with their
-// lines while the text is edited. The new ranges of a layer replace all former ones.
+// Layers over an editor's lines: marks in the gutters, line styles, underlined ranges, and texts after lines. Layers move with their lines while the
+// text is edited. Showing new ranges in a layer replaces its previous ranges.
 
 import { RangeSet, StateEffect, StateField } from "@codemirror/state";
 import { Decoration, EditorView, GutterMarker, WidgetType, gutter, gutterLineClass } from "@codemirror/view";
@@ -11,11 +11,11 @@ import * as say from "../../words/text.js";
  * @typedef {import("@codemirror/state").Transaction} Transaction
  * @typedef {RangeSet<any>} Ranges
  *
- * The content of a gutter at a line, from 0, and its description.
+ * A mark in a gutter: its line, from 0, its text, and its description.
  * @typedef {{ line: number, text: string, words: string }} GutterMark
  */
 
-/** A text in a gutter. */
+/** A gutter marker that shows a text. */
 class TextMark extends GutterMarker {
   /**
    * @param {string} name the name of the gutter
@@ -37,7 +37,7 @@ class TextMark extends GutterMarker {
   }
 }
 
-/** A CSS class of the gutters at a line. */
+/** A CSS class for the gutters of a line. */
 class GutterStyle extends GutterMarker {
   /** @param {string} name */
   constructor(name) {
@@ -46,7 +46,7 @@ class GutterStyle extends GutterMarker {
   }
 }
 
-/** Words after a line. */
+/** A text after a line. */
 class WordsAfter extends WidgetType {
   /**
    * @param {string} words
@@ -68,7 +68,7 @@ class WordsAfter extends WidgetType {
   }
 }
 
-/** An element of the page below a line. */
+/** An HTML element below a line. */
 class ElementBelow extends WidgetType {
   /** @param {HTMLElement} node */
   constructor(node) {
@@ -81,7 +81,7 @@ class ElementBelow extends WidgetType {
     return node === this.node;
   }
 
-  // The element handles its own keys and clicks.
+  // The element handles its own key and pointer events.
   ignoreEvent() {
     return true;
   }
@@ -91,11 +91,11 @@ class ElementBelow extends WidgetType {
   }
 }
 
-/** A set of ranges over the text. */
+/** A set of ranges over a text. */
 export class Layer {
   /**
-   * @param {(field: StateField<Ranges>) => Extension} provide provides the ranges to the editor
-   * @param {(ranges: Ranges, edit: Transaction) => Ranges} [move] moves the ranges after an edit
+   * @param {(field: StateField<Ranges>) => Extension} provide connects the ranges to the editor
+   * @param {(ranges: Ranges, edit: Transaction) => Ranges} [move] maps the ranges through an edit
    */
   constructor(provide, move = (ranges, { changes }) => ranges.map(changes)) {
     /** @type {import("@codemirror/state").StateEffectType<Ranges>} */
@@ -104,8 +104,8 @@ export class Layer {
     this.field = StateField.define({
       create: () => RangeSet.empty,
       update: (ranges, transaction) => {
-        const put = transaction.effects.find((effect) => effect.is(this.put));
-        return put ? put.value : move(ranges, transaction);
+        const putEffect = transaction.effects.find((effect) => effect.is(this.put));
+        return putEffect ? putEffect.value : move(ranges, transaction);
       },
       provide,
     });
@@ -113,7 +113,7 @@ export class Layer {
 
   /**
    * @param {EditorView} view
-   * @param {import("@codemirror/state").Range<any>[]} ranges the new ranges, which replace the former ones
+   * @param {import("@codemirror/state").Range<any>[]} ranges the new ranges, which replace the previous ones
    */
   show(view, ranges) {
     const before = view.state.field(this.field);
@@ -122,12 +122,12 @@ export class Layer {
   }
 }
 
-/** Returns a layer of styles in the text. */
+/** Returns a layer for decorations of the text. */
 export function textLayer() {
   return new Layer((field) => EditorView.decorations.from(field));
 }
 
-/** Returns a layer of elements below lines. An element stays below its line when a new line begins at the end of that line. */
+/** Returns a layer for elements below lines. An element stays below its line when the user starts a new line at the end of that line. */
 export function belowLayer() {
   return new Layer((field) => EditorView.decorations.from(field), (ranges, { changes, docChanged, newDoc, startState: { doc } }) => {
     if (!docChanged) return ranges;
@@ -144,18 +144,18 @@ export function elementBelow(node) {
   return Decoration.widget({ widget: new ElementBelow(node), block: true, side: 1 });
 }
 
-/** Returns a layer of styles in the gutters. */
+/** Returns a layer for styles of the gutters. */
 export function gutterLayer() {
   return new Layer((field) => gutterLineClass.from(field));
 }
 
-/** Returns a layer of marks in one gutter. The gutter itself shows them. */
+/** Returns a layer for the marks of one gutter. `gutterOf` returns the gutter that shows them. */
 export function markLayer() {
   return new Layer(() => []);
 }
 
 /**
- * Returns a gutter that shows the marks of a layer.
+ * Returns a gutter that shows a layer's marks.
  * @param {string} name
  * @param {Layer} layer
  * @param {Parameters<typeof gutter>[0]} more
@@ -172,7 +172,7 @@ export function textMark(name, { text, words }) {
   return new TextMark(name, text, words);
 }
 
-/** @type {Map<string, { line: Decoration, gutters: GutterMarker }>} the styles of lines by their names */
+/** @type {Map<string, { line: Decoration, gutters: GutterMarker }>} the line styles, by name */
 const lineStyles = new Map();
 
 /** @param {string} name the CSS class of the line; the class of its gutters has the prefix `at-` */

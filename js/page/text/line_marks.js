@@ -1,5 +1,5 @@
-// Marks at the lines of a text: the contents of the gutters, and the mark of the next line. Marks move with their lines while the text is
-// edited. Each call replaces the former marks, and changes only those that differ.
+// Marks at the lines of a text: texts in the gutters, and the mark of the next instruction. Marks move with their lines while the text is edited.
+// Each call replaces the previous marks.
 
 import { upTo } from "../../core/bench/numbers.js";
 
@@ -11,11 +11,11 @@ export class LineMarks {
   /** @param {LineEditor} editor */
   constructor(editor) {
     this.editor = editor;
-    /** @type {Set<string>} the gutters that show something */
+    /** @type {Set<string>} the gutters that have been used */
     this.shown = new Set();
   }
 
-  /** Removes all marks, because the editor shows another text. */
+  /** Removes all marks before the editor shows another text. */
   forget() {
     for (const gutter of this.shown) this.editor.showMarks(gutter, []);
     this.shown.clear();
@@ -25,8 +25,8 @@ export class LineMarks {
   /**
    * Shows texts in a gutter.
    * @param {string} gutter
-   * @param {(line: number) => string} textOf returns the text at a line, "" for none
-   * @param {(line: number) => string} [wordsOf] returns the meaning of the text
+   * @param {(line: number) => string} textOf returns the text at a line, from 1; "" for none
+   * @param {(line: number) => string} [wordsOf] returns the description of the text
    */
   showAt(gutter, textOf, wordsOf = () => "") {
     const marks = upTo(this.editor.lineCount()).flatMap((line) => {
@@ -38,8 +38,8 @@ export class LineMarks {
   }
 
   /**
-   * Marks the line of the next instruction; 0 for no line.
-   * @param {number} line
+   * Marks the line of the next instruction.
+   * @param {number} line the line number from 1; 0 for none
    */
   showNext(line) {
     this.editor.showLineStyle("next", line > 0 && line <= this.editor.lineCount() ? [line - 1] : []);

@@ -1,4 +1,4 @@
-// Grey words after lines of a text: the changes that these lines made. The words are not part of the text, and move with their lines.
+// Grey texts after source lines that show the changes made by those lines. They are not part of the source, and move with their lines.
 
 import { wordsAfter } from "./line_layers.js";
 
@@ -10,7 +10,7 @@ export class LineValues {
     this.shown = new Map();
   }
 
-  /** @param {ReadonlyMap<number, string>} lines the words after each line, from 1 */
+  /** @param {ReadonlyMap<number, string>} lines the text after each line, by line number from 1 */
   show(lines) {
     if (lines === this.shown || (lines.size === 0 && this.shown.size === 0)) return;
     this.shown = lines;

@@ -1,7 +1,7 @@
-// Error checks while the user types. A check begins after a pause in typing, and its errors are shown. An edit cancels a check that is
-// under way, and another one begins after the next pause.
+// Error checks while the user types. A check starts when the user pauses. An edit cancels the check in progress, and another check starts at the next
+// pause.
 
-/** The time in milliseconds from the last edit to a check. */
+/** The delay in milliseconds between the last edit and a check. */
 const CHECK_DELAY = 300;
 
 /**
@@ -9,8 +9,7 @@ const CHECK_DELAY = 300;
  */
 export class LiveFaults {
   /**
-   * @param {(isWanted: () => boolean) => Promise<Result | undefined>} find resolves to the result, or to undefined if it is no longer
-   *   wanted
+   * @param {(isWanted: () => boolean) => Promise<Result | undefined>} find resolves to the errors, or to undefined if the check is cancelled
    * @param {(result: Result) => void} show
    * @param {(fault: unknown) => void} failed
    */
@@ -22,7 +21,7 @@ export class LiveFaults {
     this.timer = 0;
   }
 
-  /** Cancels a check that is under way, and begins another one after a pause. Called after each edit. */
+  /** Cancels the check in progress, and schedules another one. Called after each edit. */
   edited() {
     this.checkCount += 1;
     clearTimeout(this.timer);
@@ -30,7 +29,7 @@ export class LiveFaults {
   }
 
   /**
-   * Checks the text at once and shows the result. Resolves to the result, or to undefined if the text was edited meanwhile.
+   * Checks the text immediately and shows the result. Resolves to the result, or to undefined if the text was edited in the meantime.
    * @returns {Promise<Result | undefined>}
    */
   async checkNow() {

@@ -1,5 +1,5 @@
-// The description below a text of the word at the pointer or the caret: its present values, each in a cell that can be edited, and its
-// meaning. A tooltip at the pointer shows the values, too.
+// The description of the word at the pointer or the caret, below the text: its current values, in cells that can be edited, and its meaning. A
+// tooltip at the pointer also shows the values.
 
 import { element } from "../ui/dom.js";
 import { putBelow } from "../ui/popup_message.js";
@@ -12,11 +12,11 @@ import * as say from "../../words/text.js";
  * @typedef {(cell: HTMLElement, value: Value) => void} Offer makes a cell editable
  */
 
-/** The distance in pixels between the pointer and the tooltip below it. */
+/** The distance in pixels between the pointer and the tooltip. */
 const BELOW_POINTER = 16;
 
 /**
- * Returns the pieces without their values. While this text stays the same, the cells are kept.
+ * Returns the layout of the description without its values. While the layout is unchanged, the cells are reused.
  * @param {Piece[]} pieces
  */
 function shapeOf(pieces) {
@@ -70,8 +70,8 @@ export class MeaningView {
 
   /**
    * Shows values in a tooltip at the pointer.
-   * @param {Piece[]} pieces an empty list hides the tooltip
-   * @param {{ left: number, top: number }} point coordinates in the window
+   * @param {Piece[]} pieces the values; an empty list hides the tooltip
+   * @param {{ left: number, top: number }} point window coordinates
    */
   showAt(pieces, { left, top }) {
     this.tip.textContent = textOf(pieces);

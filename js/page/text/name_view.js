@@ -1,4 +1,4 @@
-// Commands for names in a text (go to the definition, find all references, rename), and the command that goes to a line.
+// The commands for names in a text: go to the definition, find all references, rename. Also the command that goes to a line.
 
 import { counted } from "../../core/bench/numbers.js";
 import { element, onClick } from "../ui/dom.js";
@@ -11,13 +11,13 @@ import * as say from "../../words/text.js";
  * @typedef {import("../../core/text/references.js").Reference} Reference
  */
 
-/** The maximum length of a line's text in the list of references. */
+/** The maximum length of a line in the list of references. */
 const MAX_LENGTH = 60;
 
 export class NameView {
   /**
    * @param {TextEditor} text
-   * @param {HTMLElement} parent the parent of the bar and the list
+   * @param {HTMLElement} parent the element that receives the bar and the list
    * @param {{ isInstruction: (word: string) => boolean, showMessage: (words: string) => void }} calls
    */
   constructor(text, parent, calls) {
@@ -32,7 +32,7 @@ export class NameView {
     return this.text.text.split("\n");
   }
 
-  /** Returns the name at the caret, or "" after a message if there is none. */
+  /** Returns the name at the caret. If there is none, shows a message and returns "". */
   nameAtCaret() {
     const { line, ch } = this.text.editor.getCursor();
     const name = nameAt(this.lines, line, ch);
@@ -70,7 +70,7 @@ export class NameView {
 
   /**
    * @param {Reference} reference
-   * @param {string} text the text of the reference's line
+   * @param {string} text the line that contains the reference
    */
   row(reference, text) {
     const node = element("button", { type: "button" }, say.lineOfName(reference.line, reference.isDefinition));
@@ -83,7 +83,7 @@ export class NameView {
     this.text.editor.focus();
   }
 
-  /** Asks for a new name for the name at the caret. */
+  /** Asks the user for a new name and renames the name at the caret. */
   rename() {
     const name = this.nameAtCaret();
     if (name === "") return;
@@ -105,7 +105,7 @@ export class NameView {
     return "";
   }
 
-  /** Asks for the number of a line, and goes to that line. */
+  /** Asks the user for a line number and goes to that line. */
   goToLine() {
     const last = this.text.editor.lineCount();
     this.bar.open({

@@ -1,4 +1,4 @@
-// The list of problems in all texts, and the count of problems together with the probable bugs that were seen while time was running.
+// The list of problems in all texts, and the number of problems. The number includes the common mistakes that were detected while time was running.
 
 import { block, element, onClick } from "../ui/dom.js";
 import * as say from "../../words/text.js";
@@ -8,9 +8,9 @@ import * as say from "../../words/text.js";
  */
 
 /**
- * The calls that the list of problems makes.
+ * The callbacks of the list of problems.
  * @typedef {object} ProblemCalls
- * @property {(name: string, fault: Fault) => void} goTo Shows an error in the text `name`.
+ * @property {(name: string, fault: Fault) => void} goTo Shows an error in a text, by the name of its tab.
  * @property {(count: number) => void} counted Shows the number of problems.
  */
 
@@ -20,15 +20,15 @@ export class ProblemsView {
     this.calls = calls;
     this.list = block("problem-list");
     this.none = block("problems-none");
-    /** @type {Map<string, Fault[]>} the errors of each text, by its name */
+    /** @type {Map<string, Fault[]>} the errors of each text, by the name of its tab */
     this.faults = new Map();
-    /** The number of probable bugs that were seen. */
+    /** The number of common mistakes detected while time was running. */
     this.bugs = 0;
   }
 
   /**
-   * @param {string} name the name of a text
-   * @param {Fault[]} faults the present errors of that text
+   * @param {string} name the name of a text's tab
+   * @param {Fault[]} faults all current errors of that text
    */
   take(name, faults) {
     if (faults.length === 0 && (this.faults.get(name) || []).length === 0) return;
@@ -38,7 +38,7 @@ export class ProblemsView {
     this.count();
   }
 
-  /** @param {number} bugs the number of probable bugs that were seen */
+  /** @param {number} bugs the number of common mistakes detected while time was running */
   showBugCount(bugs) {
     if (this.bugs === bugs) return;
     this.bugs = bugs;

@@ -1,14 +1,14 @@
-// The search bar above a text: it finds the next and the previous match, counts the matches, and replaces them.
+// The search bar above a text. It finds the next and previous match, counts matches, and replaces them.
 
 import { Cell, element, onClick } from "../ui/dom.js";
 import * as say from "../../words/text.js";
 
 /**
  * @typedef {import("./line_editor.js").LineEditor} LineEditor
- * @typedef {{ from: number, to: number }} Span offsets in the text
+ * @typedef {{ from: number, to: number }} Span a range of offsets in the text
  */
 
-/** The maximum number of matches that are counted. */
+/** The maximum number in the count of matches. */
 const MAX_COUNTED = 1000;
 
 export class SearchBar {
@@ -44,8 +44,8 @@ export class SearchBar {
   }
 
   /**
-   * Opens the bar with the selection, or with the last search.
-   * @param {boolean} [replaces] whether the field for a replacement is shown
+   * Opens the bar with the selected text as the query, or with the last query.
+   * @param {boolean} [replaces] true to show the replacement field
    */
   open(replaces = false) {
     this.replacing.hidden = !replaces;
@@ -73,7 +73,7 @@ export class SearchBar {
     else act(event.shiftKey);
   }
 
-  /** Replaces the selection, if it is a match, and selects the next match. */
+  /** Replaces the selection if it is a match, then selects the next match. */
   replace() {
     const { editor } = this;
     const wanted = this.field.value;
@@ -93,9 +93,9 @@ export class SearchBar {
   }
 
   /**
-   * Selects the next or the previous match, ignoring case. After the last match the search continues with the first one.
+   * Selects the next or previous match, ignoring case. The search wraps around at the end of the text.
    * @param {boolean} isBack
-   * @param {number} from
+   * @param {number} from the offset at which the search begins
    */
   find(isBack, from = this.editor.selected[isBack ? "from" : "to"]) {
     const wanted = this.field.value;
@@ -114,7 +114,7 @@ export class SearchBar {
   }
 
   /**
-   * Returns all matches in a text, ignoring case, without overlaps.
+   * Returns all non-overlapping matches, ignoring case.
    * @param {string} wanted
    */
   spansOf(wanted) {

@@ -1,19 +1,19 @@
-// The style rules that CodeMirror creates while it runs. The content security policy of the page accepts only its own style sheet, so the
-// rules are inserted at the beginning of that sheet.
+// The style rules that CodeMirror creates at run time. The page's content security policy allows only the page's own style sheet, so the rules are
+// inserted at the beginning of that sheet.
 
 import { StyleModule } from "style-mod";
 
 /** @type {Set<StyleModule>} */
-const taken = new Set();
+const addedModules = new Set();
 let count = 0;
 
-/** Makes CodeMirror insert its rules into the page's style sheet. */
+/** Makes CodeMirror insert its style rules into the page's style sheet. */
 export function keepRulesInSheet() {
   StyleModule.mount = (_, modules) => {
     const [sheet] = document.styleSheets;
     for (const module of [modules].flat()) {
-      if (taken.has(module)) continue;
-      taken.add(module);
+      if (addedModules.has(module)) continue;
+      addedModules.add(module);
       for (const rule of module.getRules().split("\n").filter(Boolean)) sheet.insertRule(rule, count++);
     }
   };

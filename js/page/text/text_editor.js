@@ -1,5 +1,5 @@
-// An editor with the common features of the page's texts. Each opened text has its own state, with its undo history. The states of the
-// sessions are kept while the page is open.
+// An editor with the features that all texts of the page share. Each opened text has its own state with its undo history. The states of recent
+// sessions are kept until the page is closed.
 
 import { EditorView } from "@codemirror/view";
 import { upTo } from "../../core/bench/numbers.js";
@@ -13,53 +13,52 @@ import * as say from "../../words/text.js";
  * @typedef {import("./line_editor.js").Position} Position
  * @typedef {import("../../core/debug/breakpoints.js").Edit} Edit
  *
- * The options of an editor: its container, its name for screen readers, the colours of its lines, the gutters next to the errors, the
- * indentation of a new line, its folding parts, and its own keys.
+ * The options of an editor: its container, its name for screen readers, its syntax colouring, the gutters besides the error gutter, the indentation
+ * of a new line, its foldable parts, and its own keys.
  * @typedef {{ container: HTMLElement, label: string, colours: import("./line_colours.js").Colours, gutters: string[], indent?: string,
  *   folds?: import("../../core/text/folding.js").Parts, keys: KeyMap, calls: TextCalls }} TextParts
  *
- * A text that is not shown, and its scroll position in pixels.
+ * The state of a text that is not visible, and its scroll position in pixels.
  * @typedef {{ state: import("@codemirror/state").EditorState, top: number }} KeptText
  */
 
 /**
- * The calls that an editor of a text makes.
+ * The callbacks of a text editor.
  * @typedef {object} TextCalls
- * @property {(edits: Edit[]) => void} edited Handles the edits of the text, in their order.
- * @property {() => void} moved Handles a move of the caret.
+ * @property {(edits: Edit[]) => void} edited Handles the edits of the text in order.
+ * @property {() => void} moved Handles a caret move.
  * @property {(line: number) => void} clickedGutter Handles a click on a gutter at a line, from 1.
- * @property {(line: number, event: Event) => void} askedGutter Handles a click on a gutter with the second button at a line, from 1.
- * @property {() => void} clickedName Handles a click with Control, after it has moved the caret.
- * @property {(size: number) => void} refused Reports that a text of `size` characters is too long and was not accepted.
- * @property {(position: Position) => import("../../core/text/completion.js").Completion} complete Returns the possible completions of the
- * word at a position.
+ * @property {(line: number, event: Event) => void} askedGutter Handles a right click on a gutter at a line, from 1.
+ * @property {() => void} clickedName Handles a click with Control, which has already moved the caret.
+ * @property {(size: number) => void} refused Reports that a text of `size` characters is too long and was rejected.
+ * @property {(position: Position) => import("../../core/text/completion.js").Completion} complete Returns the completions for the word at a position.
  */
 
-/** The maximum number of texts that are kept. */
+/** The maximum number of stored texts. */
 const MAX_KEPT = 30;
-/** Modifier keys, which do nothing alone. */
+/** The modifier keys, which have no effect on their own. */
 const MODIFIERS = ["Shift", "Control", "Alt", "Meta"];
 
 export class TextEditor {
   /** @param {TextParts} parts */
   constructor(parts) {
     this.calls = parts.calls;
-    /** @type {(line: number) => void} the listener to moves of the caret to a line, from 1 */
+    /** @type {(line: number) => void} the listener for caret moves, which receives the line from 1 */
     this.caret = () => {};
     /** The scroll position in pixels. */
     this.top = 0;
-    /** @type {number | null} the scroll position to restore when the text can be measured */
+    /** @type {number | null} the scroll position to restore as soon as the text can be measured; null if there is none */
     this.due = null;
-    /** The line to reveal after that, 0 for none. */
+    /** The line to reveal as soon as the text can be measured, or 0 for none. */
     this.awaited = 0;
-    /** True if Tab moves the focus out of the editor: after Escape, or after Tab moved the focus in. */
+    /** True if Tab moves the focus out of the editor. This is the case after Escape, and after Tab has moved the focus in. */
     this.tabLeaves = true;
-    /** True if the user has placed the caret: the editor had the focus since its text was loaded. */
+    /** True if the user has placed the caret: the editor has had the focus since its text was loaded. */
     this.hasCaret = false;
-    /** @type {Map<string, KeptText>} by the names with which they were opened */
+    /** @type {Map<string, KeptText>} the stored texts, by session name */
     this.kept = new Map();
     this.name = "";
-    /** @type {string | null} the text, null after an edit until it is read */
+    /** @type {string | null} the cached text; null if it must be read again after an edit */
     this.value = null;
     const { container, label, colours, gutters, indent, folds, keys } = parts;
     /** @type {LineEditor} */
@@ -68,7 +67,7 @@ export class TextEditor {
     this.editor.onScroll(() => {
       if (this.due === null && container.offsetHeight > 0) this.top = this.editor.getScrollInfo().top;
     });
-    // A hidden editor cannot be measured.
+    // A hidden editor cannot be measured, so its scroll position is restored when it appears.
     new ResizeObserver(() => this.resized()).observe(container);
   }
 
@@ -108,7 +107,7 @@ export class TextEditor {
         if ((ctrlKey || metaKey) && button === 0) setTimeout(this.calls.clickedName);
       },
       keydown: (event) => this.typed(event),
-      // The page itself handles dropped files.
+      // The page handles dropped files itself.
       drop: ({ dataTransfer }) => dataTransfer !== null && dataTransfer.files.length > 0,
     });
   }
@@ -117,7 +116,7 @@ export class TextEditor {
     return this.editor.container;
   }
 
-  /** Restores the scroll position of a text that was hidden, because a browser can change it before the text is measured. */
+  /** Restores the scroll position when a hidden text appears again, because the browser may have changed it. */
   resized() {
     if (this.container.offsetHeight === 0) this.scrollSoon(this.due === null ? this.top : this.due);
     else if (this.due === null) this.editor.refresh();
@@ -125,7 +124,7 @@ export class TextEditor {
   }
 
   /**
-   * Scrolls to a position in pixels, as soon as the text can be measured.
+   * Scrolls to a position in pixels as soon as the text can be measured.
    * @param {number} top
    */
   scrollSoon(top) {
@@ -133,7 +132,7 @@ export class TextEditor {
     if (this.container.offsetHeight > 0) this.editor.whenMeasured(() => this.scroll());
   }
 
-  /** Restores the scroll position, if the text can be measured now. */
+  /** Restores the scroll position if the text can be measured now. */
   scroll() {
     if (this.due === null || this.container.offsetHeight === 0) return;
     this.editor.scrollTo(this.due);
@@ -143,8 +142,8 @@ export class TextEditor {
   }
 
   /**
-   * Handles a key. Tab indents after something was typed or clicked in the editor. After Escape, or if Tab moved the focus in, Tab moves
-   * the focus as usual. Returns whether the key is handled.
+   * Handles a key event. Tab indents after the user has typed or clicked in the editor. After Escape, or if Tab moved the focus in, Tab moves the
+   * focus as usual. Returns true if the key is handled.
    * @param {KeyboardEvent} event
    */
   typed({ key, shiftKey, ctrlKey, altKey, metaKey }) {
@@ -160,8 +159,8 @@ export class TextEditor {
   }
 
   /**
-   * Shows the text of a session, in its former state if the text has not changed since.
-   * @param {string} name of the session
+   * Shows a session's text. If the text has not changed since it was last shown, restores its state.
+   * @param {string} name the session's name
    * @param {string} text
    */
   open(name, text) {
@@ -181,7 +180,7 @@ export class TextEditor {
   }
 
   /**
-   * Comments out the selected lines, or uncomments them if all of them are comments; blank lines stay.
+   * Comments out the selected lines, or removes the comment marks if all of them are comments. Blank lines stay unchanged.
    * @param {string} mark
    */
   comment(mark) {
@@ -194,7 +193,7 @@ export class TextEditor {
   }
 
   /**
-   * Replaces the whole text, as one undo step.
+   * Replaces the whole text as one undo step.
    * @param {string} text
    */
   replaceText(text) {
@@ -202,13 +201,13 @@ export class TextEditor {
     this.hasCaret = false;
   }
 
-  /** The line of the caret, from 1; 0 if the user has not placed the caret. */
+  /** The caret's line, from 1, or 0 if the user has not placed the caret. */
   get caretLine() {
     return this.hasCaret ? this.editor.getCursor().line + 1 : 0;
   }
 
   /**
-   * Makes successive edits, as one undo step.
+   * Applies successive edits as one undo step.
    * @param {import("../../core/drawing/text_edits.js").TextEdit[]} edits
    */
   edit(edits) {
@@ -216,7 +215,7 @@ export class TextEditor {
   }
 
   /**
-   * Undoes or redoes the last step. Returns false if there is none.
+   * Undoes or redoes one step. Returns false if there is none.
    * @param {"undo" | "redo"} which
    */
   undoOrRedo(which) {
@@ -224,8 +223,8 @@ export class TextEditor {
   }
 
   /**
-   * Selects whole lines, and scrolls them into view.
-   * @param {{ from: number, to: number }} lines
+   * Selects whole lines and scrolls them into view.
+   * @param {{ from: number, to: number }} lines the first and last line, from 1
    */
   select({ from, to }) {
     for (const line of [from, to]) unfold(this.editor, line - 1);
@@ -234,7 +233,7 @@ export class TextEditor {
   }
 
   /**
-   * Scrolls a line into view if it is hidden, and unfolds the part that contains it. Neither the caret nor the page moves.
+   * Scrolls a line into view if it is out of view, and unfolds the part that contains it. Moves neither the caret nor the page.
    * @param {number} line from 1
    */
   reveal(line) {
@@ -252,7 +251,7 @@ export class TextEditor {
   }
 
   /**
-   * Moves the caret to a position at the user's request.
+   * Moves the caret to a position and focuses the editor.
    * @param {Position} position
    */
   goTo(position) {

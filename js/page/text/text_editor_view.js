@@ -1,4 +1,4 @@
-// The view of a text: its editor, its errors, its search, and a description of the word at the pointer or the caret.
+// The view of a text: its editor, its errors, its search bar, and a description of the word at the pointer or the caret.
 
 import { Cell, block, descendant, element, onClick } from "../ui/dom.js";
 import { editorKeys } from "../commands/keys.js";
@@ -25,10 +25,10 @@ import * as say from "../../words/text.js";
  *
  * @typedef {import("../machine/breakpoint_row.js").BreakpointField} BreakpointField
  *
- * The language of a text: the mark of its comments, its colours, its gutters, the indentation of a new line (by default that of the line
- * before), and its folding parts. `isInstruction` returns whether a word in upper case is an instruction, in a text with names. `isUnsent`
- * is true for a text that is never sent to the bench. `wordsAt` describes the word at an offset in a line, both from 0. `valuesAt` returns
- * the present values of that word, and `offer` makes one of them editable. `complete` returns the completions of the word.
+ * The language of a text. `mark` begins a comment. `indent` is the indentation of a new line, by default that of the previous line. `folds` are its
+ * foldable parts. `isInstruction` returns true if a word in upper case is an instruction. It is missing for texts without names. `isUnsent` is true
+ * for a text that is never sent to the bench. `wordsAt` describes the word at an offset in a line, both from 0. `valuesAt` returns the current values
+ * of that word, and `offer` makes a value editable. `complete` returns the completions for the word.
  * @typedef {{ mark: import("../../core/text/text_fault.js").CommentMark, colours: import("./line_colours.js").Colours, gutters: string[],
  *   indent?: string,
  *   folds?: import("../../core/text/folding.js").Parts, isInstruction?: (word: string) => boolean,
@@ -39,19 +39,19 @@ import * as say from "../../words/text.js";
  */
 
 /**
- * The calls that an editor with its errors makes. Lines count from 1.
+ * The callbacks of the view of a text. Lines count from 1.
  * @typedef {object} EditorCalls
- * @property {(edits: Edit[]) => void} edited Handles the edits of the text, in their order.
+ * @property {(edits: Edit[]) => void} edited Handles the edits of the text in order.
  * @property {() => void} send Sends the text to the bench.
- * @property {() => void} [prove] Proves the text. Missing in texts that cannot be proved.
- * @property {(line: number) => void} toggleBreakpoint Sets or removes the breakpoint of a line.
- * @property {(line: number, what: BreakpointField) => void} [editBreakpoint] Opens a field of the breakpoint at a line. Missing in texts
- *   without breakpoints.
- * @property {(line: number, point: { left: number, bottom: number }) => void} [askedMargin] Opens the menu of a line's margin at a point of
- *   the page, in pixels. Missing in texts without this menu.
+ * @property {() => void} [prove] Proves the text. Missing for texts that cannot be proved.
+ * @property {(line: number) => void} toggleBreakpoint Sets or removes the breakpoint at a line.
+ * @property {(line: number, what: BreakpointField) => void} [editBreakpoint] Opens a field of the breakpoint at a line. Missing for texts without
+ *   breakpoints.
+ * @property {(line: number, point: { left: number, bottom: number }) => void} [askedMargin] Opens the margin menu of a line at a point of the window,
+ *   in pixels. Missing for texts without this menu.
  */
 
-/** The time in milliseconds that the pointer or the caret rests before its word is described. */
+/** The time in milliseconds for which the pointer or the caret must rest before its word is described. */
 const REST_TIME = 150;
 
 export class EditorView {
@@ -75,7 +75,7 @@ export class EditorView {
     const { colours, gutters, indent, folds, isInstruction = () => false } = language;
     this.editor = new TextEditor({ container, label, colours, gutters, indent, folds, keys: this.keys(), calls: this.textCalls() });
     const { editor } = this.editor;
-    /** @type {(faults: Fault[]) => void} the listener to changes of the errors */
+    /** @type {(faults: Fault[]) => void} the listener for changes of the errors */
     this.listed = () => {};
     this.marks = new LineMarks(editor);
     this.counts = new CountMarks(editor, this.marks);
@@ -83,9 +83,9 @@ export class EditorView {
     this.faults = new FaultView(editor, this.marks, list, (fault) => this.goToFault(fault));
     this.search = new SearchBar(editor, paper, label);
     this.names = new NameView(this.editor, paper, { isInstruction, showMessage: (words) => this.status.set(words) });
-    /** The timer of the resting pointer or caret. */
+    /** The timer for the description at the resting pointer or caret. */
     this.resting = 0;
-    /** The timer of the text's size. */
+    /** The timer for the size of the text. */
     this.counting = 0;
     this.listenToPointer(editor.getWrapperElement());
     editor.onScroll(() => this.meaning.hideTip());
@@ -94,7 +94,7 @@ export class EditorView {
 
   /** @returns {import("./text_editor.js").KeyMap} */
   keys() {
-    // CodeMirror has its own keys for undo and redo.
+    // CodeMirror has its own key bindings for undo and redo.
     const acts = Object.entries(this.acts()).filter(([name]) => name !== "undo" && name !== "redo");
     return {
       ...editorKeys("text.assembleAndRun", () => this.calls.send()),
@@ -107,7 +107,7 @@ export class EditorView {
   }
 
   /**
-   * Returns the actions of this text, by their names in the table of commands.
+   * Returns the editing actions of this text, by their names in the command table.
    * @returns {Partial<Record<TextAct, () => void>>}
    */
   acts() {
@@ -127,7 +127,7 @@ export class EditorView {
   }
 
   /**
-   * Focuses the text, and does an action in it.
+   * Focuses the text and performs an action in it.
    * @param {TextAct} what
    */
   act(what) {
@@ -137,13 +137,13 @@ export class EditorView {
     act();
   }
 
-  /** Sets or clears a breakpoint at the line of the caret. */
+  /** Sets or clears a breakpoint at the caret's line. */
   toggleBreakpoint() {
     this.calls.toggleBreakpoint(this.editor.editor.getCursor().line + 1);
   }
 
   /**
-   * Opens a field of the breakpoint at the line of the caret.
+   * Opens a field of the breakpoint at the caret's line.
    * @param {BreakpointField} what
    */
   editBreakpoint(what) {
@@ -165,7 +165,7 @@ export class EditorView {
   }
 
   /**
-   * Opens the menu of a line's margin at the pointer.
+   * Opens the margin menu of a line at the pointer.
    * @param {number} line
    * @param {Event} event
    */
@@ -190,7 +190,7 @@ export class EditorView {
   }
 
   /**
-   * Shows the meaning of the word under the pointer.
+   * Describes the word under the pointer, and shows its values in a tooltip.
    * @param {number} left
    * @param {number} top
    */
@@ -203,7 +203,7 @@ export class EditorView {
   }
 
   /**
-   * Returns the present values of the word at a position; an empty list after the end of the line.
+   * Returns the current values of the word at a position, or an empty list if there is no such word.
    * @param {Position} position
    * @returns {Piece[]}
    */
@@ -220,14 +220,14 @@ export class EditorView {
   }
 
   /**
-   * Returns the error at a position, or the help for its word; "" if there is none.
+   * Returns the error message at a position, or the help for the word there, or "".
    * @param {Position} position
    */
   wordsAt(position) {
     return this.faults.wordsAt(position) || this.language.wordsAt(this.lines, position.line, position.ch);
   }
 
-  /** Handles a move of the caret. The word at the caret is described after REST_TIME, so that typing does not wait for it. */
+  /** Schedules the description of the word at the caret. The delay of REST_TIME keeps typing fast. */
   moved() {
     clearTimeout(this.resting);
     this.resting = window.setTimeout(() => this.describeAtCaret(), REST_TIME);
@@ -241,12 +241,12 @@ export class EditorView {
     this.open(this.editor.name, text);
   }
 
-  /** The text as it is sent. */
+  /** The text as it is sent to the bench. */
   get sent() {
     return sentText(this.text, this.language.mark);
   }
 
-  /** The text to which the positions of errors refer. */
+  /** The text in which the bench's error positions are valid. */
   get aligned() {
     return alignedText(this.text, this.language.mark);
   }
@@ -256,8 +256,8 @@ export class EditorView {
   }
 
   /**
-   * Shows the text of a session.
-   * @param {string} session the name of the session
+   * Shows a session's text.
+   * @param {string} session the session's name
    * @param {string} text
    */
   open(session, text) {
@@ -272,7 +272,7 @@ export class EditorView {
   }
 
   /**
-   * Replaces the whole text, as one undo step.
+   * Replaces the whole text as one undo step.
    * @param {string} text
    */
   replaceText(text) {
@@ -280,7 +280,7 @@ export class EditorView {
   }
 
   /**
-   * Undoes or redoes the last step. Returns false if there is none.
+   * Undoes or redoes one step. Returns false if there is none.
    * @param {"undo" | "redo"} which
    */
   undoOrRedo(which) {
@@ -288,8 +288,8 @@ export class EditorView {
   }
 
   /**
-   * Marks the line of the next instruction, 0 for no line, and scrolls it into view.
-   * @param {number} line
+   * Marks the line of the next instruction and scrolls it into view.
+   * @param {number} line the line number from 1; 0 for none
    */
   showNext(line) {
     this.marks.showNext(line);
@@ -301,13 +301,13 @@ export class EditorView {
     this.editor.reveal(line);
   }
 
-  /** @param {Map<number, BreakpointMark>} marks the marks of breakpoints, by line */
+  /** @param {Map<number, BreakpointMark>} marks the breakpoint marks, by line */
   showBreakpoints(marks) {
     const none = { mark: "", words: "" };
     this.marks.showAt("breakpoints", (line) => (marks.get(line) || none).mark, (line) => (marks.get(line) || none).words);
   }
 
-  /** @param {string[]} addresses the address of each line, "" for a line without one */
+  /** @param {string[]} addresses the address of each line; "" for a line without an address */
   showAddresses(addresses) {
     this.marks.showAt("addresses", (line) => addresses[line - 1] || "");
   }
@@ -322,7 +322,7 @@ export class EditorView {
     this.moved();
   }
 
-  /** @param {Fault} fault the error to which the caret moves */
+  /** @param {Fault} fault the error to go to */
   goToFault({ line, from }) {
     this.editor.goTo({ line: line - 1, ch: from });
   }
@@ -342,7 +342,7 @@ export class EditorView {
     this.calls.edited(edits);
   }
 
-  /** Shows the size of the text after REST_TIME, so that typing does not wait for it. */
+  /** Schedules the update of the text's size. The delay of REST_TIME keeps typing fast. */
   count() {
     clearTimeout(this.counting);
     this.counting = window.setTimeout(() => {

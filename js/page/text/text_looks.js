@@ -1,4 +1,4 @@
-// The appearance of the texts: the size of their letters, and whether long lines wrap.
+// The appearance of the texts: the font size, and whether long lines wrap.
 
 import { block, button, field, onClick } from "../ui/dom.js";
 
@@ -7,7 +7,7 @@ import { block, button, field, onClick } from "../ui/dom.js";
  * @typedef {import("./line_editor.js").LineEditor} LineEditor
  */
 
-/** The sizes of letters in pixels. */
+/** The font sizes in pixels. */
 const DEFAULT_SIZE = 13;
 const MIN_SIZE = 9;
 const MAX_SIZE = 28;

@@ -1,5 +1,5 @@
-// The editor of a text that belongs to a board and a program: its tests or its properties. The editor completes the names in both, and
-// shows errors while the user types.
+// The editor of a text that belongs to a board and a program: its tests or its properties. It completes names of the board and the program, and shows
+// errors while the user types.
 
 import { Face, moreFaults } from "../../core/board/face.js";
 import { button, onClick } from "../ui/dom.js";
@@ -11,30 +11,30 @@ import { COLOURS } from "../../core/text/test_colours.js";
 /**
  * @typedef {import("../../core/testing/prepared.js").TextFault} TextFault
  * @typedef {import("../../core/text/completion.js").Completion} Completion
- * @typedef {{ keys: string[], lamps: string[], labels: string[] }} Names the names in the board and the program
+ * @typedef {{ keys: string[], lamps: string[], labels: string[] }} Names the names that the board and the program define
  */
 
 /**
- * The calls that the editor makes to its own tab.
+ * The callbacks to the tab that contains the editor.
  * @typedef {object} TabCalls
  * @property {() => Promise<TextFault[]>} faults Resolves to the errors of the board, the program and this text.
  * @property {(count: number) => void} counted Shows the number of errors in this text.
- * @property {() => void} send Does the action of the tab's first button.
- * @property {() => void} [prove] Proves the text, if it can be proved.
+ * @property {() => void} send Performs the action of the tab's first button.
+ * @property {() => void} [prove] Proves the text. Missing for texts that cannot be proved.
  */
 
 /**
- * The calls that the editors of tests and of properties make.
+ * The callbacks that the editors of tests and properties share.
  * @typedef {object} TextCalls
- * @property {() => { boardText: string }} texts Returns the text of the board.
+ * @property {() => { boardText: string }} texts Returns the board's text.
  * @property {() => string[]} labels Returns the labels of the program in ROM.
  * @property {() => void} edited Handles an edit of the text.
  * @property {(fault: unknown) => void} failed Reports an error that a call threw.
  */
 
 /**
- * The kind of a text: its name, which is also in the id of its editor; the button that inserts a first text, and that text; the forms of
- * its lines; and the functions that describe and complete a word.
+ * A kind of text. `name` is also a part of the editor's id. `firstButton` is the button that inserts `firstText`. `forms` are the forms of its lines.
+ * `wordsAt` describes a word, and `complete` completes it.
  * @template Forms
  * @typedef {{ name: "tests" | "properties", firstButton: string, firstText: (names: Names) => string | Promise<string>, forms: Forms,
  *   wordsAt: (lines: string[], line: number, at: number, forms: Forms) => string,
@@ -79,7 +79,7 @@ export class TextTab {
     return { keys: face.test ? [...keys, face.test.name] : keys, lamps: [...face.lampNumbers.keys()], labels: this.calls.labels() };
   }
 
-  /** Inserts the first text, unless the editor has a text or the board has changed by then. */
+  /** Inserts the first text. Does nothing if the editor has a text, or if the board has changed in the meantime. */
   async begin() {
     const { boardText } = this.calls.texts();
     const text = await this.kind.firstText(this.names());
@@ -92,18 +92,18 @@ export class TextTab {
     this.calls.edited();
   }
 
-  /** Shows the button that inserts a first text only while there is no text. */
+  /** Shows the button for a first text only while the editor is empty. */
   offerFirst() {
     button(this.kind.firstButton).hidden = this.editor.text.trim() !== "";
   }
 
-  /** Checks the text, because its tab came to the front or another text has changed: the names in the board and the program can differ. */
+  /** Checks the text when its tab comes to the front or another text has changed, because the names may have changed. */
   refresh() {
     this.offerFirst();
     this.faults.checkNow().catch(this.calls.failed);
   }
 
-  /** Resolves to the errors of the board, the program and this text; an empty list if this text is empty. */
+  /** Resolves to the errors of the board, the program and this text. Resolves to an empty list if this text is empty. */
   async find() {
     return this.editor.text.trim() === "" ? [] : this.tabCalls.faults();
   }

@@ -1,6 +1,6 @@
-// The clock. In real time, or slower, each frame of the browser runs the cycles that are due. At full speed the worker continues on its
-// own. Below full speed, time stands still while the page is hidden, and while the browser or the computer does not run the page at all. In
-// real time a key press does not wait for the next frame: its cycles are simulated early.
+// The clock. In real time or slower, each animation frame runs the cycles that are due. At full speed, the worker continues on its own. Below full
+// speed, time stands still while the page is hidden, and while the browser or the computer suspends the page. In real time, a key press does not wait
+// for the next frame: its cycles are simulated early.
 
 import { CYCLES_PER_SECOND } from "../../core/time/mcs4_time.js";
 import { LONG_GAP, MAX_AHEAD, RealTime } from "../../core/time/real_time.js";
@@ -12,14 +12,14 @@ import { REAL, canFollowLine, togglesKeys } from "../../core/time/speeds.js";
  */
 
 /**
- * The calls that the clock makes.
+ * The callbacks of the clock.
  * @typedef {object} ClockCalls
- * @property {(cycles: number, key: Key | null) => Promise<void>} advance Runs cycles, and presses `key` before them if it is not null.
- *   Resolves when they are done.
- * @property {() => Promise<void>} instruct Runs one instruction, at the speed of one instruction a second.
- * @property {() => Promise<void>} runFull Begins full speed, at which the worker continues on its own.
- * @property {(time: number, wasHidden: boolean) => void} stoodStill Reports that time stood still for `time` milliseconds, which are left
- *   out. `wasHidden` is true if the page was hidden.
+ * @property {(cycles: number, key: Key | null) => Promise<void>} advance Presses `key`, unless it is null, and runs cycles. Resolves when the cycles
+ *   have run.
+ * @property {() => Promise<void>} instruct Runs one instruction. Called at the speed of one instruction per second.
+ * @property {() => Promise<void>} runFull Starts full speed, at which the worker continues on its own.
+ * @property {(time: number, wasHidden: boolean) => void} stoodStill Reports that time stood still for `time` milliseconds. The cycles of that time
+ *   are skipped. `wasHidden` is true if the page was hidden.
  * @property {(fault: unknown) => void} failed Reports an error that a call threw.
  */
 
@@ -29,9 +29,9 @@ export class Clock {
     this.calls = calls;
     this.isRunning = false;
     this.speed = REAL;
-    /** True while a call is under way. */
+    /** True while a call is in progress. */
     this.isBusy = false;
-    /** True if a key was pressed since the present call began. */
+    /** True if a key was pressed since the call in progress began. More cycles then run as soon as it ends. */
     this.followsAtOnce = false;
     /** The id of the requested animation frame. */
     this.next = 0;
@@ -42,24 +42,24 @@ export class Clock {
     return this.speed.isFull;
   }
 
-  /** True if time is running so slowly that the page shows each line that runs. */
+  /** True if time is running so slowly that the page shows every line that runs. */
   get isSlow() {
     return this.isRunning && canFollowLine(this.speed);
   }
 
-  /** True if key presses are queued until their time. Otherwise a press toggles the key. */
+  /** True if key presses are queued until their time. Otherwise, a press toggles the key. */
   get movesKeys() {
     return this.isRunning && !togglesKeys(this.speed);
   }
 
-  /** The time up to which cycles are simulated, in milliseconds. */
+  /** The time in milliseconds up to which cycles have been simulated. */
   get now() {
     return this.isFull ? performance.now() : this.time.reached;
   }
 
   /**
-   * Returns the duration of cycles in milliseconds at the present speed. At full speed, and at one instruction a second, returns Infinity,
-   * so that lamps are shown as perceived after a long time.
+   * Returns the duration of a number of cycles in milliseconds at the current speed. Returns Infinity at full speed and at one instruction per
+   * second, so that lamps show their long-term brightness.
    * @param {number} cycles
    */
   timeOf(cycles) {
@@ -77,7 +77,7 @@ export class Clock {
   }
 
   /**
-   * Sets the speed. Running time continues at this speed.
+   * Sets the speed. If time is running, it continues at this speed.
    * @param {Speed} speed
    */
   setSpeed(speed) {
@@ -97,7 +97,7 @@ export class Clock {
     this.requestFrame();
   }
 
-  /** Notes that the page is hidden. */
+  /** Records that the page is hidden. */
   hide() {
     this.time.hide();
   }
@@ -110,8 +110,8 @@ export class Clock {
   }
 
   /**
-   * Runs the cycles that are due at a key press, without waiting for the next frame. Returns whether the key was sent with these cycles. If
-   * not, the caller must send it. If a call is under way, cycles follow at its end.
+   * Runs the cycles that are due at a key press, without waiting for the next frame. Returns true if the key was sent with these cycles; otherwise
+   * the caller must send the key. If a call is in progress, more cycles run as soon as it ends.
    * @param {Key} key
    */
   pressNow(key) {
@@ -120,19 +120,19 @@ export class Clock {
     return this.frame(performance.now(), this.ahead, key);
   }
 
-  /** The milliseconds by which a key press can be simulated early. */
+  /** The number of milliseconds by which a key press can be simulated early. */
   get ahead() {
     return this.speed === REAL ? MAX_AHEAD : 0;
   }
 
   /**
-   * Runs the cycles that are due. Returns whether there are any.
-   * @param {number} now
+   * Runs the cycles that are due. Returns true if there are any.
+   * @param {number} now the current time in milliseconds
    * @param {number} [ahead] the number of milliseconds to simulate early
    * @param {Key | null} [key] the key to press before the cycles
    */
   frame(now, ahead = 0, key = null) {
-    // Some browsers still request frames of a hidden page. Cycles that become due during a call run in the next frame.
+    // Some browsers still send animation frames to a hidden page. Cycles that become due during a call run in the next frame.
     if (document.hidden || this.isBusy) return false;
     const skipped = this.time.skipGap(now, Date.now());
     if (skipped && skipped.gap >= LONG_GAP) this.calls.stoodStill(skipped.gap, skipped.wasHidden);

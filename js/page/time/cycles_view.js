@@ -1,4 +1,4 @@
-// The counter of cycles: since a reset, since the last stop, and between two marks.
+// The cycle counter: cycles since a reset, since the last pause, and between two markers.
 
 import { Cycles, wordsOfCycles } from "../../core/time/cycles.js";
 import { Cell, block, element, onClick } from "../ui/dom.js";
@@ -10,7 +10,7 @@ import * as say from "../../words/time.js";
 const SHOW_INTERVAL = 250;
 
 export class CyclesView {
-  /** @param {() => void} marked called after another mark was set */
+  /** @param {() => void} marked called after the user has set another marker */
   constructor(marked) {
     this.cycles = new Cycles();
     this.shown = 0;
@@ -45,7 +45,7 @@ export class CyclesView {
 
   /**
    * @param {{ total: number, reset: number }} counts
-   * @param {boolean} isRunning whether time is running
+   * @param {boolean} isRunning true if time is running
    */
   take(counts, isRunning) {
     this.cycles.take(counts);

@@ -1,4 +1,4 @@
-// The bar for moves in time: back and forward, by instructions, and to the next or previous change.
+// The bar that moves back and forward in time: by instructions, and to the next or previous change.
 
 import { button, byId, element, field, onClick } from "../ui/dom.js";
 import { goalOfText } from "../../core/debug/becoming.js";
@@ -12,23 +12,23 @@ import * as say from "../../words/time.js";
  */
 
 /**
- * The calls that the bar for moves in time makes.
+ * The callbacks of the bar.
  * @typedef {object} HistoryCalls
  * @property {(goal: Goal) => void} goOn Runs until a goal is reached.
  * @property {(goal: BackGoal) => void} goBack Goes back to a goal.
  * @property {() => void} goForward Returns to the state before the last move back.
- * @property {() => import("../../core/conditions/condition_language.js").Names} names Returns the names that a condition can use.
+ * @property {() => import("../../core/conditions/condition_language.js").Names} names Returns the names that conditions can use.
  * @property {(words: string) => void} showMessage Shows a message in the status line.
  */
 
 const MAX_INSTRUCTIONS = 10000000;
-/** The maximum length of an error message, which quotes the typed text. */
+/** The maximum length of an error message that quotes the typed text. */
 const MAX_MESSAGE_LENGTH = 200;
 
 /**
- * Returns the names of places on a board, the most useful ones first. The user can type others.
+ * Returns suggestions for places on a board, most useful first. The user can also type other places.
  * @param {Board} board
- * @param {string[]} lampNames "" for a lamp without one
+ * @param {string[]} lampNames the name of each lamp; "" for a lamp without a name
  */
 export function offeredPlaces({ banks, roms, lamps, chains }, lampNames) {
   const rams = banks.flatMap(({ bank, chips }) => upTo(chips).map((chip) => `ram${bank}.${chip}`));
@@ -66,7 +66,7 @@ export class HistoryView {
     });
   }
 
-  /** Restores the initial contents of the fields, because another session is shown. */
+  /** Restores the initial contents of the fields when another session is opened. */
   begin() {
     for (const input of [this.count, this.place]) {
       input.value = input.defaultValue;
@@ -82,7 +82,7 @@ export class HistoryView {
 
   /**
    * @param {Board} board
-   * @param {string[]} lampNames "" for a lamp without one
+   * @param {string[]} lampNames the name of each lamp; "" for a lamp without a name
    */
   draw(board, lampNames) {
     const places = offeredPlaces(board, lampNames);

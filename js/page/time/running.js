@@ -1,4 +1,4 @@
-// Runs time, by the clock or at full speed, until it stops. Handles the frames that the worker reports.
+// Runs time until it stops, by the clock or at full speed. Handles the frames that the worker reports.
 
 import { isStop, readRun, refusalOf } from "../../core/bench/answers.js";
 import { wordsOfHalt, wordsOfMove, wordsOfStop } from "../../words/stops.js";
@@ -26,26 +26,26 @@ import * as say from "../../words/time.js";
  */
 
 /**
- * The calls that running time makes to the page.
+ * The callbacks of Running.
  * @typedef {object} RunningCalls
  * @property {() => void} began Handles the start of a run.
- * @property {() => void} stood Handles a pause of time, after the whole run is shown.
+ * @property {() => void} stood Handles the end of a run, after the page shows its final state.
  * @property {(frame: Frame) => void} took Shows, logs and counts the contents of a frame.
- * @property {() => void} drawRest Draws the parts that are drawn less often while time is running.
- * @property {() => void} drawListing Draws the listing, which follows the counter or stays, depending on the speed.
- * @property {() => boolean} isOwed Returns whether the counter is inside an instruction, whose second cycle is pending.
+ * @property {() => void} drawRest Updates the views that are updated less often while time is running.
+ * @property {() => void} drawListing Updates the disassembly, which follows the program counter only at slow speeds.
+ * @property {() => boolean} isOwed Returns true if the second cycle of an instruction is pending.
  * @property {() => number} cycles Returns the total number of cycles in the session.
- * @property {() => string} where Returns a text with the program counter, its name and its line.
- * @property {(id: number) => string} when Returns a text with the condition of the breakpoint with an id.
- * @property {() => number} unreadable Returns the number of breakpoints that have an error and stop each time.
+ * @property {() => string} where Returns a text with the program counter, its name and its source line.
+ * @property {(id: number) => string} when Returns a text with the condition of a breakpoint, by its id.
+ * @property {() => number} unreadable Returns the number of breakpoints whose condition has an error. Such breakpoints stop at every hit.
  * @property {(number: number) => string} wordsOfRefusal Returns the message of a refusal.
  * @property {() => Promise<string | null>} step Serves a step. Resolves to its answer, or to null if the call failed.
  * @property {(fault: unknown) => void} failed Reports an error that a call threw.
  */
 
-/** The interval in milliseconds at which the session is saved while time is running. */
+/** The interval in milliseconds between saves of the session while time is running. */
 const SAVE_INTERVAL = 1000;
-/** The time in milliseconds for which a standstill of time is reported. */
+/** The time in milliseconds for which the message about a standstill stays. */
 const MESSAGE_TIME = 8000;
 
 export class Running {
@@ -58,13 +58,13 @@ export class Running {
     this.bench = bench;
     this.current = current;
     this.calls = calls;
-    /** @type {(why: string) => void} called when a run has stopped on its own, with the reason */
+    /** @type {(why: string) => void} called with the reason when a run has stopped on its own */
     this.ended = () => {};
-    /** @type {(isRunning: boolean) => void} called when time starts or is paused */
+    /** @type {(isRunning: boolean) => void} called when time starts or pauses */
     this.showRunning = () => {};
-    /** @type {Goal | null} the goal of the run */
+    /** @type {Goal | null} the goal of the run, or null if it has none */
     this.goal = null;
-    /** The cycle count at the beginning of the run. */
+    /** The total cycle count at the start of the run. */
     this.begun = 0;
     this.rate = new Rate(0);
     this.clock = this.makeClock();
@@ -90,18 +90,18 @@ export class Running {
     });
   }
 
-  /** True if time is running so fast that the page cannot show single lines. */
+  /** True if time is running so fast that the page cannot show every line that runs. */
   get isFast() {
     return this.clock.isRunning && !this.clock.isSlow;
   }
 
   /** @param {string} words the text of the status line */
   showMessage(words) {
-    // A narrow status bar cuts off long texts.
+    // A narrow status bar truncates long messages, so the tooltip shows them in full.
     if (this.status.set(words)) this.status.node.title = words;
   }
 
-  /** Begins a new measurement of the rate. */
+  /** Starts a new measurement of the rate. */
   beginRate() {
     this.rate = new Rate(this.clock.now);
     this.showRate();
@@ -112,7 +112,7 @@ export class Running {
     this.rateStatus.set(this.clock.isRunning && rate > 0 ? say.cyclesASecond(rate.toLocaleString("en")) : "");
   }
 
-  /** @param {Goal | null} [goal] the goal of the run, which the bench already has */
+  /** @param {Goal | null} [goal] the goal of the run; the bench has already received it */
   run(goal = null) {
     const { bench, current, calls } = this;
     if (!current.session || this.clock.isRunning) return;
@@ -130,7 +130,7 @@ export class Running {
     current.keep();
   }
 
-  /** @param {Goal | null} goal the goal of a move, saved with the session for the message about a move that did not reach it */
+  /** @param {Goal | null} goal the goal of a move; saved with the session, so that a reload can report that the move was interrupted */
   aim(goal) {
     const { session } = this.current;
     if (!session) return;
@@ -138,7 +138,7 @@ export class Running {
     else delete session.record.goal;
   }
 
-  /** Forgets the goal. After a reset no subroutine can return. */
+  /** Forgets the goal after a reset, because the subroutine that it waits for can no longer return. */
   forgetGoal() {
     this.goal = null;
   }
@@ -163,7 +163,7 @@ export class Running {
 
   /**
    * @param {number} cycles
-   * @param {Key | null} key the key to press before the cycles
+   * @param {Key | null} key the key to press before the cycles; null for none
    */
   async advance(cycles, key) {
     const arrived = key ? this.pendingKeys.send({ word: "press", key }) : () => {};
@@ -171,7 +171,7 @@ export class Running {
     this.handleFrame(frame);
   }
 
-  /** Runs one instruction. Breakpoints and watches stop it as they stop any run. */
+  /** Runs one instruction, which can take two cycles. Breakpoints and watches stop it like any other run. */
   async instruct() {
     const { bench, calls } = this;
     this.handleFrame(await bench.call("advance", [1]));
@@ -187,21 +187,21 @@ export class Running {
   }
 
   /**
-   * Reports for MESSAGE_TIME that time stood still, and restarts the measurement of the rate.
+   * Shows for MESSAGE_TIME that time stood still, and restarts the measurement of the rate.
    * @param {number} time the duration in milliseconds
    * @param {boolean} wasHidden
    */
   stoodStill(time, wasHidden) {
     this.beginRate();
-    const words = say.wasPausedFor(wordsOfTime(time), wasHidden);
-    this.showMessage(words);
-    setTimeout(() => this.status.text === words && this.showMessage(say.isRunning(this.current.name, this.calls.unreadable())),
+    const message = say.wasPausedFor(wordsOfTime(time), wasHidden);
+    this.showMessage(message);
+    setTimeout(() => this.status.text === message && this.showMessage(say.isRunning(this.current.name, this.calls.unreadable())),
       MESSAGE_TIME);
   }
 
   /**
-   * Ends the run, and shows why time is paused.
-   * @param {string} words
+   * Ends the run and shows why time is paused.
+   * @param {string} words the reason
    */
   endRun(words) {
     const { bench, current, calls } = this;
@@ -226,7 +226,7 @@ export class Running {
     this.handleFrame(await this.bench.call("halt", []));
   }
 
-  /** Pauses time, shows where, and saves the session. */
+  /** Pauses time, shows the current address, and saves the session. */
   async stop() {
     const { current, calls } = this;
     try {
@@ -235,7 +235,7 @@ export class Running {
       calls.failed(fault);
       return;
     }
-    // A breakpoint can have stopped the run before.
+    // A breakpoint may already have stopped the run.
     if (current.session && current.session.record.runs) {
       calls.drawRest();
       this.endRun(wordsOfHalt(this.goal, calls.cycles() - this.begun, this.where));
@@ -249,7 +249,7 @@ export class Running {
   }
 
   /**
-   * Handles a frame that the worker reports.
+   * Handles a frame from the worker.
    * @param {Frame} frame
    */
   handleFrame(frame) {
@@ -265,11 +265,11 @@ export class Running {
       return;
     }
     if (isNewRate || !this.clock.isRunning) this.showRate();
-    // A key press is saved at once. A hidden page receives a frame once a second.
+    // A key press is saved immediately. A hidden page receives only one frame per second, and saves each time.
     if (frame.changesKeys || document.hidden || performance.now() - current.kept >= SAVE_INTERVAL) current.keep();
   }
 
-  /** A text with the program counter at which time is paused, its name and its line. */
+  /** A text with the program counter, its name and its source line. */
   get where() {
     return this.calls.where();
   }
@@ -295,7 +295,7 @@ export class Running {
   }
 
   /**
-   * Queues a change of a key while time is running.
+   * Queues a key change while time is running.
    * @param {"press" | "release" | "forget"} word
    * @param {Key} key
    */
@@ -310,9 +310,9 @@ export class Running {
   }
 
   /**
-   * Returns whether a key will be down after all queued changes. If changes are not queued, returns whether it is down now.
+   * Returns true if a key will be down after all queued changes. If changes are not queued, returns `isDown`.
    * @param {Key} key
-   * @param {boolean} isDown whether the bench reports it as down
+   * @param {boolean} isDown true if the bench reports the key as down
    */
   willBeDown(key, isDown) {
     return this.clock.movesKeys ? this.pendingKeys.willBeDown(key, isDown) : isDown;

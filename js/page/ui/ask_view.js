@@ -4,7 +4,7 @@ import { element } from "./dom.js";
 import * as say from "../../words/page.js";
 
 /**
- * @typedef {{ title: string, words: (string | HTMLElement)[], accept: string, refuse: string }} Question `words` are paragraphs
+ * @typedef {{ title: string, words: (string | HTMLElement)[], accept: string, refuse: string }} Question `words` are its paragraphs
  */
 
 const ACCEPTED = "accepted";
@@ -19,7 +19,7 @@ export class AskView {
       element("div", { className: "bar" }, this.accept, this.refuse));
     /** @type {(isAccepted: boolean) => void} */
     this.answer = () => {};
-    // If the dialog is open again, this event belongs to an earlier question.
+    // If the dialog is open again, this event belongs to an earlier question. Ignore it.
     this.dialog.addEventListener("close", () => {
       if (!this.dialog.open) this.answer(this.dialog.returnValue === ACCEPTED);
     });
@@ -37,7 +37,7 @@ export class AskView {
   }
 
   /**
-   * Asks a question. Resolves to true if the user accepts. A question that is still open then resolves to false.
+   * Asks a question. Resolves to true if the user accepts. A question that is still open resolves to false first.
    * @param {Question} question
    * @returns {Promise<boolean>}
    */

@@ -1,11 +1,11 @@
-// A user's choices about the page: the folded panels, the front tab. They are stored next to the sessions if the browser allows it,
-// otherwise for this visit alone.
+// The user's preferences for the page, for example folded panels and the tab in front. They are in the browser's local storage if the browser allows
+// that. Otherwise they last only for this visit.
 
 const KEY = "fethsaim.choices";
 
 /** @typedef {Pick<Storage, "getItem" | "setItem">} ChoiceStore */
 
-/** Returns the local storage of the browser, or null if the page cannot use it. */
+/** Returns the browser's local storage, or null if the page cannot use it. */
 export function browserStore() {
   try {
     return localStorage;
@@ -28,7 +28,7 @@ function readChoices(text) {
 }
 
 export class Choices {
-  /** @param {ChoiceStore | null} store null if the browser stores nothing */
+  /** @param {ChoiceStore | null} store null if the browser has no storage */
   constructor(store = browserStore()) {
     this.store = store;
     this.chosen = readChoices(this.read());
@@ -43,7 +43,7 @@ export class Choices {
   }
 
   /**
-   * Returns the choice of this name, or "" if there is none.
+   * Returns the choice with this name, or "" if there is none.
    * @param {string} name
    */
   get(name) {
@@ -55,12 +55,12 @@ export class Choices {
    * @param {string} value
    */
   set(name, value) {
-    // Another tab can have stored other choices meanwhile.
+    // Another tab may have stored other choices in the meantime.
     this.chosen = { ...this.chosen, ...readChoices(this.read()), [name]: value };
     try {
       if (this.store) this.store.setItem(KEY, JSON.stringify(this.chosen));
     } catch {
-      // The choice lasts until the page is closed.
+      // Without storage, the choice lasts until the page is closed.
     }
   }
 }

@@ -1,7 +1,7 @@
-// Helpers for the views: they find and create elements, and update them only if something differs.
+// Helpers for the views: find and create elements, and update elements only when something has changed.
 
 /**
- * Returns the element with an id. Throws an error if the page has no such element of the type `kind`.
+ * Returns the element with an id. Throws an error if the page has no element with this id and the class `kind`.
  * @template {HTMLElement} Kind
  * @param {string} id
  * @param {new () => Kind} kind
@@ -21,7 +21,7 @@ export const button = (id) => byId(id, HTMLButtonElement);
 export const field = (id) => byId(id, HTMLInputElement);
 
 /**
- * Returns the first descendant of an element that matches a selector. Throws an error if none of the type `kind` does.
+ * Returns the first descendant that matches a selector. Throws an error if there is none, or if it is not of the class `kind`.
  * @template {HTMLElement} Kind
  * @param {HTMLElement} root
  * @param {string} selector
@@ -35,7 +35,7 @@ export function descendant(root, selector, kind) {
 }
 
 /**
- * Creates an element. A key that is a property of the element is set as a property, any other key as an attribute.
+ * Creates an element. Each entry of `properties` becomes a property if the element has such a property, otherwise an attribute.
  * @template {keyof HTMLElementTagNameMap} Name
  * @param {Name} name
  * @param {Record<string, unknown>} [properties]
@@ -53,8 +53,8 @@ export function element(name, properties = {}, ...children) {
 }
 
 /**
- * The text of an element. The page changes only if the text differs, so that an unchanged frame costs nothing. The text node stays: WebKit
- * loses a click if the pressed text node is removed before the release.
+ * The text of an element. The page is updated only if the text differs, so an unchanged frame costs nothing. The text node is never replaced, because
+ * WebKit loses a click if the pressed text node is removed before the release.
  */
 export class Cell {
   /** @param {HTMLElement} node */
@@ -66,7 +66,7 @@ export class Cell {
   }
 
   /**
-   * Sets the text. Returns whether it has changed.
+   * Sets the text. Returns true if it has changed.
    * @param {string} text
    */
   set(text) {
@@ -77,7 +77,7 @@ export class Cell {
   }
 }
 
-/** A boolean state of an element, for example an attribute or a class. `show` is called only when the state changes. */
+/** A boolean state of an element, for example a class or an attribute. Calls `show` only when the state changes. */
 export class Switch {
   /** @param {(isOn: boolean) => void} show */
   constructor(show) {
@@ -95,7 +95,7 @@ export class Switch {
 }
 
 /**
- * Returns a switch that sets `aria-pressed` of a button, which screen readers report.
+ * Returns a switch for the `aria-pressed` attribute of a button, which screen readers announce.
  * @param {HTMLElement} node
  */
 export function pressedSwitch(node) {
@@ -103,8 +103,7 @@ export function pressedSwitch(node) {
 }
 
 /**
- * Calls `act` on each click. After a click by pointer the button loses the focus, so that Enter and the space bar press keys of the board
- * again.
+ * Calls `act` on each click. After a click by pointer, the button loses the focus, so that Enter and the space bar press the board's keys again.
  * @param {HTMLElement} node
  * @param {() => void} act
  */
@@ -127,13 +126,13 @@ export function buttonOf(text, act, properties = {}) {
   return node;
 }
 
-/** Returns whether a dialog is open. An open dialog receives all keys. */
+/** Returns true if a dialog is open. An open dialog receives all keys. */
 export function isDialogOpen() {
   return document.querySelector("dialog[open]") !== null;
 }
 
 /**
- * Makes a block of buttons one stop of the Tab key. The arrow keys move the focus from button to button.
+ * Makes a block of buttons a single tab stop. The arrow keys move the focus between the buttons.
  * @param {HTMLElement} root
  * @param {() => number} columns returns the number of buttons in a row
  */
@@ -157,7 +156,7 @@ export function makeOneTabStop(root, columns) {
 }
 
 /**
- * Makes the first button of a block the stop of the Tab key. Called after the block's buttons were created.
+ * Makes the first button of a block its tab stop. Called after the buttons have been created.
  * @param {HTMLElement} root
  */
 export function makeFirstTabStop(root) {

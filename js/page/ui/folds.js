@@ -1,4 +1,4 @@
-// Panels that can be folded to their heading.
+// Panels that can be folded down to their headings.
 
 import { block, element, onClick } from "./dom.js";
 import * as say from "../../words/page.js";
@@ -8,7 +8,7 @@ import * as say from "../../words/page.js";
  */
 
 /**
- * Makes the heading of each panel with `data-fold` a button that folds the panel. The choice is stored. Returns the panels' ids.
+ * Turns the heading of each panel with `data-fold` into a button that folds the panel. Stores the user's choice. Returns the panels' ids.
  * @param {Choices} choices
  */
 export function makeFolds(choices) {

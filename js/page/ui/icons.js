@@ -1,8 +1,8 @@
-// The icons of the page, drawn with lines of one width in a box of 16 by 16 units.
+// The page's icons, drawn with lines of equal width in a box of 16 by 16 units.
 
 import { svgElement } from "./svg.js";
 
-/** The SVG path commands of each icon: its lines, then its filled shapes after a bar. */
+/** The SVG path commands of each icon: first its lines, then, after a `|`, its filled shapes. */
 const SHAPES = {
   continue: "|M4,2.5,13,8l-9,5.5z",
   pause: "|M4,3h3v10H4zM9,3h3v10H9z",
@@ -43,7 +43,7 @@ const SHAPES = {
 export const ICONS = /** @type {IconName[]} */ (Object.keys(SHAPES));
 
 /**
- * Returns a new icon. Screen readers skip it, because the control around it has a label.
+ * Returns a new icon. Screen readers skip it, because the surrounding control has a label.
  * @param {IconName} name
  * @returns {SVGElement}
  */

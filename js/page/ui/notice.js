@@ -1,36 +1,38 @@
-// Notices about errors, and about actions that can be undone. The newest three are visible, wherever the page is scrolled to. A kind has
-// one notice, its newest; undoable actions and sessions that were not opened have one each. A notice of an error disappears when its cause
-// is gone, a notice of success after some time. All notices can be read again in a list.
+// Notices about errors and about actions that can be undone. The three newest are visible regardless of the page's scroll position. Most kinds have
+// at most one notice, the newest; undoable actions and sessions that were not opened have one notice each. An error notice disappears when its cause
+// is gone, a success notice after some time. A list shows all past notices.
 
 import { block, element } from "./dom.js";
 import { NoticeList } from "./notice_list.js";
 import * as say from "../../words/page.js";
 
 /**
- * The kinds of notices: lasting errors (`kept`, `store`), rejections (`session`, `refusal`), a link that was copied (`share`), a file whose
- * texts or bytes were loaded (`file`), the session that was left for a new one (`left`), a session that was not opened automatically
- * (`unended`), an action that can be undone (`undo`), and any other error ("").
+ * The kinds of notices: lasting errors (`kept`, `store`), rejections (`session`, `refusal`), a copied link (`share`), a loaded file (`file`), a
+ * session that the user has left for a new one (`left`), a session that was not opened automatically (`unended`), an action that can be undone
+ * (`undo`), and any other error ("").
  * @typedef {"" | "kept" | "session" | "store" | "refusal" | "share" | "file" | "left" | "unended" | "undo"} NoticeKind
  * @typedef {{ word: string, act: () => void }} NoticeAction a button in the notice
  * @typedef {{ kind: NoticeKind, words: string, node: HTMLElement, message: import("./notice_list.js").Message, timer: number }} Row
  */
 
-/** Errors that are reported repeatedly while they last. A dismissed one appears again only if its cause was gone in between. */
+/**
+ * The kinds of errors that are reported repeatedly while they last. After the user has dismissed such a notice, it appears again only if its cause
+ * was gone in between.
+ */
 const LASTING = new Set(["kept", "store"]);
-/** Kinds with a notice for each event. */
+/** The kinds that have a separate notice for each event. */
 const SEVERAL = new Set(["undo", "unended"]);
-/** Kinds of success. */
+/** The kinds that report a success. */
 const SUCCESSES = new Set(["undo", "file", "share", "left"]);
-/** The duration in milliseconds of a notice of success. */
+/** The time in milliseconds for which a success notice stays. */
 const STAY_TIME = 8000;
 /** The maximum number of visible notices. */
 const MAX_SHOWN = 3;
 
 /**
- * Returns the notices to remove so that at most MAX_SHOWN remain: the oldest notices of success first, then the oldest others. The newest
- * notice stays.
+ * Returns the notices to remove so that at most MAX_SHOWN remain: first the oldest success notices, then the oldest others. The newest notice stays.
  * @template {{ kind: NoticeKind }} Each
- * @param {Each[]} rows the newest one first
+ * @param {Each[]} rows the notices, newest first
  * @returns {Each[]}
  */
 export function noticesToRemove(rows) {
@@ -43,11 +45,11 @@ export class Notice {
   constructor() {
     this.block = block("notice");
     this.list = new NoticeList((message, action) => this.act(message, action));
-    /** @type {Row[]} the newest one first */
+    /** @type {Row[]} the visible notices, newest first */
     this.rows = [];
-    /** @type {Map<NoticeKind, string>} lasting errors that were dismissed */
+    /** @type {Map<NoticeKind, string>} the texts of dismissed notices about lasting errors */
     this.dismissed = new Map();
-    /** @type {HTMLElement | null} the element that had the focus before a notice */
+    /** @type {HTMLElement | null} the element that had the focus before the notices */
     this.before = null;
     this.block.addEventListener("focusin", (event) => {
       const from = event.relatedTarget;
@@ -56,7 +58,7 @@ export class Notice {
   }
 
   /**
-   * Shows a notice, unless the same lasting error is visible or was dismissed.
+   * Shows a notice, unless a notice about the same lasting error is visible or was dismissed.
    * @param {string} words
    * @param {NoticeKind} kind
    * @param {NoticeAction[]} actions
@@ -79,7 +81,7 @@ export class Notice {
   }
 
   /**
-   * Removes a notice after STAY_TIME, or later while the pointer or the focus is on it.
+   * Removes a notice after STAY_TIME, but not while the pointer or the focus is on it.
    * @param {Row} row
    */
   removeLater(row) {
@@ -90,7 +92,7 @@ export class Notice {
   }
 
   /**
-   * Removes the notices of a kind when their cause is gone.
+   * Removes the notices of a kind because their cause is gone.
    * @param {NoticeKind} kind
    */
   hide(kind) {
@@ -105,7 +107,7 @@ export class Notice {
   }
 
   /**
-   * Runs the action of a notice and removes the notice: an action runs only once.
+   * Executes a notice's action and removes the notice, because an action can be executed only once.
    * @param {import("./notice_list.js").Message} message
    * @param {NoticeAction} action
    */
@@ -125,7 +127,7 @@ export class Notice {
     if (hadFocus) this.giveFocus();
   }
 
-  /** Moves the focus to the next notice, or to the element that had it before. */
+  /** Moves the focus to the next notice, or to the element that had the focus before the notices. */
   giveFocus() {
     const next = this.block.querySelector("button") || this.before;
     if (next) next.focus();
@@ -141,7 +143,7 @@ export class Notice {
     const node = element("button", { type: "button", className }, word);
     node.setAttribute("aria-label", label);
     node.addEventListener("click", (event) => {
-      // After a click by pointer, the board receives the keys again.
+      // After a click by pointer, the board must receive the keys again.
       if (event.detail > 0) node.blur();
       act();
     });
@@ -149,7 +151,7 @@ export class Notice {
   }
 
   /**
-   * Moves the notices into an element, for example an open dialog. Outside an open dialog they could neither be used nor read.
+   * Moves the notices into an element, for example into a dialog that has opened. Outside the open dialog, the user could neither read nor use them.
    * @param {HTMLElement} host
    */
   moveTo(host) {

@@ -1,21 +1,21 @@
-// A dialog with all notices so far, the newest first. Earlier notices can be read again, and their actions still work.
+// A dialog with all past notices, newest first. Their actions still work.
 
 import { button, buttonOf, element } from "./dom.js";
 import * as say from "../../words/page.js";
 
 /**
  * @typedef {import("./notice.js").NoticeAction} NoticeAction
- * @typedef {{ words: string, time: Date, actions: NoticeAction[] }} Message the text of a notice, and its actions until one is done
+ * @typedef {{ words: string, time: Date, actions: NoticeAction[] }} Message the text of a notice, and its actions until one of them is executed
  */
 
 /** The maximum number of stored notices. */
 const MAX_KEPT = 100;
 
 export class NoticeList {
-  /** @param {(message: Message, action: NoticeAction) => void} act runs the action of a notice */
+  /** @param {(message: Message, action: NoticeAction) => void} act executes a notice's action */
   constructor(act) {
     this.act = act;
-    /** @type {Message[]} the newest one first */
+    /** @type {Message[]} the past notices, newest first */
     this.all = [];
     this.list = element("ul", { "aria-label": say.NOTICES });
     const close = buttonOf(say.CLOSE, () => this.dialog.close());

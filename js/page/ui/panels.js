@@ -1,4 +1,4 @@
-// The panels of the workbench. Each one can be closed, reopened and made full size, by its own buttons or in a menu. The choice is stored.
+// The workbench panels. Each panel can be closed, reopened and maximised, with its own buttons or in a menu. The state is stored.
 
 import { Switch, block, button, buttonOf, element, onClick } from "./dom.js";
 import * as say from "../../words/workbench.js";
@@ -8,11 +8,11 @@ import * as say from "../../words/workbench.js";
  * @typedef {{ id: string, name: string, node: HTMLElement, isOpen: Switch, box: HTMLInputElement }} Panel
  */
 
-/** The name of the stored choice of the full-size panel. */
+/** The key of the stored choice for the maximised panel. */
 const FULL = "full";
 
 /**
- * Returns the row at the top of a panel: its row of tabs, or a new row around its heading.
+ * Returns the row at the top of a panel: its tab row, or a new row around its heading.
  * @param {HTMLElement} panel
  */
 function headOf(panel) {
@@ -27,7 +27,7 @@ function headOf(panel) {
 export class Panels {
   /**
    * @param {Choices} choices
-   * @param {() => void} reset restores the rest of the layout
+   * @param {() => void} reset restores the other parts of the layout
    */
   constructor(choices, reset) {
     this.choices = choices;
@@ -39,7 +39,7 @@ export class Panels {
       this.viewButton.setAttribute("aria-expanded", String(isOpen));
     });
     this.panels = Object.entries(say.PANELS).map(([id, name]) => this.make(id, name));
-    /** The id of the full-size panel, or "" if there is none. */
+    /** The id of the maximised panel, or "" if there is none. */
     this.full = "";
     this.menu.append(element("ul", {}, ...this.panels.map((panel) => this.row(panel))),
       buttonOf(say.RESET_LAYOUT, () => this.reset()));
@@ -117,7 +117,7 @@ export class Panels {
     if (panel) this.open(id, !panel.isOpen.isOn);
   }
 
-  /** Gives the space of columns without an open panel to the other columns. */
+  /** Gives the space of columns without open panels to the other columns. */
   place() {
     const side = block("side");
     const { classList } = document.body;
@@ -131,8 +131,8 @@ export class Panels {
   }
 
   /**
-   * Makes a panel as large as the window, above all other panels.
-   * @param {string} id "" for none
+   * Maximises a panel to the size of the window, above all other panels.
+   * @param {string} id the panel's id; "" restores the maximised panel
    */
   setFull(id) {
     this.full = this.find(id) ? id : "";

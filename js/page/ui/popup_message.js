@@ -1,16 +1,16 @@
-// Messages near the user's last action: at a cell, at a line, at a click. They disappear at the next press of a key or a button.
+// Messages near the user's last action: at a cell, a line or a click. They disappear at the next key press or click.
 
 import { element } from "./dom.js";
 
-/** The time in milliseconds for which the last press determines the position of a message. */
+/** The time in milliseconds after a click during which messages appear at the position of that click. */
 const PRESS_TIME = 3000;
-/** The distance in pixels between a message and the element above it. */
+/** The distance in pixels between a message and the element above it, and from the edges of the window. */
 const GAP = 4;
 
 /**
- * Moves an element below a point, within the width of the window.
+ * Moves an element below a point, but keeps it within the width of the window.
  * @param {HTMLElement} node
- * @param {{ left: number, bottom: number }} point coordinates in the window
+ * @param {{ left: number, bottom: number }} point window coordinates
  * @param {number} gap
  */
 export function putBelow(node, { left, bottom }, gap) {
@@ -34,7 +34,7 @@ export class PopupMessage {
 
   /**
    * @param {string} words
-   * @param {HTMLElement} [at] the element above the message; by default the position of the last press, or the focused element
+   * @param {HTMLElement} [at] the element above the message; by default, the position of the last click, or the focused element
    */
   show(words, at) {
     this.node.textContent = words;

@@ -1,5 +1,5 @@
-// The regions of a narrow window. A phone shows one region of the workbench at a time, chosen by tabs at the bottom. A window that is too
-// narrow for three columns shows the debugger's panels as a drawer.
+// The regions of a narrow window. A phone shows one region of the workbench at a time, and has tabs for the regions at the bottom. A window that is
+// too narrow for three columns shows the debugger's panels in a drawer.
 
 import { Switch, block, button, onClick, pressedSwitch } from "./dom.js";
 
@@ -48,7 +48,7 @@ export class Regions {
   }
 
   /**
-   * Brings the region of a panel into view. In a wide window all regions are visible anyway.
+   * Brings the region that contains a panel into view. A wide window always shows all regions.
    * @param {HTMLElement} panel
    */
   reveal(panel) {

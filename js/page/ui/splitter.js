@@ -1,17 +1,17 @@
-// The borders between panels. A border is dragged, or moved by the arrow keys. A double click restores the initial size.
+// The splitters between panels. The user drags a splitter or moves it with the arrow keys. A double click restores the initial size.
 
 import { block } from "./dom.js";
 
 /** @typedef {import("./choices.js").Choices} Choices */
 
 /**
- * A border: the panel that it resizes, the side of the panel where it is, and the CSS property and limits of the size in pixels.
+ * A splitter: the panel that it resizes, the side of the panel on which it is, and the CSS property and limits of the size in pixels.
  * @typedef {{ id: string, panel: string, property: string, side: "left" | "right" | "top" | "bottom", min: number, max: number }} Border
  */
 
-/** The number of pixels that an arrow key moves a border. */
+/** The distance in pixels that an arrow key moves a splitter. */
 const KEY_STEP = 20;
-/** @type {Record<Border["side"], Record<string, number>>} the change in the panel's size for each key */
+/** @type {Record<Border["side"], Record<string, number>>} the change of the panel's size in pixels for each key */
 const KEYS = {
   left: { ArrowLeft: KEY_STEP, ArrowRight: -KEY_STEP },
   right: { ArrowLeft: -KEY_STEP, ArrowRight: KEY_STEP },
@@ -32,7 +32,7 @@ export class Splitter {
     this.isUpright = border.side === "left" || border.side === "right";
     this.node.setAttribute("aria-valuemin", String(border.min));
     this.node.setAttribute("aria-valuemax", String(border.max));
-    /** The panel's size minus the position of the pointer that holds the border. */
+    /** The panel's size minus the pointer's position at the start of the drag. */
     this.held = 0;
     this.node.addEventListener("pointerdown", (event) => {
       event.preventDefault();
@@ -48,19 +48,19 @@ export class Splitter {
     this.show(Number(choices.get(this.name)) || 0);
   }
 
-  /** The name of the stored choice. */
+  /** The key of the stored choice. */
   get name() {
     return `size.${this.border.panel}`;
   }
 
-  /** The present width or height of the panel in pixels. */
+  /** The panel's current width or height in pixels. */
   get size() {
     const { width, height } = this.panel.getBoundingClientRect();
     return this.isUpright ? width : height;
   }
 
   /**
-   * Returns the pointer's position in the direction in which the panel grows.
+   * Returns the pointer's position along the axis in which the panel grows.
    * @param {{ clientX: number, clientY: number }} point
    */
   along({ clientX, clientY }) {
@@ -69,7 +69,7 @@ export class Splitter {
     return side === "left" || side === "top" ? -at : at;
   }
 
-  /** @param {number} size in pixels */
+  /** @param {number} size the size in pixels */
   set(size) {
     const { min, max } = this.border;
     const clamped = Math.round(Math.min(max, Math.max(min, size)));
@@ -77,13 +77,13 @@ export class Splitter {
     this.show(clamped);
   }
 
-  /** Restores the initial size of the panel. */
+  /** Restores the panel's initial size. */
   reset() {
     this.choices.set(this.name, "");
     this.show(0);
   }
 
-  /** @param {number} size in pixels; 0 for the initial size */
+  /** @param {number} size the size in pixels; 0 for the initial size */
   show(size) {
     const { style } = document.documentElement;
     if (size > 0) style.setProperty(this.border.property, `${size}px`);

@@ -1,4 +1,4 @@
-// The status bar: whether time is paused, whether the source matches ROM, and whether the session is saved.
+// The status bar. It shows whether time is paused, whether the source matches ROM, and whether the session is saved.
 
 import { Cell, Switch, block } from "./dom.js";
 import * as say from "../../words/page.js";
@@ -12,15 +12,15 @@ export class StatusView {
   }
 
   /**
-   * @param {boolean} isMatching whether the source is the program in ROM
-   * @param {string} words the reason; "" without a source
+   * @param {boolean} isMatching true if the source is the program in ROM
+   * @param {string} words the explanation; "" if there is no source
    */
   showRom(isMatching, words) {
     this.rom.set(isMatching ? say.ROM_MATCHES : words === "" ? "" : say.ROM_DIFFERS);
     this.rom.node.title = words;
   }
 
-  /** @param {boolean} isRunning whether time is running */
+  /** @param {boolean} isRunning true if time is running */
   showRunning(isRunning) {
     this.paused.set(!isRunning);
   }

@@ -1,4 +1,4 @@
-// Tabs as ARIA describes them: the row of tabs is one stop of the Tab key; arrows, Home and End move to another tab and show it.
+// Tabs with the ARIA tabs pattern. The tab row is a single tab stop; arrow keys, Home and End move to another tab and show it.
 
 import { block, button, onClick } from "./dom.js";
 
@@ -6,10 +6,10 @@ import { block, button, onClick } from "./dom.js";
 
 export class Tabs {
   /**
-   * The tab `NAME` is the element with the id `NAME-tab`. Its `aria-controls` is the id of its panel.
+   * Creates the tabs. The tab NAME is the element with the id `NAME-tab`. Its `aria-controls` attribute is the id of its panel.
    * @param {string[]} names
-   * @param {string} first the tab that is in front at first
-   * @param {(name: string) => void} chosen called after the user chose a tab
+   * @param {string} first the name of the tab that is initially in front
+   * @param {(name: string) => void} chosen called after the user has chosen a tab
    */
   constructor(names, first, chosen) {
     this.chosen = chosen;
@@ -51,7 +51,7 @@ export class Tabs {
   }
 
   /**
-   * Brings a tab to the front, or the first tab if that one is hidden.
+   * Brings a tab to the front, or the first tab if that tab is hidden.
    * @param {string} name
    */
   show(name) {
@@ -67,14 +67,14 @@ export class Tabs {
 
   /**
    * @param {string} name
-   * @param {() => void} listen called each time the tab came to the front, when its content can be measured
+   * @param {() => void} listen called each time the tab has come to the front, when its contents can be measured
    */
   whenShown(name, listen) {
     this.find(name).listeners.push(listen);
   }
 
   /**
-   * Shows or hides a tab. A tab can be hidden until it has content.
+   * Shows or hides a tab. A tab can stay hidden until it has contents.
    * @param {string} name
    * @param {boolean} isThere
    */
@@ -85,10 +85,10 @@ export class Tabs {
   }
 
   /**
-   * Sets a short text on a tab about its content, "" for none.
+   * Sets a short text on a tab about its contents; "" removes the text.
    * @param {string} name
    * @param {string} words
-   * @param {boolean} isGood whether they report a success
+   * @param {boolean} isGood true if the text reports a success
    */
   mark(name, words, isGood = false) {
     const { mark } = this.find(name);

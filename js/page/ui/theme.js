@@ -1,4 +1,4 @@
-// The user's choice of colours: as the system, light or dark. `page/style/tokens.css` has the colours of each theme.
+// The user's colour theme: the system's, light or dark. `page/style/tokens.css` defines the colours of each theme.
 
 /** @typedef {"system" | "light" | "dark"} ThemeName */
 
@@ -6,7 +6,7 @@ export class Theme {
   /** @param {import("./choices.js").Choices} choices */
   constructor(choices) {
     this.choices = choices;
-    /** The listener to a change of the theme. */
+    /** The listener for theme changes. */
     this.changed = () => {};
     this.show();
   }

@@ -1,17 +1,17 @@
-// Tooltips show the action of a button and its key when the pointer rests on the button, when it has the keyboard focus, and when a finger
-// stays on it. The browser shows a `title` for the pointer only, so a button with a `title` has a tooltip for the keyboard and for fingers.
+// Tooltips with a button's action and key. A tooltip opens when the pointer rests on the button, when the button gets the keyboard focus, or on a
+// long touch. Browsers show a `title` only for the pointer, so a button with a `title` gets a tooltip for the keyboard and for touch.
 
 import { element } from "./dom.js";
 
 /** @typedef {{ words: string, key: string }} Tip */
 
-/** The time in milliseconds that a pointer rests before its tooltip opens. */
+/** The time in milliseconds for which the pointer must rest before the tooltip opens. */
 const REST_TIME = 500;
-/** The time in milliseconds that a finger stays before its tooltip opens. */
+/** The time in milliseconds for which a touch must last before the tooltip opens. */
 const TOUCH_TIME = 500;
-/** The time in milliseconds that a tooltip stays after its finger was lifted. */
+/** The time in milliseconds for which the tooltip stays after the touch has ended. */
 const READ_TIME = 2500;
-/** The distance in pixels between a tooltip and its element, and from the edge of the window. */
+/** The distance in pixels between a tooltip and its element, and between a tooltip and the edges of the window. */
 const GAP = 6;
 
 export class Tooltips {
@@ -21,9 +21,9 @@ export class Tooltips {
     /** @type {Map<Element, () => Tip>} */
     this.tips = new Map();
     this.timer = 0;
-    /** @type {HTMLElement | null} the element whose tooltip is shown */
+    /** @type {HTMLElement | null} the element whose tooltip is visible */
     this.shown = null;
-    /** True if a finger has opened the tooltip. Lifting that finger is not a click. */
+    /** True if a touch has opened the tooltip. The end of this touch does not count as a click. */
     this.byTouch = false;
     addEventListener("pointerover", (event) => this.over(event));
     addEventListener("pointerout", (event) => event.pointerType !== "touch" && this.hide());
@@ -34,9 +34,9 @@ export class Tooltips {
     addEventListener("focusin", (event) => this.focused(event.target));
     addEventListener("focusout", () => this.hide());
     addEventListener("keydown", (event) => event.key === "Escape" && this.hide(), true);
-    // A tooltip would cover what the user types.
+    // While the user types, the tooltip would cover the text.
     addEventListener("input", () => this.hide(), true);
-    // Scrolling hides the tooltip only if it moves the tooltip's element. The listing scrolls while time is running.
+    // Scrolling hides the tooltip only if its element moves. The disassembly also scrolls while time is running.
     addEventListener("scroll", ({ target }) => target instanceof Node && target.contains(this.shown) && this.shown && this.hide(), true);
   }
 
@@ -51,7 +51,7 @@ export class Tooltips {
   /**
    * Returns the nearest element with a tooltip, or null if there is none.
    * @param {EventTarget | null} target
-   * @param {boolean} isOwn whether elements are excluded whose `title` the browser itself shows
+   * @param {boolean} isOwn true to skip elements whose `title` the browser shows itself
    * @returns {HTMLElement | null}
    */
   find(target, isOwn) {
@@ -81,14 +81,14 @@ export class Tooltips {
     }, TOUCH_TIME);
   }
 
-  /** Hides the tooltip of a finger READ_TIME after the finger was lifted. */
+  /** Hides a tooltip that a touch has opened, READ_TIME after the touch has ended. */
   lifted() {
     clearTimeout(this.timer);
     if (this.byTouch) this.timer = window.setTimeout(() => this.hide(), READ_TIME);
   }
 
   /**
-   * Ignores the click of a finger that has opened a tooltip.
+   * Ignores the click of a touch that has opened a tooltip.
    * @param {Event} event
    */
   clicked(event) {
@@ -120,7 +120,7 @@ export class Tooltips {
     if (!words || !node.isConnected) return;
     this.shown = node;
     this.node.replaceChildren(words, ...(key ? [" ", element("kbd", {}, key)] : []));
-    // An open dialog covers everything outside it.
+    // An open dialog covers all elements outside it, so the tooltip must be inside.
     (node.closest("dialog[open]") || document.body).append(this.node);
     this.node.hidden = false;
     this.place(node.getBoundingClientRect());

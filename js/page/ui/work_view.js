@@ -1,9 +1,9 @@
-// Long work: its progress, and a button that cancels it.
+// The progress of long work, with a button to cancel it.
 
 import { Cell, block, button, descendant, onClick } from "./dom.js";
 import * as say from "../../words/page.js";
 
-/** The delay in milliseconds before work is shown. Shorter work is not shown. */
+/** The delay in milliseconds before the progress appears. Shorter work does not show any progress. */
 const SHOW_DELAY = 300;
 
 export class WorkView {
@@ -22,7 +22,7 @@ export class WorkView {
   }
 
   /**
-   * Does work, and shows its progress if it takes long. Resolves to the result of the work.
+   * Performs work, and shows its progress if it takes long. Resolves to the result of the work.
    * @template Result
    * @param {string} words the description of the work
    * @param {(signal: AbortSignal, progress: (done: number, total: number) => void) => Promise<Result>} work

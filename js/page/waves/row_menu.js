@@ -1,4 +1,4 @@
-// The menu of a row of the waves, for its name, its group, its position and its colour, and the menu of a group.
+// The context menus of wave rows: the menu of a line for its name, group, position and colour, and the menu of a group.
 
 import { ContextMenu } from "../commands/menu_view.js";
 import { FieldBar } from "../text/field_bar.js";
@@ -11,11 +11,11 @@ import * as say from "../../words/waves.js";
  * @typedef {import("../../core/waves/wave_rows.js").WaveRow} WaveRow
  */
 
-/** The maximum length of a name. */
+/** The maximum length of a name in characters. */
 const MAX_NAME_LENGTH = 40;
 
 export class RowMenu {
-  /** @param {import("./wave_view.js").WaveView} view the view with the selected row */
+  /** @param {import("./wave_view.js").WaveView} view the wave view, which has the selected row */
   constructor(view) {
     this.view = view;
     this.menu = new ContextMenu("row-menu", say.ROW);
@@ -76,7 +76,7 @@ export class RowMenu {
   }
 
   /**
-   * Asks for a name.
+   * Asks the user for a name.
    * @param {string} label
    * @param {string} value
    * @param {(word: string) => void} act

@@ -1,4 +1,4 @@
-// The logic analyser: records the lines of the board over time, shows them, and saves them as a VCD file.
+// The logic analyser: records the board's lines over time, shows them, and saves them as a VCD file or a picture.
 
 import { Cell, block, button, byId, descendant, field, onClick } from "../ui/dom.js";
 import { download } from "../session/download.js";
@@ -23,24 +23,25 @@ import * as say from "../../words/waves.js";
  */
 
 /**
- * The calls that the logic analyser makes.
+ * The callbacks of the logic analyser.
  * @typedef {object} ScopeCalls
- * @property {(cycles: number, isBefore: boolean, values: string[]) => Promise<Recorded | null>} record Records `cycles` cycles up to now
- *   (`isBefore`) or from now on, with values by their names. Resolves to null after a failure that was reported.
- * @property {(wanted: { trigger: string } & LiveWanted, values: string[]) => Promise<{ recorded: Recorded | null, fault: string } | null>}
- * begin Records from now on until `end`. Resolves to the first part, or to the error in the trigger; to null if the call failed.
+ * @property {(cycles: number, isBefore: boolean, values: string[]) => Promise<Recorded | null>} record Records the last `cycles` cycles (`isBefore`),
+ *   or the next ones. `values` are the names of registers and nibbles to include. Resolves to null after a failure. A failure has already been
+ *   reported.
+ * @property {(wanted: { trigger: string } & LiveWanted, values: string[]) => Promise<{ recorded: Recorded | null, fault: string } | null>} begin
+ *   Starts a recording that lasts until `end`. Resolves to its first part or to the error in the trigger, or to null if the call failed.
  * @property {() => Promise<LivePart | null>} end Ends the recording. Resolves to its last part, or to null if there is none.
  * @property {() => WaveLine[]} offered Returns all lines of the board.
- * @property {() => string} name Returns the name of the session, from which file names are made.
- * @property {(address: number) => void} goTo Shows the line of an address in source and listing.
- * @property {(isOn: boolean) => void} isOn Shows on the tab whether a recording is under way.
+ * @property {() => string} name Returns the session's name, which is used for file names.
+ * @property {(address: number) => void} goTo Shows an address in the source and in the disassembly.
+ * @property {(isOn: boolean) => void} isOn Shows on the tab whether a recording is in progress.
  * @property {(rows: import("../../core/waves/wave_rows.js").KeptRows) => void} keep Stores the arrangement of the rows.
  */
 
-/** The interval in milliseconds at which a growing picture is drawn. */
+/** The interval in milliseconds at which the picture of a recording in progress is updated. */
 const DRAW_INTERVAL = 100;
 
-/** Lets at most one panel below the row of controls be open. Escape and a press outside the panel close it. */
+/** Keeps at most one panel below the controls open. Escape and a click outside the panel close it. */
 function listenToPanels() {
   const panels = [.../** @type {NodeListOf<HTMLDetailsElement>} */ (block("wave-bar").querySelectorAll(".pop"))];
   const closeOthers = (/** @type {EventTarget | null} */ target) => {
@@ -61,7 +62,7 @@ function listenToPanels() {
   }
 }
 
-/** Stores the height of the controls in a CSS property, because panels open below them. */
+/** Keeps the height of the controls in a CSS property, because panels open below them. */
 function storeHeight() {
   const bar = block("wave-bar");
   new ResizeObserver(() => block("scope").style.setProperty("--wave-bar-height", `${bar.offsetHeight}px`)).observe(bar);
@@ -83,9 +84,9 @@ export class Scope {
       offered: calls.offered, choose: (chosen) => this.view.choose(chosen), wants: () => this.wantOthers(),
     });
     this.isBusy = false;
-    /** @type {LiveWaves | null} the last recording of running time */
+    /** @type {LiveWaves | null} the last recording of running time; null if there is none */
     this.live = null;
-    /** True if the picture shows the last part of the recording. */
+    /** True if the picture shows all parts of the recording so far. */
     this.isDrawn = true;
     this.where = byId("record-where", HTMLSelectElement);
     this.listen();
@@ -119,13 +120,13 @@ export class Scope {
     return this.live !== null && this.live.isOn;
   }
 
-  /** Shows the trigger only for a recording of running time. */
+  /** Shows the trigger's controls only for a recording of running time. */
   showTrigger() {
     block("trigger-bar").hidden = this.where.value !== "live";
   }
 
   /**
-   * Returns the number of cycles in a field, or -1 after a message if it has no valid number.
+   * Returns the number of cycles in a field. If the field has no valid number, shows a message and returns -1.
    * @param {string} id
    * @param {number} min
    */
@@ -140,11 +141,11 @@ export class Scope {
     return cycles;
   }
 
-  /** Handles the button: starts or ends the recording. */
+  /** Handles the Record button: starts or ends a recording. */
   async record() {
     if (this.isBusy) return;
     this.isBusy = true;
-    // The same message is announced again.
+    // Clear the status, so that screen readers announce the same message again.
     this.status.set("");
     try {
       if (this.isLive) await this.end();
@@ -176,7 +177,7 @@ export class Scope {
   // --- recordings of running time ---
 
   /**
-   * Returns the limits of the recording, or null after a message if a field has no valid number.
+   * Returns the settings of the recording. If a field has no valid number, shows a message and returns null.
    * @returns {LiveChoice | null}
    */
   chosen() {
@@ -194,9 +195,9 @@ export class Scope {
     if (!choice) return;
     this.chooseNamed(choice.trigger);
     const { trigger, behind, stopsTime } = choice;
-    const begun = await this.calls.begin({ trigger, behind, stopsTime }, this.choice.values);
-    if (!begun) return;
-    const { recorded, fault } = begun;
+    const result = await this.calls.begin({ trigger, behind, stopsTime }, this.choice.values);
+    if (!result) return;
+    const { recorded, fault } = result;
     field("trigger").setAttribute("aria-invalid", String(fault !== ""));
     if (fault) this.status.set(say.triggerFault(fault));
     if (!recorded) return;
@@ -206,7 +207,7 @@ export class Scope {
   }
 
   /**
-   * Chooses the register or the nibble in a trigger, so that it is recorded, too.
+   * Selects the register or nibble that the trigger names, so that the recording includes it.
    * @param {string} trigger
    */
   chooseNamed(trigger) {
@@ -220,7 +221,7 @@ export class Scope {
     if (part) this.take(part);
   }
 
-  /** Restarts a recording under way, because values were chosen that it does not record. */
+  /** Restarts the recording in progress, because the user has selected values that it does not include. */
   async wantOthers() {
     if (!this.isLive || this.isBusy) return;
     this.isBusy = true;
@@ -232,7 +233,7 @@ export class Scope {
   }
 
   /**
-   * Handles another part of the recording; null if the recording has ended.
+   * Handles another part of the recording; null means that the recording has been lost.
    * @param {LivePart | null} part
    */
   take(part) {
@@ -257,11 +258,11 @@ export class Scope {
     this.choice.grown();
     this.showLive(live);
     const { over } = live;
-    // A user who changes the program or the board wants the same recording again.
+    // After changing the program or the board, the user usually wants the same recording again.
     if (over === "board" || over === "program") this.begin();
   }
 
-  /** Shows the whole recording so far, because time is paused. */
+  /** Shows the whole recording so far when time is paused. */
   showPaused() {
     const { live } = this;
     if (!live || !live.isOn) return;
@@ -278,7 +279,7 @@ export class Scope {
   }
 
   /**
-   * Searches for the text of the field, from the cursor on.
+   * Searches for the query in the field, starting at the cursor.
    * @param {boolean} isForward
    */
   find(isForward) {
@@ -300,7 +301,7 @@ export class Scope {
     else this.found.set(say.notFound(text.trim(), isForward, grouped(view.moment)));
   }
 
-  /** Forgets the recording, because another session is shown. */
+  /** Forgets the recording when another session is opened. */
   forget() {
     this.live = null;
     this.view.waves = null;
@@ -313,7 +314,7 @@ export class Scope {
   }
 
   /**
-   * The recording to save, or null after a message if no row is shown.
+   * The recording to save. If no row is visible, shows a message and is null.
    * @returns {Waves | null}
    */
   get saved() {

@@ -1,4 +1,4 @@
-// Draws waves on a canvas, or on a picture that is saved.
+// Draws waves on a canvas, or into a picture file.
 
 import { isDecoder } from "../../core/waves/decoders.js";
 import { countUpTo } from "../../core/waves/growing.js";
@@ -19,17 +19,17 @@ import { ticksOf } from "../../core/waves/wave_window.js";
  * scrolled away above, `trigger` the moment of the trigger, -1 for none, `measured` the measurement at the pointer
  */
 
-/** The height in pixels of the axis with the moments. */
+/** The height in pixels of the time axis. */
 export const AXIS = 26;
 /** The height in pixels of a row. */
 export const ROW = 26;
-/** The width in pixels of the number of a moment. */
+/** The space in pixels reserved for a number on the time axis. */
 const TICK_WIDTH = 92;
-/** The width in pixels of the flag with a cursor's letter. */
+/** The width in pixels of a cursor's flag, which shows its letter. */
 const FLAG_WIDTH = 14;
-/** The indentation in pixels of the names in a group. */
+/** The indentation in pixels of the names within a group. */
 const INDENT = 14;
-/** The distance in pixels from the edge of a row to its high or low level. */
+/** The distance in pixels between the edge of a row and its high or low level. */
 const MARGIN = 5;
 
 /**
@@ -58,7 +58,7 @@ export function drawWaves(context, picture) {
 }
 
 /**
- * Draws only inside a rectangle.
+ * Draws with a clip rectangle.
  * @param {Context} context
  * @param {[number, number, number, number]} box
  * @param {() => void} draw
@@ -85,7 +85,7 @@ function drawTicks(context, { view, gutter, height, colours }) {
     context.fillStyle = colours.faint;
     const text = tick.toLocaleString("en");
     const { width } = context.measureText(text);
-    // The number is next to its moment, so that a cursor at the moment does not cover it.
+    // The number is beside its tick, so that a cursor at the tick does not cover it.
     const right = x + FLAG_WIDTH / 2 + 2;
     const begin = right + width > gutter + view.width ? x - 3 - width : right;
     if (begin < free) continue;
@@ -98,7 +98,7 @@ function drawTicks(context, { view, gutter, height, colours }) {
 
 /**
  * @param {Context} context
- * @param {number[]} points the coordinates, x and y in turn
+ * @param {number[]} points alternating x and y coordinates
  */
 function strokeLine(context, ...points) {
   context.beginPath();
@@ -144,7 +144,7 @@ function drawRow(context, picture, row, y) {
 }
 
 /**
- * Underlines the measurement in a row.
+ * Underlines the measured part of a row.
  * @param {Context} context
  * @param {Picture} picture
  * @param {Stretch} measured
@@ -157,7 +157,7 @@ function drawMeasured(context, { view, gutter, colours }, { from, to }, y) {
 }
 
 /**
- * Returns the name of a line in the gutter: a port with its name in the board's text, a decoder by its function.
+ * Returns the gutter name of a line. A port includes its name in the board's text, and a decoder shows its function.
  * @param {import("../../core/waves/wave_lines.js").WaveLine} line
  */
 function nameInGutter(line) {
@@ -167,7 +167,7 @@ function nameInGutter(line) {
 }
 
 /**
- * Returns the value at the active cursor in the gutter. Labels and decoders have their values in their rows.
+ * Returns the gutter value of a line at the active cursor. Labels and decoders show their values only in their rows.
  * @param {Picture} picture
  * @param {number} line
  */
@@ -176,7 +176,7 @@ function valueInGutter({ waves, view }, line) {
 }
 
 /**
- * Draws a line of one bit: high and low levels, and a block if edges are closer than pixels.
+ * Draws a one-bit line: high and low levels, and a solid block where several edges share a pixel.
  * @param {Context} context
  * @param {Picture} picture
  * @param {number} line
@@ -195,7 +195,7 @@ function drawLevels(context, { waves, view, gutter }, line, y) {
     const x = view.xOf(changes[seen]);
     const next = countUpTo(changes, view.cyclesAt(x + 1));
     if (next > seen + 1) {
-      // Several edges in one pixel.
+      // Several edges are in one pixel.
       context.lineTo(gutter + x, level ? high : low);
       context.fillRect(gutter + x, high, 1, low - high);
       level ^= (next - seen) & 1;
@@ -214,7 +214,7 @@ function drawLevels(context, { waves, view, gutter }, line, y) {
 }
 
 /**
- * Draws a line of texts, for example the program counter: a box for each value, with the value in it if it has room.
+ * Draws a line with text values, for example the program counter: a box for each value, with the value inside if it fits.
  * @param {Context} context
  * @param {Picture} picture
  * @param {number} line
@@ -267,16 +267,16 @@ function drawCursor(context, picture, at, colour) {
 }
 
 /**
- * Returns the left edge of a mark's flag. The mark is in the middle of the flag, but the flag does not cross the right edge of the picture.
- * @param {number} x the position of the mark
- * @param {number} right the right edge
+ * Returns the left edge of a mark's flag. The flag is centred at the mark, but does not cross the right edge of the picture.
+ * @param {number} x the x coordinate of the mark
+ * @param {number} right the x coordinate of the right edge
  */
 export function flagAt(x, right) {
   return Math.min(x - FLAG_WIDTH / 2, right - FLAG_WIDTH);
 }
 
 /**
- * Draws a marked moment: a line with a letter on a flag.
+ * Draws a mark: a vertical line with a letter on a flag.
  * @param {Context} context
  * @param {Picture} picture
  * @param {{ moment: number, letter: string, y: number, colour: string, dash: number[] }} mark

@@ -1,4 +1,4 @@
-// The choice of lines and values to show: a check box for each of them, grouped by the parts of the board, and a search.
+// The selection of lines and values to show: a check box for each, grouped by the parts of the board, and a search field.
 
 import { Cell, block, button, element, field, onClick } from "../ui/dom.js";
 import { firstChoice, groupTitle, searchLines, valuesAmong } from "../../core/waves/wave_catalog.js";
@@ -10,11 +10,11 @@ import * as say from "../../words/waves.js";
  */
 
 /**
- * The calls that the choice of lines makes.
+ * The callbacks of the selection.
  * @typedef {object} ChoiceCalls
  * @property {() => WaveLine[]} offered Returns all lines of the board, recorded or not.
- * @property {(chosen: number[]) => void} choose Shows lines of the recording, by their numbers, in this order.
- * @property {() => void} wants Handles a choice of values that the recording lacks.
+ * @property {(chosen: number[]) => void} choose Shows lines of the recording, by their indices, in this order.
+ * @property {() => void} wants Handles the selection of values that the recording does not include.
  */
 
 export class WaveChoice {
@@ -23,12 +23,12 @@ export class WaveChoice {
     this.calls = calls;
     /** @type {Waves | null} */
     this.waves = null;
-    /** @type {Set<string>} the names of the chosen lines and values */
+    /** @type {Set<string>} the names of the selected lines and values */
     this.chosen = new Set();
-    /** True if the user has chosen the lines. Otherwise the lines that change are chosen. */
+    /** True if the user has made the selection. Otherwise the lines that change are selected. */
     this.isOwn = false;
     this.status = new Cell(block("signals-status"));
-    /** @type {Map<string, HTMLInputElement>} the check boxes, by the names of their lines */
+    /** @type {Map<string, HTMLInputElement>} the check boxes, by line name */
     this.boxes = new Map();
     onClick(button("waves-changing"), () => this.chooseChanging());
     onClick(button("waves-all"), () => this.waves && this.set(this.waves.lines.map(({ name }) => name), true));
@@ -37,12 +37,12 @@ export class WaveChoice {
     block("wave-choice").addEventListener("toggle", () => this.draw());
   }
 
-  /** The names of the registers and the nibbles to record. */
+  /** The names of the selected registers and nibbles, which must be recorded. */
   get values() {
     return valuesAmong(this.calls.offered(), this.chosen);
   }
 
-  /** @param {Waves} waves a new recording; lines that the user has chosen stay chosen, by their names */
+  /** @param {Waves} waves a new recording; lines that the user has selected stay selected, by name */
   begin(waves) {
     this.waves = waves;
     const isLineChosen = waves.lines.some(({ name, kind }) => kind !== "value" && this.chosen.has(name));
@@ -52,14 +52,14 @@ export class WaveChoice {
     this.showCount();
   }
 
-  /** Handles a longer recording: chooses the lines that change, unless the user has chosen lines. */
+  /** Handles a recording that has grown: selects the lines that change, unless the user has made a selection. */
   grown() {
     if (this.isOwn || !this.waves) return;
     if (this.addChanging(this.waves)) this.showCount();
   }
 
   /**
-   * Chooses the lines that change. Returns whether the choice has changed.
+   * Selects the lines that change. Returns true if the selection has changed.
    * @param {Waves} waves
    */
   addChanging(waves) {
@@ -77,7 +77,7 @@ export class WaveChoice {
     if (this.waves && this.addChanging(this.waves)) this.showCount();
   }
 
-  /** Forgets the recording and the choice. */
+  /** Forgets the recording and the selection. */
   forget() {
     this.waves = null;
     this.chosen.clear();
@@ -86,7 +86,7 @@ export class WaveChoice {
     this.draw();
   }
 
-  /** Draws the check boxes of the lines that match the search, if the boxes are visible. */
+  /** Draws the check boxes of the lines that match the search, if the list is open. */
   draw() {
     if (!block("wave-choice").hasAttribute("open")) return;
     const { lines, more } = searchLines(this.calls.offered(), field("signal-search").value, this.chosen);
@@ -138,7 +138,7 @@ export class WaveChoice {
     if (this.lacking.length > 0) this.calls.wants();
   }
 
-  /** The chosen values that the recording lacks. */
+  /** The names of the selected values that the recording does not include. */
   get lacking() {
     const { waves } = this;
     return waves ? this.values.filter((name) => waves.lines.every((line) => line.name !== name)) : [];

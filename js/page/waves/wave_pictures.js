@@ -1,4 +1,4 @@
-// Pictures of waves as files.
+// Saves waves as picture files.
 
 import { SvgContext } from "../../core/waves/svg_context.js";
 import { element } from "../ui/dom.js";
@@ -6,7 +6,7 @@ import { drawWaves } from "./wave_canvas.js";
 
 /** @typedef {import("./wave_canvas.js").Picture} Picture */
 
-/** The number of pixels of the PNG file for each pixel of the page. */
+/** The scale of a PNG file relative to the page. */
 const RATIO = 2;
 
 /** @param {Picture} picture */

@@ -1,26 +1,26 @@
-// Fingers, mouse and wheel on the waves. A click places the cursor. A drag moves the visible part, or a row at its name. Two fingers and
-// the wheel zoom.
+// Touch, mouse and wheel input on the waves. A click places the cursor. A drag moves the visible part, or a row by its name. Two fingers or the wheel
+// zoom.
 
 /**
  * @typedef {{ x: number, y: number }} Point
  */
 
 /**
- * The calls that fingers, mouse and wheel on the waves make. Points are in pixels from the top left corner.
+ * The callbacks of the pointer input. Points are in pixels from the top left corner.
  * @typedef {object} PointerCalls
- * @property {(point: Point, isOther: boolean) => void} click Places the cursor at a point; with Shift (`isOther`) the other cursor.
- * @property {(point: Point) => boolean} holdsCursor Returns whether a drag from a point moves the cursor.
+ * @property {(point: Point, isOther: boolean) => void} click Places the active cursor at a point; the other cursor if `isOther` (with Shift).
+ * @property {(point: Point) => boolean} holdsCursor Returns true if a drag from this point moves the cursor.
  * @property {(point: Point) => void} drag Moves the dragged cursor to a point.
- * @property {(point: Point) => boolean} isName Returns whether a point is on the names of rows.
- * @property {(from: Point, to: Point) => void} dragRow Moves the row whose name is at one point to the other point.
- * @property {(point: Point | null) => void} hover Handles a pointer at a point without a press; null if the pointer has left or is pressed.
- * @property {(pixels: number) => void} pan Moves the visible part, to later moments if `pixels` is positive.
- * @property {(factor: number, x: number) => void} zoom Shows `factor` times as many pixels per cycle, around the moment at `x`.
+ * @property {(point: Point) => boolean} isName Returns true if a point is on the row names.
+ * @property {(from: Point, to: Point) => void} dragRow Moves the row whose name is at `from` to the position `to`.
+ * @property {(point: Point | null) => void} hover Handles a pointer that hovers at a point; null if the pointer has left or is pressed.
+ * @property {(pixels: number) => void} pan Moves the visible part; positive numbers move to later moments.
+ * @property {(factor: number, x: number) => void} zoom Multiplies the pixels per cycle by `factor`. The moment at `x` stays in place.
  */
 
-/** The maximum distance in pixels that a pointer moves in a click. */
+/** The maximum distance in pixels that the pointer can move in a click. */
 const CLICK_DISTANCE = 5;
-/** The zoom factor of a turn of the wheel. */
+/** The zoom factor of one wheel step. */
 const WHEEL_FACTOR = 1.25;
 
 export class WavePointers {
@@ -31,7 +31,7 @@ export class WavePointers {
   constructor(node, calls) {
     this.node = node;
     this.calls = calls;
-    /** @type {Map<number, Point>} the pointers that are down */
+    /** @type {Map<number, Point>} the pressed pointers, by pointer id */
     this.down = new Map();
     this.begun = { x: 0, y: 0 };
     this.hasMoved = false;
@@ -104,7 +104,8 @@ export class WavePointers {
   }
 
   /**
-   * Handles a turn of the wheel. It zooms at the pointer, pans if the turn is sideways or with Shift, and scrolls the rows at their names.
+   * Handles a wheel event. A vertical turn zooms at the pointer, or scrolls the rows if the pointer is on their names. A sideways turn, or a turn
+   * with Shift, pans.
    * @param {WheelEvent} event
    */
   turn(event) {

@@ -1,11 +1,11 @@
-// The table of values at the cursors. It is filled while it is open.
+// The table of values at the cursors. It is updated only while it is open.
 
 import { Cell, block, byId, element } from "../ui/dom.js";
 
 /** @typedef {import("../../core/waves/wave_recording.js").Waves} Waves */
 
 export class WaveValues {
-  /** @param {() => void} opened called when the table is opened or closed */
+  /** @param {() => void} opened called after the table has been opened or closed */
   constructor(opened) {
     this.node = byId("wave-values", HTMLDetailsElement);
     /** @type {number[]} the line of each row */

@@ -1,4 +1,4 @@
-// The view of the waves: the canvas, the cursors, and texts with their values.
+// The view of the waves: the canvas, the cursors, and texts with the values at the cursors.
 
 import { Cell, block, button, byId, field, onClick, pressedSwitch } from "../ui/dom.js";
 import { AXIS, ROW, drawWaves } from "./wave_canvas.js";
@@ -23,25 +23,25 @@ import * as say from "../../words/waves.js";
  */
 
 /**
- * The calls that the view of the waves makes.
+ * The callbacks of the wave view.
  * @typedef {object} WaveViewCalls
- * @property {(address: number) => void} goTo Shows the line of an address in source and listing.
- * @property {(name: string) => void} hide Hides a line, by its name.
+ * @property {(address: number) => void} goTo Shows an address in the source and in the disassembly.
+ * @property {(name: string) => void} hide Hides a line by its name.
  * @property {(rows: KeptRows) => void} keep Stores the arrangement of the rows.
  */
 
-/** The zoom factor of a button or a key. */
+/** The zoom factor of one click or key press. */
 const ZOOM = 2;
-/** The width in pixels of the names of lines. */
+/** The width in pixels of the gutter with the line names. */
 const GUTTER = 150;
-/** The width in pixels of the names of lines in a narrow view. */
+/** The width in pixels of that gutter in a narrow view. */
 const NARROW_GUTTER = 112;
-/** A view of fewer pixels is narrow. */
+/** The width in pixels below which a view is narrow. */
 const NARROW = 600;
 /** The maximum number of rows that are visible without scrolling. */
 const MAX_ROWS = 20;
 
-/** The CSS property of each colour. */
+/** The CSS property that defines each colour. */
 const COLOURS = {
   ink: "--wave-ink", faint: "--wave-faint", grid: "--wave-grid", sheet: "--wave-sheet", chosen: "--wave-chosen", first: "--wave-first",
   second: "--wave-second", measured: "--wave-measured",
@@ -59,26 +59,26 @@ export class WaveView {
     this.room = block("wave-room");
     /** @type {Waves | null} */
     this.waves = null;
-    /** @type {number[]} the lines that are shown, in the order of the board */
+    /** @type {number[]} the lines to show, in board order */
     this.chosen = [];
     this.arrangement = new WaveRows();
     /** @type {WaveRow[]} */
     this.rows = [];
-    /** @type {WaveRow | null} the row that is dragged by its name */
+    /** @type {WaveRow | null} the row that the user drags by its name; null if there is none */
     this.dragged = null;
-    /** @type {Point | null} the position of the pointer, if nothing is pressed */
+    /** @type {Point | null} the position of the hovering pointer; null if it has left or is pressed */
     this.pointer = null;
     this.measure = block("wave-measure");
     this.measured = new Cell(this.measure);
     this.menu = new RowMenu(this);
-    /** The index of the selected row, in which edges are searched; -1 for none. */
+    /** The index of the selected row, or -1 if there is none. Edges are searched in this row. */
     this.selected = -1;
     this.view = new WaveWindow(0);
-    /** True if a drawing is requested. */
+    /** True if a drawing has been requested but not executed. */
     this.isRequested = false;
-    /** @type {Base} the base of numbers */
+    /** @type {Base} the number base of values */
     this.base = "hex";
-    /** The moment of the trigger, -1 for none. */
+    /** The moment of the trigger, or -1 if there is none. */
     this.trigger = -1;
     this.status = ["wave-first", "wave-second", "wave-between"].map((id) => new Cell(block(id)));
     this.active = [pressedSwitch(button("cursor-a")), pressedSwitch(button("cursor-b"))];
@@ -123,18 +123,18 @@ export class WaveView {
     return this.scroll.clientWidth < NARROW ? NARROW_GUTTER : GUTTER;
   }
 
-  /** The line of the selected row, -1 for none. */
+  /** The line of the selected row, or -1 if there is none. */
   get line() {
     return this.selected < 0 ? -1 : this.rows[this.selected].line;
   }
 
-  /** The names of the lines that are shown, in the order of their rows. */
+  /** The names of the visible lines, in row order. */
   get names() {
     const { waves, arrangement, chosen } = this;
     return waves ? arrangement.ordered(chosen.map((line) => waves.lines[line].name)) : [];
   }
 
-  /** The lines that are shown, in the order of their rows. */
+  /** The visible lines, in row order. */
   get lines() {
     const { waves, names, chosen } = this;
     const numbers = new Map(waves ? chosen.map((line) => [waves.lines[line].name, line]) : []);
@@ -150,8 +150,8 @@ export class WaveView {
   }
 
   /**
-   * Handles a recording that has become longer at its end, or shorter at its beginning.
-   * @param {number} trigger the moment of its trigger, -1 for none
+   * Handles a recording that has grown at its end or lost its beginning.
+   * @param {number} trigger the moment of the trigger, or -1 if there is none
    */
   grow(trigger) {
     if (!this.waves) return;
@@ -160,7 +160,7 @@ export class WaveView {
     this.requestDrawing();
   }
 
-  /** Shows the whole of a finished recording, with the cursors at the first two edges of the first row that has edges. */
+  /** Shows the whole of a finished recording. Puts the cursors on the first two edges of the first row that has edges. */
   fit() {
     const { waves, view, rows } = this;
     const row = rows.find(({ line }) => waves !== null && line >= 0 && waves.changesOf(line).length > 0);
@@ -170,28 +170,28 @@ export class WaveView {
   }
 
   /**
-   * Shows a moment and its surroundings.
+   * Shows a moment and the cycles around it.
    * @param {number} moment
    */
   showAround(moment) {
     this.changeView(() => this.view.showAround(moment));
   }
 
-  /** @param {Base} base the base of numbers */
+  /** @param {Base} base the number base of values */
   setBase(base) {
     this.base = base;
     if (this.waves) this.waves.base = base;
     this.requestDrawing();
   }
 
-  /** @param {number[]} lines the lines to show, in the order of the board */
+  /** @param {number[]} lines the lines to show, in board order */
   choose(lines) {
     this.chosen = lines;
     this.arrange(this.rows[this.selected]);
   }
 
   /**
-   * Arranges the rows again, because they have changed or moved.
+   * Arranges the rows again after they have changed or moved.
    * @param {WaveRow | undefined} marked the row to select
    */
   arrange(marked) {
@@ -206,7 +206,7 @@ export class WaveView {
   }
 
   /**
-   * Returns the index of a row after a change, or -1 if the row is no longer shown.
+   * Returns a row's index after a change, or -1 if the row is no longer visible.
    * @param {WaveRow} row
    */
   rowOf({ line, group }) {
@@ -220,14 +220,14 @@ export class WaveView {
 
   // --- the arrangement of rows ---
 
-  /** @param {KeptRows | undefined} kept the arrangement of a session */
+  /** @param {KeptRows | undefined} kept the stored arrangement of a session */
   open(kept) {
     this.arrangement = new WaveRows(kept);
     this.arrange(undefined);
   }
 
   /**
-   * Changes the arrangement of rows, and stores it.
+   * Changes the arrangement of the rows and stores it.
    * @param {() => void} act
    */
   rearrange(act) {
@@ -260,7 +260,7 @@ export class WaveView {
   }
 
   /**
-   * Changes the appearance of lines.
+   * Changes the appearance of lines, by name.
    * @param {string[]} names
    * @param {import("../../core/waves/wave_rows.js").RowLook} look
    */
@@ -277,7 +277,7 @@ export class WaveView {
   }
 
   /**
-   * Opens the menu of the row at the pointer, or of the selected row if a key has asked for the menu.
+   * Opens the menu of the row under the pointer, or of the selected row if a key has opened the menu.
    * @param {MouseEvent} event
    */
   openMenu(event) {
@@ -293,7 +293,7 @@ export class WaveView {
 
   // --- measurements ---
 
-  /** @param {Point | null} point the position of the pointer; null if the pointer is pressed or has left */
+  /** @param {Point | null} point the pointer's position; null if the pointer is pressed or has left */
   hover(point) {
     this.pointer = point;
     if (!point) this.dragged = null;
@@ -301,7 +301,7 @@ export class WaveView {
   }
 
   /**
-   * Shows the measurement at the pointer as a text next to it. Returns the part of the row to underline.
+   * Shows the measurement at the pointer in a text beside it. Returns the part of the row to underline, or null if there is no measurement.
    * @param {Waves} waves
    * @returns {import("./wave_canvas.js").Stretch | null}
    */
@@ -335,7 +335,7 @@ export class WaveView {
     this.changeView(() => this.view.move(moment));
   }
 
-  /** @param {number} cursor 0 for A, 1 for B */
+  /** @param {number} cursor 0 for cursor A, 1 for cursor B */
   activate(cursor) {
     this.changeView(() => {
       this.view.active = cursor;
@@ -344,7 +344,7 @@ export class WaveView {
   }
 
   /**
-   * Zooms around the cursor if it is visible, otherwise around the middle.
+   * Zooms around the active cursor if it is visible, otherwise around the middle of the view.
    * @param {number} factor
    */
   zoom(factor) {
@@ -354,7 +354,7 @@ export class WaveView {
   }
 
   /**
-   * Moves the cursor to the next or the previous edge in the selected row.
+   * Moves the active cursor to the next or previous edge of the selected row.
    * @param {boolean} isForward
    */
   toEdge(isForward) {
@@ -364,12 +364,12 @@ export class WaveView {
     if (edge !== undefined) this.move(edge);
   }
 
-  /** Shows the instruction at the active cursor in the program. */
+  /** Shows the instruction at the active cursor in the source and the disassembly. */
   showInstruction() {
     if (this.waves) this.calls.goTo(this.waves.counterAt(this.view.moment));
   }
 
-  /** Handles Enter: shows the instruction at the cursor, or folds the selected group. */
+  /** Handles Enter: folds the selected group, or shows the instruction at the cursor. */
   enter() {
     const row = this.rows[this.selected];
     if (row && row.line < 0) this.fold(row.group);
@@ -377,7 +377,7 @@ export class WaveView {
   }
 
   /**
-   * Selects the row of a line, if it is shown.
+   * Selects the row of a line if it is visible.
    * @param {number} line
    */
   mark(line) {
@@ -432,7 +432,7 @@ export class WaveView {
       p: () => this.toEdge(false), n: () => this.toEdge(true), a: () => this.activate(0), b: () => this.activate(1),
     };
     const act = acts[event.key] || acts[event.key.toLowerCase()];
-    // Keys that are pressed here must not press keys of the board.
+    // Keys that are pressed on the canvas must not press the board's keys.
     if (event.key.length === 1 || act) event.stopPropagation();
     if (!act) return;
     event.preventDefault();
@@ -441,7 +441,7 @@ export class WaveView {
 
   // --- drawing ---
 
-  /** Requests one drawing, at the next frame of the browser. */
+  /** Requests one drawing at the next animation frame. */
   requestDrawing() {
     if (this.isRequested || !this.waves) return;
     this.isRequested = true;
@@ -475,7 +475,7 @@ export class WaveView {
     const { scroll, canvas, gutter } = this;
     const [width, height] = [scroll.clientWidth, scroll.clientHeight];
     const ratio = devicePixelRatio || 1;
-    // Setting a canvas to its present size clears it, too.
+    // Setting the size also clears the canvas, even if the size is unchanged.
     canvas.width = Math.round(width * ratio);
     canvas.height = Math.round(height * ratio);
     canvas.style.setProperty("width", `${width}px`);
@@ -488,7 +488,7 @@ export class WaveView {
   }
 
   /**
-   * Returns the picture with all its rows.
+   * Returns the picture with all rows, including those that are scrolled out of view.
    * @param {Waves} waves
    * @returns {Picture}
    */

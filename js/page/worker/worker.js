@@ -1,4 +1,4 @@
-// The worker of the bench: it serves one request after the other, and between requests it lets time run at full speed.
+// The bench's worker. It serves one request after another. Between requests, it lets time run at full speed if requested.
 
 import { BenchCalls } from "../../core/engine/bench_calls.js";
 import { earlySender } from "../bench/early_replies.js";
@@ -13,14 +13,14 @@ import { packFault } from "../../core/bench/faults.js";
  *   addEventListener: (kind: "message", listen: (event: { data: ToWorker }) => void) => void }} Scope
  */
 
-/** The interval in milliseconds between reports of progress. */
+/** The interval in milliseconds between progress reports. */
 const PROGRESS_INTERVAL = 100;
 
-/** @type {Record<string, true>} calls that change the session, also while time is running */
+/** @type {Record<string, true>} the calls that change the session even while time is running */
 const CHANGES = { serve: true, serveTyped: true, goOn: true, goBack: true, goForward: true };
 
 /**
- * Returns whether a call runs time after a key press. The user waits for the lamps of such a run.
+ * Returns true if a call runs time after a key press. The user is waiting for the lamps after such a run.
  * @param {string} call
  * @param {any[]} words
  */
@@ -36,11 +36,11 @@ class BenchWorker {
     this.calls = new BenchCalls((done, total) => this.reportProgress(done, total));
     /** @type {Request[]} */
     this.requests = [];
-    /** The number of the request under way. */
+    /** The number of the request in progress. */
     this.current = 0;
-    /** The number of the request to cancel. */
+    /** The number of the last request that the page has cancelled. */
     this.cancelled = 0;
-    /** The time of the last report of progress. */
+    /** The time of the last progress report, in milliseconds. */
     this.status = 0;
     this.wake = () => {};
     this.resume = () => {};
@@ -70,7 +70,7 @@ class BenchWorker {
     this.scope.postMessage(message, transfer);
   }
 
-  /** Resolves after the messages that have arrived meanwhile are handled. */
+  /** Resolves after the messages that have arrived in the meantime are handled. */
   yieldToMessages() {
     return new Promise((done) => {
       this.resume = () => done(undefined);
@@ -98,7 +98,7 @@ class BenchWorker {
   async answer({ number, call, words }) {
     this.current = number;
     this.status = performance.now();
-    // The run before a call is reported before the call.
+    // Report the run before the call first.
     if (CHANGES[call] && this.calls.bench.fullSpeed.isOn) this.postFrame(this.calls.bench.takeUnreported());
     try {
       const result = await (/** @type {any} */ (this.calls))[call](...words);
@@ -126,7 +126,7 @@ class BenchWorker {
   }
 
   /**
-   * Reports progress between the pieces of long work. Resolves to whether the work continues.
+   * Reports progress between the pieces of long work. Resolves to false if the page has cancelled the work.
    * @param {number} done
    * @param {number} total
    */
