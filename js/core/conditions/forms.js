@@ -1,5 +1,5 @@
-// Compiles the conditions that begin with a keyword: `lamps`, `display` and `printed` for the front panel, `cycles`, and `chain0` for the
-// bits of a chain. Also compiles a condition that the program counter is at an address. The parser has split each into words.
+// Compiles conditions that start with a keyword: `lamps`, `display` and `printed` for the front panel, `cycles`, and `chain0` for the bits of a
+// chain. Also compiles conditions on the program counter. The parser has already split them into words.
 
 import { hex, upTo } from "../bench/numbers.js";
 import { DisplayText } from "../board/display_text.js";
@@ -17,14 +17,14 @@ import * as say from "../../words/conditions.js";
  * @typedef {import("./meaning.js").Meaning} Meaning
  * @typedef {import("./values.js").Looked} Looked
  *
- * The parts of such a condition. `what` names the measured thing, and `isMany` is true if that name is a plural. `want` is the text of the
- * required value. `measure` returns the text of the actual value, `matches` compares it, and `remark` returns a remark for the message.
+ * The parts of a keyword condition. `what` names the measured value; `isMany` is true if that name is plural. `want` is the text of the required
+ * value. `measure` returns the text of the actual value, `matches` compares it, and `remark` returns an addition to the message.
  * @typedef {{ what: string, want: string, isMany?: boolean, measure: (values: string[], beside: Beside) => string,
  *   matches: (is: string, beside: Beside) => boolean, remark?: (is: string) => string, address?: number }} Asked
  */
 
 /**
- * Returns the compiled condition with these parts.
+ * Compiles a keyword condition from its parts.
  * @param {Asked} asked
  * @returns {Meaning}
  */
@@ -40,7 +40,7 @@ function meaningOfForm({ what, want, isMany = false, measure, matches, remark, a
 }
 
 /**
- * Returns whether a text matches a pattern, in which `?` is any character.
+ * Returns whether a text matches a pattern. `?` in the pattern stands for any character.
  * @param {string} text
  * @param {string} pattern
  */
@@ -48,12 +48,12 @@ function matchesPattern(text, pattern) {
   return text.length === pattern.length && [...pattern].every((mark, at) => mark === "?" || mark === text[at]);
 }
 
-/** @type {(value: string) => string} returns the marks of all lamps, from the value of the place `lamps` */
+/** @type {(value: string) => string} converts the value of the place `lamps` to lamp marks */
 const marksOf = (value) => (value === "-" ? "" : value);
 
 /**
- * Returns whether a lamp without a name belongs to a display.
- * @param {number} at the number of the lamp
+ * Returns whether a lamp is an unnamed lamp of a display.
+ * @param {number} at the lamp number
  * @param {Names} names
  */
 function isOfDisplay(at, { face }) {
@@ -62,8 +62,8 @@ function isOfDisplay(at, { face }) {
 }
 
 /**
- * Compiles `lamps` with a pattern of `*` (on), `.` (off) and `?` (any), or with the names of all lamps that must be on. With names, the
- * unnamed lamps of a display are ignored.
+ * Compiles `lamps` with a pattern of `*` (on), `.` (off) and `?` (any), or with the names of all lamps that must be on. With names, unnamed display
+ * lamps are ignored.
  * @param {string[]} words
  * @param {Names} names
  * @param {Looked} looked
@@ -89,8 +89,8 @@ export function lampsMeaning(words, names, looked) {
 }
 
 /**
- * Compiles `display 42`, for the number on the display, or `display 0 overflow`, for the number and the names of lamps, in the spelling of
- * `mcs4 display`. Multiplexed digits count as perceived.
+ * Compiles `display 42` for the number on the display, or `display 0 overflow` for the number and lamp names as `mcs4 display` prints them. For
+ * multiplexed digits, the perceived number counts.
  * @param {string[]} words
  * @param {Names} names
  * @param {Looked} looked
@@ -115,7 +115,7 @@ export function displayMeaning(words, names, looked) {
 }
 
 /**
- * Compiles `printed 12+ 30= 42`, for the last words of the printout. The word `nothing` stands for an empty printout.
+ * Compiles `printed 12+ 30= 42`, which compares the last printed words. The word `nothing` stands for an empty printout.
  * @param {string[]} words
  * @param {Names} names
  * @param {Looked} looked
@@ -131,7 +131,7 @@ export function printedMeaning(words, { face, board }, looked) {
 }
 
 /**
- * Compiles `cycles 538`, `cycles at most 20 ms` or `cycles at least 1 s`, for the cycles since the last mark in a test.
+ * Compiles `cycles 538`, `cycles at most 20 ms` or `cycles at least 1 s`, which compare the cycles since the last mark in a test.
  * @param {string[]} words
  * @param {Names} names
  * @param {Looked} looked
@@ -150,8 +150,8 @@ export function cyclesMeaning(words, names, looked) {
 }
 
 /**
- * Compiles `chain0 1100??????`, for the bits of a chain.
- * @param {string} name of the chain
+ * Compiles `chain0 1100??????`, which compares the bits of a chain.
+ * @param {string} name the name of the chain
  * @param {string[]} words
  * @param {Names} names
  * @param {Looked} looked
@@ -167,7 +167,7 @@ export function chainMeaning(name, words, { board }, looked) {
 }
 
 /**
- * Returns the text of an address with its name in the program: `012 (next + 2)`.
+ * Returns an address with its program name: `012 (next + 2)`.
  * @param {number} address
  * @param {Names} names
  */
@@ -177,9 +177,9 @@ function namedAddress(address, { map }) {
 }
 
 /**
- * Compiles the condition that the program counter is at an address, between two instructions.
+ * Compiles a comparison of the program counter with an address. It is true only between two instructions.
  * @param {number} address
- * @param {string} want the address in the condition's spelling
+ * @param {string} want the address as written in the condition
  * @param {Names} names
  * @param {Looked} looked
  */

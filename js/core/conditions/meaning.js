@@ -1,5 +1,5 @@
-// Compiles the syntax tree of a condition, for a board and a program, to functions that evaluate it on the bench's answers. Collects the
-// places that the condition depends on. This module does not simulate the machine.
+// Compiles a condition's syntax tree, for a board and a program, into functions that evaluate it on the bench's answers. Collects the places that the
+// condition depends on. This module does not simulate the machine.
 
 import { chainMeaning, counterMeaning, cyclesMeaning, displayMeaning, lampsMeaning, printedMeaning } from "./forms.js";
 import { fail } from "./scanner.js";
@@ -18,7 +18,7 @@ import * as say from "../../words/conditions.js";
  * @typedef {import("./values.js").Looked} Looked
  * @typedef {import("./values.js").Value} Value
  *
- * A compiled condition. `explain` returns a message with the actual and the required value, or, with `isNot`, with the forbidden value.
+ * A compiled condition. `explain` returns a message with the actual and the required value; if `isNot` is true, with the forbidden value.
  * `address` is the address in a condition `pc = ADDRESS`, otherwise -1.
  * @typedef {{ matches: (values: string[], beside: Beside) => boolean,
  *   explain: (values: string[], beside: Beside, isNot: boolean) => string, address: number }} Meaning
@@ -30,11 +30,11 @@ const COMPARISONS = {
   ">": (is, than) => is > than, ">=": (is, than) => is >= than,
 };
 
-/** @type {Record<string, (words: string[], names: Names, looked: Looked) => Meaning>} the compilers of conditions, by keyword */
+/** @type {Record<string, (words: string[], names: Names, looked: Looked) => Meaning>} the condition compilers, by keyword */
 const COMPILERS = { lamps: lampsMeaning, display: displayMeaning, printed: printedMeaning, cycles: cyclesMeaning };
 
 /**
- * Returns the compiled comparison of two values.
+ * Compiles a comparison of two values.
  * @param {Value} value
  * @param {CompareNode["sign"]} sign
  * @param {Value} wanted
@@ -54,9 +54,9 @@ function comparedMeaning(value, sign, wanted) {
 }
 
 /**
- * Throws `Unreadable` if a value is compared with a constant above its maximum.
+ * Throws `Unreadable` if the constant in a comparison exceeds the maximum of the other value.
  * @param {Value} value
- * @param {ValueNode} node of the constant
+ * @param {ValueNode} node the syntax node of the constant
  * @param {Value} wanted the constant
  */
 function checkRange(value, node, wanted) {
@@ -85,7 +85,7 @@ function compareMeaning({ sign, left, right }, names, looked) {
 }
 
 /**
- * Compiles a place with its value, such as `r0 5`. Several values after a RAM character belong to that character and the next ones.
+ * Compiles a place followed by its value, such as `r0 5`. Several values after a RAM character apply to that character and the following ones.
  * @param {HoldsNode} node
  * @param {Names} names
  * @param {Looked} looked
@@ -110,7 +110,7 @@ function holdsMeaning({ place, values, text, column }, names, looked) {
 }
 
 /**
- * Compiles a condition that begins with a keyword.
+ * Compiles a condition that starts with a keyword.
  * @param {FormNode} node
  * @param {Names} names
  * @param {Looked} looked
@@ -139,9 +139,9 @@ function panelMeaning({ what, name, isOn }, names, looked) {
 }
 
 /**
- * Returns the opposite of a compiled condition.
+ * Negates a compiled condition.
  * @param {Meaning} meaning
- * @param {string} text of the condition if it is joined by `and` or `or`, otherwise ""
+ * @param {string} text the condition's text if it is joined by `and` or `or`, otherwise ""
  * @returns {Meaning}
  */
 function notMeaning(meaning, text) {
@@ -155,7 +155,7 @@ function notMeaning(meaning, text) {
 }
 
 /**
- * Returns the conjunction or disjunction of compiled conditions.
+ * Joins compiled conditions with `and` or `or`.
  * @param {"or" | "and"} operator
  * @param {Meaning[]} parts
  * @param {string} text
@@ -180,7 +180,7 @@ function joinedMeaning(operator, parts, text) {
  * Compiles a condition.
  * @param {ConditionNode} node
  * @param {Names} names
- * @param {Looked} looked receives the places that the condition depends on
+ * @param {Looked} looked collects the places that the condition depends on
  * @returns {Meaning}
  */
 export function meaningOf(node, names, looked) {
