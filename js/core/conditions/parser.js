@@ -398,7 +398,7 @@ class Parser {
   }
 
   /**
-   * Parses `display TEXT`, with an optional `=` or `!=` before the text.
+   * Parses `display TEXT`, with an optional `=` or `!=` before TEXT.
    * @param {Token} head
    * @returns {ConditionNode}
    */

@@ -8,9 +8,9 @@
 //     while (debug.isMoving) { const { stop } = debug.advance(FRAME_CYCLES); if (stop) .. }    for a goal that is not near
 //     debug.values(["r4", "lamps"]); await debug.goBack({ kind: "instruction" }, shouldContinue); debug.goForward();
 //
-// A move has a goal (goals.js). A near goal is reached at once. For any other goal, `isMoving` is true until `advance` reports a stop or
-// `drop` is called. A breakpoint that always stops is set in the bench (`break`). A breakpoint with a condition, a hit count or a note is
-// found ahead (arrivals.js); the session file does not contain it.
+// A move has a goal (goals.js). The debugger reaches a near goal at once. For any other goal, `isMoving` is true until `advance` reports a stop or
+// the caller calls `drop`. A breakpoint that always stops is set in the bench (`break`). Breakpoints with a condition, a hit count or a note are
+// found in advance (arrivals.js); the session file does not contain them.
 
 import { readBoard, readRun } from "../bench/answers.js";
 import { hex } from "../bench/numbers.js";

@@ -17,7 +17,7 @@ import { parseCounter } from "./goals.js";
  * @typedef {import("./arrivals.js").SoftBreakpoint} SoftBreakpoint
  */
 
-/** The lines that set or delete breakpoints and watches. */
+/** Matches lines that set or delete breakpoints or watches. */
 const MARK_LINE = /^(un)?(break|watch) /;
 /** The length of a JMS in cycles. */
 const JMS_CYCLES = 2;

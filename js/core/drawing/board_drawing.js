@@ -92,7 +92,7 @@ export class Drawing {
     return done;
   }
 
-  /** Queues a reading of the text. */
+  /** After all earlier actions, reads the text if it has changed, and shows the board. */
   look() {
     return this.inTurn(() => this.readText());
   }

@@ -1,4 +1,4 @@
-// Generates the source of a routine that scans the key matrix of the session's board.
+// Generates the source of a routine that scans the key matrix on the session's board.
 
 import { upTo } from "../bench/numbers.js";
 import * as say from "../../words/key_scan.js";
@@ -7,21 +7,21 @@ import * as say from "../../words/key_scan.js";
  * @typedef {import("../bench/answers.js").Board} Board
  * @typedef {import("../bench/answers.js").Matrix} Matrix
  *
- * A line of a port. `bank`: the bank to select with DCL, -1 for a ROM. `source`: the SRC byte that selects the port. `write`: the
- * instruction that writes the port. `title`: the name of the port. `bit`: the value of the line's bit.
+ * The port of a signal line. `bank`: the bank that DCL selects, -1 for a ROM. `source`: the SRC byte that selects the port. `write`: the instruction
+ * that writes to the port. `title`: the name of the port. `bit`: the bit value of the line.
  * @typedef {{ bank: number, source: number, write: string, title: string, bit: number }} Port
  *
- * A line of source: its label ("" for none), its instruction with operands, and its comment.
+ * A source line: its label ("" for none), its instruction with operands, and its comment.
  * @typedef {[label: string, instruction: string[], comment?: string]} Line
  */
 
 const LABEL_WIDTH = 12;
 const COMMENT_COLUMN = 32;
-/** The number of values of a register, and the maximum number of rounds in an ISZ loop. */
+/** The number of register values, which is also the maximum number of rounds in an ISZ loop. */
 const REGISTER_VALUES = 16;
 
 /**
- * Returns the port of a line.
+ * Returns the port of a signal line.
  * @param {string} line such as `rom0.2` or `ram1.3.0`
  * @returns {Port}
  */
@@ -32,14 +32,14 @@ function portOf(line) {
   return { bank: numbers[0], source: numbers[1] * 64, write: "WMP", title: say.ramPort(numbers[0], numbers[1]), bit };
 }
 
-/** @type {(one: Port, other: Port) => boolean} returns whether two lines are at the same port */
+/** @type {(one: Port, other: Port) => boolean} returns whether two ports are the same */
 const isSame = (one, other) => one.title === other.title;
 
-/** @param {number} byte returns its hexadecimal numeral */
+/** @param {number} byte the byte; returns it as a hexadecimal numeral */
 const hexByte = (byte) => `0x${byte.toString(16).toUpperCase().padStart(2, "0")}`;
 
 /**
- * Returns the lines that select a port.
+ * Returns the source lines that select a port.
  * @param {Port} port
  * @returns {Line[]}
  */
@@ -50,7 +50,7 @@ function selected({ bank, source, title }) {
 }
 
 /**
- * Returns the text of a line.
+ * Formats a source line.
  * @param {Line} line
  */
 function textOf([label, instruction, comment = ""]) {
@@ -58,7 +58,7 @@ function textOf([label, instruction, comment = ""]) {
   return comment === "" ? code : `${code.padEnd(COMMENT_COLUMN)}; ${comment}`;
 }
 
-/** The labels of a routine, which do not occur in the text yet. */
+/** The labels of the routine. They must not occur in the text. */
 class Labels {
   /** @param {string} text */
   constructor(text) {
@@ -73,8 +73,8 @@ class Labels {
 }
 
 /**
- * Returns the lines that shift the 1 in the chain to the bit of row 0.
- * @param {number} first the number of that bit
+ * Returns the source lines that shift the 1 in the chain to the bit of row 0.
+ * @param {number} first the number of the bit for row 0
  * @param {Labels} labels
  * @returns {Line[]}
  */
@@ -93,7 +93,7 @@ function shiftToFirstRow(first, labels) {
 }
 
 /**
- * Returns the lines that read the columns and jump at the first one that is 1.
+ * Returns the source lines that read the columns and jump at the first column that is 1.
  * @param {string[]} columns
  * @param {Labels} labels
  * @returns {Line[]}
@@ -116,7 +116,7 @@ function readColumns(columns, labels) {
 }
 
 /**
- * Returns the subroutine that shifts a bit into the chain. It expects the value for the data port in the accumulator.
+ * Returns the subroutine that shifts one bit into the chain. It expects the value for the data port in the accumulator.
  * @param {Port} clock
  * @param {Port} data
  * @param {Labels} labels
@@ -136,7 +136,7 @@ function shiftLines(clock, data, labels) {
 }
 
 /**
- * Returns the comment lines before the routine.
+ * Returns the comment lines above the routine.
  * @param {Matrix} matrix
  * @param {Port} clock
  * @param {Port} data
@@ -153,9 +153,10 @@ function headOf({ chain, first, rows, columns }, clock, data, labels) {
 }
 
 /**
- * Returns the source of the routine; for a text without instructions, after a program that calls it. Returns "" for a board without keys.
+ * Returns the source of the routine. If the text has no instructions, a program that calls the routine precedes it. Returns "" for a board without
+ * keys.
  * @param {Board} board
- * @param {string} text of the source into which the routine is inserted
+ * @param {string} text the source that will contain the routine
  */
 export function keyScanOf({ matrix, chains }, text) {
   if (!matrix) return "";
@@ -182,13 +183,13 @@ export function keyScanOf({ matrix, chains }, text) {
 }
 
 /**
- * Returns the edit that inserts a routine into a text, with blank lines around it: after the line of the caret, or at the end without a
- * caret.
+ * Returns the edit that inserts a routine into a text, with blank lines around it. The routine goes after the caret line, or to the end if there is
+ * no caret.
  * @param {string} text
- * @param {number} line the line of the caret, 0 for none
+ * @param {number} line the caret line, 0 for none
  * @param {string} code the routine
- * @returns {{ edit: import("./text_edits.js").TextEdit, first: number, isEnd: boolean }} `first`: the line number of the routine's first
- *   line; `isEnd`: no text follows the routine
+ * @returns {{ edit: import("./text_edits.js").TextEdit, first: number, isEnd: boolean }} `first`: the number of the first routine
+ *   line; `isEnd`: true if no text follows the routine
  */
 export function placeOfRoutine(text, line, code) {
   const lines = text.split("\n");

@@ -1,4 +1,4 @@
-// The source text of a session's program: its names and lines, if the text assembles to the bytes in ROM.
+// The source text of a session's program. Its names and lines are valid if the text assembles to the bytes in ROM.
 
 import { hex } from "../bench/numbers.js";
 import { SourceMap } from "../machine/source_map.js";
@@ -10,17 +10,18 @@ import { readProgram } from "./program_check.js";
  * @typedef {import("./engine_host.js").EngineHost} EngineHost
  * @typedef {import("../testing/prepared.js").TextFault} TextFault
  *
- * The first difference between ROM and the program: the address, the byte in ROM, the source line, and the byte of that line.
+ * The first difference between ROM and the program: the address, the byte in ROM, the source line, and the byte that the line produces.
  * @typedef {{ address: string, is: string, line: number, makes: string }} OtherByte
  *
- * The program of a session by its text. The text has errors (`faults`), or ROM differs (`other`); otherwise `map` is the program's map.
+ * The program of a session, as described by its text. `faults` are the errors in the text, `other` is a difference from ROM, and `map` is the source
+ * map.
  * @typedef {{ faults: TextFault[], other: OtherByte | null, map: SourceMap }} SessionProgram
  */
 
 /**
- * Returns the first byte in ROM that differs from the program, or null.
+ * Returns the first byte in ROM that differs from the program; null if there is none.
  * @param {Uint8Array} codes the bytes in ROM
- * @param {Int16Array} bytes the program's bytes, negative where it has none
+ * @param {Int16Array} bytes the program bytes by address; negative for no byte
  * @param {SourceMap} map
  * @returns {OtherByte | null}
  */
@@ -30,7 +31,7 @@ function otherByte(codes, bytes, map) {
 }
 
 /**
- * Assembles a program's text. Returns its map and its byte at each address, or the errors.
+ * Assembles a program text. Returns its source map and its bytes by address, or the errors.
  * @param {EngineHost} engine
  * @param {string} text
  * @returns {{ faults: TextFault[], map: SourceMap, bytes: Int16Array }}
@@ -46,7 +47,7 @@ export function readSource(engine, text) {
 }
 
 /**
- * Assembles a program's text, and compares it with ROM.
+ * Assembles a program text and compares it with ROM.
  * @param {EngineHost} engine
  * @param {Uint8Array} codes the bytes in ROM
  * @param {string} text

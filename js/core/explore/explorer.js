@@ -1,4 +1,4 @@
-// The search for counterexamples, in a worker of its own.
+// Runs the search for counterexamples in a separate worker.
 
 import { OwnWorker } from "../bench/own_worker.js";
 
@@ -10,7 +10,7 @@ import { OwnWorker } from "../bench/own_worker.js";
  * @typedef {import("./exploring.js").Progress} Progress
  */
 
-/** The milliseconds between two reports of progress. */
+/** The interval between progress reports, in milliseconds. */
 const REPORT_TIME = 200;
 
 export class Explorer extends OwnWorker {
@@ -20,7 +20,7 @@ export class Explorer extends OwnWorker {
   }
 
   /**
-   * Searches until the time is over, nothing is left to search, or it is stopped.
+   * Searches until the time is over, nothing is left to search for, or the user stops it.
    * @param {ExploredTexts} texts
    * @param {Asked} asked
    * @param {AbortSignal} signal

@@ -1,4 +1,4 @@
-// The coverage so far: for each address whether an instruction began there, whether it jumped, and whether it continued.
+// The coverage so far. For each address: whether an instruction started there, whether it jumped, and whether it continued.
 
 import { ADDRESSES } from "../bench/rom_bytes.js";
 
@@ -9,7 +9,7 @@ const JUMPED = 2;
 const CONTINUED = 4;
 
 export class Coverage {
-  /** @param {string} [text] of another coverage */
+  /** @param {string} [text] the text of another coverage */
   constructor(text = "") {
     this.flags = new Uint8Array(ADDRESSES);
     [...text].forEach((digit, address) => {
@@ -18,7 +18,7 @@ export class Coverage {
   }
 
   /**
-   * Adds the report of `count`; returns whether any of it is new.
+   * Adds the answer to `count`; returns whether any of it is new.
    * @param {{ address: number, begun: number, jumped: number }[]} counts
    */
   add(counts) {
@@ -38,13 +38,13 @@ export class Coverage {
     });
   }
 
-  /** Returns a digit for each address, up to the last one where an instruction began. */
+  /** The coverage as text: one digit per address, up to the last address at which an instruction started. */
   get text() {
     return [...this.flags].join("").replace(/0+$/, "");
   }
 
   /**
-   * Returns how many of the program's instructions and branch directions were run, and the lines of the others.
+   * Returns the number of executed instructions and branch directions of the program, and the lines of the others.
    * @param {Instruction[]} instructions
    */
   summary(instructions) {

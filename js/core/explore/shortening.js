@@ -1,4 +1,4 @@
-// The minimising of a counterexample: steps are left out, waits are shortened, as long as the same property is violated.
+// Minimises a counterexample: removes steps and shortens waits as long as the same property is violated.
 
 import { LONGEST_RUN } from "../engine/key_queue.js";
 import { Watcher } from "./watching.js";
@@ -11,11 +11,11 @@ import { downAfter, downAtFirst, isSound, longestAfter } from "./walks.js";
  * @typedef {import("./walks.js").WalkStep} WalkStep
  */
 
-/** A step takes as long as this many cycles, in addition to those of its wait. */
+/** The cost of a step in cycles, in addition to its wait. */
 const COST_OF_STEP = 500;
-/** The extra cycles that are tried. */
+/** The maximum number of additional cycles to try for the first wait. */
 const PHASES = 256;
-/** The parts of a wait that are tried. */
+/** The fractions of a wait to try. */
 const PARTS = [0, 1 / 4, 1 / 2, 3 / 4, 7 / 8, 15 / 16, 63 / 64];
 
 export class Shortening {
@@ -24,12 +24,12 @@ export class Shortening {
    * @param {Campaign} campaign
    * @param {import("./watching.js").Start} start
    * @param {Find} find
-   * @param {number} patience the cycles to spend, so that the result is the same on each machine
-   * @param {() => Promise<void>} yieldToMessages between two tries
+   * @param {number} patience the maximum number of cycles to run; a limit in cycles gives the same result on every machine
+   * @param {() => Promise<void>} yieldToMessages called between two tries
    */
   constructor(subject, campaign, start, find, patience, yieldToMessages) {
     this.campaign = campaign;
-    // It checks only this property.
+    // The watcher checks only this property.
     this.watcher = new Watcher(subject, { ...campaign, properties: [campaign.properties[find.property]] }, null);
     this.start = { ...start, memories: [start.memories[find.property]] };
     this.property = find.property;
@@ -46,14 +46,14 @@ export class Shortening {
       isShorter = await this.leaveOut();
       isShorter = (await this.leaveOutPairs()) || isShorter;
       isShorter = (await this.wait()) || isShorter;
-      // This needs the most tries, so it comes last.
+      // This step needs the most tries, so it comes last.
       isShorter = isShorter || (await this.beginLater());
     }
     return { property: this.property, steps: this.steps, time: this.time };
   }
 
   /**
-   * Replaces the steps so far, if the property is violated by these.
+   * Replaces the current steps if the new steps also violate the property.
    * @param {WalkStep[]} steps
    */
   async take(steps) {
@@ -69,7 +69,7 @@ export class Shortening {
     return true;
   }
 
-  /** Leaves out steps, first many and then few. */
+  /** Removes steps: first many at a time, then few. */
   async leaveOut() {
     let isShorter = false;
     for (let size = Math.ceil(this.steps.length / 2); size >= 1; size = size > 1 ? Math.ceil(size / 2) : 0) {
@@ -83,7 +83,7 @@ export class Shortening {
   }
 
   /**
-   * Leaves out some steps with their waits, or without their waits.
+   * Removes some steps. First tries to remove their waits too.
    * @param {(index: number) => boolean} isOut
    */
   async takeWithout(isOut) {
@@ -93,7 +93,7 @@ export class Shortening {
   }
 
   /**
-   * Returns the steps without some, with the same total time; null if a wait would become too long.
+   * Returns the steps without some of them, with the same total time; null if a wait becomes too long.
    * @param {(index: number) => boolean} isOut
    */
   waiting(isOut) {
@@ -105,7 +105,7 @@ export class Shortening {
     for (const [at, step] of this.steps.entries()) {
       waited += step.wait;
       if (isOut(at)) continue;
-      // With nothing down, time may pass for longer; a wait is one run.
+      // If no input is down, a wait can be longer. Each wait must fit into one run.
       if (waited > (down.length > 0 ? campaign.longest : LONGEST_RUN)) return null;
       kept.push({ ...step, wait: waited });
       down = downAfter(down, step);
@@ -114,7 +114,7 @@ export class Shortening {
     return kept;
   }
 
-  /** Leaves out a press and its release. */
+  /** Removes a press and its release. */
   async leaveOutPairs() {
     for (let at = 0; at < this.steps.length; at++) {
       const { kind, input } = this.steps[at];
@@ -126,8 +126,8 @@ export class Shortening {
   }
 
   /**
-   * Leaves out everything before a moment at which nothing is down. The program's own work then happens at another time, so the wait after
-   * it is also tried with some more cycles.
+   * Removes everything before a moment at which no input is down. The program's own activity then has another phase, so the next wait is also tried
+   * with additional cycles.
    */
   async beginLater() {
     const { campaign, steps } = this;
@@ -138,7 +138,7 @@ export class Shortening {
       return isIdle ? [at] : [];
     });
     for (const at of idle.reverse()) {
-      // A wait is one run.
+      // A wait must fit into one run.
       for (let { wait } = steps[at]; wait < Math.min(steps[at].wait + PHASES, LONGEST_RUN + 1); wait++) {
         if (await this.take([{ ...steps[at], wait }, ...steps.slice(at + 1)])) return true;
       }
@@ -146,7 +146,7 @@ export class Shortening {
     return false;
   }
 
-  /** Makes waits shorter. */
+  /** Shortens waits. */
   async wait() {
     let isShorter = false;
     for (let at = 0; at < this.steps.length; at++) {

@@ -1,16 +1,16 @@
-// A number in large seven-segment digits, as five rows of characters.
+// Formats a number in large seven-segment digits: five rows of characters.
 
 import { patternOf } from "../board/digit_patterns.js";
 
 export const LARGE_ROWS = 5;
 const BLANK = " ";
 
-/** Returns whether a pattern has a segment, which is a letter from a to g. */
+/** Returns whether a pattern contains a segment; `letter` is a letter from a to g. */
 const has = (/** @type {number} */ pattern, /** @type {string} */ letter) => ((pattern >> "abcdefg".indexOf(letter)) & 1) === 1;
 
 /**
- * Returns the rows of one character.
- * @param {string} character a digit, another character of the display, or a dot
+ * Returns the rows of a character.
+ * @param {string} character a digit, another display character, or a dot
  */
 function characterRows(character) {
   if (character === ".") return [...Array(LARGE_ROWS - 1).fill("  "), "# "];
@@ -21,7 +21,7 @@ function characterRows(character) {
 }
 
 /**
- * Returns the rows of a number.
+ * Returns the rows of a whole number text.
  * @param {string} number
  */
 export function largeRows(number) {

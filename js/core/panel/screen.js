@@ -1,6 +1,6 @@
-// The rows of the panel's screen. The top rows show the session and its time, the display, registers, and the source at the counter. Below
-// are, side by side, RAM, the front panel and the listing. The last rows are a message and the help for keys. A row consists of pieces of
-// text; the piece of a lamp has the colour and brightness level of the lamp. js/node/panel_terminal.mjs positions the rows.
+// Builds the rows of the panel screen. The top rows show the session and its time, the display, the registers, and the source at the program counter.
+// Below, RAM, the front panel and the listing are side by side. The last rows are a message and the help for keys. A row consists of text pieces. The
+// piece of a lamp has its colour and brightness level. js/node/panel_terminal.mjs positions the rows.
 
 import { hex, upTo } from "../bench/numbers.js";
 import { printoutLines } from "../board/strip.js";
@@ -21,26 +21,26 @@ import * as say from "../../words/panel.js";
  * @typedef {{ pieces: Piece[], isInverse: boolean }} ScreenRow
  */
 
-/** The minimum size of a terminal. */
+/** The minimum terminal size. */
 export const MIN_SIZE = { rows: 24, columns: 80 };
 const TOP_ROWS = 10;
-/** The rows above and below RAM, front panel and listing. */
+/** The number of rows above and below the middle part (RAM, front panel and listing). */
 const OTHER_ROWS = TOP_ROWS + 2;
 const RAM_WIDTH = 28;
 const FRONT_WIDTH = 24;
-/** The minimum width of a key. */
+/** The minimum width of a key in characters. */
 const MIN_KEY_WIDTH = 3;
-/** The minimum rows of the printout. */
+/** The minimum number of printout rows. */
 const MIN_PRINTOUT_ROWS = 2;
-/** The maximum number of large characters, and the width of their rows. */
+/** The maximum number of large characters, and the width of their rows in characters. */
 const MAX_LARGE = 18;
 const LARGE_WIDTH = 58;
 
-/** @type {(text: string) => Piece} a piece that is not a lamp */
+/** @type {(text: string) => Piece} creates a piece that is not a lamp */
 const plain = (text) => ({ text, colour: "", level: 0 });
 
 /**
- * Cuts or pads a row of pieces to a width.
+ * Cuts or pads a row of pieces to a width in characters.
  * @param {Piece[]} pieces
  * @param {number} width
  */
@@ -63,14 +63,14 @@ export function hasRoom({ rows, columns }) {
 }
 
 /**
- * Returns the number of rows of RAM, front panel and listing.
+ * Returns the number of rows of the middle part (RAM, front panel and listing).
  * @param {ScreenSize} size
  */
 export function middleRows({ rows }) {
   return rows - OTHER_ROWS;
 }
 
-/** The screen of one panel. */
+/** The screen of a panel. */
 export class Screen {
   /** @param {Panel} panel */
   constructor(panel) {
