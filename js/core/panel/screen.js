@@ -139,7 +139,7 @@ export class Screen {
   }
 
   /**
-   * Returns the name of an address in the source; its hexadecimal digits if it has no name.
+   * Returns the name of an address; without a name, its hexadecimal digits.
    * @param {number} address
    */
   placeOf(address) {
@@ -147,7 +147,7 @@ export class Screen {
     return (source && source.map.nameOf(address)) || hex(address, 3);
   }
 
-  /** Returns the source line at the counter. */
+  /** Returns the source line at the program counter. */
   sourceText() {
     const { subject: { source }, seen: { counter } } = this.panel;
     if (!source) return "";
@@ -159,7 +159,7 @@ export class Screen {
   // --- RAM, front panel and listing ---
 
   /**
-   * Returns a row of RAM: a register or the port of a chip.
+   * Returns a RAM row: a register, or the port of a chip.
    * @param {number} at
    */
   ramText(at) {
@@ -176,7 +176,7 @@ export class Screen {
   }
 
   /**
-   * Returns a row of the listing, with marks for the counter and a breakpoint. If a source line begins at the address, the row shows it.
+   * Returns a listing row, with marks for the program counter and a breakpoint. If a source line starts at the address, the row shows the source.
    * @param {number} at
    */
   listingText(at) {
@@ -191,7 +191,7 @@ export class Screen {
   }
 
   /**
-   * Returns the rows of the front panel: keys, the switch at TEST, lamps and the printout.
+   * Returns the front-panel rows: keys, the button or switch at TEST, lamps and the printout.
    * @param {number} count
    */
   frontRows(count) {
@@ -221,8 +221,8 @@ export class Screen {
   }
 
   /**
-   * Returns the last lines of the printout, at least MIN_PRINTOUT_ROWS.
-   * @param {number} room the free rows
+   * Returns the last printout lines, at least MIN_PRINTOUT_ROWS.
+   * @param {number} room the number of free rows
    */
   printoutRows(room) {
     const { printing, printed, subject: { face } } = this.panel;
@@ -241,7 +241,8 @@ function testName({ name }) {
 }
 
 /**
- * Returns the label of a key: its name, with the character that presses it if that differs. A key without a name has only the character.
+ * Returns the label of a key: its name, and the character that presses it if this differs from the name. For an unnamed key, returns only the
+ * character.
  * @param {BoardKey} key
  */
 function labelOf({ legend, letter, isNamed }) {
@@ -250,7 +251,7 @@ function labelOf({ legend, letter, isNamed }) {
 }
 
 /**
- * Returns a source line without its comment and with short indentation.
+ * Returns a source line without its comment and with reduced indentation.
  * @param {string} line
  */
 function codeOf(line) {

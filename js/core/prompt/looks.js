@@ -1,4 +1,4 @@
-// The texts with which a prompt shows the state of a session: source, registers, RAM, ports, ROM, calls and breakpoints.
+// Formats the state of a session for a prompt: source, registers, RAM, ports, ROM, calls and breakpoints.
 
 import { counted, hex, numberOf, upTo } from "../bench/numbers.js";
 import { linesOfBreakpoints } from "../debug/breakpoint_lines.js";
@@ -21,7 +21,7 @@ function standingOf(session) {
 }
 
 /**
- * Returns a source line with its address, `>` at the next instruction and `*` at an enabled breakpoint.
+ * Returns a source line with its address. `>` marks the next instruction, and `*` an enabled breakpoint.
  * @param {DebugSession} session
  * @param {number} line
  */
@@ -36,7 +36,7 @@ export function sourceLine(session, line) {
 }
 
 /**
- * Returns the number of lines of the source.
+ * Returns the number of source lines.
  * @param {DebugSession} session
  */
 export function linesOfSource({ program }) {
@@ -44,10 +44,10 @@ export function linesOfSource({ program }) {
 }
 
 /**
- * Returns source lines; fails if the source ends before the first one.
+ * Returns source lines; fails if the first line is after the end of the source.
  * @param {DebugSession} session
  * @param {number} from
- * @param {number} to included
+ * @param {number} to the last line, inclusive
  */
 export function sourceLines(session, from, to) {
   const last = Math.min(to, linesOfSource(session));
@@ -56,7 +56,7 @@ export function sourceLines(session, from, to) {
 }
 
 /**
- * Returns the source line of the next instruction; if it has none, the disassembled instruction.
+ * Returns the source line of the next instruction. Without a source line, returns the disassembled instruction.
  * @param {DebugSession} session
  */
 export function nextInstruction(session) {
@@ -91,7 +91,7 @@ export function registerLines(session) {
 }
 
 /**
- * Returns the text of `info ram`: each register with its status characters, and the output ports.
+ * Returns the text of `info ram`: all registers with their status characters, and the output ports.
  * @param {DebugSession} session
  */
 export function ramLines(session) {
@@ -107,7 +107,7 @@ export function ramLines(session) {
 }
 
 /**
- * Returns the text of `info ports`: the SRC bytes, the ROM ports, the chains with their bits in groups of ten, and the keys that are down.
+ * Returns the text of `info ports`: the SRC bytes, the ROM ports, the chains with their bits in groups of ten, and the pressed keys.
  * @param {DebugSession} session
  */
 export function portLines(session) {
@@ -121,7 +121,7 @@ export function portLines(session) {
 }
 
 /**
- * Returns the keys that are down, as `row.column`.
+ * Returns the pressed keys as `row.column`.
  * @param {DebugSession} session
  */
 export function keysDown(session) {
@@ -146,7 +146,7 @@ export function addressText(session, address) {
 }
 
 /**
- * Returns the text of `info line`: the line of an instruction, with its addresses.
+ * Returns the text of `info line`: the source line of an instruction, with the instruction's addresses.
  * @param {DebugSession} session
  * @param {{ line: number, address: number }} place
  */
@@ -157,7 +157,7 @@ export function lineText(session, { line, address }) {
 }
 
 /**
- * Returns the text of `backtrace`, the newest frame first.
+ * Returns the text of `backtrace`, newest frame first.
  * @param {DebugSession} session
  */
 export function frameLines(session) {
@@ -179,7 +179,7 @@ export function nameLines({ map }) {
 /**
  * Returns the text of `info breakpoints`.
  * @param {DebugSession} session
- * @param {(id: number) => string} extraText returns text to add to a breakpoint
+ * @param {(id: number) => string} extraText returns the additional text for a breakpoint
  */
 export function breakpointLines({ breakpoints }, extraText) {
   const { all, kept } = breakpoints;
@@ -190,7 +190,7 @@ export function breakpointLines({ breakpoints }, extraText) {
 }
 
 /**
- * Returns RAM characters from a place on; fails if the board has no such place.
+ * Returns RAM characters, starting at a place; fails if the board does not have it.
  * @param {DebugSession} session
  * @param {string} text the place, such as `ram.0.0x10`
  * @param {number} count

@@ -1,4 +1,4 @@
-// Moves of the prompt that the debugger does not have: stepping back over a subroutine, and pressing a key while time passes.
+// Moves of the prompt in addition to those of the debugger: a step back over a subroutine, and a key press while time passes.
 
 import { isCall, isReturn } from "../engine/rom_codes.js";
 import { KEY_DOWN_CYCLES, TOOL_KEY_UP_CYCLES } from "../time/mcs4_time.js";
@@ -18,7 +18,8 @@ function nextCode(session) {
 }
 
 /**
- * Steps back over an instruction. If it is the return of a subroutine, goes back to the call; finds it by changes of the return addresses.
+ * Steps back over an instruction. If the instruction is the return of a subroutine, goes back to the call. Finds the call by the changes of the
+ * return addresses.
  * @param {DebugSession} session
  * @param {GoesOn} goesOn
  */
@@ -36,7 +37,7 @@ export async function backOver(session, goesOn) {
 }
 
 /**
- * Presses and releases a key while time passes. Resolves to the stop that ended it.
+ * Presses and releases a key while time passes. Resolves to the stop at the end.
  * @param {DebugSession} session
  * @param {import("../board/key_place.js").Key} key
  * @param {GoesOn} goesOn

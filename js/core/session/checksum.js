@@ -1,8 +1,8 @@
-// The checksum of POSIX's `cksum`, so that anyone can check a file with a system command.
+// Computes the checksum of the POSIX command `cksum`, so that a system command can verify a file.
 
 const POLYNOMIAL = 0x04c11db7;
 
-/** The effect of each byte value on the remainder. */
+/** The effect of each byte value on the CRC remainder. */
 const STEPS = Uint32Array.from({ length: 256 }, (_, value) => {
   let left = value << 24;
   for (let bit = 0; bit < 8; bit++) left = left < 0 ? (left << 1) ^ POLYNOMIAL : left << 1;
@@ -10,7 +10,7 @@ const STEPS = Uint32Array.from({ length: 256 }, (_, value) => {
 });
 
 /**
- * Returns the remainder after another byte.
+ * Returns the CRC remainder after another byte.
  * @param {number} sum
  * @param {number} byte
  */
@@ -19,7 +19,7 @@ function sumWith(sum, byte) {
 }
 
 /**
- * Returns the checksum of bytes and of their count, as an unsigned number.
+ * Returns the checksum of bytes and their count, as an unsigned number.
  * @param {Uint8Array} bytes
  */
 export function checksum(bytes) {
