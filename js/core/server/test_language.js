@@ -14,7 +14,7 @@ import * as say from "../../words/server.js";
  * @typedef {import("./open_text.js").OpenText} OpenText
  * @typedef {import("./lsp_protocol.js").Position} Position
  *
- * The first line of a test or of shared steps; `line` counts from 0, `from` and `to` are the columns of the name.
+ * The first line of a test or of shared steps. `line` counts from 0. `from` and `to` are the columns of the name.
  * @typedef {{ kind: "test" | "steps", name: string, line: number, from: number, to: number }} Head
  */
 

@@ -1,4 +1,4 @@
-// Prepares tests: loads the texts of a board and a program into a new session, and collects their names. Returns the errors of the texts.
+// Prepares tests: loads a board and a program into a new session and collects their names. Returns the errors in the texts.
 
 import { readBoard, refusalOf } from "../bench/answers.js";
 import { matchAnswers, readInputs } from "../bench/inputs.js";
@@ -13,8 +13,8 @@ import { romCodes } from "../engine/rom_codes.js";
  * @typedef {import("../engine/engine_host.js").EngineHost} Engine
  * @typedef {{ boardText: string, programText: string }} Texts
  *
- * An error in a text: its line (0 if unknown) and its message. `number` is the number of the bench's refusal, 0 if it is not one. `file` is
- * the name of a text of tests.
+ * An error in a text: its line (0 if unknown) and its message. `number` is the refusal number, 0 for an error that is not a refusal. `file` is the
+ * file name of a test text.
  * @typedef {{ text: "board" | "program" | "tests" | "properties", file?: string, line: number, number: number, words: string }} TextFault
  *
  * The session, the names, and the bytes in ROM.
@@ -22,7 +22,7 @@ import { romCodes } from "../engine/rom_codes.js";
  */
 
 /**
- * Returns the errors in the names of keys and lamps, and in displays.
+ * Returns the errors in key names, lamp names and displays.
  * @param {Face} face
  * @param {import("../bench/answers.js").Board} board
  * @returns {TextFault[]}
@@ -33,7 +33,7 @@ export function faultsOfNames(face, board) {
 }
 
 /**
- * Returns the errors because of which a text cannot be sent to the bench.
+ * Returns the errors that prevent the sending of a text to the bench.
  * @param {"board" | "program"} name
  * @param {string} text
  * @returns {TextFault[]}
@@ -43,7 +43,7 @@ export function faultsOfText(name, text) {
 }
 
 /**
- * Returns the error in an answer of the bench, if it is a refusal.
+ * Returns the refusal in an answer as a list of errors.
  * @param {"board" | "program"} name
  * @param {string} answer
  * @returns {TextFault[]}
@@ -54,7 +54,7 @@ function refusedBy(name, answer) {
 }
 
 /**
- * Wires a board in a new session. Returns the answers to `board`, or the error.
+ * Wires a board in a new session. Returns the answer to `board`, or the error.
  * @param {Engine} engine
  * @param {string} text
  * @returns {{ faults: TextFault[], answers: string[] }}

@@ -1,5 +1,5 @@
-// The sample test for a board without tests. It presses the board's first key, if there is one, and expects the result: the text of the
-// display, or a lamp that is on.
+// Creates a sample test for a board without tests. The test presses the first key of the board, if there is one, and expects the result: the display
+// text, or a lamp that is on.
 
 import { shownAnswers } from "../board/shown_answers.js";
 import { SEEN_QUERY, hasScannedDisplay } from "../engine/seen_text.js";
@@ -17,14 +17,14 @@ import { keysOf } from "./test_text.js";
  * @typedef {import("./prepared.js").Texts} Texts
  */
 
-/** The time that the key is down before the expectation, in milliseconds. */
+/** The time for which the key is down before the expectation, in milliseconds. */
 const HELD_MS = 50;
 
 /**
- * Resolves to conditions of tests that hold after a key was held, the best first.
+ * Resolves to test conditions that are true after the key was held, best first.
  * @param {Engine} engine
  * @param {Prepared} prepared
- * @param {string} press the command that presses the key, "" for none
+ * @param {string} press the command that presses the key; "" for no key
  */
 async function shownAfter(engine, { file, names: { face, board }, codes }, press) {
   const session = new TestSession(engine, file, new NoAccount(codes), async () => {});

@@ -1,4 +1,4 @@
-// Help and completions for a text of tests, from the manual's tables and the names of the board and the program.
+// Help and completions for test texts, from the manual's tables and the names of the board and the program.
 
 import { piecesOf, plain } from "../help/manual.js";
 import { withoutDescription } from "./completion.js";
@@ -12,14 +12,14 @@ import * as say from "../../words/text.js";
  */
 
 /**
- * A form of a line or a condition, as the manual writes it, its first word, and its description.
+ * A form of a line or condition as written in the manual, with its first word and its description.
  * @typedef {{ word: string, form: string, does: string }} Form
  * @typedef {{ steps: Form[], conditions: Form[] }} TestForms
  */
 
 
 /**
- * Returns the forms in the rows of a table. A row can have several forms.
+ * Returns the forms in table rows. A row can contain several forms.
  * @param {string[][]} rows
  * @returns {Form[]}
  */
@@ -39,7 +39,7 @@ export function formsOfTables(manual, title) {
 }
 
 /**
- * Returns the manual's forms of conditions, including conditions that only some texts allow.
+ * Returns the manual's forms of conditions, including conditions that are allowed only in some texts.
  * @param {ManualSection[]} manual
  */
 export function conditionForms(manual) {
@@ -48,7 +48,7 @@ export function conditionForms(manual) {
 }
 
 /**
- * Returns the manual's forms for lines of tests.
+ * Returns the manual's forms of test lines.
  * @param {ManualSection[]} manual
  * @returns {TestForms}
  */
@@ -68,9 +68,9 @@ export function fittings(forms) {
 }
 
 /**
- * Returns the words that can follow other words in a line.
+ * Returns the words that can come next in a line.
  * @param {string[]} before
- * @param {string} begun the word being typed
+ * @param {string} begun the unfinished word
  * @param {TestNames} names
  * @param {TestForms} forms
  * @returns {Fitting[]}
@@ -88,11 +88,11 @@ function wordsAfter(before, begun, { keys, lamps, labels }, forms) {
 const CONJUNCTIONS = new Set(["and", "or", "&&", "||"]);
 
 /**
- * Returns the words that can be next in a condition.
- * @param {string[]} before its words so far
+ * Returns the words that can come next in a condition.
+ * @param {string[]} before the words of the condition so far
  * @param {TestNames} names
  * @param {Form[]} conditions
- * @param {string[]} after the words that can follow the condition
+ * @param {string[]} after the words that can follow a complete condition
  * @returns {Fitting[]}
  */
 export function wordsOfCondition(before, { keys, lamps, labels }, conditions, after) {
@@ -108,10 +108,10 @@ export function wordsOfCondition(before, { keys, lamps, labels }, conditions, af
 }
 
 /**
- * Returns the completions of the word being typed.
+ * Returns the completions of the unfinished word.
  * @param {string} line
  * @param {number} at
- * @param {(before: string[], begun: string) => Fitting[]} fitting returns the words that can follow other words
+ * @param {(before: string[], begun: string) => Fitting[]} fitting returns the words that can come next
  * @returns {Completion}
  */
 export function completeWord(line, at, fitting) {
@@ -123,9 +123,9 @@ export function completeWord(line, at, fitting) {
 }
 
 /**
- * Returns the completions at a position in a text of tests.
+ * Returns the completions at a position in a test text.
  * @param {string[]} lines
- * @param {number} line counts from 0
+ * @param {number} line the line number from 0
  * @param {number} at
  * @param {TestNames} names
  * @param {TestForms} forms
@@ -138,7 +138,7 @@ export function completeTest(lines, line, at, names, forms) {
 }
 
 /**
- * Returns the words of a line up to the word at a position. Returns none if there is no word at the position, or if the line is a comment.
+ * Returns the words of a line up to the word at a position. Returns an empty list if there is no word at the position, or if the line is a comment.
  * @param {string} line
  * @param {number} at
  */
@@ -150,7 +150,7 @@ export function wordsUpTo(line, at) {
 }
 
 /**
- * Returns the description of a word from forms, or "".
+ * Returns the description of a word from the forms, or "".
  * @param {Form[]} forms
  * @param {string} word
  */
@@ -162,7 +162,7 @@ export function descriptionIn(forms, word) {
 /**
  * Returns the help for the word at a position, or "".
  * @param {string[]} lines
- * @param {number} line counts from 0
+ * @param {number} line the line number from 0
  * @param {number} at
  * @param {TestForms} forms
  */
@@ -175,8 +175,7 @@ export function helpForTest(lines, line, at, { steps, conditions }) {
 }
 
 /**
- * Returns a word with 0 in place of its numbers, and of the letters that the manual writes for numbers. So `ram.1.0x20` and `ram.B.S` are
- * equal.
+ * Replaces the numbers in a word by 0, and the letters that stand for numbers in the manual too. `ram.1.0x20` and `ram.B.S` therefore become equal.
  * @param {string} word
  */
 function kindOf(word) {

@@ -1,14 +1,14 @@
-// Durations: of the 4004, of a screen, of the eye and of keys. Each name has its unit.
+// Durations of the 4004, the screen, the eye and key presses. Each name contains its unit.
 
 /** The duration of a cycle in tenths of a microsecond: eight clock periods of 1.35 microseconds. */
 export const CYCLE_TENTHS_US = 108;
 export const CYCLE_US = CYCLE_TENTHS_US / 10;
-/** One division, so that the result is the double nearest to 0.0108. */
+/** The duration of a cycle in milliseconds. One division gives the double nearest to 0.0108. */
 export const CYCLE_MS = CYCLE_TENTHS_US / 10000;
-/** 92,592.6, rounded. */
+/** The number of cycles per second: 92,592.6, rounded up. */
 export const CYCLES_PER_SECOND = 92593;
 
-/** A frame at 60 frames per second, and the whole cycles in it. */
+/** The duration of a frame at 60 frames per second, and the number of whole cycles in it. */
 export const FRAME_MS = 1000 / 60;
 export const FRAME_CYCLES = 1543;
 
