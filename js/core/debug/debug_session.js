@@ -273,7 +273,7 @@ export class DebugSession {
     return wordsOfAddress(this.registers.counter, this.map);
   }
 
-  /** The return addresses, the newest first. */
+  /** The return addresses, newest first. */
   get returns() {
     return this.registers.returns.map((address) => parseInt(address, 16));
   }

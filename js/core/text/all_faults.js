@@ -36,9 +36,8 @@ export function refusalOfText(refusal) {
 export class AllFaultsOfTexts {
   /**
    * @param {Asked} asked
-   * @param {{ instructions: Map<string, Instruction>, tables: Map<string, Map<string, string>> }} manual the instructions, and for each
-   * table
-   *   of a board's text the values of its keys
+   * @param {{ instructions: Map<string, Instruction>, tables: Map<string, Map<string, string>> }} manual the instructions, and the
+   *   descriptions of board text values, by table and key
    * @param {(number: number) => string} wordsOf returns the message of a refusal
    */
   constructor(asked, { instructions, tables }, wordsOf) {

@@ -46,7 +46,7 @@ function isOuter(lineAt, line, parts) {
  * @param {LineAt} lineAt
  * @param {number} line
  * @param {Parts} parts
- * @param {boolean} isOuterPart whether the part is an outer part
+ * @param {boolean} isOuterPart true for an outer part
  */
 function endsBefore(lineAt, line, parts, isOuterPart) {
   const text = lineAt(line) || "";

@@ -15,7 +15,7 @@ import * as say from "../../words/text.js";
 
 /** The manual sections with property forms. */
 const SECTIONS = [say.MAY_CHANGE, say.MUST_HOLD];
-/** The words before a condition at the beginning of a line. */
+/** Matches the words before a condition at the start of a line. */
 const CONDITION_START = /^(never|always|reach)$/;
 /** The words of tests that are not allowed in properties. */
 const TEST_WORDS = new Set(["cycles", "printed", "test", "key"]);
