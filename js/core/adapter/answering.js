@@ -204,8 +204,8 @@ export class QueryHandlers {
    */
   wordsAt(before) {
     const { session: { map }, expressionContext: { face } } = this;
-    const begun = UNFINISHED_KEY.exec(before);
-    if (begun) return { words: [...keysOf(face).keys()], word: begun[1] };
+    const unfinishedKey = UNFINISHED_KEY.exec(before);
+    if (unfinishedKey) return { words: [...keysOf(face).keys()], word: unfinishedKey[1] };
     const word = (/[A-Za-z_@][\w.]*$/.exec(before) || [""])[0];
     const first = before.slice(0, before.length - word.length).trim();
     if (/\blamp$/.test(first)) return { words: [...face.lampNumbers.keys()], word };

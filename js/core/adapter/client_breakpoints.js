@@ -51,11 +51,11 @@ function firstHitOf(text) {
 
 /**
  * Reads the fields that are common to all kinds of breakpoints.
- * @param {any} given
+ * @param {any} item
  */
-function commonFieldsOf(given) {
-  const { from, words } = firstHitOf(textOrNone(given, "hitCondition"));
-  return { condition: textOrNone(given, "condition"), note: textOrNone(given, "logMessage"), from, words };
+function commonFieldsOf(item) {
+  const { from, words } = firstHitOf(textOrNone(item, "hitCondition"));
+  return { condition: textOrNone(item, "condition"), note: textOrNone(item, "logMessage"), from, words };
 }
 
 /**
@@ -120,22 +120,22 @@ export class ClientBreakpoints {
    */
   setLines(args, lineOf) {
     const { map } = this.session;
-    return this.setWanted("lines", listOf(args, "breakpoints").map((given) => {
-      const { line, address, words } = instructionOfLine(lineOf(needNumber(given, "line")), map);
-      return this.newBreakpoint({ ...commonFieldsOf(given), line, address, ...(address < 0 ? { words } : {}) });
+    return this.setWanted("lines", listOf(args, "breakpoints").map((item) => {
+      const { line, address, words } = instructionOfLine(lineOf(needNumber(item, "line")), map);
+      return this.newBreakpoint({ ...commonFieldsOf(item), line, address, ...(address < 0 ? { words } : {}) });
     }));
   }
 
   /** @param {any} args */
   setLabels(args) {
     const { map } = this.session;
-    return this.setWanted("labels", listOf(args, "breakpoints").map((given) => {
-      const name = needText(given, "name").trim();
+    return this.setWanted("labels", listOf(args, "breakpoints").map((item) => {
+      const name = needText(item, "name").trim();
       const found = map.names.get(name);
       const words = found && found.isLabel ? "" : noLabel(name);
       const address = found && found.isLabel ? found.value : -1;
       const line = address < 0 ? 0 : map.lineOf(address);
-      return this.newBreakpoint({ ...commonFieldsOf(given), line, address, ...(words ? { words } : {}) });
+      return this.newBreakpoint({ ...commonFieldsOf(item), line, address, ...(words ? { words } : {}) });
     }));
   }
 
@@ -145,10 +145,10 @@ export class ClientBreakpoints {
    */
   setAddresses(args, addressOf) {
     const { map } = this.session;
-    return this.setWanted("addresses", listOf(args, "breakpoints").map((given) => {
-      const { wanted, words } = wantedAddress(needText(given, "instructionReference"), needNumber(given, "offset", 0), addressOf);
+    return this.setWanted("addresses", listOf(args, "breakpoints").map((item) => {
+      const { wanted, words } = wantedAddress(needText(item, "instructionReference"), needNumber(item, "offset", 0), addressOf);
       const { line, address } = words === "" ? instructionOfAddress(wanted, map) : { line: 0, address: -1 };
-      return this.newBreakpoint({ ...commonFieldsOf(given), line, address, ...(words === "" ? {} : { words }) });
+      return this.newBreakpoint({ ...commonFieldsOf(item), line, address, ...(words === "" ? {} : { words }) });
     }));
   }
 
@@ -241,14 +241,14 @@ export class ClientBreakpoints {
   /** @param {any} args */
   async setData(args) {
     const { board } = this.session.debugger.session.statusQueries;
-    this.data = listOf(args, "breakpoints").map((given) => {
-      const name = needText(given, "dataId");
-      const { from, words } = firstHitOf(textOrNone(given, "hitCondition"));
+    this.data = listOf(args, "breakpoints").map((item) => {
+      const name = needText(item, "dataId");
+      const { from, words } = firstHitOf(textOrNone(item, "hitCondition"));
       const place = watchablePlace(name, board);
-      const access = textOrNone(given, "accessType") || "write";
+      const access = textOrNone(item, "accessType") || "write";
       this.lastId += 1;
       const error = !place ? say.notWatched(name) : access !== "write" ? say.ONLY_CHANGES : words;
-      return { id: this.lastId, name: place ? place.name : name, condition: textOrNone(given, "condition"), from, words: error };
+      return { id: this.lastId, name: place ? place.name : name, condition: textOrNone(item, "condition"), from, words: error };
     });
     const faults = await this.applyData();
     return this.data.map(({ id, words }) => {
@@ -281,8 +281,8 @@ export class ClientBreakpoints {
   /** @param {any} args */
   setFilters(args) {
     const plain = listOf(args, "filters").map((kind) => ({ kind: String(kind), condition: "" }));
-    const options = listOf(args, "filterOptions").map((given) => (
-      { kind: needText(given, "filterId"), condition: textOrNone(given, "condition") }));
+    const options = listOf(args, "filterOptions").map((item) => (
+      { kind: needText(item, "filterId"), condition: textOrNone(item, "condition") }));
     this.faults = [...plain, ...options];
     return this.applyFilters();
   }

@@ -181,9 +181,9 @@ export class Console {
     if (kinds.length > MAX_INPUTS) fail(say.tooManyLines(MAX_INPUTS));
     if (this.machine.isMoving && kinds.some((kind) => RUNS.has(kind))) fail(say.MACHINE_IS_RUNNING);
     if (kinds.every(isQuery)) return answerWith(this.session.debugger.session.ask(lines).join("\n"));
-    const done = await this.runBenchLines(lines, mayContinue);
+    const result = await this.runBenchLines(lines, mayContinue);
     if (kinds.some((kind) => BREAKS.has(kind))) this.calls.breaksChanged();
-    return done;
+    return result;
   }
 
   /**

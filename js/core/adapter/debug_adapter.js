@@ -207,9 +207,9 @@ export class DebugAdapter {
       await launched.session.debugger.session.serve("reset\n", async () => true);
       await machine.saveAndReport();
     } else {
-      const given = fieldOf(args, "arguments");
+      const newArgs = fieldOf(args, "arguments");
       const act = launched.isAttached ? attach : launch;
-      await this.begin(await act(this.engine, given === undefined ? launched.args : given, this.host, this.words));
+      await this.begin(await act(this.engine, newArgs === undefined ? launched.args : newArgs, this.host, this.words));
       for (const moved of await this.current.breakpoints.takeFrom(breakpoints)) this.sendBreakpoint(moved);
     }
     return new WithFollowUp(undefined, () => this.stopped(this.pauseEnd("entry")));
@@ -278,7 +278,7 @@ export class DebugAdapter {
     }
     const message = launched.isDebugged ? say.notInProgram(answering.programName)
       : say.NO_DEBUG;
-    return { breakpoints: listOf(args, "breakpoints").map((given) => ({ verified: false, line: needNumber(given, "line"), message })) };
+    return { breakpoints: listOf(args, "breakpoints").map((item) => ({ verified: false, line: needNumber(item, "line"), message })) };
   }
 
   /** @param {(breakpoints: ClientBreakpoints) => Promise<import("./client_breakpoints.js").SentBreakpoint[]>} act */

@@ -71,8 +71,8 @@ export function readWantedFiles(args, host) {
   const named = project === "" ? { board: "", program: "" } : filesOf(project, host);
   const program = ownProgram || named.program;
   if (program === "" && session === "") {
-    const words = say.LAUNCH_NEEDS;
-    throw new AdapterError(say.andBoard(words), true);
+    const message = say.LAUNCH_NEEDS;
+    throw new AdapterError(say.andBoard(message), true);
   }
   if (program !== "" && session === program) throw new AdapterError(say.ONE_FILE, true);
   const found = program === "" ? "" : boardOf(program, host);

@@ -126,15 +126,15 @@ export async function writeMemory(args, session, addressOf) {
   const [first, end] = [Math.max(0, from), Math.min(bytes.length, from + data.length)];
   const isWhole = first === from && end === from + data.length;
   if (!isWhole && !flagOf(args, "allowPartial", false)) fail(say.OUTSIDE_OF_MEMORY);
-  const given = end > first ? data.subarray(first - from, end - from) : new Uint8Array(0);
-  const lines = [...given].map((byte, at) => `poke ${place(first + at)} ${byte}\n`).join("");
+  const dataInRange = end > first ? data.subarray(first - from, end - from) : new Uint8Array(0);
+  const lines = [...dataInRange].map((byte, at) => `poke ${place(first + at)} ${byte}\n`).join("");
   const bench = session.debugger.session;
   // First, a copy runs the lines: if one is rejected, nothing is written.
   const answers = lines === "" ? [] : bench.ask(lines);
   const refused = answers.findIndex((answer) => refusalOf(answer));
   if (refused >= 0) fail(say.benchAnswered(lines.split("\n")[refused], answers[refused]));
   if (lines !== "") await bench.serve(lines, async () => true);
-  return { offset: first - from, bytesWritten: given.length };
+  return { offset: first - from, bytesWritten: dataInRange.length };
 }
 
 /** @param {string} text */

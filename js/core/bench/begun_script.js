@@ -108,8 +108,8 @@ export async function begunScript(engine, state, script, yieldToMessages) {
     const accepted = inputs.filter(({ answer }) => answer.startsWith("ok ")).length;
     return { lines: 0, words: say.acceptedMore(commands, accepted), differing: [] };
   }
-  const begun = await serveScript(engine, script.split("\n").slice(0, lines).map((line) => `${line}\n`).join(""), yieldToMessages);
-  const expected = engine.ask(begun.state, QUERIES).answers;
+  const sameStart = await serveScript(engine, script.split("\n").slice(0, lines).map((line) => `${line}\n`).join(""), yieldToMessages);
+  const expected = engine.ask(sameStart.state, QUERIES).answers;
   const differing = differences(splitState(actual), splitState(expected));
   return { lines, words: differing.length > 0 ? say.answersDiffer(commands) : "", differing };
 }

@@ -32,10 +32,10 @@ export function replaceNames(lines, map) {
   };
   /** @type {(text: string, at: number) => string} */
   const replaceIn = (text, at) => {
-    const set = SET.exec(text);
-    if (!set) return replaceNamesIn(text, at);
-    const { lines: setting, fault, column } = readSetting(set[1], map);
-    reportError(fault && `${inColumn(fault, column + text.length - set[1].length)}.`, at);
+    const setMatch = SET.exec(text);
+    if (!setMatch) return replaceNamesIn(text, at);
+    const { lines: setting, fault, column } = readSetting(setMatch[1], map);
+    reportError(fault && `${inColumn(fault, column + text.length - setMatch[1].length)}.`, at);
     return setting.trimEnd();
   };
   /** @type {(text: string, at: number) => string} */

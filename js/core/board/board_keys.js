@@ -46,9 +46,9 @@ export function keysOf(board, face) {
       const key = matrixKey(row, column);
       const named = face.keys.get(textOfKey(key));
       const legend = named ? named.text.replace(/_/g, " ") : `${row}.${column}`;
-      const words = say.keyAt(legend, row, column);
+      const description = say.keyAt(legend, row, column);
       const letter = legend === "" ? "" : takeLetter(legend, named ? named.text : "");
-      keys.push({ key, legend, words, isNamed: Boolean(named && legend), isSwitch: false, letter });
+      keys.push({ key, legend, words: description, isNamed: Boolean(named && legend), isSwitch: false, letter });
     }
   }
   return face.test ? [...keys, testKey(face.test, takeLetter)] : keys;
@@ -61,8 +61,8 @@ export function keysOf(board, face) {
  */
 function testKey({ kind, name, level }, takeLetter) {
   const legend = name.replace(/_/g, " ");
-  const words = say.keyAtTest(kind, legend);
-  return { key: pinKey(level), legend, words, isNamed: true, isSwitch: kind === "switch", letter: takeLetter(legend, name) };
+  const description = say.keyAtTest(kind, legend);
+  return { key: pinKey(level), legend, words: description, isNamed: true, isSwitch: kind === "switch", letter: takeLetter(legend, name) };
 }
 
 /**

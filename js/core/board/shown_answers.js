@@ -56,8 +56,8 @@ class ShownAnswers {
     if (REFUSAL.test(answer)) return failed(say.isRefusal(at + 1, answer));
     const [word, marks = ""] = answer.split(" ");
     if (word === "lamps") {
-      const words = this.faultOf(marks, at + 1) || (this.isScanned ? say.isInstant(at + 1, this.name) : "");
-      return words === "" ? { text: wholeText(this.text.read(marks)), words, count: 1 } : failed(words);
+      const message = this.faultOf(marks, at + 1) || (this.isScanned ? say.isInstant(at + 1, this.name) : "");
+      return message === "" ? { text: wholeText(this.text.read(marks)), words: message, count: 1 } : failed(message);
     }
     const [, rows, first] = TRACE.exec(answer) || [];
     if (first === undefined) return { text: "", words: "", count: 0 };

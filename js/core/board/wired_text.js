@@ -34,8 +34,8 @@ export function currentWiredText(answers, text, storedTexts) {
 /**
  * Returns the texts that the session stores after a board is wired, newest first.
  * @param {WiredText} wired
- * @param {WiredText[]} [kept]
+ * @param {WiredText[]} [storedTexts]
  */
-export function textsToKeep(wired, kept = []) {
-  return [wired, ...kept.filter(({ board }) => board !== wired.board)].slice(0, MAX_TEXTS);
+export function textsToKeep(wired, storedTexts = []) {
+  return [wired, ...storedTexts.filter(({ board }) => board !== wired.board)].slice(0, MAX_TEXTS);
 }

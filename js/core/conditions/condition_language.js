@@ -105,13 +105,13 @@ function negationOf(node, text) {
  * Parses and compiles the text of a condition.
  * @param {string} whole the text of the condition
  * @param {Names} names
- * @param {Looked} looked collects the places that the condition depends on
+ * @param {Looked} dependencies collects the places that the condition depends on
  * @returns {Pick<Condition, "text" | "negation"> & import("./meaning.js").Meaning}
  */
-function meaningOfText(whole, names, looked) {
+function meaningOfText(whole, names, dependencies) {
   const node = parseCondition(whole, lampTestOf(names));
   const text = withSingleBlanks(whole);
-  return { ...meaningOf(node, names, looked), text, negation: negationOf(node, text) };
+  return { ...meaningOf(node, names, dependencies), text, negation: negationOf(node, text) };
 }
 
 /**
@@ -122,11 +122,11 @@ function meaningOfText(whole, names, looked) {
  */
 export function conditionOf(whole, names) {
   return conditionOrError(() => {
-    const looked = new Looked();
-    const { text, negation, address, matches, explain } = meaningOfText(whole, names, looked);
-    checkCount(looked.places);
+    const dependencies = new Looked();
+    const { text, negation, address, matches, explain } = meaningOfText(whole, names, dependencies);
+    checkCount(dependencies.places);
     return {
-      text, negation, places: looked.places, needs: [], address,
+      text, negation, places: dependencies.places, needs: [], address,
       holds: (values, beside = DEFAULTS) => matches(values, beside),
       explain: (values, beside = DEFAULTS) => (matches(values, beside) ? "" : explain(values, beside, false)),
     };
@@ -141,9 +141,9 @@ export function conditionOf(whole, names) {
  */
 export function testConditionOf(whole, names) {
   return conditionOrError(() => {
-    const looked = new Looked(true);
-    const { text, negation, address, matches, explain } = meaningOfText(whole, names, looked);
-    const { places: allPlaces } = looked;
+    const dependencies = new Looked(true);
+    const { text, negation, address, matches, explain } = meaningOfText(whole, names, dependencies);
+    const { places: allPlaces } = dependencies;
     const statePlaces = allPlaces.filter(isStatePlace);
     const places = allPlaces.filter((place) => !isStatePlace(place));
     checkCount(places);
@@ -154,7 +154,7 @@ export function testConditionOf(whole, names) {
     };
     const valuesOf = statePlaces.length === 0 ? (/** @type {string[]} */ values) => values : allValues;
     return {
-      text, negation, places, needs: [...looked.needs, ...statePlaces], address,
+      text, negation, places, needs: [...dependencies.needs, ...statePlaces], address,
       holds: (values, beside = DEFAULTS) => matches(valuesOf(values, beside), beside),
       explain: (values, beside = DEFAULTS) => {
         const known = valuesOf(values, beside);
@@ -184,16 +184,16 @@ export function tracedConditionOf(text, names) {
  */
 export function expressionOf(text, names) {
   const { read: expression, ...wrong } = resultOrError(() => {
-    const looked = new Looked();
+    const dependencies = new Looked();
     const node = parse(text, lampTestOf(names));
     if (isCondition(node)) {
-      const { matches } = meaningOf(node, names, looked);
-      checkCount(looked.places);
-      return { places: looked.places, number: null, textOf: (/** @type {string[]} */ values) => String(matches(values, DEFAULTS)) };
+      const { matches } = meaningOf(node, names, dependencies);
+      checkCount(dependencies.places);
+      return { places: dependencies.places, number: null, textOf: (/** @type {string[]} */ values) => String(matches(values, DEFAULTS)) };
     }
-    const { read, textOf } = valueIn(node, names, looked);
-    checkCount(looked.places);
-    return { places: looked.places, number: read, textOf: textOf || ((/** @type {string[]} */ values) => String(read(values))) };
+    const { read, textOf } = valueIn(node, names, dependencies);
+    checkCount(dependencies.places);
+    return { places: dependencies.places, number: read, textOf: textOf || ((/** @type {string[]} */ values) => String(read(values))) };
   });
   return /** @type {ReadExpression} */ ({ expression, ...wrong });
 }

@@ -66,9 +66,9 @@ function isOfDisplay(at, { face }) {
  * lamps are ignored.
  * @param {string[]} words
  * @param {Names} names
- * @param {Looked} looked
+ * @param {Looked} dependencies
  */
-export function lampsMeaning(words, names, looked) {
+export function lampsMeaning(words, names, dependencies) {
   const count = names.board.lamps.length;
   if (words.length === 0) fail(say.LAMPS_FORM);
   let want = words.join("");
@@ -77,7 +77,7 @@ export function lampsMeaning(words, names, looked) {
     want = upTo(count).map((at) => (wanted.has(at) ? "*" : isOfDisplay(at, names) ? "?" : ".")).join("");
   }
   if (want.length !== count) fail(say.wrongPatternLength(want.length, count));
-  const place = looked.at("lamps");
+  const place = dependencies.at("lamps");
   /** @type {(is: string) => string} */
   const remark = (is) => {
     const lit = [...names.face.lamps].filter(([at]) => is[at] === "*").sort(([one], [other]) => one - other);
@@ -93,9 +93,9 @@ export function lampsMeaning(words, names, looked) {
  * multiplexed digits, the perceived number counts.
  * @param {string[]} words
  * @param {Names} names
- * @param {Looked} looked
+ * @param {Looked} dependencies
  */
-export function displayMeaning(words, names, looked) {
+export function displayMeaning(words, names, dependencies) {
   const { face, board } = names;
   const displays = face.groups.filter(({ kind }) => kind === "display");
   if (displays.length === 0) fail(say.NO_DISPLAY);
@@ -105,12 +105,12 @@ export function displayMeaning(words, names, looked) {
   const wordsOf = ({ number, names: lit }) => (lit === "" || number === want ? number : `${number} ${lit}`);
   const matches = (/** @type {string} */ is) => is === want;
   if (hasScannedDisplay(face)) {
-    looked.need("seen", say.DIGITS_ARE_MULTIPLEXED);
+    dependencies.need("seen", say.DIGITS_ARE_MULTIPLEXED);
     const seen = new SeenText(face, board.lamps.length);
     return meaningOfForm({ what: "display", want, matches, measure: (_, beside) => wordsOf(seen.read(beside.seen)) });
   }
   const reader = new DisplayText(displays, [...face.lamps].map(([at, { text }]) => ({ at, text })));
-  const place = looked.at("lamps");
+  const place = dependencies.at("lamps");
   return meaningOfForm({ what: "display", want, matches, measure: (values) => wordsOf(reader.read(marksOf(values[place]))) });
 }
 
@@ -118,12 +118,12 @@ export function displayMeaning(words, names, looked) {
  * Compiles `printed 12+ 30= 42`, which compares the last printed words. The word `nothing` stands for an empty printout.
  * @param {string[]} words
  * @param {Names} names
- * @param {Looked} looked
+ * @param {Looked} dependencies
  */
-export function printedMeaning(words, { face, board }, looked) {
+export function printedMeaning(words, { face, board }, dependencies) {
   if (!printerOf(board, face)) fail(say.NO_PRINTER);
   if (words.length === 0) fail(say.PRINTED_FORM);
-  looked.need("printed", say.LINE_BY_LINE);
+  dependencies.need("printed", say.LINE_BY_LINE);
   const want = words.join(" ");
   return meaningOfForm({
     what: "printed", want, matches: (is) => is === want, measure: (_, { printed }) => printed.slice(-words.length).join(" ") || "nothing",
@@ -134,13 +134,13 @@ export function printedMeaning(words, { face, board }, looked) {
  * Compiles `cycles 538`, `cycles at most 20 ms` or `cycles at least 1 s`, which compare the cycles since the last mark in a test.
  * @param {string[]} words
  * @param {Names} names
- * @param {Looked} looked
+ * @param {Looked} dependencies
  */
-export function cyclesMeaning(words, names, looked) {
+export function cyclesMeaning(words, names, dependencies) {
   const bound = words[0] === "at" ? words.slice(0, 2).join(" ") : "";
   const cycles = wholeDuration(words.slice(bound === "" ? 0 : 2));
   if (cycles < 1 || !/^(|at most|at least)$/.test(bound)) fail(say.CYCLES_FORM);
-  looked.need("cycles", say.onlyInTests("cycles"));
+  dependencies.need("cycles", say.onlyInTests("cycles"));
   /** @type {(is: number) => boolean} */
   const matches = (is) => (bound === "" ? is === cycles : bound === "at most" ? is <= cycles : is >= cycles);
   return meaningOfForm({
@@ -154,15 +154,15 @@ export function cyclesMeaning(words, names, looked) {
  * @param {string} name the name of the chain
  * @param {string[]} words
  * @param {Names} names
- * @param {Looked} looked
+ * @param {Looked} dependencies
  */
-export function chainMeaning(name, words, { board }, looked) {
+export function chainMeaning(name, words, { board }, dependencies) {
   const place = placeOf(name);
   if (!place || place.probesOn(board).length === 0) return fail(say.boardLacks(name));
   const bits = 10 * board.chains[Number(name.slice("chain".length))].chips;
   const want = words.join("");
   if (!/^[01?]+$/.test(want) || want.length !== bits) fail(say.chainBits(name.slice("chain".length), bits));
-  const at = looked.at(name);
+  const at = dependencies.at(name);
   return meaningOfForm({ what: name, want, measure: (values) => values[at], matches: (is) => matchesPattern(is, want) });
 }
 
@@ -181,11 +181,11 @@ function namedAddress(address, { map }) {
  * @param {number} address
  * @param {string} want the address as written in the condition
  * @param {Names} names
- * @param {Looked} looked
+ * @param {Looked} dependencies
  */
-export function counterMeaning(address, want, names, looked) {
+export function counterMeaning(address, want, names, dependencies) {
   const digits = hex(address, 3);
-  const at = looked.at("pc");
+  const at = dependencies.at("pc");
   return meaningOfForm({
     what: "pc", want, address,
     measure: (values, { owed }) => `${namedAddress(parseInt(values[at], 16), names)}${owed === "1" ? say.WITHIN_INSTRUCTION : ""}`,

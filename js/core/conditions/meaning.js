@@ -70,17 +70,17 @@ function checkRange(value, node, wanted) {
  * Compiles a comparison.
  * @param {CompareNode} node
  * @param {Names} names
- * @param {Looked} looked
+ * @param {Looked} dependencies
  * @returns {Meaning}
  */
-function compareMeaning({ sign, left, right }, names, looked) {
-  const value = valueIn(left, names, looked);
-  const wanted = valueIn(right, names, looked);
+function compareMeaning({ sign, left, right }, names, dependencies) {
+  const value = valueIn(left, names, dependencies);
+  const wanted = valueIn(right, names, dependencies);
   checkRange(value, right, wanted);
   checkRange(wanted, left, value);
   if (value.name !== "pc" || !wanted.isConstant || (sign !== "=" && sign !== "!=")) return comparedMeaning(value, sign, wanted);
   const address = wanted.read([]);
-  const meaning = counterMeaning(address, String(address), names, looked);
+  const meaning = counterMeaning(address, String(address), names, dependencies);
   return sign === "=" ? meaning : notMeaning(meaning, "");
 }
 
@@ -88,24 +88,24 @@ function compareMeaning({ sign, left, right }, names, looked) {
  * Compiles a place followed by its value, such as `r0 5`. Several values after a RAM character apply to that character and the following ones.
  * @param {HoldsNode} node
  * @param {Names} names
- * @param {Looked} looked
+ * @param {Looked} dependencies
  * @returns {Meaning}
  */
-function holdsMeaning({ place, values, text, column }, names, looked) {
+function holdsMeaning({ place, values, text, column }, names, dependencies) {
   const [first] = values;
-  if (values.length === 1) return compareMeaning({ kind: "compare", sign: "=", left: place, right: first, text, column }, names, looked);
-  const characters = characterValues(place, values.length, names, looked);
+  if (values.length === 1) return compareMeaning({ kind: "compare", sign: "=", left: place, right: first, text, column }, names, dependencies);
+  const characters = characterValues(place, values.length, names, dependencies);
   const wanted = values.map((value, at) => {
-    const each = valueIn(value, names, looked);
+    const each = valueIn(value, names, dependencies);
     checkRange(characters[at], value, each);
     return each;
   });
   /** @type {(each: Value[], given: string[]) => string} */
-  const joined = (each, given) => each.map((value) => value.read(given)).join(" ");
+  const joined = (each, answers) => each.map((value) => value.read(answers)).join(" ");
   return {
     address: -1,
-    matches: (given) => characters.every((value, at) => value.read(given) === wanted[at].read(given)),
-    explain: (given, _, isNot) => say.mustBe(characters[0].name, joined(characters, given), joined(wanted, given), false, isNot),
+    matches: (answers) => characters.every((value, at) => value.read(answers) === wanted[at].read(answers)),
+    explain: (answers, _, isNot) => say.mustBe(characters[0].name, joined(characters, answers), joined(wanted, answers), false, isNot),
   };
 }
 
@@ -113,23 +113,23 @@ function holdsMeaning({ place, values, text, column }, names, looked) {
  * Compiles a condition that starts with a keyword.
  * @param {FormNode} node
  * @param {Names} names
- * @param {Looked} looked
+ * @param {Looked} dependencies
  */
-function formMeaning({ words: [head, ...following] }, names, looked) {
+function formMeaning({ words: [head, ...following] }, names, dependencies) {
   const words = following.map(({ text }) => text);
   const form = COMPILERS[head.text];
-  return form ? form(words, names, looked) : chainMeaning(head.text, words, names, looked);
+  return form ? form(words, names, dependencies) : chainMeaning(head.text, words, names, dependencies);
 }
 
 /**
  * Compiles `lamp NAME on` or `key NAME down`.
  * @param {PanelIsNode} node
  * @param {Names} names
- * @param {Looked} looked
+ * @param {Looked} dependencies
  * @returns {Meaning}
  */
-function panelMeaning({ what, name, isOn }, names, looked) {
-  const value = what === "lamp" ? lampValue(name, names, looked) : keyValue(name, names, looked);
+function panelMeaning({ what, name, isOn }, names, dependencies) {
+  const value = what === "lamp" ? lampValue(name, names, dependencies) : keyValue(name, names, dependencies);
   const words = what === "lamp" ? ["off", "on"] : ["up", "down"];
   return {
     address: -1,
@@ -180,20 +180,20 @@ function joinedMeaning(operator, parts, text) {
  * Compiles a condition.
  * @param {ConditionNode} node
  * @param {Names} names
- * @param {Looked} looked collects the places that the condition depends on
+ * @param {Looked} dependencies collects the places that the condition depends on
  * @returns {Meaning}
  */
-export function meaningOf(node, names, looked) {
+export function meaningOf(node, names, dependencies) {
   return atColumn(node.column, () => {
     if (node.kind === "not") {
       const isJoined = node.part.kind === "or" || node.part.kind === "and";
-      return notMeaning(meaningOf(node.part, names, looked), isJoined ? node.part.text : "");
+      return notMeaning(meaningOf(node.part, names, dependencies), isJoined ? node.part.text : "");
     }
-    if (node.kind === "compare") return compareMeaning(node, names, looked);
-    if (node.kind === "holds") return holdsMeaning(node, names, looked);
-    if (node.kind === "panel") return panelMeaning(node, names, looked);
-    if (node.kind === "at") return counterMeaning(labelIn(node.label, names), `@${node.label}`, names, looked);
-    if (node.kind === "form") return formMeaning(node, names, looked);
-    return joinedMeaning(node.kind, node.parts.map((part) => meaningOf(part, names, looked)), node.text);
+    if (node.kind === "compare") return compareMeaning(node, names, dependencies);
+    if (node.kind === "holds") return holdsMeaning(node, names, dependencies);
+    if (node.kind === "panel") return panelMeaning(node, names, dependencies);
+    if (node.kind === "at") return counterMeaning(labelIn(node.label, names), `@${node.label}`, names, dependencies);
+    if (node.kind === "form") return formMeaning(node, names, dependencies);
+    return joinedMeaning(node.kind, node.parts.map((part) => meaningOf(part, names, dependencies)), node.text);
   });
 }

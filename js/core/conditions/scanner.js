@@ -89,21 +89,21 @@ export class Scanner {
     this.take(BLANKS);
     const column = this.at;
     /** @type {(kind: TokenKind, text: string) => Token} */
-    const made = (kind, text) => ({ kind, text, column, end: this.at });
-    if (column === this.text.length) return made("end", "");
+    const token = (kind, text) => ({ kind, text, column, end: this.at });
+    if (column === this.text.length) return token("end", "");
     const sign = this.take(SIGN);
-    if (sign) return made("sign", sign[0]);
+    if (sign) return token("sign", sign[0]);
     const text = this.take(TEXT);
-    if (text) return made("text", text[1]);
+    if (text) return token("text", text[1]);
     const word = this.take(WORD);
-    if (word) return made("word", word[0]);
+    if (word) return token("word", word[0]);
     const number = this.take(NUMBER);
     if (!number) {
       const [rest] = /** @type {RegExpExecArray} */ (this.take(RAW));
       return fail(rest.startsWith('"') ? say.NO_END_OF_TEXT : say.unknownSign(rest), column);
     }
     if (Number.isNaN(numeralOf(number[0]))) fail(say.noNumeral(number[0]), column);
-    return made("number", number[0]);
+    return token("number", number[0]);
   }
 
   /**

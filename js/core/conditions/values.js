@@ -118,31 +118,31 @@ export function lampNumberOf(name, { face, board }) {
  * Returns the value of a lamp: 1 if the lamp is on.
  * @param {string} name
  * @param {Names} names
- * @param {Looked} looked
+ * @param {Looked} dependencies
  * @returns {Value}
  */
-export function lampValue(name, names, looked) {
+export function lampValue(name, names, dependencies) {
   const lamp = lampNumberOf(name, names);
-  return bitValue(`lamp ${name}`, looked.at("lamps"), (marks) => Number(marks[lamp] === "*"));
+  return bitValue(`lamp ${name}`, dependencies.at("lamps"), (marks) => Number(marks[lamp] === "*"));
 }
 
 /**
  * Returns the value of a key: 1 if the key is pressed.
  * @param {string} name
  * @param {Names} names
- * @param {Looked} looked
+ * @param {Looked} dependencies
  * @returns {Value}
  */
-export function keyValue(name, { face }, looked) {
+export function keyValue(name, { face }, dependencies) {
   const key = [...keysOf(face), ...(face.test ? [pinOf(face)] : [])].find((each) => each.name === name);
   if (!key) {
     const known = [...keysOf(face), ...(face.test ? [pinOf(face)] : [])].map((each) => each.name);
     return fail(say.noKeyOfPanel(name, known.join(" ")));
   }
   const [word, ...numbers] = key.down.split(" ");
-  if (word === "test") return bitValue(`key ${name}`, looked.at("test"), (answer) => Number(answer === numbers[0]));
+  if (word === "test") return bitValue(`key ${name}`, dependencies.at("test"), (answer) => Number(answer === numbers[0]));
   const item = numbers.join(".");
-  return bitValue(`key ${name}`, looked.at("keys"), (answer) => Number(answer.split(",").includes(item)));
+  return bitValue(`key ${name}`, dependencies.at("keys"), (answer) => Number(answer.split(",").includes(item)));
 }
 
 /**
@@ -170,17 +170,17 @@ export function labelIn(name, names) {
  * Returns the value of a place; throws `Unreadable` if the board does not have the place, or if its value is not a number.
  * @param {import("./places.js").Place | null} place
  * @param {Names} names
- * @param {Looked} looked
+ * @param {Looked} dependencies
  * @returns {Value | null} null if `place` is null
  */
-function placeValue(place, { board }, looked) {
+function placeValue(place, { board }, dependencies) {
   if (!place) return null;
   const { name } = place;
   const probes = place.probesOn(board);
   if (probes.length === 0) fail(say.boardLacks(name));
   const most = place.most(board);
   if (most < 0) fail(say.isNoNumber(name));
-  const indexes = probes.map((probe) => looked.at(probe));
+  const indexes = probes.map((probe) => dependencies.at(probe));
   const answersOf = (/** @type {string[]} */ values) => indexes.map((at) => values[at]);
   return { name, most, isConstant: false, read: (values) => place.number(answersOf(values)),
     textOf: (values) => place.value(answersOf(values)) };
@@ -191,10 +191,10 @@ function placeValue(place, { board }, looked) {
  * `ram0.1 out` are the port latch, with 0 for input lines.
  * @param {NameNode} node
  * @param {Names} names
- * @param {Looked} looked
+ * @param {Looked} dependencies
  * @returns {Value}
  */
-function portValue({ text, way }, { board }, looked) {
+function portValue({ text, way }, { board }, dependencies) {
   const port = text.toLowerCase();
   const place = placeOf(port);
   if (!place || place.probesOn(board).length === 0) return fail(say.boardLacks(port));
@@ -203,7 +203,7 @@ function portValue({ text, way }, { board }, looked) {
   const mask = rom ? [...rom.port] : [];
   const bitsOf = (/** @type {string} */ mark) => mask.reduce((sum, each, at) => sum + (each === mark ? 2 ** (3 - at) : 0), 0);
   const [inputs, ones] = [bitsOf("i"), bitsOf("1")];
-  const at = looked.at(place.name);
+  const at = dependencies.at(place.name);
   const read = (/** @type {string[]} */ values) => {
     const levels = parseInt(values[at], 16);
     return way === "in" ? (levels & inputs) | ones : levels & ~inputs;
@@ -249,21 +249,21 @@ function failForUnknown(text, names) {
  * @param {string} name
  * @param {string} text the expression of the watch name
  * @param {Names} names
- * @param {Looked} looked
+ * @param {Looked} dependencies
  * @returns {Value}
  */
-function watchedValue(name, text, names, looked) {
-  if (looked.depth >= MAX_NAME_DEPTH) return fail(say.namesTooDeep(name, MAX_NAME_DEPTH));
+function watchedValue(name, text, names, dependencies) {
+  if (dependencies.depth >= MAX_NAME_DEPTH) return fail(say.namesTooDeep(name, MAX_NAME_DEPTH));
   const node = parse(text, (lamp) => names.face.lampNumbers.has(lamp));
   if (isCondition(node)) return fail(say.isNoValue(name, text));
-  looked.depth += 1;
+  dependencies.depth += 1;
   try {
-    return { ...valueIn(node, names, looked), name };
+    return { ...valueIn(node, names, dependencies), name };
   } catch (fault) {
     // The column of the error is relative to the expression, not to the condition.
     throw fault instanceof Unreadable ? new Unreadable(say.inName(name, fault.message)) : fault;
   } finally {
-    looked.depth -= 1;
+    dependencies.depth -= 1;
   }
 }
 
@@ -271,26 +271,26 @@ function watchedValue(name, text, names, looked) {
  * Returns the value of a name or place.
  * @param {NameNode} node
  * @param {Names} names
- * @param {Looked} looked
+ * @param {Looked} dependencies
  * @returns {Value}
  */
-function nameValue(node, names, looked) {
+function nameValue(node, names, dependencies) {
   const { text, way } = node;
   const word = text.toLowerCase();
-  if (way !== "") return portValue(node, names, looked);
+  if (way !== "") return portValue(node, names, dependencies);
   if (text.startsWith("@")) {
     const found = sourceName(text.slice(1), names.map);
     return constant(found ? found.value : fail(say.noLabel(text.slice(1))));
   }
-  if (word === "test" || word === "owed") return bitValue(word, looked.at(word), Number);
-  const place = placeValue(placeOf(text), names, looked);
+  if (word === "test" || word === "owed") return bitValue(word, dependencies.at(word), Number);
+  const place = placeValue(placeOf(text), names, dependencies);
   if (place) return place;
   const watched = names.watched && names.watched.get(text);
-  if (watched !== undefined) return watchedValue(text, watched, names, looked);
+  if (watched !== undefined) return watchedValue(text, watched, names, dependencies);
   const found = sourceName(text, names.map);
   if (found) return constant(found.value);
-  if (names.face.lampNumbers.has(text)) return lampValue(text, names, looked);
-  return placeValue(placeByAlias(text), names, looked) || failForUnknown(text, names);
+  if (names.face.lampNumbers.has(text)) return lampValue(text, names, dependencies);
+  return placeValue(placeByAlias(text), names, dependencies) || failForUnknown(text, names);
 }
 
 /**
@@ -298,10 +298,10 @@ function nameValue(node, names, looked) {
  * @param {NameNode} node
  * @param {number} count
  * @param {Names} names
- * @param {Looked} looked
+ * @param {Looked} dependencies
  * @returns {Value[]}
  */
-export function characterValues({ text, column }, count, names, looked) {
+export function characterValues({ text, column }, count, names, dependencies) {
   return atColumn(column, () => {
     const place = placeOf(text);
     const [, bank, byte] = /^ram\.(\d)\.0x(\w+)$/.exec(place ? place.name : "") || fail(say.isOneValue(place ? place.name : text));
@@ -309,7 +309,7 @@ export function characterValues({ text, column }, count, names, looked) {
       const at = parseInt(byte, 16) + more;
       const each = at <= LAST_CHARACTER ? placeOf(`ram.${bank}.${at}`) : null;
       if (more > 0 && (!each || each.probesOn(names.board).length === 0)) fail(say.NO_RAM_FOR_LAST);
-      return placeValue(each || place, names, looked) || failForUnknown(text, names);
+      return placeValue(each || place, names, dependencies) || failForUnknown(text, names);
     });
   });
 }
@@ -318,11 +318,11 @@ export function characterValues({ text, column }, count, names, looked) {
  * Returns the value of a sum.
  * @param {SumNode} node
  * @param {Names} names
- * @param {Looked} looked
+ * @param {Looked} dependencies
  * @returns {Value}
  */
-function sumValue({ sign, left, right, text }, names, looked) {
-  const [first, second] = [valueIn(left, names, looked), valueIn(right, names, looked)];
+function sumValue({ sign, left, right, text }, names, dependencies) {
+  const [first, second] = [valueIn(left, names, dependencies), valueIn(right, names, dependencies)];
   const isConstant = first.isConstant && second.isConstant;
   return { name: text, most: Infinity, isConstant, read: (values) => OPERATIONS[sign](first.read(values), second.read(values)) };
 }
@@ -344,15 +344,15 @@ export function constantIn(node, map) {
  * Compiles a value.
  * @param {ValueNode} node
  * @param {Names} names
- * @param {Looked} looked
+ * @param {Looked} dependencies
  * @returns {Value}
  */
-export function valueIn(node, names, looked) {
+export function valueIn(node, names, dependencies) {
   return atColumn(node.column, () => {
     if (node.kind === "number") return constant(node.value);
-    if (node.kind === "sum") return sumValue(node, names, looked);
-    if (node.kind === "name") return nameValue(node, names, looked);
-    return node.kind === "key" ? keyValue(node.text, names, looked) : lampValue(node.text, names, looked);
+    if (node.kind === "sum") return sumValue(node, names, dependencies);
+    if (node.kind === "name") return nameValue(node, names, dependencies);
+    return node.kind === "key" ? keyValue(node.text, names, dependencies) : lampValue(node.text, names, dependencies);
   });
 }
 

@@ -77,10 +77,10 @@ export class Arrivals {
         continue;
       }
       const before = done;
-      const ran = this.run(engine, this.copy, { lines, count, cycles: cyclesOfLine(each) },
+      const cyclesRun = this.run(engine, this.copy, { lines, count, cycles: cyclesOfLine(each) },
         (end, row, part) => end !== "break" || this.isStop(row, before + part, seen));
-      if (ran < 0) return seen;
-      done += ran;
+      if (cyclesRun < 0) return seen;
+      done += cyclesRun;
       [lines, count] = ["", 0];
     }
     return seen;
@@ -106,9 +106,9 @@ export class Arrivals {
    *   of `places`, and the cycles so far; returns whether to end the run
    */
   run(engine, file, { lines, count, cycles }, visit) {
-    let [before, skipped, ran, arrivals] = [lines, count, 0, 0];
-    while (ran < cycles) {
-      const left = cycles - ran;
+    let [before, skipped, cyclesRun, arrivals] = [lines, count, 0, 0];
+    while (cyclesRun < cycles) {
+      const left = cycles - cyclesRun;
       const runs = Math.min(left, MAX_RUNS, Math.max(1, Math.round(2 * this.density * left)));
       const pair = `run ${Math.floor(left / runs)}\n${this.probes.lines}`;
       const answers = new Answers(engine.serve(file, before + pair.repeat(runs), file).answers);
@@ -117,14 +117,14 @@ export class Arrivals {
       while (!answers.isEmpty) {
         const { cycles: part, end } = answers.takeRun();
         const row = this.probes.take(answers);
-        ran += part;
+        cyclesRun += part;
         if (end === "end") continue;
         arrivals += 1;
-        if (visit(end, row, ran)) return -1;
+        if (visit(end, row, cyclesRun)) return -1;
       }
     }
     this.density = arrivals / cycles;
-    return ran;
+    return cyclesRun;
   }
 
   /**

@@ -67,16 +67,16 @@ export class BreakpointKeeper {
    * Switches to another session. The stored list of that session is reused if it equals the saved one: only the stored list can restore breakpoints
    * on undo.
    * @param {string} id the session id
-   * @param {KeptBreakpoint[] | undefined} kept the saved breakpoints; if undefined, the breakpoints of the session file are used
+   * @param {KeptBreakpoint[] | undefined} savedBreakpoints the saved breakpoints; if undefined, the breakpoints of the session file are used
    */
-  open(id, kept) {
+  open(id, savedBreakpoints) {
     const old = this.lists.get(id);
-    this.list = old && JSON.stringify(old.kept) === JSON.stringify(kept) ? old : new BreakpointList(kept);
+    this.list = old && JSON.stringify(old.kept) === JSON.stringify(savedBreakpoints) ? old : new BreakpointList(savedBreakpoints);
     this.list.forgetHits();
     this.lists.delete(id);
     this.lists.set(id, this.list);
     for (const oldest of [...this.lists.keys()].slice(0, -MAX_LISTS)) this.lists.delete(oldest);
-    this.isKept = kept !== undefined;
+    this.isKept = savedBreakpoints !== undefined;
     this.map = null;
     this.words = "";
     this.onBench = null;

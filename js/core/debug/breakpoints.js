@@ -32,11 +32,11 @@ const DEFAULTS = { isOn: true, condition: "", from: 1, note: "", hits: 0 };
 
 /** The breakpoints of a source text and of ROM. */
 export class BreakpointList {
-  /** @param {Partial<KeptBreakpoint>[]} [kept] */
-  constructor(kept = []) {
+  /** @param {Partial<KeptBreakpoint>[]} [savedBreakpoints] */
+  constructor(savedBreakpoints = []) {
     this.lastId = 0;
     /** @type {Breakpoint[]} sorted by line; breakpoints without a line are last */
-    this.all = kept.map((each) => this.make(each));
+    this.all = savedBreakpoints.map((each) => this.make(each));
     /**
      * @type {{ text: string, breakpoint: Breakpoint }[]} the breakpoints that were deleted with their lines, and the texts of the lines, newest last
      */
@@ -67,10 +67,10 @@ export class BreakpointList {
    * @param {Partial<KeptBreakpoint>} some
    */
   add(some) {
-    const made = this.make(some);
-    this.all.push(made);
+    const breakpoint = this.make(some);
+    this.all.push(breakpoint);
     this.sort();
-    return made;
+    return breakpoint;
   }
 
   /** @param {number} id */
@@ -315,13 +315,13 @@ function replacedLines({ from, to, text, removed = Array(to.line - from.line + 1
  * @param {SourceMap} map
  */
 export function instructionOfLine(line, map) {
-  const own = map.addressOf(line);
-  if (own !== undefined) return { line, address: own, words: "" };
+  const ownAddress = map.addressOf(line);
+  if (ownAddress !== undefined) return { line, address: ownAddress, words: "" };
   for (let next = line + 1; next <= map.count; next++) {
     const address = map.addressOf(next);
     if (address !== undefined) {
-      const words = say.movedToNext(line, next);
-      return { line: next, address, words };
+      const message = say.movedToNext(line, next);
+      return { line: next, address, words: message };
     }
   }
   return { line, address: -1, words: say.nothingFollows(line) };

@@ -98,14 +98,14 @@ export class DataWatches {
       const answers = new Answers(engine.serve(copy, `${ask}${line}\n`, copy).answers);
       if (change) continue;
       const trace = answers.takeTrace();
-      const ran = answers.takeRun();
+      const run = answers.takeRun();
       const stop = this.stopIn(trace.row, trace.lines, seen);
       if (stop) {
-        seen.cycles = done + Math.min(ran.cycles, stop.cycles + cyclesOf(codes()[stop.address]));
+        seen.cycles = done + Math.min(run.cycles, stop.cycles + cyclesOf(codes()[stop.address]));
         return seen;
       }
-      if (ran.end !== "end") return seen;
-      done += ran.cycles;
+      if (run.end !== "end") return seen;
+      done += run.cycles;
     }
     return seen;
   }
@@ -154,9 +154,9 @@ export class DataWatches {
    * @param {string[]} after
    */
   changes({ id, condition }, before, after) {
-    const [own, ofCondition] = this.columns.get(id) || [[], []];
-    if (own.every((at) => before[at] === after[at])) return false;
-    return condition === null || condition.holds(ofCondition.map((at) => after[at]));
+    const [placeColumns, conditionColumns] = this.columns.get(id) || [[], []];
+    if (placeColumns.every((at) => before[at] === after[at])) return false;
+    return condition === null || condition.holds(conditionColumns.map((at) => after[at]));
   }
 
   /**
@@ -165,8 +165,8 @@ export class DataWatches {
    * @param {string[]} values the values of all places
    */
   valueOf({ id, place }, values) {
-    const [own] = this.columns.get(id) || [[]];
-    return place.value(own.map((at) => values[at]));
+    const [placeColumns] = this.columns.get(id) || [[]];
+    return place.value(placeColumns.map((at) => values[at]));
   }
 
   /**

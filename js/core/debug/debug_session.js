@@ -228,14 +228,14 @@ export class DebugSession {
    */
   async back(goal, shouldContinue = always) {
     this.debugger.names = this.names;
-    const went = await this.debugger.goBack(goal, (done = 0) => shouldContinue(done));
-    return { ...went, words: wordsOfGone(goal, went, this.counterWords, this.breakpoints.get(went.id)) };
+    const result = await this.debugger.goBack(goal, (done = 0) => shouldContinue(done));
+    return { ...result, words: wordsOfGone(goal, result, this.counterWords, this.breakpoints.get(result.id)) };
   }
 
   /** Returns to the moment before the last move back. */
   forward() {
-    const went = this.debugger.goForward();
-    return { ...went, words: wordsOfGone({ kind: "forward" }, went, this.counterWords) };
+    const result = this.debugger.goForward();
+    return { ...result, words: wordsOfGone({ kind: "forward" }, result, this.counterWords) };
   }
 
   /**

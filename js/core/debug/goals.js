@@ -57,12 +57,12 @@ function traceWatcher(places, goal) {
     after: "",
     take: (answers) => {
       const { lines } = answers.takeTrace();
-      const ran = answers.takeRun();
+      const run = answers.takeRun();
       for (const line of lines) {
         const cycles = goal(readTraced(line));
         if (cycles >= 0) return { cycles, isReached: true, end: "" };
       }
-      return { ...ran, isReached: false };
+      return { ...run, isReached: false };
     },
     returns: false,
   };
@@ -70,25 +70,25 @@ function traceWatcher(places, goal) {
 
 /**
  * Returns a watcher for a condition. If a key change made the condition true before a run, the run has one cycle.
- * @param {Asked} asked
+ * @param {Asked} condition
  * @returns {Watcher}
  */
-function becoming(asked) {
+function becoming(condition) {
   let before = "";
-  const watcher = traceWatcher(` ${asked.places.join(" ")}`, () => -1);
+  const watcher = traceWatcher(` ${condition.places.join(" ")}`, () => -1);
   return {
     ...watcher,
     take: (answers) => {
       const { row, lines } = answers.takeTrace();
-      const ran = answers.takeRun();
-      if (before !== "" && becomesTrue(asked, before, row)) return { cycles: 1, isReached: true, end: "" };
+      const run = answers.takeRun();
+      if (before !== "" && becomesTrue(condition, before, row)) return { cycles: 1, isReached: true, end: "" };
       before = row;
       for (const line of lines) {
         const { cycles, row: after } = readTraced(line);
-        if (becomesTrue(asked, before, after)) return { cycles: cycles + 1, isReached: true, end: "" };
+        if (becomesTrue(condition, before, after)) return { cycles: cycles + 1, isReached: true, end: "" };
         before = after;
       }
-      return { ...ran, isReached: false };
+      return { ...run, isReached: false };
     },
   };
 }
@@ -125,12 +125,12 @@ function countWatcher(count, isOwed) {
     before: (cycles) => `count ${cycles}\n`,
     after: "regs\n",
     take: (answers) => {
-      const begun = answers.takeCounts().reduce((sum, each) => sum + each.begun, 0);
-      const ran = answers.takeRun();
+      const startedCount = answers.takeCounts().reduce((sum, each) => sum + each.begun, 0);
+      const run = answers.takeRun();
       const isNowOwed = parseCounter(answers.take()).isOwed;
-      left -= begun + Number(wasOwed) - Number(isNowOwed);
+      left -= startedCount + Number(wasOwed) - Number(isNowOwed);
       wasOwed = isNowOwed;
-      return left === 0 ? { cycles: ran.cycles, isReached: true, end: "" } : { ...ran, isReached: false };
+      return left === 0 ? { cycles: run.cycles, isReached: true, end: "" } : { ...run, isReached: false };
     },
     returns: false,
   };
@@ -154,9 +154,9 @@ function addressWatcher(engine, file, address) {
     before: () => "",
     after: "regs\n",
     take: (answers) => {
-      const ran = answers.takeRun();
+      const run = answers.takeRun();
       const { counter, isOwed } = parseCounter(answers.take());
-      return !isOwed && counter === address ? { cycles: ran.cycles, isReached: true, end: "" } : { ...ran, isReached: false };
+      return !isOwed && counter === address ? { cycles: run.cycles, isReached: true, end: "" } : { ...run, isReached: false };
     },
     returns: false,
   };

@@ -46,9 +46,9 @@ class LastArrival {
   begin({ file, count }) {
     const { engine, arrivals } = this;
     const [breaks, watches] = engine.ask(file, "breaks\nwatches\n").answers.map(readMarks);
-    const gone = [...breaks.map((each) => `unbreak 0x${each}\n`), ...watches.map((each) => `unwatch ${each.replace(".", " 0x")}\n`)];
+    const removalLines = [...breaks.map((each) => `unbreak 0x${each}\n`), ...watches.map((each) => `unwatch ${each.replace(".", " 0x")}\n`)];
     this.copy = file.slice();
-    engine.serve(this.copy, gone.join("") + arrivals.first, this.copy);
+    engine.serve(this.copy, removalLines.join("") + arrivals.first, this.copy);
     this.total = count.total;
   }
 
@@ -70,12 +70,12 @@ class LastArrival {
         continue;
       }
       const before = this.total;
-      arrivals.run(engine, copy, { lines, count, cycles }, (_, row, ran) => {
-        const held = arrivals.breakpointAt(row);
-        const isNow = before + ran === now.total && held !== null && held.address === now.counter;
-        if (held && !isNow) {
-          found = aim({ moment: { ...moment, cycles: moment.cycles + ran }, end: "break", id: held.id });
-          this.foundAt = before + ran;
+      arrivals.run(engine, copy, { lines, count, cycles }, (_, row, cyclesRun) => {
+        const breakpoint = arrivals.breakpointAt(row);
+        const isNow = before + cyclesRun === now.total && breakpoint !== null && breakpoint.address === now.counter;
+        if (breakpoint && !isNow) {
+          found = aim({ moment: { ...moment, cycles: moment.cycles + cyclesRun }, end: "break", id: breakpoint.id });
+          this.foundAt = before + cyclesRun;
         }
         return false;
       });

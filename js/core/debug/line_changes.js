@@ -72,11 +72,11 @@ export class LineChanges {
    */
   addPause(standing, cycles, map) {
     const { before } = this;
-    const done = cycles - this.cycles;
+    const elapsed = cycles - this.cycles;
     this.before = standing;
     this.cycles = cycles;
-    if (before && map && done === 0) return;
-    const line = before && map && done > 0 ? steppedLine(before, standing, done, map) : 0;
+    if (before && map && elapsed === 0) return;
+    const line = before && map && elapsed > 0 ? steppedLine(before, standing, elapsed, map) : 0;
     if (!before || line === 0) {
       this.lines = new Map();
       return;

@@ -109,8 +109,8 @@ export class Selected {
     const before = this.used.get(address);
     const user = [...this.users].find((each) => each !== name);
     if (user === undefined || before === undefined || before === chip) return null;
-    const words = say.usedBefore(what, before, this.source < 0 ? "" : say.atAddress(hex(this.source, 3)));
-    return { kind: "source", words: say.sourceWasFor(words, user) };
+    const message = say.usedBefore(what, before, this.source < 0 ? "" : say.atAddress(hex(this.source, 3)));
+    return { kind: "source", words: say.sourceWasFor(message, user) };
   }
 
   /** The message about the last SRC; "" before the first SRC. */
@@ -128,7 +128,7 @@ export class Selected {
     const chips = this.chips.get(bank) || 0;
     const chip = (this.latched.get(bank) || 0) >> 6;
     if (chip < chips) return null;
-    const words = chips === 0 ? say.bankWithoutRam(bank) : say.chipOf(chip, bank, chips);
-    return { kind: "chip", words: say.writesTo(name, words, this.description) };
+    const chipText = chips === 0 ? say.bankWithoutRam(bank) : say.chipOf(chip, bank, chips);
+    return { kind: "chip", words: say.writesTo(name, chipText, this.description) };
   }
 }

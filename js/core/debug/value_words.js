@@ -66,10 +66,10 @@ function machineValue(place, name, { registers }) {
  * @returns {Piece[]}
  */
 function characterPieces(bank, byte, standing) {
-  const words = say.inBank(bank, wordsOfCharacter(byte));
+  const description = say.inBank(bank, wordsOfCharacter(byte));
   const value = standing.character(bank, byte);
-  if (value === "") return [say.boardLacks(words)];
-  return [`${words} = `, { place: `ram.${bank}.0x${hex(byte, 2)}`, name: words, value }];
+  if (value === "") return [say.boardLacks(description)];
+  return [`${description} = `, { place: `ram.${bank}.0x${hex(byte, 2)}`, name: description, value }];
 }
 
 /**
@@ -127,10 +127,10 @@ function portPieces(name, standing) {
   }
   const status = STATUS_INSTRUCTION.exec(name);
   if (!status) return [];
-  const words = say.statusAt(bank, byte >> 6, byte >> 4 & 3, status[1]);
+  const description = say.statusAt(bank, byte >> 6, byte >> 4 & 3, status[1]);
   const value = standing.status(bank, byte >> 4, Number(status[1]));
-  if (value === "") return [say.boardLacks(words)];
-  return [`${words} = `, { place: `st.${bank}.${byte >> 4}.${status[1]}`, name: words, value }];
+  if (value === "") return [say.boardLacks(description)];
+  return [`${description} = `, { place: `st.${bank}.${byte >> 4}.${status[1]}`, name: description, value }];
 }
 
 /**

@@ -169,10 +169,10 @@ export function readWatched(text, names = null) {
   const place = placeOf(value);
   const fault = place ? "" : faultOf(value, column, names);
   if (fault) return { watched: null, fault };
-  const spelled = place ? place.name : "";
-  const pieces = machineReader(spelled) || portReader(spelled) || memoryReader(spelled)
+  const placeName = place ? place.name : "";
+  const pieces = machineReader(placeName) || portReader(placeName) || memoryReader(placeName)
     || (place ? placeReader(place) : expressionReader(value));
-  const character = /^(ram|st)\./.test(spelled) ? spelled : "";
+  const character = /^(ram|st)\./.test(placeName) ? placeName : "";
   return { watched: { name: name || value, text: name ? `${name} = ${value}` : value, place: character, value, pieces }, fault: "" };
 }
 

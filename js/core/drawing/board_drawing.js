@@ -87,9 +87,9 @@ export class Drawing {
    * @param {() => Promise<void>} act
    */
   inTurn(act) {
-    const done = this.turn.then(act);
-    this.turn = done.catch(() => {});
-    return done;
+    const result = this.turn.then(act);
+    this.turn = result.catch(() => {});
+    return result;
   }
 
   /** After all earlier actions, reads the text if it has changed, and shows the board. */
@@ -133,8 +133,8 @@ export class Drawing {
   async ask(text) {
     const [first, ...answers] = await this.calls.ask(`wire\n${sentText(text, "#")}.\nboard\n`);
     const refusal = refusalOf(first);
-    const words = refusal ? say.benchRefuses(this.calls.wordsOfRefusal(refusal.number)) : "";
-    return { refused: words, answers };
+    const message = refusal ? say.benchRefuses(this.calls.wordsOfRefusal(refusal.number)) : "";
+    return { refused: message, answers };
   }
 
   /**
@@ -206,10 +206,10 @@ export class Drawing {
 
   /** Drops the unfinished wire. Without an unfinished wire, clears the selection. */
   leave() {
-    const said = this.begun ? say.NO_WIRE : "";
+    const message = this.begun ? say.NO_WIRE : "";
     if (!this.begun) this.chosen = "";
     this.begun = "";
-    this.say(said);
+    this.say(message);
   }
 
   /**
@@ -227,18 +227,18 @@ export class Drawing {
    */
   async perform(act) {
     const text = this.calls.text();
-    const done = actOn(text, act);
-    if (done.refusal) return this.say(done.refusal);
-    if (done.edits.length === 0) return this.say(say.NO_CHANGE);
-    const { refused, answers } = await this.ask(done.text);
-    if (refused || !matchesBench(done.text, answers)) return this.say(say.notDone(refused || say.CANNOT_READ));
+    const result = actOn(text, act);
+    if (result.refusal) return this.say(result.refusal);
+    if (result.edits.length === 0) return this.say(say.NO_CHANGE);
+    const { refused, answers } = await this.ask(result.text);
+    if (refused || !matchesBench(result.text, answers)) return this.say(say.notDone(refused || say.CANNOT_READ));
     // If the user edited the text during the check, start again.
     if (this.calls.text() !== text) return this.perform(act);
-    this.calls.edit(done.edits);
-    this.movedParts.note(text, done.text, done.goneChains);
-    this.take(done.text, answers, "");
-    this.chosen = this.isThere(done.part) ? done.part : "";
-    return this.say(done.words);
+    this.calls.edit(result.edits);
+    this.movedParts.note(text, result.text, result.goneChains);
+    this.take(result.text, answers, "");
+    this.chosen = this.isThere(result.part) ? result.part : "";
+    return this.say(result.words);
   }
 
   /**

@@ -59,39 +59,39 @@ export function displayAt(face, lamp) {
  * Extends the parts to delete by the parts that depend on them.
  * @param {Board} board
  * @param {Face} face
- * @param {Gone} gone
+ * @param {Gone} deletedParts
  */
-function addDependents(board, face, gone) {
+function addDependents(board, face, deletedParts) {
   board.chains.forEach(({ clock, data }, at) => {
-    if (isLineGone(gone, clock) || isLineGone(gone, data)) gone.chains.add(at);
+    if (isLineGone(deletedParts, clock) || isLineGone(deletedParts, data)) deletedParts.chains.add(at);
   });
   const { matrix } = board;
   if (matrix) {
-    matrix.columns.forEach((line, at) => isLineGone(gone, line) && gone.columns.add(at));
-    gone.keys = gone.keys || gone.chains.has(matrix.chain) || gone.columns.size === matrix.columns.length;
+    matrix.columns.forEach((line, at) => isLineGone(deletedParts, line) && deletedParts.columns.add(at));
+    deletedParts.keys = deletedParts.keys || deletedParts.chains.has(matrix.chain) || deletedParts.columns.size === matrix.columns.length;
   }
-  board.lamps.forEach((line, at) => isLineGone(gone, line) && gone.lamps.add(at));
+  board.lamps.forEach((line, at) => isLineGone(deletedParts, line) && deletedParts.lamps.add(at));
   // The whole group of a deleted lamp is deleted. (The loop also visits the lamps that it adds.)
-  for (const at of gone.lamps) {
+  for (const at of deletedParts.lamps) {
     const groups = face.groups.map(lampsOfGroup).filter((lamps) => lamps.includes(at));
-    for (const lamp of groups.flat()) if (lamp < board.lamps.length) gone.lamps.add(lamp);
+    for (const lamp of groups.flat()) if (lamp < board.lamps.length) deletedParts.lamps.add(lamp);
   }
 }
 
 /**
  * Removes the parts to delete from the text.
  * @param {Sketch} sketch
- * @param {Gone} gone
+ * @param {Gone} deletedParts
  */
-function removeAll(sketch, gone) {
+function removeAll(sketch, deletedParts) {
   const { matrix } = sketch.board;
-  if (gone.lamps.size > 0) removeLamps(sketch, gone.lamps);
-  if (gone.keys && matrix) removeKeys(sketch);
-  else if (gone.columns.size > 0) removeKeyColumns(sketch, gone.columns);
-  for (const chain of descending(gone.chains)) removeChain(sketch, chain);
-  sketch.goneChains.push(...gone.chains);
-  for (const rom of gone.roms) removeRom(sketch, rom);
-  for (const ram of gone.rams) removeRam(sketch, ram);
+  if (deletedParts.lamps.size > 0) removeLamps(sketch, deletedParts.lamps);
+  if (deletedParts.keys && matrix) removeKeys(sketch);
+  else if (deletedParts.columns.size > 0) removeKeyColumns(sketch, deletedParts.columns);
+  for (const chain of descending(deletedParts.chains)) removeChain(sketch, chain);
+  sketch.goneChains.push(...deletedParts.chains);
+  for (const rom of deletedParts.roms) removeRom(sketch, rom);
+  for (const ram of deletedParts.rams) removeRam(sketch, ram);
 }
 
 /**
@@ -181,18 +181,18 @@ function removeRam(sketch, ram) {
 /**
  * Adds a part to the parts to delete; throws `ActRefusal` if the part cannot be deleted alone.
  * @param {Board} board
- * @param {Gone} gone
+ * @param {Gone} deletedParts
  * @param {string} part
  */
-function addDeleted(board, gone, part) {
+function addDeleted(board, deletedParts, part) {
   const [kind, number] = splitTarget(part);
-  if (kind === "rom") gone.roms.add(number);
-  else if (kind === "chain") gone.chains.add(number);
-  else if (kind === "lamp") gone.lamps.add(number);
-  else if (kind === "column") gone.columns.add(number);
-  else if (kind === "keys") gone.keys = true;
-  else if (kind === "lamps") board.lamps.forEach((_, at) => gone.lamps.add(at));
-  else if (kind === "ram") addDeletedRam(board, gone, part.slice(4));
+  if (kind === "rom") deletedParts.roms.add(number);
+  else if (kind === "chain") deletedParts.chains.add(number);
+  else if (kind === "lamp") deletedParts.lamps.add(number);
+  else if (kind === "column") deletedParts.columns.add(number);
+  else if (kind === "keys") deletedParts.keys = true;
+  else if (kind === "lamps") board.lamps.forEach((_, at) => deletedParts.lamps.add(at));
+  else if (kind === "ram") addDeletedRam(board, deletedParts, part.slice(4));
   else throw new ActRefusal(deletionRefusal(part));
 }
 
@@ -209,14 +209,14 @@ function deletionRefusal(part) {
 /**
  * Adds a RAM chip to the parts to delete; throws `ActRefusal` if it is not the last chip of its bank.
  * @param {Board} board
- * @param {Gone} gone
+ * @param {Gone} deletedParts
  * @param {string} ram `bank.chip`
  */
-function addDeletedRam({ banks }, gone, ram) {
+function addDeletedRam({ banks }, deletedParts, ram) {
   const [bank, chip] = ram.split(".").map(Number);
   const { chips } = banks.find((each) => each.bank === bank) || { chips: 0 };
   if (chip !== chips - 1) throw new ActRefusal(say.deleteChipFirst(bank, chips - 1));
-  gone.rams.add(ram);
+  deletedParts.rams.add(ram);
 }
 
 /**
@@ -236,13 +236,13 @@ export function deletePart(sketch, part) {
     return "";
   }
   if (part.startsWith("row ")) return deleteRow(sketch, Number(part.slice(4)));
-  const gone = noParts();
-  addDeleted(board, gone, part);
+  const deletedParts = noParts();
+  addDeleted(board, deletedParts, part);
   // Chains depend on ROMs and RAM chips. Keys and lamps depend on chains. Two passes are therefore enough.
   const face = new Face(sketch.text);
-  for (let times = 0; times < 2; times++) addDependents(board, face, gone);
-  const words = wordsOfGone(board, gone, part);
-  removeAll(sketch, gone);
+  for (let times = 0; times < 2; times++) addDependents(board, face, deletedParts);
+  const words = wordsOfGone(board, deletedParts, part);
+  removeAll(sketch, deletedParts);
   return words;
 }
 
@@ -262,16 +262,16 @@ function deleteRow(sketch, row) {
 /**
  * Describes the parts that are deleted together with a part.
  * @param {Board} board
- * @param {Gone} gone
+ * @param {Gone} deletedParts
  * @param {string} part
  */
-function wordsOfGone({ buzzer }, gone, part) {
-  const { chains, keys, columns, lamps } = gone;
+function wordsOfGone({ buzzer }, deletedParts, part) {
+  const { chains, keys, columns, lamps } = deletedParts;
   const others = [...chains].map((chain) => `chain ${chain}`).filter((name) => name !== part);
   const further = part === "lamps" || (part.startsWith("lamp ") && lamps.size === 1) ? 0 : lamps.size;
   if (keys && part !== "keys") others.push(nameOfPart("keys"));
   else if (!keys && columns.size > 0 && !part.startsWith("column")) others.push(say.ofKeys(counted(columns.size, "column")));
   if (further > 0) others.push(part.startsWith("lamp ") ? say.allLampsOf(further) : counted(further, "lamp"));
-  if (buzzer && isLineGone(gone, buzzer)) others.push(say.THE_BUZZER);
+  if (buzzer && isLineGone(deletedParts, buzzer)) others.push(say.THE_BUZZER);
   return say.listOf(others);
 }

@@ -145,17 +145,17 @@ export function addGroup(draft, kind, first, words) {
 /**
  * Renumbers the lamps after a deletion.
  * @param {BoardDraft} draft
- * @param {Set<number>} gone the deleted lamps
+ * @param {Set<number>} deleted the deleted lamps
  * @returns {TextEdit[]}
  */
-export function renumberLamps(draft, gone) {
+export function renumberLamps(draft, deleted) {
   /** @type {(lamp: number) => number} */
-  const numberOf = (lamp) => lamp - [...gone].filter((each) => each < lamp).length;
+  const numberOf = (lamp) => lamp - [...deleted].filter((each) => each < lamp).length;
   return faceLines(draft).flatMap((line) => {
-    if (line.kind === "grid") return renumberGrid(draft, line, gone, numberOf);
+    if (line.kind === "grid") return renumberGrid(draft, line, deleted, numberOf);
     if (!LAMP_KINDS.has(line.kind) || !line.first || Number.isNaN(headNumber(line))) return [];
-    if (line.last) return renumberRange(draft, line, gone, numberOf);
-    return renumberList(draft, line, gone, numberOf);
+    if (line.last) return renumberRange(draft, line, deleted, numberOf);
+    return renumberList(draft, line, deleted, numberOf);
   });
 }
 
@@ -163,17 +163,17 @@ export function renumberLamps(draft, gone) {
  * Renumbers the lamps in a list of names or colours, or in a group.
  * @param {BoardDraft} draft
  * @param {FaceLine} line
- * @param {Set<number>} gone the deleted lamps
+ * @param {Set<number>} deleted the deleted lamps
  * @param {(lamp: number) => number} numberOf returns the new number of a lamp
  * @returns {TextEdit[]}
  */
-function renumberList(draft, line, gone, numberOf) {
+function renumberList(draft, line, deleted, numberOf) {
   const first = headNumber(line);
   const isGroup = line.kind !== "lamp" && line.kind !== "colour";
-  const kept = isGroup ? [...(gone.has(first) ? [] : [first])] : line.words.map((_, at) => first + at).filter((lamp) => !gone.has(lamp));
-  if (kept.length === 0) return [removeFaceLine(draft, line)];
-  const head = setWord(/** @type {import("./face_lines.js").FaceWord} */ (line.first), String(numberOf(kept[0])));
-  if (!isGroup) return [...head, ...removeWords(line, (at) => gone.has(first + at))];
+  const remaining = isGroup ? [...(deleted.has(first) ? [] : [first])] : line.words.map((_, at) => first + at).filter((lamp) => !deleted.has(lamp));
+  if (remaining.length === 0) return [removeFaceLine(draft, line)];
+  const head = setWord(/** @type {import("./face_lines.js").FaceWord} */ (line.first), String(numberOf(remaining[0])));
+  if (!isGroup) return [...head, ...removeWords(line, (at) => deleted.has(first + at))];
   // The number in `scanned by N` is also a lamp number.
   const by = line.words[line.words.findIndex(({ text }) => text === "scanned") + 2];
   return line.words.some(({ text }) => text === "scanned") && by ? [...head, ...setWord(by, String(numberOf(Number(by.text))))] : head;
@@ -183,35 +183,35 @@ function renumberList(draft, line, gone, numberOf) {
  * Renumbers the lamps in a colour range.
  * @param {BoardDraft} draft
  * @param {FaceLine} line
- * @param {Set<number>} gone the deleted lamps
+ * @param {Set<number>} deleted the deleted lamps
  * @param {(lamp: number) => number} numberOf returns the new number of a lamp
  * @returns {TextEdit[]}
  */
-function renumberRange(draft, line, gone, numberOf) {
+function renumberRange(draft, line, deleted, numberOf) {
   const { first, last } = line;
   if (!first || !last) return [];
   const lamps = Array.from({ length: Math.max(0, Number(last.text) - headNumber(line) + 1) }, (_, at) => headNumber(line) + at);
-  const kept = lamps.filter((lamp) => !gone.has(lamp));
-  if (kept.length === 0) return [removeFaceLine(draft, line)];
-  return [...setWord(first, String(numberOf(kept[0]))), ...setWord(last, String(numberOf(kept[kept.length - 1])))];
+  const remaining = lamps.filter((lamp) => !deleted.has(lamp));
+  if (remaining.length === 0) return [removeFaceLine(draft, line)];
+  return [...setWord(first, String(numberOf(remaining[0]))), ...setWord(last, String(numberOf(remaining[remaining.length - 1])))];
 }
 
 /**
  * Renumbers the lamps in a grid row.
  * @param {BoardDraft} draft
  * @param {FaceLine} line
- * @param {Set<number>} gone the deleted lamps
+ * @param {Set<number>} deleted the deleted lamps
  * @param {(lamp: number) => number} numberOf returns the new number of a lamp
  * @returns {TextEdit[]}
  */
-function renumberGrid(draft, line, gone, numberOf) {
+function renumberGrid(draft, line, deleted, numberOf) {
   const names = new Map(faceLines(draft).filter(({ kind, first, last }) => kind === "lamp" && first && !last)
     .flatMap((list) => list.words.map(({ text }, at) => /** @type {[string, number]} */ ([text, headNumber(list) + at]))));
   const texts = line.words.map(({ text }) => {
     const named = names.get(text);
-    if (named !== undefined) return gone.has(named) ? NO_WORD : text;
+    if (named !== undefined) return deleted.has(named) ? NO_WORD : text;
     if (!/^\d+$/.test(text)) return text;
-    return gone.has(Number(text)) ? NO_WORD : String(numberOf(Number(text)));
+    return deleted.has(Number(text)) ? NO_WORD : String(numberOf(Number(text)));
   });
   if (texts.every((text) => text === NO_WORD)) return [removeFaceLine(draft, line)];
   return line.words.flatMap((word, at) => setWord(word, texts[at]));
@@ -258,11 +258,11 @@ export function removeRows(draft, remaining) {
 /**
  * Removes the names of deleted key columns.
  * @param {BoardDraft} draft
- * @param {Set<number>} gone the deleted columns
+ * @param {Set<number>} deleted the deleted columns
  */
-export function removeColumns(draft, gone) {
+export function removeColumns(draft, deleted) {
   return faceLines(draft).filter(({ kind }) => kind === "row").flatMap((line) => {
-    const isEmpty = line.words.length > 0 && line.words.every((_, at) => gone.has(at));
-    return isEmpty ? [removeFaceLine(draft, line)] : removeWords(line, (at) => gone.has(at));
+    const isEmpty = line.words.length > 0 && line.words.every((_, at) => deleted.has(at));
+    return isEmpty ? [removeFaceLine(draft, line)] : removeWords(line, (at) => deleted.has(at));
   });
 }

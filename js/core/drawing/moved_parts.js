@@ -36,10 +36,10 @@ export class MovedParts {
    * Records a text edit that deletes chains.
    * @param {string} before the text before the edit
    * @param {string} after the text after the edit
-   * @param {number[]} gone the numbers of the deleted chains
+   * @param {number[]} numbers the numbers of the deleted chains
    */
-  note(before, after, gone) {
-    if (gone.length > 0) this.deletions.push({ before, after, gone: [...gone].sort((one, other) => one - other), points: new Map() });
+  note(before, after, numbers) {
+    if (numbers.length > 0) this.deletions.push({ before, after, gone: [...numbers].sort((one, other) => one - other), points: new Map() });
   }
 
   /**

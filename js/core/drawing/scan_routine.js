@@ -105,8 +105,8 @@ function readColumns(columns, labels) {
     /** @type {Line[]} */
     const lines = [...selected(chip), ["", ["RDR"]]];
     let bit = 1 / 2;
-    const own = ports.map((port, column) => ({ ...port, column })).filter((port) => isSame(port, chip));
-    for (const { bit: wanted, column } of own.sort((one, other) => one.bit - other.bit)) {
+    const chipColumns = ports.map((port, column) => ({ ...port, column })).filter((port) => isSame(port, chip));
+    for (const { bit: wanted, column } of chipColumns.sort((one, other) => one.bit - other.bit)) {
       if (wanted === bit) continue;
       for (; bit < wanted; bit *= 2) lines.push(["", ["RAR"]]);
       lines.push(["", ["JCN", "2,", labels.of(String(column))], say.columnInCarry(column)]);

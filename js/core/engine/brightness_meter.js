@@ -226,14 +226,14 @@ export class BrightnessMeter {
   /** @param {string[]} answers the answer to one query. An instruction takes effect after its first cycle. */
   add(answers) {
     const { row, lines, cycles } = new Answers(answers).takeTrace();
-    const begun = this.cycles;
-    this.change(row.slice(1), begun);
+    const startCycles = this.cycles;
+    this.change(row.slice(1), startCycles);
     for (const line of lines) {
       const traced = readTraced(line);
-      this.change(traced.row.slice(1), begun + traced.cycles + 1);
+      this.change(traced.row.slice(1), startCycles + traced.cycles + 1);
     }
     // A query of no cycles counts as one cycle, so that the current lamps are on for at least one cycle.
-    this.cycles = begun + Math.max(1, cycles);
+    this.cycles = startCycles + Math.max(1, cycles);
   }
 
   /**

@@ -69,15 +69,15 @@ export class ChangeCounter {
 
   /**
    * @param {Omit<PastChange, "unit">} change
-   * @param {number} begun the cycles before the unit of the change
+   * @param {number} unitStart the cycles before the unit of the change
    */
-  add({ group, before, after, cycles, address, line }, begun) {
+  add({ group, before, after, cycles, address, line }, unitStart) {
     const oldValues = valuesOf(before);
     valuesOf(after).forEach((value, number) => {
       if (value === oldValues[number]) return;
       const place = this.groups[group][number];
       const { count } = this.cells.get(place) || { count: 0 };
-      this.cells.set(place, { place, count: count + 1, ago: 0, at: begun + cycles, address, line });
+      this.cells.set(place, { place, count: count + 1, ago: 0, at: unitStart + cycles, address, line });
     });
   }
 
@@ -89,12 +89,12 @@ export class ChangeCounter {
    */
   follow(engine, file, units) {
     /** @type {Map<Unit, number>} the cycles before each unit */
-    const begun = new Map();
+    const unitStarts = new Map();
     for (const unit of units) {
-      begun.set(unit, this.cycles);
+      unitStarts.set(unit, this.cycles);
       this.cycles += unit.cycles;
     }
-    changesIn(engine, file, units, this.groups, (change) => this.add(change, begun.get(change.unit) || 0));
+    changesIn(engine, file, units, this.groups, (change) => this.add(change, unitStarts.get(change.unit) || 0));
   }
 
   /** @returns {Heat} */

@@ -58,16 +58,16 @@ export class Heating {
    * @param {Answers} answers the answers to the queries before one run
    */
   add(counting, answers) {
-    const begun = counting.cycles;
+    const startCycles = counting.cycles;
     for (let group = 0; group < GROUPS_OF_CHIP; group++) {
       const { row, lines, cycles } = answers.takeTrace();
       let before = row;
       for (const line of lines) {
         const traced = readTraced(line);
-        counting.add({ group, before, after: traced.row, cycles: traced.cycles, address: traced.address, line: "" }, begun);
+        counting.add({ group, before, after: traced.row, cycles: traced.cycles, address: traced.address, line: "" }, startCycles);
         before = traced.row;
       }
-      counting.cycles = begun + cycles;
+      counting.cycles = startCycles + cycles;
     }
   }
 }

@@ -90,10 +90,10 @@ export class LiveRecorder {
    * @returns {LivePart}
    */
   part(file) {
-    const taken = this.taking.take();
-    const newAddresses = [...new Set(taken.counters)].filter((address) => this.listed[address] === 0);
+    const part = this.taking.take();
+    const newAddresses = [...new Set(part.counters)].filter((address) => this.listed[address] === 0);
     for (const address of newAddresses) this.listed[address] = 1;
-    return { ...taken, listing: listedAt(this.engine, file, newAddresses), triggered: this.triggered, over: this.over };
+    return { ...part, listing: listedAt(this.engine, file, newAddresses), triggered: this.triggered, over: this.over };
   }
 
   /** @param {string} why the reason, as in `over` */
@@ -127,7 +127,7 @@ export class LiveRecorder {
    */
   take(planned, traced, answers) {
     const { taking, trigger } = this;
-    const begun = taking.elapsed;
+    const startMoment = taking.elapsed;
     const instructionCount = taking.moments.count;
     const counts = trigger ? trigger.members.map((member) => taking.tracks[member].moments.count) : [];
     planned.forEach(({ change }, at) => {
@@ -144,7 +144,7 @@ export class LiveRecorder {
     taking.takeState(answers[planned.length]);
     if (trigger && trigger.edge) this.takeEdges(trigger, counts);
     else if (trigger && trigger.address >= 0) this.takeArrival(trigger.address, instructionCount);
-    return this.endIfComplete(begun, instructionCount);
+    return this.endIfComplete(startMoment, instructionCount);
   }
 
   /**
@@ -201,12 +201,12 @@ export class LiveRecorder {
   }
 
   /**
-   * Ends the recording if it is complete. Returns the number of cycles after `begun` at which time must stop, or -1 if time continues. Time stops at
-   * the next instruction.
-   * @param {number} begun
-   * @param {number} counted the number of instructions before `begun`
+   * Ends the recording if it is complete. Returns the number of cycles after `startMoment` at which time must stop, or -1 if time continues.
+   * Time stops at the next instruction.
+   * @param {number} startMoment
+   * @param {number} counted the number of instructions before `startMoment`
    */
-  endIfComplete(begun, counted) {
+  endIfComplete(startMoment, counted) {
     const { taking, end, wanted } = this;
     if (taking.elapsed >= MAX_MOMENT) this.stop("long");
     if (this.triggered >= 0) this.places = "";
@@ -215,7 +215,7 @@ export class LiveRecorder {
     if (!wanted.stopsTime) return -1;
     this.stops = true;
     const next = taking.moments.all.subarray(counted).find((moment) => moment >= end);
-    return (next === undefined ? taking.elapsed : next) - begun;
+    return (next === undefined ? taking.elapsed : next) - startMoment;
   }
 
   // --- while time is paused ---
@@ -230,10 +230,10 @@ export class LiveRecorder {
     if (accepted.some(({ line }) => /^\s*wire/.test(line))) this.stop("board");
     else if (accepted.some(({ line }) => /^\s*(asm|poke\s+rom)/.test(line))) this.stop("program");
     for (let at = 0; at < accepted.length && this.isOn;) {
-      const begun = at;
-      const end = Math.min(accepted.length, begun + RECORDED_UNITS);
+      const startIndex = at;
+      const end = Math.min(accepted.length, startIndex + RECORDED_UNITS);
       for (let cycles = 0; at < end && cycles < RECORDED_CYCLES; at++) cycles += accepted[at].cycles;
-      const planned = accepted.slice(begun, at).map(repeatedLine);
+      const planned = accepted.slice(startIndex, at).map(repeatedLine);
       const served = engine.serve(file, `${linesWithQueries(planned, [this])}state\n`, file);
       const { askerAnswers: [traced], answers } = splitAnswers(planned, [this], served.answers);
       this.take(planned, traced, answers);

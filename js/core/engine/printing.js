@@ -108,11 +108,11 @@ export class Printing {
   follow(engine, file, accepted, total) {
     let before = total;
     for (let at = 0; at < accepted.length;) {
-      const begun = at;
-      const end = Math.min(accepted.length, begun + RECORDED_UNITS);
+      const startIndex = at;
+      const end = Math.min(accepted.length, startIndex + RECORDED_UNITS);
       let cycles = 0;
       for (; at < end && cycles < RECORDED_CYCLES; at++) cycles += accepted[at].cycles;
-      const planned = accepted.slice(begun, at).map(repeatedLine);
+      const planned = accepted.slice(startIndex, at).map(repeatedLine);
       const { answers } = engine.serve(file, linesWithQueries(planned, [this]), file);
       const { askerAnswers: [answerLists] } = splitAnswers(planned, [this], answers);
       this.take(answerLists, before);

@@ -38,8 +38,8 @@ function otherByte(codes, bytes, map) {
  */
 export function readSource(engine, text) {
   const rejected = (/** @type {TextFault[]} */ faults) => ({ faults, map: new SourceMap([], ""), bytes: new Int16Array() });
-  const unsent = faultsOfText("program", text);
-  if (unsent.length > 0) return rejected(unsent);
+  const textFaults = faultsOfText("program", text);
+  if (textFaults.length > 0) return rejected(textFaults);
   const sent = sentText(text, ";");
   const { map, refusal, bytes } = readProgram(engine, sent);
   if (refusal) return rejected([{ text: "program", ...refusal, words: "" }]);

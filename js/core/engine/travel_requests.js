@@ -53,8 +53,8 @@ export class TravelRequests {
   async goBack(goal) {
     const totalCycles = this.bench.session.timeline.cycles;
     let done = 0;
-    const went = await this.bench.debugger.goBack(goal, (more = 0) => this.bench.goesOn(done += more, totalCycles));
-    return travelResult(this.bench, "back", went);
+    const outcome = await this.bench.debugger.goBack(goal, (more = 0) => this.bench.goesOn(done += more, totalCycles));
+    return travelResult(this.bench, "back", outcome);
   }
 
   /**
@@ -91,12 +91,12 @@ export class TravelRequests {
  * Returns the result of a move in time, with the new present for the page.
  * @param {OpenBench} bench
  * @param {string} word the name of the move in the log
- * @param {WentBack} went
+ * @param {WentBack} outcome
  * @returns {TravelResult}
  */
-function travelResult(bench, word, went) {
+function travelResult(bench, word, outcome) {
   const { session } = bench;
-  const { isDone, wires } = went;
+  const { isDone, wires } = outcome;
   const entries = isDone ? [{ line: `(${word})`, textLines: 0, answers: [bench.engine.ask(session.file, "").opened] }] : [];
-  return { entries, first: "", status: 0, touchesRom: isDone, ...went, ...bench.shown(session.takeSnapshot(), wires) };
+  return { entries, first: "", status: 0, touchesRom: isDone, ...outcome, ...bench.shown(session.takeSnapshot(), wires) };
 }

@@ -51,11 +51,11 @@ export class TrialRequests {
   /**
    * Starts a search for counterexamples. Resolves to the errors in the texts.
    * @param {import("../explore/exploring.js").ExploredTexts} texts
-   * @param {import("../explore/exploring.js").Asked} asked
+   * @param {import("../explore/exploring.js").Asked} options
    */
-  async explore(texts, asked) {
+  async explore(texts, options) {
     const { readable, faults } = await readToExplore(this.bench.engine, texts);
-    this.exploring = readable && new Exploring(this.bench.engine, texts, readable, asked, async () => {
+    this.exploring = readable && new Exploring(this.bench.engine, texts, readable, options, async () => {
       await this.bench.goesOn(0, 1);
     });
     return faults;

@@ -79,8 +79,8 @@ class WaveRecorder {
   recorded() {
     const { engine, file, taking, program } = this;
     taking.takeState(engine.ask(file, "state\n").answers[0]);
-    const taken = taking.take();
-    return { ...taken, lines: taking.lines, listing: listedAt(engine, file, new Set(taken.counters)), program };
+    const part = taking.take();
+    return { ...part, lines: taking.lines, listing: listedAt(engine, file, new Set(part.counters)), program };
   }
 }
 

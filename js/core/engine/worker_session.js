@@ -219,9 +219,9 @@ export class WorkerSession {
       served = this.tryPlanned(done);
     }
     const { recording } = this;
-    const cut = recording ? recording.take(done, served.traced, served.answers) : -1;
-    if (cut >= 0) {
-      done = linesUpTo(done, cut);
+    const stopCycle = recording ? recording.take(done, served.traced, served.answers) : -1;
+    if (stopCycle >= 0) {
+      done = linesUpTo(done, stopCycle);
       served = this.tryPlanned(done);
     }
     const answers = served.answers.slice(0, done.length);
@@ -299,11 +299,11 @@ export class WorkerSession {
       const end = endOfInputs(lines, at, size.size);
       const piece = lines.slice(at, end);
       const served = size.measure(() => {
-        const done = this.engine.serve(from, piece, to);
+        const result = this.engine.serve(from, piece, to);
         const { total } = report.count;
-        const accepted = report.add(piece, done);
+        const accepted = report.add(piece, result);
         if (printing) printing.follow(this.engine, from.slice(), accepted, total);
-        return done;
+        return result;
       });
       [from, to] = [to, from === this.file ? new Uint8Array(from.length) : from];
       at = end;

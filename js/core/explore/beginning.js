@@ -50,8 +50,8 @@ export function testsThatLead(names, testText, state) {
   if (faults.length > 0) return { tests: [], words: say.testsFault(faults[0].line, faults[0].words) };
   const last = tests.find((test) => saves(test, state));
   if (!last) {
-    const there = tests.flatMap(({ steps }) => steps.flatMap(({ action }) => (action.kind === "save" ? [action.state] : [])));
-    return { tests: [], words: say.noSuchState(state, there.join(" ")) };
+    const stateNames = tests.flatMap(({ steps }) => steps.flatMap(({ action }) => (action.kind === "save" ? [action.state] : [])));
+    return { tests: [], words: say.noSuchState(state, stateNames.join(" ")) };
   }
   const before = last.from === "" ? [] : testsThatLead(names, testText, last.from).tests;
   return { tests: [...before, last], words: "" };

@@ -121,8 +121,8 @@ class Reader {
     const { face } = this.names;
     const found = [...keysOf(face), pinOf(face)].find((each) => each.name === name && (each.isKey || face.test));
     if (found) return found;
-    const there = namesOfInputs(face);
-    return fail(noKey(name, there.join(" ")));
+    const inputNames = namesOfInputs(face);
+    return fail(noKey(name, inputNames.join(" ")));
   }
 
   /** @param {Input} input */
@@ -257,8 +257,8 @@ const PROPERTIES = {
     const form = say.AFTER_FORM;
     const found = /^press (\S+) within (.*)$/.exec(rest);
     if (!found) fail(form);
-    const [, key, said] = /** @type {RegExpExecArray} */ (found);
-    const words = said.split(" ");
+    const [, key, requirement] = /** @type {RegExpExecArray} */ (found);
+    const words = requirement.split(" ");
     const { cycles, words: count } = durationOf(words, 0);
     if (cycles === 0 || words.length === count) fail(form);
     return afterPress(text, reader.input(key).name, reader.condition(words.slice(count).join(" ")), cycles);
@@ -272,9 +272,9 @@ const PROPERTIES = {
   reach: (reader, rest, text) => {
     const line = /^line (\d+)$/.exec(rest);
     if (!line && !/^@\S+$/.test(rest)) return reach(text, reader.met(rest));
-    const there = line && reader.instructions.find((each) => each.line === Number(line[1]));
-    if (line && !there) fail(say.noInstructionIn(line[1]));
-    const address = there ? there.address : reader.label(rest);
+    const instruction = line && reader.instructions.find((each) => each.line === Number(line[1]));
+    if (line && !instruction) fail(say.noInstructionIn(line[1]));
+    const address = instruction ? instruction.address : reader.label(rest);
     return reader.during === "" ? reachAt(text, address) : reach(text, reader.met(`pc = ${address}`));
   },
   model: (reader, rest, text) => {
@@ -322,15 +322,15 @@ function guardOf(reader, text) {
  * Returns the property of a guarded line.
  * @param {Reader} reader
  * @param {string} text
- * @param {{ guard: string, rest: string } | null} cut
+ * @param {{ guard: string, rest: string } | null} firstGuard
  * @returns {Property | null} null for a line without guards
  */
-function guardedLine(reader, text, cut) {
+function guardedLine(reader, text, firstGuard) {
   /** @type {Guard[]} */
   const guards = [];
   let rest = "";
   let count = 0;
-  for (let next = cut; next; next = cutGuard(rest)) {
+  for (let next = firstGuard; next; next = cutGuard(rest)) {
     reader.looked = text.length - (rest || text).length;
     ({ rest } = next);
     count += 1;
@@ -339,7 +339,7 @@ function guardedLine(reader, text, cut) {
     if (during === undefined) guards.push(guardOf(reader, next.guard));
     else reader.during = `${reader.during && `${reader.during} and `}(${reader.condition(during).text})`;
   }
-  if (rest === "") return cut ? fail(say.GUARD_FORM) : null;
+  if (rest === "") return firstGuard ? fail(say.GUARD_FORM) : null;
   reader.looked = text.length - rest.length;
   const property = lineWithoutGuard(reader, rest);
   if (!property || !GUARDED.has(property.form)) return fail(say.GUARD_FORM);

@@ -55,11 +55,11 @@ export class CampaignRun {
    * @param {number} seed
    * @param {Confirm} confirm
    * @param {number} patience the maximum number of cycles for minimising a counterexample
-   * @param {import("./model.js").Asked | null} [asked] the command of a model
+   * @param {import("./model.js").Asked | null} [modelCommand] the command of a model
    * @param {() => Promise<void>} [yieldToMessages] yields to other tasks while a counterexample is minimised
    * @param {number} [proofTime] the maximum time for the initial proof, in milliseconds
    */
-  constructor(subject, campaign, seed, confirm, patience, asked = null, yieldToMessages = noBreath, proofTime = 0) {
+  constructor(subject, campaign, seed, confirm, patience, modelCommand = null, yieldToMessages = noBreath, proofTime = 0) {
     this.subject = subject;
     this.campaign = campaign;
     this.seed = seed;
@@ -71,8 +71,8 @@ export class CampaignRun {
     /** The time spent so far by the search, the proof and the model, in milliseconds. */
     this.spent = { search: 0, proof: 0, model: 0 };
     /** The number of the property that is a model; -1 if there is no model to ask. */
-    this.modelled = asked ? campaign.properties.findIndex(({ form }) => form === "model") : -1;
-    this.model = asked && this.modelled >= 0 ? new Model(subject, campaign, this.search.start, asked, randomFrom(seed)) : null;
+    this.modelled = modelCommand ? campaign.properties.findIndex(({ form }) => form === "model") : -1;
+    this.model = modelCommand && this.modelled >= 0 ? new Model(subject, campaign, this.search.start, modelCommand, randomFrom(seed)) : null;
     /** @type {(Found | null)[]} */
     this.found = campaign.properties.map(() => null);
     this.unconfirmed = campaign.properties.map(() => 0);
@@ -116,19 +116,19 @@ export class CampaignRun {
    * @returns {Promise<Taken | null>} the counterexample; null if none was found
    */
   async goOn(milliseconds) {
-    const begun = performance.now();
+    const startTime = performance.now();
     if (this.model && this.asksModel && (this.spent.model <= this.spent.search || this.search.open.length === 0)) {
       const found = await this.askModel(this.model);
-      this.spent.model += performance.now() - begun;
+      this.spent.model += performance.now() - startTime;
       return found;
     }
     if (this.proof.continues) {
       for (const at of this.proof.ask()) this.search.close(at);
-      this.spent.proof += performance.now() - begun;
+      this.spent.proof += performance.now() - startTime;
       return null;
     }
     const find = this.search.walkFor(milliseconds);
-    this.spent.search += performance.now() - begun;
+    this.spent.search += performance.now() - startTime;
     return find && this.take(find);
   }
 
@@ -179,13 +179,13 @@ export class CampaignRun {
   }
 
   /**
-   * @param {Pick<Report, "names" | "sums" | "seconds" | "isStopped">} given
+   * @param {Pick<Report, "names" | "sums" | "seconds" | "isStopped">} details
    * @returns {Report}
    */
-  report(given) {
+  report(details) {
     const { campaign: { properties }, search, subject: { instructions }, proof } = this;
     return {
-      form: "explore 1", ...given, seeds: [this.seed], steps: search.steps, states: search.stateCount, covered: search.coverage.text,
+      form: "explore 1", ...details, seeds: [this.seed], steps: search.steps, states: search.stateCount, covered: search.coverage.text,
       instructions,
       properties: properties.map(({ text, line, isGoal, form }, at) => ({
         text, line, isGoal, isSkipped: form === "model" && this.model === null,

@@ -97,8 +97,8 @@ export class Exploring {
     /** @type {Progress["found"]} */
     const found = [];
     while (found.length === 0 && !run.isDone && performance.now() < end) {
-      const taken = await run.goOn(SLICE);
-      if (taken && taken.find) found.push({ property: taken.property, file: run.sessionOf(taken.find) });
+      const counterexample = await run.goOn(SLICE);
+      if (counterexample && counterexample.find) found.push({ property: counterexample.property, file: run.sessionOf(counterexample.find) });
     }
     return { report: this.report(), found, isDone: run.isDone };
   }

@@ -30,14 +30,14 @@ export class Model {
    * @param {Subject} subject
    * @param {Campaign} campaign
    * @param {Start} start
-   * @param {Asked} asked
+   * @param {Asked} modelCommand
    * @param {Random} random
    */
-  constructor(subject, campaign, start, asked, random) {
+  constructor(subject, campaign, start, modelCommand, random) {
     this.subject = subject;
     this.campaign = campaign;
     this.start = start;
-    this.asked = asked;
+    this.asked = modelCommand;
     this.random = random;
     /** The numbers of the inputs that are keys. */
     this.keys = campaign.inputs.flatMap(({ isKey }, at) => (isKey ? [at] : []));

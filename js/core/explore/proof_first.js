@@ -48,9 +48,9 @@ export class ProofFirst {
   /** Asks one question; returns the numbers of the properties that the answer proves. */
   ask() {
     const { properties, question } = this.questions[this.asked];
-    const begun = performance.now();
+    const startTime = performance.now();
     const answer = this.answerTo(question);
-    this.last = performance.now() - begun;
+    this.last = performance.now() - startTime;
     this.left -= this.last;
     if (answer.kind !== "more") this.questions.splice(this.asked, 1);
     else this.asked += 1;

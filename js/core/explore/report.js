@@ -108,8 +108,8 @@ function linesOf(property, at, report) {
   const lines = [`${isRight(property) ? "" : "not "}ok ${at + 1} - ${described(text)} # ${remarkOf(property, report)}`];
   if (!found) return lines;
   const how = property.isGoal ? "reached" : "broken";
-  const words = say.foundBy(how, stepsOf(found.steps), grouped(found.cycles), found.seed);
-  lines.push("  ---", `  message: ${quoted(words)}`, `  at: ${quoted(lineOfProperty(property, report))}`, "  test: |");
+  const message = say.foundBy(how, stepsOf(found.steps), grouped(found.cycles), found.seed);
+  lines.push("  ---", `  message: ${quoted(message)}`, `  at: ${quoted(lineOfProperty(property, report))}`, "  test: |");
   return [...lines, ...found.test.trimEnd().split("\n").map((line) => `    ${line}`), "  ..."];
 }
 

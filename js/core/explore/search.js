@@ -56,8 +56,8 @@ export class Search {
     this.random = randomFrom(seed);
     this.coverage = new Coverage();
     this.watcher = new Watcher(subject, campaign, this.coverage);
-    const looked = campaign.properties.flatMap(conditionsOf).flatMap((condition) => (condition ? condition.places : []));
-    this.places = new Snapshots([...campaign.notes, ...looked], subject.names.board);
+    const conditionPlaces = campaign.properties.flatMap(conditionsOf).flatMap((condition) => (condition ? condition.places : []));
+    this.places = new Snapshots([...campaign.notes, ...conditionPlaces], subject.names.board);
     this.notes = this.places.indexes(campaign.notes);
     this.conditions = campaign.properties.map((property) => new Conditions(property, this.places));
     /** @type {number[]} the properties that are not violated so far */
@@ -108,8 +108,8 @@ export class Search {
     /** @type {WalkStep[]} */
     const steps = [];
     for (let left = begin; left > 0; left -= LONGEST_RUN) steps.push({ wait: Math.min(left, LONGEST_RUN), kind: "none", input: -1 });
-    const begun = memories.map((memory, at) => (watcher.calls.includes(at) ? memory : memory.map(() => 0)));
-    const start = { file, time: 0, down: [], memories: begun };
+    const startMemories = memories.map((memory, at) => (watcher.calls.includes(at) ? memory : memory.map(() => 0)));
+    const start = { file, time: 0, down: [], memories: startMemories };
     const { after } = watcher.watch(start, steps, []);
     const last = after[after.length - 1];
     for (const at of watcher.calls) memories[at] = last ? last.memories[at] : [0];
@@ -136,16 +136,16 @@ export class Search {
     this.walks += 1;
     this.steps += steps.length;
     const file = this.fileOf(state);
-    const { fresh, isSuspect, snapshots } = this.examine(file, state, steps);
+    const { fresh: newSteps, isSuspect, snapshots } = this.examine(file, state, steps);
     const isWhole = isSuspect || this.walks % WATCHED === 1;
-    if (fresh.length === 0 && !isWhole) return null;
+    if (newSteps.length === 0 && !isWhole) return null;
     const start = { ...state, file };
-    const { broken, after } = isWhole ? this.watcher.watch(start, steps, this.open) : this.repeat(start, steps, fresh, snapshots);
+    const { broken, after } = isWhole ? this.watcher.watch(start, steps, this.open) : this.repeat(start, steps, newSteps, snapshots);
     if (after.length > 0) this.note(after[after.length - 1].memories);
     after.forEach(({ isNew }, at) => {
-      if (isNew && !fresh.includes(at)) fresh.push(at);
+      if (isNew && !newSteps.includes(at)) newSteps.push(at);
     });
-    this.keep(state, file, steps, after, fresh.filter((at) => at < after.length).sort((one, other) => one - other));
+    this.keep(state, file, steps, after, newSteps.filter((at) => at < after.length).sort((one, other) => one - other));
     if (!broken) return null;
     return { property: broken.property, steps: [...pathOf(state), ...steps.slice(0, broken.step)], time: broken.time };
   }
@@ -155,17 +155,17 @@ export class Search {
    * code for the first time, it is watched.
    * @param {import("./watching.js").Start} start
    * @param {WalkStep[]} steps
-   * @param {number[]} fresh the steps that show something new; the steps that execute code for the first time are added
+   * @param {number[]} newSteps the steps that show something new; the steps that execute code for the first time are added
    * @param {Snapshot[]} snapshots
    */
-  repeat(start, steps, fresh, snapshots) {
+  repeat(start, steps, newSteps, snapshots) {
     const { campaign: { properties }, open, watcher } = this;
-    const part = steps.slice(0, Math.max(...fresh) + 1);
-    if (followsFromLooks(properties, open, fresh.map((at) => snapshots[at].holds))) {
+    const part = steps.slice(0, Math.max(...newSteps) + 1);
+    if (followsFromLooks(properties, open, newSteps.map((at) => snapshots[at].holds))) {
       const after = countWalk(this, start, part);
-      const ran = [...after.keys()].filter((at) => after[at].isNew);
-      if (ran.length === 0) return { broken: null, after };
-      for (const at of ran) if (!fresh.includes(at)) fresh.push(at);
+      const newCodeSteps = [...after.keys()].filter((at) => after[at].isNew);
+      if (newCodeSteps.length === 0) return { broken: null, after };
+      for (const at of newCodeSteps) if (!newSteps.includes(at)) newSteps.push(at);
     }
     return watcher.watch(start, part, open);
   }
@@ -239,21 +239,21 @@ export class Search {
     const values = new PlaceValues(this.subject.engine.ask(file, stops.map((address) => `break ${address}\n`).join("") + lines).answers);
     values.skip(stops.length);
     /** @type {number[]} */
-    const fresh = [];
+    const newSteps = [];
     /** @type {Snapshot[]} */
     const snapshots = [];
     const seem = new ApparentState(this, state);
     for (const [at, step] of steps.entries()) {
-      const begun = counts ? values.counts() : [];
-      if (values.takeRun().end !== "end") return { fresh, isSuspect: true, snapshots };
+      const instructionCounts = counts ? values.counts() : [];
+      if (values.takeRun().end !== "end") return { fresh: newSteps, isSuspect: true, snapshots };
       if (step.kind !== "none") values.skip(1);
       const snapshot = this.snapshotOf(places.row(values));
       snapshots.push(snapshot);
-      if (seem.isBroken(step, snapshot, begun)) return { fresh, isSuspect: true, snapshots };
-      if (this.coverage.add(begun)) fresh.push(at);
-      if (this.isNew(snapshot, seem.marks) && !fresh.includes(at)) fresh.push(at);
+      if (seem.isBroken(step, snapshot, instructionCounts)) return { fresh: newSteps, isSuspect: true, snapshots };
+      if (this.coverage.add(instructionCounts)) newSteps.push(at);
+      if (this.isNew(snapshot, seem.marks) && !newSteps.includes(at)) newSteps.push(at);
     }
-    return { fresh, isSuspect: false, snapshots };
+    return { fresh: newSteps, isSuspect: false, snapshots };
   }
 
   /**
@@ -291,11 +291,11 @@ export class Search {
    * @param {Uint8Array} file
    * @param {WalkStep[]} steps
    * @param {import("./watching.js").After[]} after
-   * @param {number[]} fresh
+   * @param {number[]} newSteps
    */
-  keep(state, file, steps, after, fresh) {
+  keep(state, file, steps, after, newSteps) {
     let [from, parent] = [0, state];
-    for (const at of fresh) {
+    for (const at of newSteps) {
       if (this.states.length >= MAX_STATES || state.depth + at >= MAX_DEPTH) return;
       const part = steps.slice(from, at + 1);
       this.subject.engine.serve(file, linesOf(this.campaign, part), file);
@@ -362,15 +362,15 @@ class ApparentState {
   /**
    * @param {WalkStep} step
    * @param {Snapshot} snapshot
-   * @param {import("../engine/tracing.js").Counted[]} begun the instruction counts of the wait
+   * @param {import("../engine/tracing.js").Counted[]} instructionCounts the instruction counts of the wait
    */
-  isBroken(step, { holds, opens }, begun) {
+  isBroken(step, { holds, opens }, instructionCounts) {
     const { campaign: { properties, inputs }, asked, memories } = this;
     this.down = downAfter(this.down, step);
     const input = step.kind === "down" ? inputs[step.input].name : "";
     const time = this.time + step.wait;
     const moment = { time, changed: time, address: -1, holds: false, opens: NONE, input, isDown: this.down.length };
-    const countAt = (/** @type {number} */ label) => (begun.find(({ address }) => address === label) || { begun: 0 }).begun;
+    const countAt = (/** @type {number} */ label) => (instructionCounts.find(({ address }) => address === label) || { begun: 0 }).begun;
     const isAtLabel = this.ofLabels.some((at) => (
       properties[at].form === "within" ? this.mayBeLate(properties[at], memories[at], moment, step, countAt)
         : this.mayBreakAtLabel(properties[at], memories[at], moment, step, countAt(properties[at].address))));

@@ -101,17 +101,17 @@ export class Shortening {
     let down = downAtFirst(campaign);
     let waited = 0;
     /** @type {WalkStep[]} */
-    const kept = [];
+    const remainingSteps = [];
     for (const [at, step] of this.steps.entries()) {
       waited += step.wait;
       if (isOut(at)) continue;
       // If no input is down, a wait can be longer. Each wait must fit into one run.
       if (waited > (down.length > 0 ? campaign.longest : LONGEST_RUN)) return null;
-      kept.push({ ...step, wait: waited });
+      remainingSteps.push({ ...step, wait: waited });
       down = downAfter(down, step);
       waited = 0;
     }
-    return kept;
+    return remainingSteps;
   }
 
   /** Removes a press and its release. */

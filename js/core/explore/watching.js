@@ -41,9 +41,9 @@ export class Watcher {
     this.subject = subject;
     this.campaign = campaign;
     this.coverage = coverage;
-    const looked = campaign.properties.flatMap(conditionsOf).flatMap((condition) => (condition ? condition.places : []));
+    const conditionPlaces = campaign.properties.flatMap(conditionsOf).flatMap((condition) => (condition ? condition.places : []));
     this.calls = campaign.properties.flatMap(({ form }, at) => (form === "calls" || form === "returns" ? [at] : []));
-    this.places = new Places(this.calls.length > 0 ? [...looked, "ret"] : looked);
+    this.places = new Places(this.calls.length > 0 ? [...conditionPlaces, "ret"] : conditionPlaces);
     this.conditions = campaign.properties.map((property) => new Conditions(property, this.places));
     /** @type {Set<number>} the labels of the open properties */
     this.labels = new Set();
@@ -165,8 +165,8 @@ class Walk {
     const { watcher: { campaign: { properties }, conditions, calls }, values } = this;
     const isOfCalls = event === "call" || event === "return";
     for (const at of isOfCalls ? calls : this.open) {
-      const { see, address: own, start } = properties[at];
-      if (event === "label" && own !== address && start !== address) continue;
+      const { see, address: ownAddress, start } = properties[at];
+      if (event === "label" && ownAddress !== address && start !== address) continue;
       const isAsked = event === "values" || event === "label";
       const holds = isAsked && conditions[at].holds(values);
       const opens = isAsked || event === "down" ? conditions[at].opens(values) : NONE;

@@ -197,12 +197,12 @@ class Evaluation {
     return numberOfDigits(digits, base);
   }
 
-  /** @param {string} spelled */
-  nameValue(spelled) {
-    this.at += spelled.length;
-    const name = capitals(spelled);
+  /** @param {string} spelling */
+  nameValue(spelling) {
+    this.at += spelling.length;
+    const name = capitals(spelling);
     const value = this.names.valueOf(name);
-    if (!this.names.isDefined(name)) this.fail(say.noName(spelled));
+    if (!this.names.isDefined(name)) this.fail(say.noName(spelling));
     else if (value === undefined) this.isKnown = false;
     return value === undefined ? 0 : value;
   }

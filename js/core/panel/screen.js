@@ -46,12 +46,12 @@ const plain = (text) => ({ text, colour: "", level: 0 });
  */
 function fitToWidth(pieces, width) {
   let left = width;
-  const cut = pieces.map((piece) => {
+  const cutPieces = pieces.map((piece) => {
     const text = [...piece.text].slice(0, left).join("");
     left -= [...text].length;
     return { ...piece, text };
   });
-  return left > 0 ? [...cut, plain(" ".repeat(left))] : cut;
+  return left > 0 ? [...cutPieces, plain(" ".repeat(left))] : cutPieces;
 }
 
 /**

@@ -162,8 +162,8 @@ export class SessionPrompt {
   async takeFile(word, name) {
     const text = this.read(name);
     const mark = COMMENT_MARKS[word];
-    const unsent = faultsOfLines(text, mark);
-    if (unsent.length > 0) return this.complainOfText(unsent, text, { name, before: 0 });
+    const textFaults = faultsOfLines(text, mark);
+    if (textFaults.length > 0) return this.complainOfText(textFaults, text, { name, before: 0 });
     return this.serveText(word, sentText(text, mark), text, { name, before: 0 });
   }
 

@@ -28,8 +28,8 @@ export async function backOver(session, goesOn) {
   let depth = result.isDone && isReturn(nextCode(session)) ? 1 : 0;
   while (depth > 0) {
     result = await session.back({ kind: "change", place: "ret" }, goesOn);
-    const words = say.backInSubroutine(session.counterWords);
-    if (!result.isDone) return { ...result, words, isDone: true };
+    const message = say.backInSubroutine(session.counterWords);
+    if (!result.isDone) return { ...result, words: message, isDone: true };
     const code = nextCode(session);
     depth += Number(isReturn(code)) - Number(isCall(code));
   }

@@ -133,11 +133,12 @@ export class StopCommands {
    */
   async commandsAtStop() {
     const { lastStop: { reason, id }, session, breakpoints } = this.prompt;
-    const here = reason === "breakpoint" ? this.list.get(id) || this.list.atAddress(session.address) : undefined;
-    const { isTemporary, commands } = here ? this.actionsOf(here.id) : NO_ACTIONS;
-    if (here && isTemporary) await breakpoints.remove(String(here.id));
+    const breakpoint = reason === "breakpoint" ? this.list.get(id) || this.list.atAddress(session.address) : undefined;
+    const { isTemporary, commands } = breakpoint ? this.actionsOf(breakpoint.id) : NO_ACTIONS;
+    if (breakpoint && isTemporary) await breakpoints.remove(String(breakpoint.id));
     const isSilent = commands[0] === SILENT;
-    return { commands: isSilent ? commands.slice(1) : commands, isSilent, words: here && isTemporary ? say.temporaryDeleted(here.id) : "" };
+    return { commands: isSilent ? commands.slice(1) : commands, isSilent,
+      words: breakpoint && isTemporary ? say.temporaryDeleted(breakpoint.id) : "" };
   }
 
   // --- reports and saved lists ---

@@ -81,8 +81,8 @@ export class View {
     const width = isWide ? columns - SIDE_COLUMNS : columns;
     const body = this.sourceLines(height).map((line, at) => {
       const text = cut(line, width);
-      const own = line.startsWith(">") ? here(text) : text;
-      return isWide && registers[at] ? `${own}${" ".repeat(width - text.length)}  ${registers[at]}` : own;
+      const shownText = line.startsWith(">") ? here(text) : text;
+      return isWide && registers[at] ? `${shownText}${" ".repeat(width - text.length)}  ${registers[at]}` : shownText;
     });
     return [head(this.head(columns)), ...body, ...below, "-".repeat(columns)].slice(0, rows);
   }

@@ -52,8 +52,8 @@ export function faultOfLength({ lines, length }) {
   if (length <= LONGEST_KEPT) return null;
   let [line, before] = [0, 0];
   for (; before + lines[line].length < LONGEST_KEPT; line++) before += lines[line].length + 1;
-  const words = say.textTooLong(LONGEST_KEPT.toLocaleString("en"), length.toLocaleString("en"));
-  return { number: TEXT_TOO_LONG, line: line + 1, from: Math.max(0, LONGEST_KEPT - before - 1), to: lines[line].length, words };
+  const message = say.textTooLong(LONGEST_KEPT.toLocaleString("en"), length.toLocaleString("en"));
+  return { number: TEXT_TOO_LONG, line: line + 1, from: Math.max(0, LONGEST_KEPT - before - 1), to: lines[line].length, words: message };
 }
 
 /**

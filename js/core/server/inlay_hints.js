@@ -38,8 +38,8 @@ function hintsOfLine(text, line, map, cyclesOf) {
   const address = map.addressOf(line + 1);
   if (address === undefined || !head) return values;
   const cycles = cyclesOf(head.text.toUpperCase());
-  const words = cycles ? say.hintOfInstruction(hex(address, 3), cycles) : say.hintOfData(hex(address, 3), map.sizes[line + 1]);
-  return [...values, hintAt(text.length, words)];
+  const hintText = cycles ? say.hintOfInstruction(hex(address, 3), cycles) : say.hintOfData(hex(address, 3), map.sizes[line + 1]);
+  return [...values, hintAt(text.length, hintText)];
 }
 
 /**

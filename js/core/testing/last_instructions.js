@@ -18,13 +18,13 @@ const MAX_INSTRUCTIONS = 12;
 
 /**
  * Returns the start of the listed part: the number of actions before it, and the skipped cycles of its first run.
- * @param {Done[]} done
+ * @param {Done[]} actions
  */
-function listedPart(done) {
+function listedPart(actions) {
   let left = SHOWN_CYCLES;
-  let begin = { at: done.length, from: 0 };
-  for (let at = done.length - 1; at >= 0 && left > 0; at--) {
-    const { cycles } = done[at];
+  let begin = { at: actions.length, from: 0 };
+  for (let at = actions.length - 1; at >= 0 && left > 0; at--) {
+    const { cycles } = actions[at];
     begin = { at, from: Math.max(0, cycles - left) };
     left -= cycles - begin.from;
   }

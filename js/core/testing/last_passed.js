@@ -16,11 +16,11 @@ import * as say from "../../words/testing.js";
 
 /**
  * Yields the actions of a test. Runs are split into pieces that the bench accepts.
- * @param {Done[]} done
+ * @param {Done[]} actions
  * @returns {Generator<Done>}
  */
-function* piecesOf(done) {
-  for (const { line, cycles } of done) {
+function* piecesOf(actions) {
+  for (const { line, cycles } of actions) {
     if (line !== "run") yield { line, cycles: 0 };
     for (let left = cycles; left > 0; left -= LONGEST_RUN) yield { line: "run", cycles: Math.min(left, LONGEST_RUN) };
   }

@@ -60,8 +60,8 @@ function refusedBy(name, answer) {
  * @returns {{ faults: TextFault[], answers: string[] }}
  */
 export function wiredBoard(engine, text) {
-  const unsent = faultsOfText("board", text);
-  if (unsent.length > 0) return { faults: unsent, answers: [] };
+  const textFaults = faultsOfText("board", text);
+  if (textFaults.length > 0) return { faults: textFaults, answers: [] };
   const [wired, ...answers] = engine.ask(engine.begin(), `wire\n${sentText(text, "#")}.\nboard\n`).answers;
   return { faults: refusedBy("board", wired), answers };
 }
@@ -74,8 +74,8 @@ export function wiredBoard(engine, text) {
  */
 export function newSession(engine, { boardText, programText }) {
   const file = engine.begin();
-  const unsent = [...faultsOfText("board", boardText), ...faultsOfText("program", programText)];
-  if (unsent.length > 0) return { file, faults: unsent };
+  const textFaults = [...faultsOfText("board", boardText), ...faultsOfText("program", programText)];
+  if (textFaults.length > 0) return { file, faults: textFaults };
   const texts = [
     ...(boardText === "" ? [] : [{ name: /** @type {const} */ ("board"), lines: `wire\n${sentText(boardText, "#")}.\n` }]),
     ...(programText === "" ? [] : [{ name: /** @type {const} */ ("program"), lines: `asm\n${sentText(programText, ";")}.\n` }]),

@@ -29,8 +29,8 @@ const share = (own, total) => `${right(own, 10)} ${right(formatTenths((100 * own
  */
 function rowOf({ label, address, own, calls }, total) {
   const place = `${(label || say.NO_LABEL).padEnd(LABEL_WIDTH)} ${(address < 0 ? "" : hex(address, 3)).padEnd(4)}`;
-  const called = calls && calls.times > 0 ? ` ${right(calls.times, 9)} ${right(calls.withCalls, 10)} ${right(calls.longest, 10)}` : "";
-  return `${place} ${share(own, total)}${called}`;
+  const callColumns = calls && calls.times > 0 ? ` ${right(calls.times, 9)} ${right(calls.withCalls, 10)} ${right(calls.longest, 10)}` : "";
+  return `${place} ${share(own, total)}${callColumns}`;
 }
 
 /**

@@ -33,12 +33,12 @@ import { TestSession } from "./test_session.js";
  * @returns {Promise<SessionCount>}
  */
 export async function countSession(engine, state, programText, cycles, Counting = Account) {
-  const begun = withoutStops(engine, state);
-  const codes = romCodes(engine, begun);
+  const startState = withoutStops(engine, state);
+  const codes = romCodes(engine, startState);
   const { faults, other, map } = sessionProgram(engine, codes, programText);
   if (faults.length > 0 || other) return { faults, other, counted: null };
   const account = new Counting(codes);
-  const session = new TestSession(engine, begun, account, async () => {});
+  const session = new TestSession(engine, startState, account, async () => {});
   const stop = await session.run(cycles);
   session.end();
   const { elapsed } = session;

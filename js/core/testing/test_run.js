@@ -77,16 +77,16 @@ export class TestRun {
   async run({ textNumber, name, line, from, steps }, savedBy) {
     if (textNumber !== this.textNumber) this.states.clear();
     this.textNumber = textNumber;
-    const begun = from === "" ? { file: this.prepared.file, codes: [] } : this.states.get(from);
-    if (!begun) {
-      const words = say.stateMissing(from, savedBy);
+    const startState = from === "" ? { file: this.prepared.file, codes: [] } : this.states.get(from);
+    if (!startState) {
+      const message = say.stateMissing(from, savedBy);
       const [step] = steps;
-      const failure = { ...placeOf(step), words, cycles: 0, lamps: "", registers: "", trace: [], file: null };
+      const failure = { ...placeOf(step), words: message, cycles: 0, lamps: "", registers: "", trace: [], file: null };
       return { name, line, cycles: 0, failure };
     }
     this.account.codes = this.prepared.codes;
-    const printout = this.printer && new Printout(this.printer, begun.codes);
-    const session = new TestSession(this.engine, begun.file, this.account, this.yieldToMessages, printout);
+    const printout = this.printer && new Printout(this.printer, startState.codes);
+    const session = new TestSession(this.engine, startState.file, this.account, this.yieldToMessages, printout);
     // The test that saved the state can have changed ROM.
     if (from !== "" && this.changesRom) session.readCodes();
     this.down = TOOL_KEY_DOWN_CYCLES;
@@ -255,14 +255,14 @@ export class TestRun {
    * @param {number} within the maximum number of cycles
    */
   async until(session, condition, within) {
-    const begun = session.elapsed;
+    const startCycles = session.elapsed;
     const isLabel = condition.address >= 0;
     if (!isLabel && session.check(condition).holds) return "";
-    const end = begun + within;
+    const end = startCycles + within;
     const stop = isLabel ? await this.untilLabel(session, condition, end) : await this.untilChange(session, condition, end);
     const { holds, message } = session.check(condition);
     if (holds) return "";
-    if (stop === "code") return say.runStoppedAt(session.elapsed - begun, this.wordsOfCode(session), message);
+    if (stop === "code") return say.runStoppedAt(session.elapsed - startCycles, this.wordsOfCode(session), message);
     return say.notReached(within, message, wordsOfPassed(session, this.prepared.names.map, condition));
   }
 

@@ -113,27 +113,27 @@ export class TestSession {
   runPiece(cycles) {
     if (cycles >= SHOWN_CYCLES) this.spare.set(this.file);
     const { account, engine, file, printout, previous } = this;
-    const asked = printout ? printout.queries(cycles) : "";
-    const answers = new Answers(engine.serve(file, `${asked}${account.queries(cycles)}run ${cycles}\nregs\n`, previous).answers);
+    const printoutQueries = printout ? printout.queries(cycles) : "";
+    const answers = new Answers(engine.serve(file, `${printoutQueries}${account.queries(cycles)}run ${cycles}\nregs\n`, previous).answers);
     if (printout) printout.take(answers, this.elapsed);
     account.take(answers, this.elapsed, () => new Answers(engine.ask(file, `trace ${cycles}\n`).answers));
-    const ran = answers.takeRun();
-    if (this.beginsInSecondCycle && ran.cycles > 0) {
+    const run = answers.takeRun();
+    if (this.beginsInSecondCycle && run.cycles > 0) {
       this.beginsInSecondCycle = false;
       account.begunBefore += 1;
     }
     [this.file, this.previous] = [previous, file];
     this.takeRegisters(answers.take());
-    this.ran = ran.cycles;
-    if (ran.cycles >= SHOWN_CYCLES) {
+    this.ran = run.cycles;
+    if (run.cycles >= SHOWN_CYCLES) {
       const { file: old } = this.kept;
       this.kept = { file: this.spare, elapsed: this.elapsed, done: [] };
       this.spare = old;
     }
-    if (ran.cycles > 0) this.kept.done.push({ line: "run", cycles: ran.cycles });
-    this.addRun(ran.cycles);
-    this.elapsed += ran.cycles;
-    return ran;
+    if (run.cycles > 0) this.kept.done.push({ line: "run", cycles: run.cycles });
+    this.addRun(run.cycles);
+    this.elapsed += run.cycles;
+    return run;
   }
 
   /** @param {number} cycles the length of a run to add to `actions` */

@@ -382,12 +382,12 @@ class TestReader {
     if (inner === undefined) return null;
     const [, place, list] = /^([^:]*)(?::(.*))?$/.exec(inner) || ["", ""];
     const found = placeOf(place);
-    const spelled = found ? found.name : place.toLowerCase();
-    if (!/^(acc|cy|dcl|r\d+|(ram|st)\..+)$/.test(spelled) || list === "") return fail(say.CHOICE_FORM);
+    const placeName = found ? found.name : place.toLowerCase();
+    if (!/^(acc|cy|dcl|r\d+|(ram|st)\..+)$/.test(placeName) || list === "") return fail(say.CHOICE_FORM);
     const keys = list === undefined ? [] : list.split(",").map((name) => this.keys.get(name) || this.noKey(name, name));
     const { expression, fault } = expressionOf(place, this.names);
     const { places: [probe] } = expression || fail(fault);
-    return { word, place: spelled, probe, keys };
+    return { word, place: placeName, probe, keys };
   }
 
   /**

@@ -35,13 +35,13 @@ export function refusalOfText(refusal) {
 
 export class AllFaultsOfTexts {
   /**
-   * @param {Asked} asked
+   * @param {Asked} queries
    * @param {{ instructions: Map<string, Instruction>, tables: Map<string, Map<string, string>> }} manual the instructions, and the
    *   descriptions of board text values, by table and key
    * @param {(number: number) => string} wordsOf returns the message of a refusal
    */
-  constructor(asked, { instructions, tables }, wordsOf) {
-    this.asked = asked;
+  constructor(queries, { instructions, tables }, wordsOf) {
+    this.asked = queries;
     this.instructions = instructions;
     this.tables = tables;
     this.wordsOf = wordsOf;
@@ -69,8 +69,8 @@ export class AllFaultsOfTexts {
    * @returns {Promise<AllFaults | undefined>}
    */
   async ofBoard(text, isWanted) {
-    const unsent = faultsOfLines(text, "#");
-    if (unsent.length > 0) return { faults: unsent, areAll: true, rest: null };
+    const textFaults = faultsOfLines(text, "#");
+    if (textFaults.length > 0) return { faults: textFaults, areAll: true, rest: null };
     const error = await this.asked.wiring(sentText(text, "#"));
     if (!isWanted()) return undefined;
     if (!error) return { faults: [], areAll: true, rest: null };

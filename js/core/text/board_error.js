@@ -197,9 +197,9 @@ class BoardErrorText {
     const known = section === "" ? Object.keys(KEYS) : KEYS[section];
     const similar = similarWords(name, known);
     const instead = suggestion(similar) || say.whichHas(known.join(", "));
-    const words = section === "" ? say.noPart(name, instead) : say.noKeyOf(name, section, instead);
+    const message = section === "" ? say.noPart(name, instead) : say.noKeyOf(name, section, instead);
     const place = key || entry;
-    const fault = place ? faultAt(UNKNOWN_KEY, place, words) : this.wholeLine(words);
+    const fault = place ? faultAt(UNKNOWN_KEY, place, message) : this.wholeLine(message);
     const cures = key ? similar : similar.map(headerOf);
     return cures.length > 0 && place ? { ...fault, cures } : fault;
   }

@@ -90,14 +90,14 @@ export class BoardReader {
   /** Reads the text. After an error, it continues on the next line. */
   read() {
     while (this.at < this.words.length) {
-      const begun = this.at;
+      const startIndex = this.at;
       try {
         this.readStatement();
       } catch (fault) {
         if (!(fault instanceof NotToml)) throw fault;
         const { line, from, to } = fault.word;
         this.faults.push({ number: NOT_TOML, line, from, to, words: fault.message });
-        this.at = this.lineAfter(line, begun);
+        this.at = this.lineAfter(line, startIndex);
       }
     }
   }
@@ -105,10 +105,10 @@ export class BoardReader {
   /**
    * Returns the index of the first word after a line with an error.
    * @param {number} line
-   * @param {number} begun the index of the first word in the statement with the error
+   * @param {number} startIndex the index of the first word in the statement with the error
    */
-  lineAfter(line, begun) {
-    let at = begun;
+  lineAfter(line, startIndex) {
+    let at = startIndex;
     while (at < this.words.length && !(this.words[at].kind === "end" && this.words[at].line >= line)) at += 1;
     return at + 1;
   }

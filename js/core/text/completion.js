@@ -39,10 +39,10 @@ export function withoutDescription(words) {
  */
 export function fitting(line, at, words, begins = /\w*$/) {
   const found = begins.exec(line.slice(0, at));
-  const begun = found ? found[0] : "";
-  const low = begun.toLowerCase();
-  const list = words.filter(({ text }) => text.toLowerCase().startsWith(low) && text !== begun).slice(0, MAX_COMPLETIONS);
-  return { from: at - begun.length, to: at, list };
+  const typed = found ? found[0] : "";
+  const low = typed.toLowerCase();
+  const list = words.filter(({ text }) => text.toLowerCase().startsWith(low) && text !== typed).slice(0, MAX_COMPLETIONS);
+  return { from: at - typed.length, to: at, list };
 }
 
 /**

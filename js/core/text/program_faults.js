@@ -56,21 +56,21 @@ export function errorOfLine(lines, { line, number }, facts, wordsOf) {
  * @param {string} program
  * @param {Map<string, Instruction>} instructions
  * @param {(number: number) => string} wordsOf returns the message of a refusal
- * @param {Pick<import("./all_faults.js").Asked, "errors" | "refuse">} asked
+ * @param {Pick<import("./all_faults.js").Asked, "errors" | "refuse">} queries
  * @returns {Promise<AllFaults>}
  */
-export async function findProgramFaults(program, instructions, wordsOf, asked) {
-  const unsent = faultsOfLines(program, ";");
-  if (unsent.some(({ number }) => number === TEXT_TOO_LONG)) return { faults: unsent, areAll: false, rest: null };
+export async function findProgramFaults(program, instructions, wordsOf, queries) {
+  const textFaults = faultsOfLines(program, ";");
+  if (textFaults.some(({ number }) => number === TEXT_TOO_LONG)) return { faults: textFaults, areAll: false, rest: null };
   const lines = alignedText(program, ";").split("\n");
-  const unsentLines = new Set(unsent.map(({ line }) => line));
+  const unsentLines = new Set(textFaults.map(({ line }) => line));
   const sent = lines.map((line, at) => (unsentLines.has(at + 1) ? "" : sentLine(line, ";"))).join("\n");
-  const errors = await asked.errors(sent);
+  const errors = await queries.errors(sent);
   /** @type {Facts} */
   const facts = { instructions, names: namesOf(lines) };
   const found = errors.map((error) => errorOfLine(lines, error, facts, wordsOf));
-  const faults = [...unsent, ...found].sort((one, other) => one.line - other.line || one.from - other.from);
-  const rest = faults.length === 0 ? await asked.refuse(sent) : null;
+  const faults = [...textFaults, ...found].sort((one, other) => one.line - other.line || one.from - other.from);
+  const rest = faults.length === 0 ? await queries.refuse(sent) : null;
   return { faults, areAll: errors.length < MAX_ERRORS, rest };
 }
 
@@ -90,8 +90,8 @@ export function lacksOfRom(lines, map, roms) {
     if (address === undefined) return;
     const chip = [Math.floor(address / 256), Math.floor((address + map.sizes[line] - 1) / 256)].find((each) => !roms.has(each));
     if (chip === undefined || faults.has(chip)) return;
-    const words = say.noRomForLine(chip, hex(address, 3));
-    faults.set(chip, faultAt(text, line, { word: null, words }, LACKS_ROM, () => words));
+    const message = say.noRomForLine(chip, hex(address, 3));
+    faults.set(chip, faultAt(text, line, { word: null, words: message }, LACKS_ROM, () => message));
   });
   return [...faults.values()];
 }

@@ -157,9 +157,9 @@ function faultOfHead({ label, operands }, head, { instructions }) {
   const isAlone = isName && operands.length === 0;
   const similar = other ? [] : similarWords(upper, [...instructions.keys(), ...DIRECTIVES]);
   const question = other ? `; ${other}?` : suggestion(similar);
-  const words = say.noInstruction(head.text, question || (isAlone ? say.labelForm(head.text) : ""));
+  const message = say.noInstruction(head.text, question || (isAlone ? say.labelForm(head.text) : ""));
   const alone = isAlone && !question ? [`${head.text}:`] : similar;
-  return foundWith(head, words, other ? other.split(" or ").filter((each) => /^[A-Z]+( \d+,?)?$/.test(each)).map(fixOf) : alone);
+  return foundWith(head, message, other ? other.split(" or ").filter((each) => /^[A-Z]+( \d+,?)?$/.test(each)).map(fixOf) : alone);
 }
 
 /**
@@ -192,8 +192,8 @@ function faultOfDirective(head, operands, facts) {
     const isNumber = operands.length === 1 && NUMBER.test(operands[0].text);
     if (isNumber) return null;
     const reason = operands[0] && !NAME.test(operands[0].text) ? wordsOfNumber(operands[0].text) : "";
-    const words = say.orgForm(reason && `; ${reason}`);
-    return foundWith(operands[0] || head, words, reason ? curesOfNumber(operands[0].text) : []);
+    const message = say.orgForm(reason && `; ${reason}`);
+    return foundWith(operands[0] || head, message, reason ? curesOfNumber(operands[0].text) : []);
   }
   if (operands.length === 0) return { word: head, words: say.DB_FORM };
   return operands.map((word) => faultOfOperand("DB", "b", word, facts, true)).find((found) => found !== null) || null;
@@ -211,8 +211,8 @@ function faultOfForm(parts, facts) {
   if (badName) return { word: label, words: badName };
   if (defines) {
     const reason = operands[0] ? wordsOfNumber(operands[0].text) : "";
-    const words = say.equalsForm(reason && `; ${reason}`);
-    return foundWith(operands[0] || label, words, reason ? curesOfNumber(operands[0].text) : []);
+    const message = say.equalsForm(reason && `; ${reason}`);
+    return foundWith(operands[0] || label, message, reason ? curesOfNumber(operands[0].text) : []);
   }
   if (!head) return { word: label, words: say.COLON_FORM };
   const upper = head.text.toUpperCase();

@@ -41,8 +41,8 @@ export function propertyForms(manual) {
  */
 export function firstProperties({ keys, lamps }) {
   const [lamp = "0"] = lamps;
-  const begun = `${say.FIRST_PROPERTIES}${keys.length === 0 ? "test\n" : ""}`;
-  return `${begun}wait 1 ms to 20 ms\nnote lamps\n\nreach lamp ${lamp} on\nreach lamp ${lamp} off\n`;
+  const firstLines = `${say.FIRST_PROPERTIES}${keys.length === 0 ? "test\n" : ""}`;
+  return `${firstLines}wait 1 ms to 20 ms\nnote lamps\n\nreach lamp ${lamp} on\nreach lamp ${lamp} off\n`;
 }
 
 /**
@@ -67,14 +67,14 @@ function wordsAfterLabel([, second, ...more]) {
 /**
  * Returns the words that can come next in a line.
  * @param {string[]} before
- * @param {string} begun the unfinished word
+ * @param {string} typed the unfinished word
  * @param {TestNames} names
  * @param {PropertyForms} forms
  * @returns {Fitting[]}
  */
-function wordsAfter(before, begun, names, { lines, conditions }) {
+function wordsAfter(before, typed, names, { lines, conditions }) {
   const labels = withoutDescription(names.labels.map((label) => `@${label}`));
-  if (begun.startsWith("@")) return labels;
+  if (typed.startsWith("@")) return labels;
   if (before.length === 0) return [...fittings(lines.filter(({ word }) => /^[a-z]+$/.test(word))), ...labels];
   const last = before[before.length - 1];
   if (before[0] === "press" || last === "press") return withoutDescription(names.keys);
@@ -94,7 +94,7 @@ function wordsAfter(before, begun, names, { lines, conditions }) {
  * @returns {Completion}
  */
 export function completeProperty(lines, line, at, names, forms) {
-  return completeWord(lines[line], at, (before, begun) => wordsAfter(before, begun, names, forms));
+  return completeWord(lines[line], at, (before, typed) => wordsAfter(before, typed, names, forms));
 }
 
 /**

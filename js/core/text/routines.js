@@ -43,8 +43,8 @@ export class Routines {
   /** @returns {Routine[]} the routines, in line order */
   findRoutines() {
     const first = this.statements.findIndex((statement) => statement !== null && statement.head !== "ORG");
-    const called = this.statements.map((statement) => (statement && statement.head === "JMS" ? statement.target : -1));
-    const begins = new Set([first, ...called].filter((line) => line >= 0));
+    const callTargets = this.statements.map((statement) => (statement && statement.head === "JMS" ? statement.target : -1));
+    const begins = new Set([first, ...callTargets].filter((line) => line >= 0));
     return [...begins].sort((one, other) => one - other).map((line) => {
       const { label, head } = this.parts[line];
       const { from, to } = label || head || { from: 0, to: 0 };

@@ -70,17 +70,17 @@ export function fittings(forms) {
 /**
  * Returns the words that can come next in a line.
  * @param {string[]} before
- * @param {string} begun the unfinished word
+ * @param {string} typed the unfinished word
  * @param {TestNames} names
  * @param {TestForms} forms
  * @returns {Fitting[]}
  */
-function wordsAfter(before, begun, { keys, lamps, labels }, forms) {
+function wordsAfter(before, typed, { keys, lamps, labels }, forms) {
   const [first] = before;
   if (first === undefined) return fittings(forms.steps);
   if (first === "press" || first === "release" || first === "keys") return withoutDescription(keys);
   if (first !== "until" && first !== "expect") return [];
-  if (begun.startsWith("@")) return withoutDescription(labels.map((label) => `@${label}`));
+  if (typed.startsWith("@")) return withoutDescription(labels.map((label) => `@${label}`));
   return wordsOfCondition(before.slice(1), { keys, lamps, labels }, forms.conditions, ["within"]);
 }
 
@@ -117,9 +117,9 @@ export function wordsOfCondition(before, { keys, lamps, labels }, conditions, af
 export function completeWord(line, at, fitting) {
   const before = line.slice(0, at);
   if (/^\s*[#;]/.test(before)) return { from: at, to: at, list: [] };
-  const begun = /\S*$/.exec(before) || [""];
-  const list = fitting(before.slice(0, at - begun[0].length).split(/\s+/).filter(Boolean), begun[0]);
-  return { from: at - begun[0].length, to: at, list: list.filter(({ text }) => text.startsWith(begun[0]) && text !== begun[0]) };
+  const typed = /\S*$/.exec(before) || [""];
+  const list = fitting(before.slice(0, at - typed[0].length).split(/\s+/).filter(Boolean), typed[0]);
+  return { from: at - typed[0].length, to: at, list: list.filter(({ text }) => text.startsWith(typed[0]) && text !== typed[0]) };
 }
 
 /**
@@ -133,8 +133,8 @@ export function completeWord(line, at, fitting) {
  */
 export function completeTest(lines, line, at, names, forms) {
   const shared = lines.slice(0, line).flatMap((each) => (/^\s*steps\s+(\S+)\s*$/.exec(each) || []).slice(1));
-  return completeWord(lines[line], at, (before, begun) => (
-    before.length === 1 && before[0] === "do" ? withoutDescription(shared) : wordsAfter(before, begun, names, forms)));
+  return completeWord(lines[line], at, (before, typed) => (
+    before.length === 1 && before[0] === "do" ? withoutDescription(shared) : wordsAfter(before, typed, names, forms)));
 }
 
 /**

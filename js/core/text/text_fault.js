@@ -148,8 +148,8 @@ function faultOfLine(line, sent, at) {
   const range = { line: at, from: 0, to: line.length };
   if (sent === ".") return { number: 0, ...range, words: say.DOT_ENDS };
   if (sent.length > MAX_LINE_LENGTH) {
-    const words = say.lineTooLong(MAX_LINE_LENGTH, sent.length);
-    return { number: LINE_TOO_LONG, ...range, from: line.indexOf(sent) + MAX_LINE_LENGTH, words };
+    const message = say.lineTooLong(MAX_LINE_LENGTH, sent.length);
+    return { number: LINE_TOO_LONG, ...range, from: line.indexOf(sent) + MAX_LINE_LENGTH, words: message };
   }
   const foreign = /[^\t -~]+/u.exec(line);
   if (!foreign) return null;
@@ -180,8 +180,8 @@ export function faultsOfLines(text, mark) {
   const faults = lines.map((line, at) => faultOfLine(line, sentLines[at], at + 1)).filter((fault) => fault !== null);
   if (sent.length > LONGEST_TEXT) {
     const last = sent.slice(0, LONGEST_TEXT).split("\n").length;
-    const words = say.textTooLong(LONGEST_TEXT.toLocaleString("en"), sent.length.toLocaleString("en"));
-    faults.push({ number: TEXT_TOO_LONG, line: last, from: 0, to: lines[last - 1].length, words });
+    const message = say.textTooLong(LONGEST_TEXT.toLocaleString("en"), sent.length.toLocaleString("en"));
+    faults.push({ number: TEXT_TOO_LONG, line: last, from: 0, to: lines[last - 1].length, words: message });
   }
   return /** @type {Fault[]} */ (faults);
 }

@@ -27,9 +27,9 @@ export function wordsOfCycles(cycles) {
 }
 
 export class Cycles {
-  /** @param {KeptCycles} [kept] */
-  constructor(kept = NO_CYCLES) {
-    const { total, reset, from, marks } = kept;
+  /** @param {KeptCycles} [storedCounts] */
+  constructor(storedCounts = NO_CYCLES) {
+    const { total, reset, from, marks } = storedCounts;
     this.total = total;
     this.reset = reset;
     this.from = from;

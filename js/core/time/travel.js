@@ -64,13 +64,13 @@ export class Travel {
   async goBack(goal) {
     await this.calls.stand();
     if (goal.kind === "when") await this.bench.call("takeNames", [this.calls.texts()]);
-    const gone = await this.calls.change(say.REPEATING_PAST, (ways) => this.bench.call("goBack", [goal], ways));
-    if (gone) this.calls.showMessage(wordsOfGone(goal, gone, this.calls.where(), this.calls.breakpoint(gone.id)));
+    const result = await this.calls.change(say.REPEATING_PAST, (ways) => this.bench.call("goBack", [goal], ways));
+    if (result) this.calls.showMessage(wordsOfGone(goal, result, this.calls.where(), this.calls.breakpoint(result.id)));
   }
 
   async goForward() {
     await this.calls.stand();
-    const gone = await this.calls.change(say.GOING_FORWARD, () => this.bench.call("goForward", []));
-    if (gone) this.calls.showMessage(wordsOfGone({ kind: "forward" }, gone, this.calls.where()));
+    const result = await this.calls.change(say.GOING_FORWARD, () => this.bench.call("goForward", []));
+    if (result) this.calls.showMessage(wordsOfGone({ kind: "forward" }, result, this.calls.where()));
   }
 }

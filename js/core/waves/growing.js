@@ -86,8 +86,8 @@ export class NumberQueue {
 
   /** Removes all numbers and returns a copy of them. */
   take() {
-    const taken = /** @type {Kind} */ (this.all.slice());
+    const numbers = /** @type {Kind} */ (this.all.slice());
     this.from = this.to = 0;
-    return taken;
+    return numbers;
   }
 }

@@ -61,7 +61,7 @@ export class LiveWaves {
     if (over === "trigger") return say.recorded(this.kept, triggerText);
     if (over !== "") return say.recordedUntil(this.kept || say.NOTHING, say.ENDS[over] || over, triggerText);
     if (triggered >= 0) return say.recordsAfter(triggerText);
-    const begun = waves.cycles === 0 ? say.RECORDS_SOON : say.RECORDS;
-    return `${begun}${trigger ? say.waitsFor(trigger) : ""}`;
+    const statusText = waves.cycles === 0 ? say.RECORDS_SOON : say.RECORDS;
+    return `${statusText}${trigger ? say.waitsFor(trigger) : ""}`;
   }
 }

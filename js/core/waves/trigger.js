@@ -35,7 +35,7 @@ export function lineNamed(text, lines) {
   const wanted = plain(text);
   /** @type {(matches: (line: WaveLine) => boolean) => number} */
   const find = (matches) => lines.findIndex(matches);
-  const tries = [
+  const candidates = [
     find(({ name }) => plain(name) === wanted),
     find(({ name, kind }) => kind === "port" && plain(name.replace(/\[.*/, "")) === wanted),
     find(({ title, kind }) => title !== "" && kind !== "value" && plain(title) === wanted),
@@ -43,8 +43,8 @@ export function lineNamed(text, lines) {
   ];
   const lamp = /^lamp (\d+)$/.exec(wanted);
   const lamps = lines.findIndex(({ group }) => group === "lamps");
-  if (lamp && lamps >= 0 && lines[lamps + Number(lamp[1])]?.group === "lamps") tries.push(lamps + Number(lamp[1]));
-  return tries.find((line) => line >= 0) ?? -1;
+  if (lamp && lamps >= 0 && lines[lamps + Number(lamp[1])]?.group === "lamps") candidates.push(lamps + Number(lamp[1]));
+  return candidates.find((line) => line >= 0) ?? -1;
 }
 
 /**

@@ -13,9 +13,9 @@
 export const ROW_COLOURS = /** @type {const} */ (["red", "amber", "green", "blue", "violet"]);
 
 export class WaveRows {
-  /** @param {Partial<KeptRows>} [kept] */
-  constructor(kept = {}) {
-    const { order = [], looks = {}, folded = [] } = kept;
+  /** @param {Partial<KeptRows>} [storedRows] */
+  constructor(storedRows = {}) {
+    const { order = [], looks = {}, folded = [] } = storedRows;
     /** The line names in row order, as far as the user has changed the order. */
     this.order = order;
     this.looks = new Map(Object.entries(looks));

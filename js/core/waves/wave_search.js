@@ -103,7 +103,7 @@ function readEdge(name, edge, waves, marked) {
 function readValue(name, sign, value, waves, marked) {
   const { line, fault } = lineOf(name, waves, marked);
   if (fault) return searchError(fault);
-  const { kind, width, name: called } = waves.lines[line];
+  const { kind, width, name: lineName } = waves.lines[line];
   if (isDecoder(waves.lines[line])) return readDecoded(waves.lines[line], line, sign, value);
   const label = kind === "label" || kind === "pc" ? labelOf(waves, value.replace(/^@/, "")) : null;
   const binary = /^0b([01]+)$/i.exec(value);
@@ -111,7 +111,7 @@ function readValue(name, sign, value, waves, marked) {
   if (kind === "label" && !label) return searchError(say.noLabel(value));
   if (Number.isNaN(number)) return searchError(say.noNumber(value, say.SEARCH_FORMS));
   const most = 2 ** width - 1;
-  if (kind !== "label" && number > most) return searchError(say.hasBits(called, width, most));
+  if (kind !== "label" && number > most) return searchError(say.hasBits(lineName, width, most));
   return { search: { line, matches: (/** @type {number} */ is) => COMPARISONS[sign](is, number), each: false }, fault: "" };
 }
 
