@@ -139,7 +139,7 @@ export class AdapterConnection extends MessageStream {
 
   /**
    * Sends the error response for a request that failed.
-   * @param {number} seq of the request, 0 if unknown
+   * @param {number} seq the number of the request, 0 if unknown
    * @param {string} command
    * @param {unknown} thrown
    */

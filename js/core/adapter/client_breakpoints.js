@@ -211,7 +211,7 @@ export class ClientBreakpoints {
   /**
    * Returns the client's id for the breakpoint that stopped the machine, and the stop reason in the protocol. The id is 0 if the client did not set
    * the breakpoint.
-   * @param {number} id in the debugger's list
+   * @param {number} id the breakpoint id in the debugger's list
    */
   stoppedBreakpoint(id) {
     const found = this.byId.get(id);

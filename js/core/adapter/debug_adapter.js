@@ -77,7 +77,7 @@ export class DebugAdapter {
   /**
    * @param {AdapterConnection} connection
    * @param {import("../engine/engine_host.js").EngineHost} engine
-   * @param {{ refusals: Record<string, string>, manual: import("../help/manual.js").ManualSection[] }} data of the page
+   * @param {{ refusals: Record<string, string>, manual: import("../help/manual.js").ManualSection[] }} data the refusal texts and the manual
    * @param {Host & { end: (status: number) => void }} host
    */
   constructor(connection, engine, { refusals, manual }, host) {

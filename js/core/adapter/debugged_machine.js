@@ -55,7 +55,7 @@ export class Machine {
   constructor(session, writer, calls, isRealTime = false) {
     this.isRealTime = isRealTime;
     if (isRealTime) session.largestPiece = FRAME_CYCLES;
-    /** The time of the move's begin, in milliseconds. */
+    /** The start time of the move, in milliseconds. */
     this.startTime = 0;
     this.session = session;
     this.writer = writer;
@@ -92,7 +92,7 @@ export class Machine {
 
   /**
    * Runs to a JMS and steps into the subroutine that it calls.
-   * @param {number} address of the JMS
+   * @param {number} address the address of the JMS
    */
   stepIntoCall(address) {
     const { session } = this;
@@ -130,7 +130,7 @@ export class Machine {
   /**
    * @param {() => Promise<Pick<Stopped, "why" | "words" | "id"> & { tally: Tally | null }>} act
    * @param {() => boolean} acceptsWork
-   * @param {string} [title] of the progress report
+   * @param {string} [title] the title of the progress report
    */
   beginMove(act, acceptsWork, title = say.RUNNING) {
     if (this.isMoving) fail(say.MACHINE_RUNS_ALREADY);
@@ -188,7 +188,7 @@ export class Machine {
 
   /**
    * Reports the last piece of a move, yields to other tasks and runs the waiting work. Returns true if the move continues.
-   * @param {Tally} [tally] of the last piece
+   * @param {Tally} [tally] the tally of the last piece
    * @param {number} [done] the number of cycles of the move so far
    */
   async betweenPieces(tally, done = 0) {

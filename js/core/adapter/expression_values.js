@@ -20,7 +20,7 @@ import { inColumn } from "../../words/conditions.js";
  * @typedef {{ session: DebugSession, face: Face, instructions: Map<string, Instruction>, shown: () => string }} ExpressionContext
  */
 
-/** Patterns of places with hexadecimal digits, and of places with `*` and `.` marks. All other places hold a bit. */
+/** Patterns of places with hexadecimal digits, and of places with one character per bit or lamp. All other places hold a bit. */
 const HEX_PLACES = /^(acc|dcl|src|r\d+|p\d|ram\.\d\..*|st\..*|rom\d+|ram\d\.\d)$/;
 const MARK_PLACES = /^(chain\d|lamps)$/;
 

@@ -25,7 +25,7 @@ export const nameOfUri = (uri) => decodeURIComponent(uri.slice("file://".length)
 
 /**
  * Finds the files of a test: the files of its project, or else the files in its folder.
- * @param {string} name of the test
+ * @param {string} name the name of the test
  * @param {string} file the absolute name of its file
  * @param {(name: string) => string | null} read returns the text of a file; null if it cannot be read
  * @returns {TestFiles}

@@ -82,7 +82,7 @@ export function readWantedFiles(args, host) {
 
 /**
  * Returns the board and the program of a project; throws if its file cannot be read.
- * @param {string} name of the project folder or the project file
+ * @param {string} name the name of the project folder or the project file
  * @param {Host} host
  */
 function filesOf(name, host) {
@@ -128,7 +128,7 @@ function textIn(name, mark, host) {
 
 /**
  * Returns the error for a text that the bench has rejected.
- * @param {string} name of the file
+ * @param {string} name the file name
  * @param {Refusal} refusal
  * @param {Words} words
  */
@@ -225,7 +225,7 @@ async function sessionFromCopy(engine, wanted, host, words) {
  * @param {DebugSession} session
  * @param {"wire" | "asm"} word
  * @param {string} text
- * @param {string} name of the text's file
+ * @param {string} name the file name of the text
  * @param {Words} words
  */
 async function serveText(session, word, text, name, words) {

@@ -31,7 +31,7 @@ export function valueOf(text, session, begin = 0) {
 
 /**
  * Returns the bench lines that set a place. The lines are the same if the place already has the value.
- * @param {string} place from `settablePlace`, or a key in the form `key 0 2`
+ * @param {string} place a place from `settablePlace`, or a key in the form `key 0 2`
  * @param {string} text the value as an expression
  * @param {DebugSession} session
  * @param {number} [begin] the column in the typed line at which the text starts
@@ -80,7 +80,7 @@ export function placeToSet(text, face) {
 /**
  * Sets a place; throws AdapterError if the bench rejects it.
  * @param {DebugSession} session
- * @param {string} place from `settablePlace`, or a key in the form `key 0 2`
+ * @param {string} place a place from `settablePlace`, or a key in the form `key 0 2`
  * @param {string} text the value as an expression
  */
 export async function setPlace(session, place, text) {

@@ -100,7 +100,7 @@ export function readMarks(answer) {
 
 /**
  * Returns the watched RAM characters as place names, such as `ram.0.0x3F`.
- * @param {string} answer to `watches`
+ * @param {string} answer the answer to `watches`
  */
 export function watchedPlaces(answer) {
   return readMarks(answer).map((place) => `ram.${place.replace(".", ".0x")}`);

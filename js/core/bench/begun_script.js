@@ -92,7 +92,7 @@ async function serveScript(engine, lines, yieldToMessages) {
 /**
  * Compares a session with a new session that has served the same number of script commands.
  * @param {EngineHost} engine
- * @param {State} state of the session
+ * @param {State} state the state of the session
  * @param {string} script
  * @param {() => Promise<any>} yieldToMessages called after each piece of long work
  * @returns {Promise<BegunScript>}

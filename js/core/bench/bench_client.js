@@ -29,7 +29,7 @@ import { WorkerDied, unpackFault } from "./faults.js";
  *   Promise<Awaited<ReturnType<Requests[Name]>>> }} Caller
  */
 
-/** The interval between pings of a worker that owes replies, in milliseconds. */
+/** The interval between pings of a worker with unanswered requests, in milliseconds. */
 const PING_INTERVAL = 1000;
 /** The number of unanswered pings after which the worker counts as dead. */
 const MAX_SILENT_PINGS = 10;
@@ -82,7 +82,7 @@ export class Bench {
    * @template {CallName} Name
    * @param {Name} call
    * @param {Parameters<Requests[Name]>} words
-   * @param {Ways} [options] for a call that serves lines: a callback for its progress, and a signal that cancels it without any effect
+   * @param {Ways} [options] a progress callback, and a signal that cancels a call that serves lines; a cancelled call has no effect
    * @returns {Promise<Awaited<ReturnType<Requests[Name]>>>}
    */
   call(call, words, options = {}) {
@@ -155,7 +155,7 @@ export class Bench {
     }, 2 * PING_INTERVAL);
   }
 
-  /** Pings a worker that owes replies. The limit counts pings instead of time because the computer can sleep. */
+  /** Pings a worker with unanswered requests. The limit counts pings instead of time because the computer can sleep. */
   watch() {
     if (this.isPatient || (this.waiting.size === 0 && !this.isRunning)) {
       this.silent = 0;

@@ -15,7 +15,7 @@
  *   printed: import("../engine/printing.js").Printed | null, waiting: import("../engine/key_queue.js").Change[] }} Shown
  *
  * The result of a piece of running time. `ran`: the lines that ran. `end`: the answer that ended the run early, or "". `stop`: the reason why time
- * stopped, or null. `tally`: breakpoint hits and log messages. `litShares`, `heard`, `warmed`: lamp brightness, sound and RAM accesses; each is null
+ * stopped, or null. `tally`: breakpoint hits and log messages. `litShares`, `heard`, `warmed`: lamp brightness, sound and RAM changes; each is null
  * if the page does not show it.
  * @typedef {{ ran: RanEntry[], cycles: number, end: string, changesKeys: boolean, stop: Stop | null, tally: Tally,
  *   litShares: import("../engine/brightness_meter.js").LitShares | null, heard: import("../engine/sounding.js").Heard | null,

@@ -110,7 +110,7 @@ const WORDS_PER_LINE = 4;
 
 /**
  * Formats a range of bytes as BNPF. Each line starts with the address of its first word, as a comment.
- * @param {Int16Array} bytes by address
+ * @param {Int16Array} bytes the bytes, by address
  * @param {number} from the first address
  * @param {number} count
  */

@@ -38,7 +38,7 @@ export function valueIn(answer, key) {
 
 /**
  * Removes the command count from the line, so that states of two sessions can be compared.
- * @param {string} answer to `state`; other answers can follow in the same text
+ * @param {string} answer the answer to `state`; other answers can follow in the same text
  */
 export function withoutSeq(answer) {
   return answer.replace(/^state seq \d+ /, "");

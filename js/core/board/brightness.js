@@ -113,7 +113,7 @@ export class SeenDigit {
   /**
    * Adds a share of a pattern to the picture.
    * @param {number} pattern
-   * @param {number} share from 0 to 1
+   * @param {number} share the share of the pattern, from 0 to 1
    */
   add(pattern, share) {
     this.parts.set(pattern, (this.parts.get(pattern) || 0) + share);
@@ -156,7 +156,7 @@ export class Brightness {
   constructor(face, count) {
     /** @type {number[]} the duty cycle of each lamp */
     this.lamps = new Array(count).fill(0);
-    /** @type {boolean[]} whether each lamp counts as on */
+    /** @type {boolean[]} true for each lamp that counts as on */
     this.isOn = [];
     const groups = fittingGroups(face, count);
     this.displays = groups.filter(({ kind }) => kind === "display");
@@ -165,9 +165,9 @@ export class Brightness {
       .map(({ rows, columns }) => new Array(rows * columns).fill(0));
     /** @type {SeenDigit[][]} */
     this.digits = [];
-    /** @type {Stillness[]} by lamp */
+    /** @type {Stillness[]} the stillness of the lamps */
     this.stillness = [];
-    /** @type {Stillness[]} by display */
+    /** @type {Stillness[]} the stillness of the displays */
     this.stillDisplays = [];
     this.begin("");
   }

@@ -83,7 +83,7 @@ export class Face {
 
   /**
    * Records a definition that can occur only once. Returns true for the first definition; otherwise reports an error and returns false.
-   * @param {string} name of the definition
+   * @param {string} name the identifier of the definition
    * @param {number} line
    * @param {string} words the name of the error message
    * @param {...(string | number)} about values for the error message

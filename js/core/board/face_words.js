@@ -48,7 +48,7 @@ export const limit = (name) => LIMITS.get(name) || 0;
 
 /**
  * Returns an error message.
- * @param {string} name of the message
+ * @param {string} name the name of the message
  * @param {...(string | number)} about values for `{1}`, `{2}` ..
  */
 export function messageOf(name, ...about) {
@@ -74,7 +74,7 @@ function isHead(name, word) {
 
 /**
  * Returns whether the text between the first word and the colon is correct.
- * @param {Kind} kind of the line
+ * @param {Kind} kind the kind of the line
  * @param {string | undefined} first
  * @param {string | undefined} last the word after `to`
  */

@@ -23,7 +23,7 @@ class ShownAnswers {
   /**
    * @param {Face} face
    * @param {Board} board
-   * @param {string} name of the board
+   * @param {string} name the board name, for messages
    */
   constructor(face, board, name) {
     this.name = name;
@@ -73,7 +73,7 @@ class ShownAnswers {
  * Converts all answers about the lamps of a board to display text.
  * @param {Face} face
  * @param {Board} board
- * @param {string} name of the board
+ * @param {string} name the board name, for messages
  * @param {string[]} answers
  * @returns {Shown}
  */

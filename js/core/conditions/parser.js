@@ -344,7 +344,7 @@ class Parser {
 
   /**
    * Parses the label after `at`.
-   * @param {number} column of `at`
+   * @param {number} column the column of `at`
    * @returns {AtNode}
    */
   parseLabel(column) {

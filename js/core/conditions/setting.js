@@ -34,8 +34,8 @@ export function settablePlace(text) {
 
 /**
  * Returns the bench lines that set a place.
- * @param {string} place as spelled by `settablePlace`
- * @param {number} value in the range of the place
+ * @param {string} place the place, as spelled by `settablePlace`
+ * @param {number} value the value, in the range of the place
  */
 export function linesOfSetting(place, value) {
   if (place === "test") return `test ${value}\n`;

@@ -38,7 +38,7 @@ export function nothingSeen() {
 
 /** Finds arrivals at soft breakpoints. */
 export class Arrivals {
-  /** @param {SoftBreakpoint[]} breakpoints at different addresses */
+  /** @param {SoftBreakpoint[]} breakpoints the soft breakpoints, at most one per address */
   constructor(breakpoints) {
     this.breakpoints = breakpoints;
     this.byAddress = new Map(breakpoints.map((each) => [each.address, each]));
@@ -178,7 +178,7 @@ export class Arrivals {
   }
 
   /**
-   * Restores earlier hit counts after a cancelled move.
+   * Restores earlier hit counts after lines failed: the counted hits did not happen.
    * @param {number[]} hits
    */
   restoreHits(hits) {

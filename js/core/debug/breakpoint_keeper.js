@@ -104,7 +104,7 @@ export class BreakpointKeeper {
 
   /**
    * Moves the breakpoints after edits of the source text.
-   * @param {Edit[]} edits in order
+   * @param {Edit[]} edits the edits, in order
    */
   edited(edits) {
     const moved = edits.filter((edit) => this.list.edit(edit));

@@ -39,7 +39,7 @@ export function linesOfBreakpoints(breakpoints) {
 }
 
 /**
- * Parses a breakpoint line. Returns null for any other line, and for a breakpoint without a line number and an address.
+ * Parses a breakpoint line. Returns null for any other line, and for a breakpoint with neither a line number nor an address.
  * @param {string} line
  * @returns {KeptBreakpoint | null}
  */

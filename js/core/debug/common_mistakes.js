@@ -211,8 +211,8 @@ export class CommonMistakes {
   /**
    * Adds a mistake unless its kind was reported before.
    * @param {CommonMistake[]} faults collects the mistakes
-   * @param {number} address of the instruction
-   * @param {number} cycles before the instruction
+   * @param {number} address the address of the instruction
+   * @param {number} cycles the cycles before the instruction
    * @param {{ kind: Kind, words: string } | null} fault null if the instruction is right
    */
   report(faults, address, cycles, fault) {

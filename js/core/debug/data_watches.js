@@ -278,7 +278,7 @@ export class SoftStops {
   }
 
   /**
-   * Restores earlier hit counts after a cancelled move.
+   * Restores earlier hit counts after lines failed: the counted hits did not happen.
    * @param {number[]} hits
    */
   restoreHits(hits) {

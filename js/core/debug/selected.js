@@ -94,7 +94,7 @@ export class Selected {
 
   /**
    * Returns the mistake in a WRR or RDR; null if there is none.
-   * @param {string} name of the instruction
+   * @param {string} name the mnemonic of the instruction
    * @param {number} address
    * @param {number} chip the selected ROM
    * @returns {Fault | null}
@@ -120,7 +120,7 @@ export class Selected {
 
   /**
    * Returns the mistake of an instruction that writes to RAM; null if there is none.
-   * @param {string} name of the instruction
+   * @param {string} name the mnemonic of the instruction
    * @param {number} bank the selected bank
    * @returns {Fault | null}
    */

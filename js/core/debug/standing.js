@@ -64,7 +64,7 @@ export class MachineState {
 
   /**
    * Returns the value of a register.
-   * @param {number} number of the register
+   * @param {number} number the register number
    */
   register(number) {
     return this.registers.registers[number];
@@ -72,7 +72,7 @@ export class MachineState {
 
   /**
    * Returns the value of a register pair.
-   * @param {number} number of the pair
+   * @param {number} number the number of the register pair
    */
   pair(number) {
     return this.register(2 * number) + this.register(2 * number + 1);
@@ -102,7 +102,7 @@ export class MachineState {
    * Returns the value of a status character; "" if the board does not have it.
    * @param {number} bank
    * @param {number} register 0 to 15, numbered through all chips of the bank
-   * @param {number} number of the status character, 0 to 3
+   * @param {number} number the number of the status character, 0 to 3
    */
   status(bank, register, number) {
     const found = this.ramRegister(bank, register);

@@ -31,7 +31,7 @@ function cyclesOf(input) {
  * Plans typed lines. Throws `Cancelled` if `shouldContinue` returns false.
  * @param {Engine} engine
  * @param {Uint8Array} file the session file; not changed
- * @param {SoftStops} arrivals the stops that can end a run
+ * @param {SoftStops} arrivals the soft stops; they collect the hits
  * @param {string} lines
  * @param {(done: number) => Promise<boolean>} shouldContinue called with the number of planned characters; returns true to continue
  * @returns {Promise<Planned>}

@@ -39,7 +39,7 @@ export function textOf(pieces) {
 
 /**
  * Returns the value of a register.
- * @param {number} number of the register
+ * @param {number} number the register number
  * @param {MachineState} standing
  * @returns {Value}
  */
@@ -106,7 +106,7 @@ function registerPieces(word, { head }, standing) {
 
 /**
  * Describes the value that an instruction accesses through the selection by SRC. Returns no pieces if there is no such value.
- * @param {string} name in upper case
+ * @param {string} name the upper-case mnemonic
  * @param {MachineState} standing
  * @returns {Piece[]}
  */
@@ -135,7 +135,7 @@ function portPieces(name, standing) {
 
 /**
  * Describes the values that an instruction uses in addition to its operands.
- * @param {string} name in upper case
+ * @param {string} name the upper-case mnemonic
  * @param {string} description the description of the instruction
  * @param {Parts} parts
  * @param {MachineState} standing

@@ -157,7 +157,7 @@ function copy(sketch, part) {
 }
 
 /**
- * Names a lamp; throws `ActRefusal` if the name changed which lamps are on the grid.
+ * Names a lamp; throws `ActRefusal` if the new name would change the lamps on the grid.
  * @param {Sketch} sketch
  * @param {number} lamp
  * @param {string} name

@@ -82,8 +82,8 @@ export class BoardDraft {
 
   /**
    * Returns the offset of a position in the text.
-   * @param {number} line from 1
-   * @param {number} column from 0
+   * @param {number} line the line number from 1
+   * @param {number} column the column from 0
    */
   offset(line, column) {
     return this.starts[line - 1] + column;

@@ -43,7 +43,7 @@ class Instance {
 
   /**
    * Allocates a buffer. Throws a BenchRefusal if the allocation fails.
-   * @param {number} room in bytes
+   * @param {number} room the size of the buffer in bytes
    * @returns {ModuleBuffer}
    */
   allocate(room) {

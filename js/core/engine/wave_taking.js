@@ -179,7 +179,7 @@ export class WaveTaking {
     this.takeEnd(ran);
   }
 
-  /** @param {Answers} answers to the queries */
+  /** @param {Answers} answers the answers to the queries */
   takeForecast(answers) {
     if (this.hasCounter) for (const line of answers.takeTrace().lines) this.takeBegun(line);
     for (const group of this.groups) {

@@ -21,7 +21,7 @@ const FORMS = new Set(["code", "never", "always", "never for", "reach", "reach a
  * watching shows since when a condition has been true.
  * @param {Property[]} properties
  * @param {number[]} open the numbers of the open properties
- * @param {boolean[][]} holds after each step, by property number
+ * @param {boolean[][]} holds true if the condition is true after a step, by step and property
  */
 export function followsFromLooks(properties, open, holds) {
   return open.every((at) => {

@@ -70,7 +70,7 @@ class ReportedError extends Error {}
 export class Prompt {
   /**
    * @param {Launched} launched
-   * @param {{ refusals: Record<string, string>, manual: import("../help/manual.js").ManualSection[] }} data of the page
+   * @param {{ refusals: Record<string, string>, manual: import("../help/manual.js").ManualSection[] }} data the refusal texts and the manual
    * @param {PromptCalls} calls
    */
   constructor(launched, { refusals, manual }, calls) {

@@ -55,7 +55,7 @@ export class BoardReferences {
 
   /**
    * Returns the value at a position; null if there is none.
-   * @param {number} line from 1
+   * @param {number} line the line number from 1
    * @param {number} at the column, from 0
    */
   valueAt(line, at) {
@@ -78,7 +78,7 @@ export class BoardReferences {
 
   /**
    * Returns the chip or chain whose table contains a line; null if there is none.
-   * @param {number} line from 1
+   * @param {number} line the line number from 1
    */
   partAt(line) {
     const contains = (/** @type {Entry} */ entry) => line >= entry.line && entry.keys.some((key) => line <= key.line);

@@ -24,7 +24,7 @@ function valueOf(map, word) {
 /**
  * Returns the hints for one line.
  * @param {string} text
- * @param {number} line from 0
+ * @param {number} line the line number from 0
  * @param {SourceMap} map
  * @param {(mnemonic: string) => string} cyclesOf returns the cycles of an instruction, "" for any other word
  * @returns {InlayHint[]}

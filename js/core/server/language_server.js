@@ -41,7 +41,7 @@ export class LanguageServer {
   /**
    * @param {Connection} connection
    * @param {import("../engine/engine_host.js").EngineHost} engine
-   * @param {{ refusals: Record<string, string>, manual: import("../help/manual.js").ManualSection[] }} data of the page
+   * @param {{ refusals: Record<string, string>, manual: import("../help/manual.js").ManualSection[] }} data the refusal texts and the manual
    * @param {Host} host
    */
   constructor(connection, engine, { refusals, manual }, host) {

@@ -42,7 +42,7 @@ export class TestRuns {
   /**
    * Runs a test; throws ProtocolError if the run is cancelled.
    * @param {OpenText} open
-   * @param {string} name of the test
+   * @param {string} name the name of the test
    * @param {import("./connection.js").PendingRequest} pending the request; the client can cancel it
    * @returns {Promise<TestResult>}
    */
