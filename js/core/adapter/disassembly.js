@@ -53,7 +53,7 @@ export function rowsAt(session, address, offset, count) {
   return upTo(count).map((at) => {
     const index = before.length + offset + at;
     const found = instructions[index];
-    return found ? rowOf(found, session) : nothingAt(index < 0 ? index : LAST_ADDRESS + 1 + index - instructions.length);
+    return found ? rowOf(found, session) : emptyRow(index < 0 ? index : LAST_ADDRESS + 1 + index - instructions.length);
   });
 }
 
@@ -71,7 +71,7 @@ function rowOf({ address, line }, { map }) {
  * @param {number} address outside ROM
  * @returns {Row}
  */
-function nothingAt(address) {
+function emptyRow(address) {
   return { address, bytes: "", words: "", line: 0, name: "" };
 }
 

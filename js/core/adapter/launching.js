@@ -275,7 +275,7 @@ export async function launch(engine, args, host, words) {
   const opened = wanted.test ? await sessionFromTest(engine, wanted.test, host)
     : wanted.session === "" ? { session: sessionFromTexts(engine, wanted, host, words), writer: null, note: "" }
       : await sessionFromFile(engine, wanted, host, words);
-  return launchedOf(opened, wanted, args, host);
+  return withOptions(opened, wanted, args, host);
 }
 
 /**
@@ -292,7 +292,7 @@ export async function attach(engine, args, host, words) {
   const wanted = readWantedFiles(args, host);
   if (!host.isThere(wanted.session)) throw new AdapterError(say.noSession(wanted.session), true);
   const opened = isWritten ? await sessionFromFile(engine, wanted, host, words) : await sessionFromCopy(engine, wanted, host, words);
-  return { ...launchedOf(opened, wanted, args, host), isAttached: true };
+  return { ...withOptions(opened, wanted, args, host), isAttached: true };
 }
 
 /**
@@ -303,7 +303,7 @@ export async function attach(engine, args, host, words) {
  * @param {Host} host
  * @returns {Launched}
  */
-function launchedOf({ session, writer, note }, { program, board, test }, args, host) {
+function withOptions({ session, writer, note }, { program, board, test }, args, host) {
   if (session.boardText === "") session.boardText = session.debugger.session.ask("board\n").slice(1).join("\n");
   session.debugger.usual.map = session.map;
   return {

@@ -4,8 +4,8 @@ import { AdapterError } from "./dap_protocol.js";
 import * as say from "../../words/adapter.js";
 
 /** The delay before the first report and the interval between reports, in milliseconds. */
-const REPORTED_AFTER = 1000;
-const REPORTED_EVERY = 500;
+const FIRST_REPORT_DELAY = 1000;
+const REPORT_INTERVAL = 500;
 
 /** A piece of work that can take long. */
 class Work {
@@ -29,7 +29,7 @@ class Work {
   reportIfDue(message) {
     const now = performance.now();
     if (!this.progress.isOn || now < this.due) return;
-    this.due = now + REPORTED_EVERY;
+    this.due = now + REPORT_INTERVAL;
     if (this.id === "") this.id = this.progress.start(this, message());
     else this.progress.sendEvent("progressUpdate", { progressId: this.id, message: message() });
   }
@@ -46,7 +46,7 @@ export class Progress {
     this.sendEvent = sendEvent;
     /** True if the client shows progress. */
     this.isOn = false;
-    this.after = REPORTED_AFTER;
+    this.after = FIRST_REPORT_DELAY;
     this.lastId = 0;
     /** @type {Map<string, Work>} the reported work, by progress id */
     this.works = new Map();

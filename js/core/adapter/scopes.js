@@ -65,7 +65,7 @@ const decimal = (name, value, place) => ({ ...variable(name, value, place), isDe
  * @param {string} place
  * @returns {Variable}
  */
-const shown = (name, value, place) => ({ ...variable(name, value), evaluateName: place, watched: place });
+const readOnly = (name, value, place) => ({ ...variable(name, value), evaluateName: place, watched: place });
 
 /** @param {ShownState} state */
 function registers({ standing: { registers: cpu } }) {
@@ -139,9 +139,9 @@ function ports({ standing, face }) {
   const { roms, chains, sources } = standing.ports;
   const rams = [...standing.ram].flatMap(([bank, ram]) => [...ram.ports].map(([name, out]) => ({ bank, name, out })));
   return [
-    ...roms.map(({ chip, out, in: read }) => shown(named(`rom${chip}`), `out ${inHex(out)}, in ${inHex(read)}`, `rom${chip}`)),
-    ...rams.map(({ name, out }) => shown(named(`ram${name}`), `out ${inHex(out)}`, `ram${name}`)),
-    ...chains.map((bits, at) => shown(named(`chain${at}`), bits, `chain${at}`)),
+    ...roms.map(({ chip, out, in: read }) => readOnly(named(`rom${chip}`), `out ${inHex(out)}, in ${inHex(read)}`, `rom${chip}`)),
+    ...rams.map(({ name, out }) => readOnly(named(`ram${name}`), `out ${inHex(out)}`, `ram${name}`)),
+    ...chains.map((bits, at) => readOnly(named(`chain${at}`), bits, `chain${at}`)),
     ...sources.map((source) => sourceOf(source)),
   ];
 }
@@ -158,7 +158,7 @@ function lamps({ session, face, board }) {
   const marks = readMarks(session.debugger.session.ask("lamps\n")[0]).join("");
   return board.lamps.map((line, at) => {
     const name = (face.lamps.get(at) || { text: "" }).text.replace(/_/g, " ");
-    return shown(name || `lamp ${at}`, say.lampIs(marks[at] === "*"), `lamp ${at}`);
+    return readOnly(name || `lamp ${at}`, say.lampIs(marks[at] === "*"), `lamp ${at}`);
   });
 }
 

@@ -15,7 +15,7 @@ import * as say from "../../words/bench.js";
  * @typedef {{ inputs: AnsweredInput[], words: string }} AnsweredScript
  */
 
-const OPENED = /^session (\d+)$/;
+const SESSION_ANSWER = /^session (\d+)$/;
 
 /**
  * Returns whether a line can begin the answer to an input.
@@ -61,7 +61,7 @@ class AnswerMatcher {
   /** @param {string[]} answers */
   constructor(answers) {
     this.answers = answers;
-    this.commands = Number((OPENED.exec(answers[0]) || ["", "0"])[1]);
+    this.commands = Number((SESSION_ANSWER.exec(answers[0]) || ["", "0"])[1]);
     this.at = 1;
     /** An error message if the answers do not belong to the inputs, otherwise "". */
     this.words = "";
@@ -107,7 +107,7 @@ export function answeredScript(script, answers) {
   const inputs = readNumberedInputs(script);
   const unanswered = inputs.map((placed) => ({ ...placed, answer: "" }));
   if (answers.length > 0 && refusalOf(answers[0])) return { inputs: unanswered, words: "" };
-  if (answers.length === 0 || !OPENED.test(answers[0])) return { inputs: unanswered, words: say.FIRST_IS_SESSION };
+  if (answers.length === 0 || !SESSION_ANSWER.test(answers[0])) return { inputs: unanswered, words: say.FIRST_IS_SESSION };
   const matcher = new AnswerMatcher(answers);
   const answered = inputs.map(({ input, at }) => ({ input, at, answer: matcher.take(input, at) }));
   const { words, isOver, at } = matcher;

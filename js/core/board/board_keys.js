@@ -15,15 +15,15 @@ import * as say from "../../words/board.js";
  */
 
 /** The characters for keys whose names have no free character, in order. */
-const LETTERS = "1234567890qwertyuiopasdfghjklzxcvbnm";
+const FALLBACK_LETTERS = "1234567890qwertyuiopasdfghjklzxcvbnm";
 
 /**
- * Returns a free character for a key: the first one in its name, or else in `LETTERS`; "" if none is free.
+ * Returns a free character for a key: the first one in its name, or else in `FALLBACK_LETTERS`; "" if none is free.
  * @param {string} name
  * @param {Set<string>} used
  */
 function freeLetter(name, used) {
-  return [...name.toLowerCase(), ...name.toUpperCase(), ...LETTERS].find((letter) => !used.has(letter)) || "";
+  return [...name.toLowerCase(), ...name.toUpperCase(), ...FALLBACK_LETTERS].find((letter) => !used.has(letter)) || "";
 }
 
 /**

@@ -131,7 +131,7 @@ export function missingParts(face, board) {
     add("row", line, board.rows ? "key not there" : "no keys", text, row, column, board.rows, board.columns);
   }
   for (const [lamp, { text, line }] of face.lamps) if (lamp >= count) add("lamp", line, "lamp not there", text, lamp, count);
-  for (const [line, lamp] of lastColours(face)) if (lamp >= count) add("colour", line, "no lamp for colour", lamp, count);
+  for (const [line, lamp] of lastColouredLamps(face)) if (lamp >= count) add("colour", line, "no lamp for colour", lamp, count);
   for (const { lamp, line } of face.grid) if (lamp >= count) add("grid", line, "no lamp for place", lamp, count);
   for (const group of face.groups) {
     if (endOfGroup(group) > count) add(group.kind, group.line, "no lamps for group", group.kind, endOfGroup(group) - 1, count);
@@ -176,7 +176,7 @@ export function lampColours(face, count) {
  * Returns the number of the last lamp in each colour line, by line number.
  * @param {Face} face
  */
-function lastColours(face) {
+function lastColouredLamps(face) {
   /** @type {Map<number, number>} */
   const last = new Map();
   for (const [lamp, { line }] of face.colours) last.set(line, Math.max(lamp, last.get(line) || 0));

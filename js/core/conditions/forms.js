@@ -56,7 +56,7 @@ const marksOf = (value) => (value === "-" ? "" : value);
  * @param {number} at the lamp number
  * @param {Names} names
  */
-function isOfDisplay(at, { face }) {
+function isDisplayLamp(at, { face }) {
   if (face.lamps.has(at)) return false;
   return face.groups.some((group) => group.kind === "display" && lampsOfGroup(group).includes(at));
 }
@@ -74,7 +74,7 @@ export function lampsMeaning(words, names, dependencies) {
   let want = words.join("");
   if (!/^[*.?]+$/.test(want)) {
     const wanted = new Set(words.join(" ") === "none" ? [] : words.map((name) => lampNumberOf(name, names)));
-    want = upTo(count).map((at) => (wanted.has(at) ? "*" : isOfDisplay(at, names) ? "?" : ".")).join("");
+    want = upTo(count).map((at) => (wanted.has(at) ? "*" : isDisplayLamp(at, names) ? "?" : ".")).join("");
   }
   if (want.length !== count) fail(say.wrongPatternLength(want.length, count));
   const place = dependencies.at("lamps");

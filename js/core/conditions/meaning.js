@@ -40,7 +40,7 @@ const COMPILERS = { lamps: lampsMeaning, display: displayMeaning, printed: print
  * @param {Value} wanted
  * @returns {Meaning}
  */
-function comparedMeaning(value, sign, wanted) {
+function comparisonMeaning(value, sign, wanted) {
   const compare = COMPARISONS[sign];
   return {
     address: -1,
@@ -78,7 +78,7 @@ function compareMeaning({ sign, left, right }, names, dependencies) {
   const wanted = valueIn(right, names, dependencies);
   checkRange(value, right, wanted);
   checkRange(wanted, left, value);
-  if (value.name !== "pc" || !wanted.isConstant || (sign !== "=" && sign !== "!=")) return comparedMeaning(value, sign, wanted);
+  if (value.name !== "pc" || !wanted.isConstant || (sign !== "=" && sign !== "!=")) return comparisonMeaning(value, sign, wanted);
   const address = wanted.read([]);
   const meaning = counterMeaning(address, String(address), names, dependencies);
   return sign === "=" ? meaning : notMeaning(meaning, "");

@@ -50,7 +50,7 @@ const SAMPLE_CYCLES = 2000;
 export const MAX_CYCLES_PER_CALL = 10000;
 
 /** @type {Looked} */
-const NOTHING = { faults: [], stop: -1 };
+const NO_MISTAKES = { faults: [], stop: -1 };
 
 /** Finds common mistakes in the next lines of a session. */
 export class CommonMistakes {
@@ -100,7 +100,7 @@ export class CommonMistakes {
    */
   look(planned, file = this.session.file) {
     const most = this.cyclesToCheck(planned);
-    if (most === 0 || (this.reported.size === KIND_COUNT && this.conditions.size === 0)) return NOTHING;
+    if (most === 0 || (this.reported.size === KIND_COUNT && this.conditions.size === 0)) return NO_MISTAKES;
     const all = this.faultsIn(linesUpTo(planned, most), file);
     const last = all.find((fault) => this.isStop(fault, planned, file));
     const faults = all.filter(({ isAgain }) => !isAgain);

@@ -37,7 +37,7 @@ const UNWATCHABLE = "pc";
 const QUERY_CYCLES = 50000;
 
 /** @returns {SeenChange} an empty result */
-const nothingSeen = () => ({ cycles: -1, id: 0, change: "", hits: new Map() });
+const noChange = () => ({ cycles: -1, id: 0, change: "", hits: new Map() });
 
 /**
  * Compiles requested watches. `faults` holds an error message for each impossible watch, by watch id.
@@ -89,7 +89,7 @@ export class DataWatches {
    * @returns {SeenChange}
    */
   look(engine, file, planned, codes) {
-    const seen = nothingSeen();
+    const seen = noChange();
     if (this.isEmpty) return seen;
     const copy = file.slice();
     let done = 0;

@@ -73,7 +73,7 @@ function traceWatcher(places, goal) {
  * @param {Asked} condition
  * @returns {Watcher}
  */
-function becoming(condition) {
+function conditionWatcher(condition) {
   let before = "";
   const watcher = traceWatcher(` ${condition.places.join(" ")}`, () => -1);
   return {
@@ -207,7 +207,7 @@ export function watcherOf(engine, file, goal, codes = () => romCodes(engine, fil
     const probes = place ? place.probesOn(readBoard(engine.ask(file, "board\n").answers)) : [];
     return probes.length > 0 ? traceWatcher(` ${probes.join(" ")}`, ({ cycles }) => cycles + 1) : null;
   }
-  if (goal.kind === "when") return goal.asked ? becoming(goal.asked) : null;
+  if (goal.kind === "when") return goal.asked ? conditionWatcher(goal.asked) : null;
   const [regs] = engine.ask(file, "regs\n").answers;
   const { counter, isOwed } = parseCounter(regs);
   if (goal.kind === "count") return countWatcher(goal.count, isOwed);

@@ -142,7 +142,7 @@ function setPort(sketch, line, as) {
  * @param {Sketch} sketch
  * @param {string} part
  */
-function copy(sketch, part) {
+function copyPart(sketch, part) {
   const { board, text } = sketch;
   const [kind, number] = splitTarget(part);
   const face = new Face(text);
@@ -237,7 +237,7 @@ function perform(sketch, act) {
       return [part, isDisplay ? say.displayAdded(counted(digits, "digit")) : messageAbout(part, "added")];
     }
     case "copy": {
-      const part = copy(sketch, act.part);
+      const part = copyPart(sketch, act.part);
       return [part, say.copyAdded(capitalized(nameOfPart(part)), nameOfPart(act.part))];
     }
     case "wire":

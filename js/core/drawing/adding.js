@@ -65,7 +65,7 @@ export function addRam(sketch) {
  * @param {Sketch} sketch
  * @param {() => string} add adds the part and returns its name
  */
-function alsoAdd(sketch, add) {
+function addRequired(sketch, add) {
   const part = add();
   sketch.added.push(nameOfPart(part));
   return part;
@@ -88,7 +88,7 @@ export function nameOfPart(part) {
  * @param {Sketch} sketch
  */
 export function needRom(sketch) {
-  if (sketch.board.roms.length === 0) alsoAdd(sketch, () => addRom(sketch, OUTPUTS));
+  if (sketch.board.roms.length === 0) addRequired(sketch, () => addRom(sketch, OUTPUTS));
 }
 
 /**
@@ -99,7 +99,7 @@ export function needRom(sketch) {
  * @param {() => string} add adds a part with suitable lines
  */
 function needLines(sketch, count, find, add) {
-  while (find(sketch.board).length < count) alsoAdd(sketch, add);
+  while (find(sketch.board).length < count) addRequired(sketch, add);
   return find(sketch.board).slice(0, count);
 }
 
@@ -162,7 +162,7 @@ function freeBits(board, count) {
  * @param {number} count
  */
 function needBits(sketch, count) {
-  if (!freeBits(sketch.board, count)) alsoAdd(sketch, () => addChain(sketch, Math.ceil(count / BITS_PER_CHIP)));
+  if (!freeBits(sketch.board, count)) addRequired(sketch, () => addChain(sketch, Math.ceil(count / BITS_PER_CHIP)));
   return /** @type {{ chain: number, first: number }} */ (freeBits(sketch.board, count));
 }
 
@@ -174,7 +174,7 @@ export function addKeys(sketch) {
   if (sketch.board.matrix) throw new ActRefusal(say.ONE_MATRIX);
   needRom(sketch);
   const { chain, first } = needBits(sketch, 1);
-  if (freeInputs(sketch.board).length === 0) alsoAdd(sketch, () => addRom(sketch, INPUTS));
+  if (freeInputs(sketch.board).length === 0) addRequired(sketch, () => addRom(sketch, INPUTS));
   const columns = freeInputs(sketch.board).slice(0, 4);
   sketch.edit(addPart(sketch.draft, "keys", { chain, first, rows: 1, columns }));
   return "keys";
@@ -242,7 +242,7 @@ export function addLamp(sketch, line = "", colour = "") {
   const at = sketch.board.lamps.length;
   const hasRam = sketch.board.banks.length > 0;
   // The first lamp of a board without RAM gets a RAM chip, so that later lamps can be at the same port.
-  if (!line && !hasRam && at === 0) alsoAdd(sketch, () => addRam(sketch));
+  if (!line && !hasRam && at === 0) addRequired(sketch, () => addRam(sketch));
   putLamps(sketch, [line || needLines(sketch, 1, freeForLamps, () => addRam(sketch))[0]]);
   if (colour) sketch.edit(colourLamp(sketch.draft, at, colour));
   return `lamp ${at}`;
@@ -315,7 +315,7 @@ function portOfDigit(sketch) {
       if (lines.every((line) => free.has(line))) return lines;
     }
   }
-  const added = alsoAdd(sketch, () => addRam(sketch)).replace(" ", "");
+  const added = addRequired(sketch, () => addRam(sketch)).replace(" ", "");
   return [3, 2, 1, 0].map((line) => `${added}.${line}`);
 }
 

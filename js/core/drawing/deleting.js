@@ -29,7 +29,7 @@ function noParts() {
  * @param {Gone} gone
  * @param {string} line
  */
-function isLineGone({ roms, rams, chains }, line) {
+function isLineDeleted({ roms, rams, chains }, line) {
   const [, kind, first, second] = /** @type {RegExpExecArray} */ (/^(rom|ram|chain)(\d+)\.(\d+)/.exec(line));
   if (kind === "rom") return roms.has(Number(first));
   return kind === "chain" ? chains.has(Number(first)) : rams.has(`${first}.${second}`);
@@ -63,14 +63,14 @@ export function displayAt(face, lamp) {
  */
 function addDependents(board, face, deletedParts) {
   board.chains.forEach(({ clock, data }, at) => {
-    if (isLineGone(deletedParts, clock) || isLineGone(deletedParts, data)) deletedParts.chains.add(at);
+    if (isLineDeleted(deletedParts, clock) || isLineDeleted(deletedParts, data)) deletedParts.chains.add(at);
   });
   const { matrix } = board;
   if (matrix) {
-    matrix.columns.forEach((line, at) => isLineGone(deletedParts, line) && deletedParts.columns.add(at));
+    matrix.columns.forEach((line, at) => isLineDeleted(deletedParts, line) && deletedParts.columns.add(at));
     deletedParts.keys = deletedParts.keys || deletedParts.chains.has(matrix.chain) || deletedParts.columns.size === matrix.columns.length;
   }
-  board.lamps.forEach((line, at) => isLineGone(deletedParts, line) && deletedParts.lamps.add(at));
+  board.lamps.forEach((line, at) => isLineDeleted(deletedParts, line) && deletedParts.lamps.add(at));
   // The whole group of a deleted lamp is deleted. (The loop also visits the lamps that it adds.)
   for (const at of deletedParts.lamps) {
     const groups = face.groups.map(lampsOfGroup).filter((lamps) => lamps.includes(at));
@@ -241,7 +241,7 @@ export function deletePart(sketch, part) {
   // Chains depend on ROMs and RAM chips. Keys and lamps depend on chains. Two passes are therefore enough.
   const face = new Face(sketch.text);
   for (let times = 0; times < 2; times++) addDependents(board, face, deletedParts);
-  const words = wordsOfGone(board, deletedParts, part);
+  const words = dependentsText(board, deletedParts, part);
   removeAll(sketch, deletedParts);
   return words;
 }
@@ -265,13 +265,13 @@ function deleteRow(sketch, row) {
  * @param {Gone} deletedParts
  * @param {string} part
  */
-function wordsOfGone({ buzzer }, deletedParts, part) {
+function dependentsText({ buzzer }, deletedParts, part) {
   const { chains, keys, columns, lamps } = deletedParts;
   const others = [...chains].map((chain) => `chain ${chain}`).filter((name) => name !== part);
   const further = part === "lamps" || (part.startsWith("lamp ") && lamps.size === 1) ? 0 : lamps.size;
   if (keys && part !== "keys") others.push(nameOfPart("keys"));
   else if (!keys && columns.size > 0 && !part.startsWith("column")) others.push(say.ofKeys(counted(columns.size, "column")));
   if (further > 0) others.push(part.startsWith("lamp ") ? say.allLampsOf(further) : counted(further, "lamp"));
-  if (buzzer && isLineGone(deletedParts, buzzer)) others.push(say.THE_BUZZER);
+  if (buzzer && isLineDeleted(deletedParts, buzzer)) others.push(say.THE_BUZZER);
   return say.listOf(others);
 }

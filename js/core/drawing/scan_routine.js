@@ -43,7 +43,7 @@ const hexByte = (byte) => `0x${byte.toString(16).toUpperCase().padStart(2, "0")}
  * @param {Port} port
  * @returns {Line[]}
  */
-function selected({ bank, source, title }) {
+function selectionLines({ bank, source, title }) {
   /** @type {Line[]} */
   const designated = bank < 0 ? [] : [["", ["LDM", String(bank)]], ["", ["DCL"]]];
   return [...designated, ["", ["FIM", "P0,", hexByte(source)], title], ["", ["SRC", "P0"]]];
@@ -103,7 +103,7 @@ function readColumns(columns, labels) {
   const chips = ports.filter((port, at) => ports.findIndex((each) => isSame(each, port)) === at);
   return chips.flatMap((chip) => {
     /** @type {Line[]} */
-    const lines = [...selected(chip), ["", ["RDR"]]];
+    const lines = [...selectionLines(chip), ["", ["RDR"]]];
     let bit = 1 / 2;
     const chipColumns = ports.map((port, column) => ({ ...port, column })).filter((port) => isSame(port, chip));
     for (const { bit: wanted, column } of chipColumns.sort((one, other) => one.bit - other.bit)) {
@@ -125,11 +125,11 @@ function readColumns(columns, labels) {
 function shiftLines(clock, data, labels) {
   const isOne = isSame(clock, data);
   /** @type {Line[]} */
-  const other = isOne ? [] : [...selected(clock), ["", ["LDM", "0"]], ["", [clock.write]]];
+  const other = isOne ? [] : [...selectionLines(clock), ["", ["LDM", "0"]], ["", [clock.write]]];
   /** @type {Line[]} */
   const both = isOne ? [["", ["CLC"]], ["", ["ADD", "R6"]]] : [];
   return [
-    [labels.of("shift"), ["XCH", "R6"], say.BIT_ENTERS], ...selected(data), ["", ["LD", "R6"]],
+    [labels.of("shift"), ["XCH", "R6"], say.BIT_ENTERS], ...selectionLines(data), ["", ["LD", "R6"]],
     ["", [data.write], isOne ? say.CLOCK_LOW : say.DATA], ...other,
     ["", ["LDM", String(clock.bit)]], ...both, ["", [clock.write], say.CLOCK_RISES], ["", ["BBL", "0"]],
   ];
@@ -142,7 +142,7 @@ function shiftLines(clock, data, labels) {
  * @param {Port} data
  * @param {Labels} labels
  */
-function headOf({ chain, first, rows, columns }, clock, data, labels) {
+function headerLines({ chain, first, rows, columns }, clock, data, labels) {
   const read = [...new Set(columns.map((line) => portOf(line).title))];
   const written = [...new Set([data.title, clock.title])];
   const banks = [...new Set([data.bank, clock.bank])].filter((bank) => bank >= 0);
@@ -178,7 +178,7 @@ export function keyScanOf({ matrix, chains }, text) {
     [labels.of("down"), ["XCH", "R5"]], [out, ["LDM", "0"]], ["", ["JMS", shift], say.LEAVES_ROWS], ["", ["ISZ", "R7,", out]],
     ["", ["BBL", "1"], say.KEY_IS_DOWN], ...shiftLines(clock, data, labels),
   ];
-  const head = headOf(matrix, clock, data, labels);
+  const head = headerLines(matrix, clock, data, labels);
   return [...start.map(textOf), ...(start.length > 0 ? [""] : []), ...head, ...lines.map(textOf), ""].join("\n");
 }
 

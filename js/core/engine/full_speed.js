@@ -14,7 +14,7 @@ const BATCH_TIME = 50;
 const MIN_BATCH = 50000;
 const MAX_BATCH = 8000000;
 /** The interval between reports to a hidden page, in milliseconds. The page saves the session at each report. */
-const HIDDEN_TIME = 1000;
+const HIDDEN_REPORT_INTERVAL = 1000;
 
 /**
  * Returns an empty report. `end` is the answer that ended the run early, `stop` the reason why time stopped, and `tally` the breakpoint events.
@@ -69,7 +69,7 @@ export class FullSpeed {
   /** @param {boolean} isPageReady true if the page is ready for another report */
   isReportDue(isPageReady) {
     if (!this.isOn) return true;
-    return isPageReady && (!this.isHidden || this.unreported.changesKeys || performance.now() - this.lastReport >= HIDDEN_TIME);
+    return isPageReady && (!this.isHidden || this.unreported.changesKeys || performance.now() - this.lastReport >= HIDDEN_REPORT_INTERVAL);
   }
 
   /**

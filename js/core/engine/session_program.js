@@ -25,7 +25,7 @@ import { readProgram } from "./program_check.js";
  * @param {SourceMap} map
  * @returns {OtherByte | null}
  */
-function otherByte(codes, bytes, map) {
+function firstDifference(codes, bytes, map) {
   const at = bytes.findIndex((byte, address) => byte >= 0 && byte !== codes[address]);
   return at < 0 ? null : { address: hex(at, 3), is: hex(codes[at], 2), line: map.lineOf(at), makes: hex(bytes[at], 2) };
 }
@@ -55,5 +55,5 @@ export function readSource(engine, text) {
  */
 export function sessionProgram(engine, codes, text) {
   const { faults, map, bytes } = readSource(engine, text);
-  return { faults, other: faults.length > 0 ? null : otherByte(codes, bytes, map), map };
+  return { faults, other: faults.length > 0 ? null : firstDifference(codes, bytes, map), map };
 }

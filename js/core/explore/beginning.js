@@ -33,7 +33,7 @@ class OpenCalls extends Account {
  * @param {Test} test
  * @param {string} state
  */
-function saves({ steps }, state) {
+function savesState({ steps }, state) {
   return steps.some(({ action }) => action.kind === "save" && action.state === state);
 }
 
@@ -48,7 +48,7 @@ export function testsThatLead(names, testText, state) {
   const { tests, faults } = readTests(testText, names);
   if (testText.trim() === "") return { tests: [], words: say.noTests(state) };
   if (faults.length > 0) return { tests: [], words: say.testsFault(faults[0].line, faults[0].words) };
-  const last = tests.find((test) => saves(test, state));
+  const last = tests.find((test) => savesState(test, state));
   if (!last) {
     const stateNames = tests.flatMap(({ steps }) => steps.flatMap(({ action }) => (action.kind === "save" ? [action.state] : [])));
     return { tests: [], words: say.noSuchState(state, stateNames.join(" ")) };
@@ -63,7 +63,7 @@ export function testsThatLead(names, testText, state) {
  * @param {string} state
  * @returns {Test[]}
  */
-function upToStates(tests, state) {
+function cutAtStates(tests, state) {
   return tests.map((test, at) => {
     const wanted = at + 1 < tests.length ? tests[at + 1].from : state;
     const end = test.steps.findIndex(({ action }) => action.kind === "save" && action.state === wanted);
@@ -118,7 +118,7 @@ export async function begun(readable, prepared, testText) {
   const account = new OpenCalls(prepared.codes);
   const run = new TestRun(subject.engine, prepared, account, async () => {});
   let failed = "";
-  const leading = upToStates(tests, state);
+  const leading = cutAtStates(tests, state);
   for (const test of leading) {
     const { failure } = await run.run(test, "");
     if (failure && failed === "") failed = say.testFails(failure.line, failure.text, failure.words);

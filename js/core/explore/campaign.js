@@ -49,10 +49,10 @@ function columnIn(whole, column) {
 
 const MAX_NOTES = 16;
 /** The default maximum number of keys that are pressed at the same time. */
-const TOGETHER = 2;
+const DEFAULT_TOGETHER = 2;
 /** The default waits (1 and 20 ms), and the default press and release times of a model's keys. */
-const WAITS = { shortest: cyclesOfMs(1), longest: cyclesOfMs(20) };
-const PACE = { down: TOOL_KEY_DOWN_CYCLES, up: TOOL_KEY_UP_CYCLES };
+const DEFAULT_WAITS = { shortest: cyclesOfMs(1), longest: cyclesOfMs(20) };
+const DEFAULT_PACE = { down: TOOL_KEY_DOWN_CYCLES, up: TOOL_KEY_UP_CYCLES };
 
 class Reader {
   /** @param {Subject} subject */
@@ -65,12 +65,12 @@ class Reader {
     this.properties = [];
     /** @type {string[]} */
     this.notes = [];
-    this.together = TOGETHER;
+    this.together = DEFAULT_TOGETHER;
     this.canReset = false;
-    this.shortest = WAITS.shortest;
-    this.longest = WAITS.longest;
-    this.down = PACE.down;
-    this.up = PACE.up;
+    this.shortest = DEFAULT_WAITS.shortest;
+    this.longest = DEFAULT_WAITS.longest;
+    this.down = DEFAULT_PACE.down;
+    this.up = DEFAULT_PACE.up;
     this.held = Infinity;
     this.apart = 0;
     this.begin = 0;
@@ -235,7 +235,7 @@ function placesOfNote({ names }, word) {
 }
 
 /** Matches `lamp open on for 1.1 s`: the condition and the time. */
-const FOR = /^(.*) for (\S+(?: \S+)?)$/;
+const FOR_DURATION = /^(.*) for (\S+(?: \S+)?)$/;
 
 /**
  * The readers of property lines, by first word.
@@ -243,7 +243,7 @@ const FOR = /^(.*) for (\S+(?: \S+)?)$/;
  */
 const PROPERTIES = {
   never: (reader, rest, text) => {
-    const [, condition, time] = FOR.exec(rest) || ["", rest, ""];
+    const [, condition, time] = FOR_DURATION.exec(rest) || ["", rest, ""];
     if (condition === "") fail(say.NEVER_FORM);
     return time ? neverFor(text, reader.met(condition), reader.time(time, say.FOR_FORM)) : never(text, reader.met(condition));
   },
@@ -403,7 +403,7 @@ function hasKeysForModel({ command, inputs }) {
  * @param {Reader} reader
  * @param {string} text
  */
-function complete(reader, text) {
+function addDefaults(reader, text) {
   const { face } = reader.names;
   if (!/^[ \t]*(press|test)\b/m.test(text)) {
     for (const input of keysOf(face)) reader.add(input);
@@ -440,7 +440,7 @@ export function readCampaign(text, subject, needsInputs = true) {
     }
   });
   const last = Math.max(1, text.trimEnd().split("\n").length);
-  if (!complete(reader, text) && needsInputs && faults.length === 0) {
+  if (!addDefaults(reader, text) && needsInputs && faults.length === 0) {
     faults.push({ line: last, column: -1, words: say.NOTHING_CHANGES });
   }
   if (faults.length === 0 && !hasKeysForModel(reader)) {

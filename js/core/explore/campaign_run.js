@@ -21,19 +21,19 @@ import { randomFrom } from "./walks.js";
  * @typedef {{ property: number, found: Found, find: Find | null }} Taken
  */
 
-/** One of SHARE parts of the time goes to the initial proof. */
-const SHARE = 10;
+/** The initial proof gets 1 / PROOF_SHARE of the search time. */
+const PROOF_SHARE = 10;
 /** The number of failed confirmations after which the search drops a property. */
 const MAX_UNCONFIRMED = 3;
 /** The number of cycles for minimising a counterexample, per second of search time, with a minimum and a maximum. */
-const PATIENCE = { second: 2e6, least: 10e6, most: 60e6 };
+const MINIMISING_CYCLES = { second: 2e6, least: 10e6, most: 60e6 };
 
 /**
  * Returns the number of cycles for minimising a counterexample.
  * @param {number} seconds
  */
 export function patienceOf(seconds) {
-  return Math.max(PATIENCE.least, Math.min(PATIENCE.most, seconds * PATIENCE.second));
+  return Math.max(MINIMISING_CYCLES.least, Math.min(MINIMISING_CYCLES.most, seconds * MINIMISING_CYCLES.second));
 }
 
 /**
@@ -41,10 +41,10 @@ export function patienceOf(seconds) {
  * @param {number} seconds
  */
 export function proofTimeOf(seconds) {
-  return 1000 * seconds / SHARE;
+  return 1000 * seconds / PROOF_SHARE;
 }
 
-async function noBreath() {
+async function doNotYield() {
   // Does not yield: no other work waits here.
 }
 
@@ -59,7 +59,7 @@ export class CampaignRun {
    * @param {() => Promise<void>} [yieldToMessages] yields to other tasks while a counterexample is minimised
    * @param {number} [proofTime] the maximum time for the initial proof, in milliseconds
    */
-  constructor(subject, campaign, seed, confirm, patience, modelCommand = null, yieldToMessages = noBreath, proofTime = 0) {
+  constructor(subject, campaign, seed, confirm, patience, modelCommand = null, yieldToMessages = doNotYield, proofTime = 0) {
     this.subject = subject;
     this.campaign = campaign;
     this.seed = seed;

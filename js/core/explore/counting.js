@@ -13,7 +13,7 @@ import { downAfter, lineOf } from "./walks.js";
  */
 
 /** The memory of a property whose condition is false. */
-const HOLDS_NOT = [-1];
+const NOT_HOLDING = [-1];
 const FORMS = new Set(["code", "never", "always", "never for", "reach", "reach at", "model", "calls", "returns"]);
 
 /**
@@ -38,7 +38,7 @@ export function followsFromLooks(properties, open, holds) {
  */
 function memoryAfter({ form }, memory, { kind }, deeper) {
   if (form === "calls" || form === "returns") return [kind === "reset" ? 0 : memory[0] + deeper];
-  return form === "never for" ? HOLDS_NOT : memory;
+  return form === "never for" ? NOT_HOLDING : memory;
 }
 
 /**

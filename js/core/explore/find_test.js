@@ -121,7 +121,7 @@ class Writer {
  * The functions that write the last requirement of a test, by property form.
  * @type {Record<Property["form"], (writer: Writer) => void>}
  */
-const JUDGED = {
+const FINAL_LINES = {
   never: (writer) => writer.expect(writer.words(false)),
   always: (writer) => writer.expect(writer.words(true)),
   at: (writer) => writer.expect(writer.words(true)),
@@ -162,7 +162,7 @@ export function testOf(subject, file, campaign, find) {
   const writer = new Writer(subject, file, campaign, find);
   const note = NOTES[form];
   writer.putSteps();
-  JUDGED[form](writer);
+  FINAL_LINES[form](writer);
   if (note) writer.lines.splice(1, 0, `  # ${note}`);
   return `${writer.lines.join("\n")}\n`;
 }

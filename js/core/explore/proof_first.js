@@ -32,7 +32,7 @@ export class ProofFirst {
     const alone = this.left > 0 ? questionsOf(subject, campaign) : [];
     const joint = alone.filter(({ properties: [at], question }) => !campaign.properties[at].isGoal && !question.stopwatch);
     /** @type {Asked[]} the remaining questions; the first one can combine others, which are asked separately if the combination does not hold */
-    this.questions = joint.length > 1 ? [joined(joint), ...alone] : alone;
+    this.questions = joint.length > 1 ? [joinQuestions(joint), ...alone] : alone;
     this.bounds = boundsUpTo(MAX_BOUND, FIRST_BOUND);
     /** The number of questions asked with the current bound. */
     this.asked = 0;
@@ -106,7 +106,7 @@ function questionsOf({ names: { board } }, campaign) {
  * @param {Asked[]} questions
  * @returns {Asked}
  */
-function joined(questions) {
+function joinQuestions(questions) {
   return {
     properties: questions.flatMap(({ properties }) => properties), question: jointQuestion(questions.map(({ question }) => question)),
   };

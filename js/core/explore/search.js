@@ -37,12 +37,12 @@ const MAX_WALK_STEPS = 16;
 const MAX_DEPTH = 120;
 const MAX_STATES = 20000;
 const MAX_SNAPSHOTS = 200000;
-/** One of WATCHED walks is watched instruction by instruction even if it shows nothing new. */
-const WATCHED = 32;
+/** The search watches one in WATCH_INTERVAL walks instruction by instruction, even if the walk shows nothing new. */
+const WATCH_INTERVAL = 32;
 /** The number of candidate states. Of these, the search resumes the state that it has resumed least often. */
-const CANDIDATES = 3;
+const CANDIDATE_COUNT = 3;
 /** The number of recently stored states. Half of all walks start at one of them. */
-const LAST_STATES = 6;
+const RECENT_STATES = 6;
 
 export class Search {
   /**
@@ -137,7 +137,7 @@ export class Search {
     this.steps += steps.length;
     const file = this.fileOf(state);
     const { fresh: newSteps, isSuspect, snapshots } = this.examine(file, state, steps);
-    const isWhole = isSuspect || this.walks % WATCHED === 1;
+    const isWhole = isSuspect || this.walks % WATCH_INTERVAL === 1;
     if (newSteps.length === 0 && !isWhole) return null;
     const start = { ...state, file };
     const { broken, after } = isWhole ? this.watcher.watch(start, steps, this.open) : this.repeat(start, steps, newSteps, snapshots);
@@ -186,8 +186,8 @@ export class Search {
     const { states, random } = this;
     const isLast = random() < 0.5;
     let found = null;
-    for (let tries = 0; tries < CANDIDATES; tries++) {
-      const back = Math.floor(-Math.log(1 - random()) * LAST_STATES);
+    for (let tries = 0; tries < CANDIDATE_COUNT; tries++) {
+      const back = Math.floor(-Math.log(1 - random()) * RECENT_STATES);
       const state = states[isLast ? Math.max(0, states.length - 1 - back) : upToRandom(random, states.length)];
       if (!found || state.picked < found.picked) found = state;
     }

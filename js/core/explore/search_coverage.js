@@ -4,7 +4,7 @@ import { ADDRESSES } from "../bench/rom_bytes.js";
 
 /** @typedef {import("./subject.js").Instruction} Instruction */
 
-const BEGUN = 1;
+const STARTED = 1;
 const JUMPED = 2;
 const CONTINUED = 4;
 
@@ -24,7 +24,7 @@ export class Coverage {
   add(counts) {
     let isNew = false;
     for (const { address, begun, jumped } of counts) {
-      const flags = BEGUN | (jumped > 0 ? JUMPED : 0) | (jumped >= 0 && jumped < begun ? CONTINUED : 0);
+      const flags = STARTED | (jumped > 0 ? JUMPED : 0) | (jumped >= 0 && jumped < begun ? CONTINUED : 0);
       isNew = isNew || (flags & ~this.flags[address]) !== 0;
       this.flags[address] |= flags;
     }
@@ -48,9 +48,9 @@ export class Coverage {
    * @param {Instruction[]} instructions
    */
   summary(instructions) {
-    const left = instructions.filter(({ address }) => !(this.flags[address] & BEGUN)).map(({ line }) => line);
+    const left = instructions.filter(({ address }) => !(this.flags[address] & STARTED)).map(({ line }) => line);
     const forks = instructions.filter(({ hasWays }) => hasWays);
-    const oneWay = forks.filter(({ address }) => (this.flags[address] & BEGUN) && (this.flags[address] & (JUMPED | CONTINUED)) !== 6)
+    const oneWay = forks.filter(({ address }) => (this.flags[address] & STARTED) && (this.flags[address] & (JUMPED | CONTINUED)) !== 6)
       .map(({ line }) => line);
     const ways = forks.reduce((sum, { address }) => sum + Number((this.flags[address] & JUMPED) > 0)
       + Number((this.flags[address] & CONTINUED) > 0), 0);

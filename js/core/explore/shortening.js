@@ -12,11 +12,11 @@ import { downAfter, downAtFirst, isSound, longestAfter } from "./walks.js";
  */
 
 /** The cost of a step in cycles, in addition to its wait. */
-const COST_OF_STEP = 500;
+const STEP_COST = 500;
 /** The maximum number of additional cycles to try for the first wait. */
-const PHASES = 256;
+const MAX_EXTRA_CYCLES = 256;
 /** The fractions of a wait to try. */
-const PARTS = [0, 1 / 4, 1 / 2, 3 / 4, 7 / 8, 15 / 16, 63 / 64];
+const WAIT_FRACTIONS = [0, 1 / 4, 1 / 2, 3 / 4, 7 / 8, 15 / 16, 63 / 64];
 
 export class Shortening {
   /**
@@ -61,7 +61,7 @@ export class Shortening {
     await this.yieldToMessages();
     const wait = Math.min(this.campaign.longest, longestAfter(this.campaign, steps));
     const last = wait > 0 ? [{ wait, kind: /** @type {const} */ ("none"), input: -1 }] : [];
-    this.left -= [...steps, ...last].reduce((sum, step) => sum + step.wait + COST_OF_STEP, 0);
+    this.left -= [...steps, ...last].reduce((sum, step) => sum + step.wait + STEP_COST, 0);
     const { broken } = this.watcher.watch(this.start, [...steps, ...last], [0]);
     if (!broken) return false;
     this.steps = steps.slice(0, broken.step);
@@ -139,7 +139,7 @@ export class Shortening {
     });
     for (const at of idle.reverse()) {
       // A wait must fit into one run.
-      for (let { wait } = steps[at]; wait < Math.min(steps[at].wait + PHASES, LONGEST_RUN + 1); wait++) {
+      for (let { wait } = steps[at]; wait < Math.min(steps[at].wait + MAX_EXTRA_CYCLES, LONGEST_RUN + 1); wait++) {
         if (await this.take([{ ...steps[at], wait }, ...steps.slice(at + 1)])) return true;
       }
     }
@@ -151,7 +151,7 @@ export class Shortening {
     let isShorter = false;
     for (let at = 0; at < this.steps.length; at++) {
       const { wait } = this.steps[at];
-      for (const part of PARTS) {
+      for (const part of WAIT_FRACTIONS) {
         const shorter = Math.max(this.campaign.shortest, Math.floor(wait * part));
         if (shorter >= wait) continue;
         if (await this.take(this.steps.map((step, index) => (index === at ? { ...step, wait: shorter } : step)))) {

@@ -43,7 +43,7 @@ export function downAtFirst({ inputs }) {
 }
 
 /** The share of waits with the maximum length. All other waits are chosen on a logarithmic scale. */
-const LONGEST_SHARE = 0.6;
+const LONGEST_WAIT_SHARE = 0.6;
 /** The share of steps that are power cycles. */
 const RESET_SHARE = 0.02;
 
@@ -51,8 +51,8 @@ const RESET_SHARE = 0.02;
  * @param {Campaign} campaign
  * @param {Random} random
  */
-function waitOf({ shortest, longest }, random) {
-  return random() < LONGEST_SHARE ? longest : Math.round(shortest * (longest / shortest) ** random());
+function chooseWait({ shortest, longest }, random) {
+  return random() < LONGEST_WAIT_SHARE ? longest : Math.round(shortest * (longest / shortest) ** random());
 }
 
 /**
@@ -65,7 +65,7 @@ function waitOf({ shortest, longest }, random) {
  * @returns {WalkStep}
  */
 export function chooseStep(campaign, down, since, random) {
-  const wait = waitOf(campaign, random);
+  const wait = chooseWait(campaign, random);
   if (campaign.held === Infinity || down.length === 0) return chooseChange(campaign, down, since, wait, random);
   const left = down.map((at) => campaign.held - since[at]);
   const first = left.indexOf(Math.min(...left));
@@ -134,7 +134,7 @@ export function isSound(campaign, steps) {
   for (const step of steps) {
     if (step.kind === "down" && (down.includes(step.input) || since[step.input] + step.wait < campaign.apart)) return false;
     if (step.kind === "up" && !down.includes(step.input)) return false;
-    if (step.wait > longestFrom(campaign, down, since)) return false;
+    if (step.wait > longestAllowedWait(campaign, down, since)) return false;
     since = sinceAfter(since, step);
     down = downAfter(down, step);
     if (down.filter((at) => campaign.inputs[at].isKey).length > campaign.together) return false;
@@ -148,7 +148,7 @@ export function isSound(campaign, steps) {
  * @param {number[]} down
  * @param {number[]} since
  */
-function longestFrom({ held }, down, since) {
+function longestAllowedWait({ held }, down, since) {
   return Math.min(...down.map((at) => held - since[at]));
 }
 
@@ -158,7 +158,7 @@ function longestFrom({ held }, down, since) {
  * @param {WalkStep[]} steps
  */
 export function longestAfter(campaign, steps) {
-  return longestFrom(campaign, steps.reduce(downAfter, downAtFirst(campaign)), steps.reduce(sinceAfter, sinceAtFirst(campaign)));
+  return longestAllowedWait(campaign, steps.reduce(downAfter, downAtFirst(campaign)), steps.reduce(sinceAfter, sinceAtFirst(campaign)));
 }
 
 /**

@@ -251,11 +251,11 @@ class Walk {
     if (step.kind === "down") this.notify("down", this.time, { input: inputs[step.input].name });
     if (step.kind === "reset") {
       this.notify("reset", this.time);
-      for (const at of this.watcher.calls) this.watcher.campaign.properties[at].see(this.memories[at], "reset", NOTHING);
+      for (const at of this.watcher.calls) this.watcher.campaign.properties[at].see(this.memories[at], "reset", EMPTY_MOMENT);
     }
   }
 }
 
 /** @type {boolean[]} */
 const NONE = [];
-const NOTHING = { time: 0, changed: 0, address: -1, holds: false, opens: NONE, input: "", isDown: 0 };
+const EMPTY_MOMENT = { time: 0, changed: 0, address: -1, holds: false, opens: NONE, input: "", isDown: 0 };

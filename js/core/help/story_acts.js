@@ -61,23 +61,23 @@ function atKey(legend, calls, act) {
  * @type {Record<import("./story.js").ActName, (argument: string, calls: ActCalls) => Promise<string>>}
  */
 const ACTS = {
-  run: (_, calls) => done(() => calls.run()),
-  stop: (_, calls) => done(() => calls.stand()),
-  back: (_, calls) => done(() => calls.goBack({ kind: "stop" })),
-  forward: (_, calls) => done(() => calls.goForward()),
+  run: (_, calls) => perform(() => calls.run()),
+  stop: (_, calls) => perform(() => calls.stand()),
+  back: (_, calls) => perform(() => calls.goBack({ kind: "stop" })),
+  forward: (_, calls) => perform(() => calls.goForward()),
   "go to": (argument, calls) => atLabel(argument, calls, (address) => calls.goTo(address)),
   "run to": (argument, calls) => atLabel(argument, calls, (address) => calls.goOn({ kind: "here", address })),
-  "back to": (argument, calls) => done(() => calls.goBack({ kind: "change", place: argument })),
+  "back to": (argument, calls) => perform(() => calls.goBack({ kind: "change", place: argument })),
   press: async (argument, calls) => atKey(argument, calls, (key) => (calls.isRunning() || !calls.isDown(key)) && calls.press(key)),
   release: async (argument, calls) => atKey(argument, calls, (key) => calls.isDown(key) && calls.press(key)),
-  show: (argument, calls) => done(() => (TEXTS.includes(argument) ? calls.showText(argument) : calls.showPanel(argument))),
+  show: (argument, calls) => perform(() => (TEXTS.includes(argument) ? calls.showText(argument) : calls.showPanel(argument))),
 };
 
 /**
  * Calls a function that always succeeds; resolves to "".
  * @param {() => unknown} act
  */
-async function done(act) {
+async function perform(act) {
   await act();
   return "";
 }

@@ -19,7 +19,7 @@ const HAS_TARGET = /^(JUN|JMS|JCN|ISZ) .*0x([0-9A-F]{3})$/;
 const BYTES_END = 9;
 const SECOND_BYTE = 7;
 const INSTRUCTION_AT = 10;
-const COLON = 1;
+const COLON_LENGTH = 1;
 
 /**
  * Returns a listing line with names.
@@ -62,6 +62,6 @@ function withTarget(instruction, source, map) {
  * @param {SourceMap | null} map
  */
 export function widthOfLabels(map) {
-  const lengths = map ? [...map.labels.values()].map((labels) => labels.join(": ").length + COLON) : [];
+  const lengths = map ? [...map.labels.values()].map((labels) => labels.join(": ").length + COLON_LENGTH) : [];
   return Math.max(0, ...lengths);
 }

@@ -6,7 +6,7 @@ export const LARGE_ROWS = 5;
 const BLANK = " ";
 
 /** Returns whether a pattern contains a segment; `letter` is a letter from a to g. */
-const has = (/** @type {number} */ pattern, /** @type {string} */ letter) => ((pattern >> "abcdefg".indexOf(letter)) & 1) === 1;
+const hasSegment = (/** @type {number} */ pattern, /** @type {string} */ letter) => ((pattern >> "abcdefg".indexOf(letter)) & 1) === 1;
 
 /**
  * Returns the rows of a character.
@@ -15,8 +15,8 @@ const has = (/** @type {number} */ pattern, /** @type {string} */ letter) => ((p
 function characterRows(character) {
   if (character === ".") return [...Array(LARGE_ROWS - 1).fill("  "), "# "];
   const pattern = patternOf(character);
-  const across = (/** @type {string} */ letter) => (has(pattern, letter) ? " ###  " : BLANK.repeat(6));
-  const sides = (/** @type {string} */ letters) => `${[...letters].map((letter) => (has(pattern, letter) ? "#" : BLANK)).join("   ")} `;
+  const across = (/** @type {string} */ letter) => (hasSegment(pattern, letter) ? " ###  " : BLANK.repeat(6));
+  const sides = (/** @type {string} */ letters) => `${[...letters].map((letter) => (hasSegment(pattern, letter) ? "#" : BLANK)).join("   ")} `;
   return [across("a"), sides("fb"), across("g"), sides("ec"), across("d")];
 }
 

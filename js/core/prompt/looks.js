@@ -16,7 +16,7 @@ import * as say from "../../words/prompt.js";
  * Returns the current state of the machine.
  * @param {DebugSession} session
  */
-function standingOf(session) {
+function stateOf(session) {
   return new MachineState(session.debugger.session.takeSnapshot());
 }
 
@@ -83,7 +83,7 @@ export function codeLines(session, address, count) {
  * @param {DebugSession} session
  */
 export function registerLines(session) {
-  const { registers } = standingOf(session);
+  const { registers } = stateOf(session);
   const pairs = upTo(8).map((at) => `P${at} ${registers.registers[2 * at]}${registers.registers[2 * at + 1]}`).join("  ");
   const { accumulator, carry, bank, test, owed } = registers;
   const owedText = owed === "1" ? "  owed 1" : "";
@@ -95,7 +95,7 @@ export function registerLines(session) {
  * @param {DebugSession} session
  */
 export function ramLines(session) {
-  const { ram } = standingOf(session);
+  const { ram } = stateOf(session);
   const lines = [...ram].flatMap(([bank, { registers, ports }]) => [
     ...[...registers].map(([name, { characters, status }]) => {
       const [, chip, register] = name.split(".").map(Number);
@@ -111,7 +111,7 @@ export function ramLines(session) {
  * @param {DebugSession} session
  */
 export function portLines(session) {
-  const { sources, roms, chains, keys } = standingOf(session).ports;
+  const { sources, roms, chains, keys } = stateOf(session).ports;
   return [
     `src ${sources.join(" ")}`,
     ...roms.map(({ chip, out, in: reads }) => `rom ${chip} out ${out} in ${reads}`),
@@ -125,7 +125,7 @@ export function portLines(session) {
  * @param {DebugSession} session
  */
 export function keysDown(session) {
-  return standingOf(session).ports.keys;
+  return stateOf(session).ports.keys;
 }
 
 /**
@@ -199,7 +199,7 @@ export function characterLines(session, text, count) {
   const [, bank, at] = /^ram\.([0-7])\.(\w+)$/i.exec(text) || [];
   const first = numberOf(at || "");
   if (bank === undefined || !(first <= 255)) refuse(say.noPlaceOfRam(text));
-  const standing = standingOf(session);
+  const standing = stateOf(session);
   const values = upTo(Math.min(count, 256 - first)).map((offset) => standing.character(Number(bank), first + offset));
   const missing = values.findIndex((value) => value === "");
   if (missing === 0) refuse(say.noRamAt(text));

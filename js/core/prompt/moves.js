@@ -13,7 +13,7 @@ import * as say from "../../words/prompt.js";
  * Returns the first byte of the next instruction.
  * @param {DebugSession} session
  */
-function nextCode(session) {
+function nextOpcode(session) {
   return parseInt(session.debugger.session.ask(`list ${session.address} 1\n`)[0].slice(4, 6), 16);
 }
 
@@ -25,12 +25,12 @@ function nextCode(session) {
  */
 export async function backOver(session, goesOn) {
   let result = await session.back({ kind: "instruction" }, goesOn);
-  let depth = result.isDone && isReturn(nextCode(session)) ? 1 : 0;
+  let depth = result.isDone && isReturn(nextOpcode(session)) ? 1 : 0;
   while (depth > 0) {
     result = await session.back({ kind: "change", place: "ret" }, goesOn);
     const message = say.backInSubroutine(session.counterWords);
     if (!result.isDone) return { ...result, words: message, isDone: true };
-    const code = nextCode(session);
+    const code = nextOpcode(session);
     depth += Number(isReturn(code)) - Number(isCall(code));
   }
   return { ...result, words: result.isDone ? say.backAt(session.counterWords) : result.words };

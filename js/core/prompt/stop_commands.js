@@ -22,7 +22,7 @@ export const END = "end";
 const SILENT = "silent";
 
 /** @type {(command: string) => string} applies a command to the last breakpoint that was set */
-const forLast = (command) => `${command} ${LAST_BREAKPOINT}`;
+const forLastBreakpoint = (command) => `${command} ${LAST_BREAKPOINT}`;
 
 export class StopCommands {
   /** @param {Prompt} prompt */
@@ -172,8 +172,8 @@ export class StopCommands {
     const place = line > 0 ? String(line) : `0x${hex(address, 3)}`;
     const words = [isTemporary ? "tbreak" : "break", place, ...(left > 1 ? [`from ${left}`] : [])];
     return [
-      `${words.join(" ")}${say.ifCondition(condition)}${say.logNote(note)}`, ...(isOn ? [] : [forLast("disable")]),
-      ...(commands.length > 0 ? [forLast("commands"), ...commands.map((each) => `  ${each}`), END] : []),
+      `${words.join(" ")}${say.ifCondition(condition)}${say.logNote(note)}`, ...(isOn ? [] : [forLastBreakpoint("disable")]),
+      ...(commands.length > 0 ? [forLastBreakpoint("commands"), ...commands.map((each) => `  ${each}`), END] : []),
     ];
   }
 }

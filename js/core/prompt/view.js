@@ -50,7 +50,7 @@ export function sizeOf(rows, columns) {
  * @param {string} text
  * @param {number} length
  */
-function cut(text, length) {
+function cutText(text, length) {
   const shown = [...escaped(text).replace(/[\t\n]/g, " ")];
   return shown.length > length ? `${shown.slice(0, length - 2).join("")}..` : shown.join("");
 }
@@ -80,7 +80,7 @@ export class View {
     const height = Math.max(1, rows - 2 - below.length);
     const width = isWide ? columns - SIDE_COLUMNS : columns;
     const body = this.sourceLines(height).map((line, at) => {
-      const text = cut(line, width);
+      const text = cutText(line, width);
       const shownText = line.startsWith(">") ? here(text) : text;
       return isWide && registers[at] ? `${shownText}${" ".repeat(width - text.length)}  ${registers[at]}` : shownText;
     });
@@ -104,7 +104,7 @@ export class View {
   head(columns) {
     const { session, launched } = this.prompt;
     const name = launched.program.split("/").pop() || "ROM";
-    return cut(`${name}  ${session.counterWords}  ${wordsOfCycles(session.debugger.session.count.total)}`, columns).padEnd(columns);
+    return cutText(`${name}  ${session.counterWords}  ${wordsOfCycles(session.debugger.session.count.total)}`, columns).padEnd(columns);
   }
 
   /** @param {number} height */
@@ -157,6 +157,6 @@ export class View {
     const keys = keysDown(session).join(" ");
     const shown = machine.shown.now();
     const displays = looks.displays.slice(0, MAX_DISPLAYS).map((expression) => `${expression} = ${looks.valueOrFault(expression)}`);
-    return [shown, keys && say.down(keys), ...displays].filter(Boolean).map((line) => cut(line, columns));
+    return [shown, keys && say.down(keys), ...displays].filter(Boolean).map((line) => cutText(line, columns));
   }
 }

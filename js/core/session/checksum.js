@@ -3,7 +3,7 @@
 const POLYNOMIAL = 0x04c11db7;
 
 /** The effect of each byte value on the CRC remainder. */
-const STEPS = Uint32Array.from({ length: 256 }, (_, value) => {
+const REMAINDERS = Uint32Array.from({ length: 256 }, (_, value) => {
   let left = value << 24;
   for (let bit = 0; bit < 8; bit++) left = left < 0 ? (left << 1) ^ POLYNOMIAL : left << 1;
   return left;
@@ -14,8 +14,8 @@ const STEPS = Uint32Array.from({ length: 256 }, (_, value) => {
  * @param {number} sum
  * @param {number} byte
  */
-function sumWith(sum, byte) {
-  return (sum << 8) ^ STEPS[((sum >>> 24) ^ byte) & 255];
+function addByte(sum, byte) {
+  return (sum << 8) ^ REMAINDERS[((sum >>> 24) ^ byte) & 255];
 }
 
 /**
@@ -24,7 +24,7 @@ function sumWith(sum, byte) {
  */
 export function checksum(bytes) {
   let sum = 0;
-  for (let at = 0; at < bytes.length; at++) sum = sumWith(sum, bytes[at]);
-  for (let left = bytes.length; left > 0; left = Math.floor(left / 256)) sum = sumWith(sum, left & 255);
+  for (let at = 0; at < bytes.length; at++) sum = addByte(sum, bytes[at]);
+  for (let left = bytes.length; left > 0; left = Math.floor(left / 256)) sum = addByte(sum, left & 255);
   return ~sum >>> 0;
 }

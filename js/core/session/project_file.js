@@ -273,7 +273,7 @@ function readFile(lines, size) {
 export function readProject(bytes, size, acceptsLong = false) {
   if (bytes.length > MAX_PROJECT_BYTES) throw new NotAProject(say.TOO_MANY_BYTES);
   if (bytes.includes(0)) throw new NotAProject(say.HAS_ZERO_BYTES);
-  const text = decoded(bytes);
+  const text = decode(bytes);
   checkWhole(text);
   const lines = new Lines(text);
   lines.take();
@@ -287,7 +287,7 @@ export function readProject(bytes, size, acceptsLong = false) {
 }
 
 /** @param {Uint8Array} bytes */
-function decoded(bytes) {
+function decode(bytes) {
   try {
     return plainLines(new TextDecoder("utf-8", { fatal: true }).decode(bytes));
   } catch {

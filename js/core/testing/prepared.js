@@ -48,7 +48,7 @@ export function faultsOfText(name, text) {
  * @param {string} answer
  * @returns {TextFault[]}
  */
-function refusedBy(name, answer) {
+function refusalFaults(name, answer) {
   const refusal = refusalOf(answer);
   return refusal ? [{ text: name, line: refusal.line, number: refusal.number, words: "" }] : [];
 }
@@ -63,7 +63,7 @@ export function wiredBoard(engine, text) {
   const textFaults = faultsOfText("board", text);
   if (textFaults.length > 0) return { faults: textFaults, answers: [] };
   const [wired, ...answers] = engine.ask(engine.begin(), `wire\n${sentText(text, "#")}.\nboard\n`).answers;
-  return { faults: refusedBy("board", wired), answers };
+  return { faults: refusalFaults("board", wired), answers };
 }
 
 /**
@@ -82,7 +82,7 @@ export function newSession(engine, { boardText, programText }) {
   ];
   if (texts.length === 0) return { file, faults: [] };
   const { answers } = engine.serve(file, texts.map(({ lines }) => lines).join(""), file);
-  return { file, faults: texts.flatMap(({ name }, at) => refusedBy(name, answers[at])).slice(0, 1) };
+  return { file, faults: texts.flatMap(({ name }, at) => refusalFaults(name, answers[at])).slice(0, 1) };
 }
 
 /**

@@ -60,8 +60,8 @@ export function readTested(engine, texts) {
  * @param {(action: Action) => boolean} isWanted
  * @returns {boolean}
  */
-function someStep(steps, isWanted) {
-  return steps.some(({ action }) => ("steps" in action ? someStep(action.steps, isWanted) : isWanted(action)));
+function hasStep(steps, isWanted) {
+  return steps.some(({ action }) => ("steps" in action ? hasStep(action.steps, isWanted) : isWanted(action)));
 }
 
 /**
@@ -117,10 +117,10 @@ export async function runTests(engine, texts, goesOn, options = {}) {
     if (!(await goesOn(outcomes.length, tests.length))) throw new Cancelled();
     lastYield = performance.now();
   };
-  const printer = tests.some(({ steps }) => someStep(steps, needsPrintout)) ? prepared.names.face.printer : null;
+  const printer = tests.some(({ steps }) => hasStep(steps, needsPrintout)) ? prepared.names.face.printer : null;
   const run = new TestRun(engine, prepared, account, yieldToMessages, printer);
   run.ran = ran;
-  run.changesRom = tests.some(({ steps }) => someStep(steps, changesRom));
+  run.changesRom = tests.some(({ steps }) => hasStep(steps, changesRom));
   if (tests.length > 1) engine.keep(prepared.file);
   for (const test of tests) {
     const saving = testThatSaves(tests, test);

@@ -20,10 +20,10 @@ import * as say from "../../words/text.js";
 const STATEMENT = 8;
 const OPERANDS = 12;
 const COMMENT = 24;
-/** A comment after long code starts at the next multiple of STEP. */
-const STEP = 8;
-/** An indented comment without code is aligned with statements if its indentation is less than HALF; otherwise with comments. */
-const HALF = 16;
+/** A comment after long code starts at the next multiple of COMMENT_STEP. */
+const COMMENT_STEP = 8;
+/** An indented comment without code is aligned with statements if its indentation is less than MIN_COMMENT_INDENT; otherwise with comments. */
+const MIN_COMMENT_INDENT = 16;
 const DEFINITION = /^([A-Za-z_]\w*)[ \t]*=[ \t]*(\w+)$/;
 const CODE = /^(?:([A-Za-z_]\w*)[ \t]*:[ \t]*)?(?:([A-Za-z]\w*)(?:[ \t]+(\w+(?:[ \t]*,[ \t]*\w+)*))?)?$/;
 
@@ -109,9 +109,9 @@ function codeOf({ name, value, label, head, operands }, width, layout) {
  * @param {number} last the column of the comment in the previous line, 0 if there is none in a comment column
  */
 function columnOfComment(end, indent, last) {
-  if (end > 0) return Math.max(COMMENT, Math.ceil((end + 2) / STEP) * STEP);
+  if (end > 0) return Math.max(COMMENT, Math.ceil((end + 2) / COMMENT_STEP) * COMMENT_STEP);
   if (indent === 0) return 0;
-  return indent < HALF ? STATEMENT : last || COMMENT;
+  return indent < MIN_COMMENT_INDENT ? STATEMENT : last || COMMENT;
 }
 
 /**

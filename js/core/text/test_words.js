@@ -155,7 +155,7 @@ export function wordsUpTo(line, at) {
  * @param {string} word
  */
 export function descriptionIn(forms, word) {
-  const known = forms.find((form) => form.word === word) || forms.find((form) => kindOf(form.word) === kindOf(word));
+  const known = forms.find((form) => form.word === word) || forms.find((form) => normalizedWord(form.word) === normalizedWord(word));
   return known ? `${known.form}: ${known.does}` : "";
 }
 
@@ -178,6 +178,6 @@ export function helpForTest(lines, line, at, { steps, conditions }) {
  * Replaces the numbers in a word by 0, and the letters that stand for numbers in the manual too. `ram.1.0x20` and `ram.B.S` therefore become equal.
  * @param {string} word
  */
-function kindOf(word) {
+function normalizedWord(word) {
   return word.replace(/^@.*/, "@").replace(/0x[0-9A-Fa-f]+|\d+|\b[A-Z]\b/g, "0");
 }

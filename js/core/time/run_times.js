@@ -12,7 +12,7 @@ import * as say from "../../words/time.js";
  * @typedef {{ runs: string[], sum: string, words: string }} RunTimes
  */
 
-const REFUSED = /^no \d/;
+const REFUSAL = /^no \d/;
 /** Matches an answer to `regs` or `state`, and captures the program counter. */
 const COUNTER = /^(?:acc|state seq) .*?\bpc ([0-9A-F]+)/;
 
@@ -40,7 +40,7 @@ export function runTimes(answers, first, last, placeOf) {
     const answer = answers[at - 1];
     if (answer.startsWith("ok ")) isOpen = false;
     if (at >= first && (at <= last || last === 0)) {
-      if (REFUSED.test(answer)) return wrong(say.isRefusal(at, answer));
+      if (REFUSAL.test(answer)) return wrong(say.isRefusal(at, answer));
       const run = readRun(answer);
       if (run) {
         cycles += run.cycles;
