@@ -34,7 +34,7 @@ const COMPARISONS = {
 const COMPILERS = { lamps: lampsMeaning, display: displayMeaning, printed: printedMeaning, cycles: cyclesMeaning };
 
 /**
- * Compiles a comparison of two values.
+ * Compiles a comparison of a value with the value on the other side of the sign.
  * @param {Value} value
  * @param {CompareNode["sign"]} sign
  * @param {Value} wanted

@@ -44,7 +44,7 @@ const MAX_BLOCK = 4000000;
 export const EMPTY_REPORT = { why: "", place: "", from: "", to: "", line: "", end: "", id: 0 };
 
 /**
- * Returns a search result with some fields set.
+ * Returns a search result with the given fields; the other fields are null or empty.
  * @param {Partial<Aim>} some
  * @returns {Aim}
  */

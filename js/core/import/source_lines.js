@@ -81,7 +81,7 @@ function commentAt(line) {
 }
 
 /**
- * Splits a line into its code and its comment.
+ * Splits a line into its code and its comment. A line that starts with `*` or `/` is a comment.
  * @param {string} text
  */
 function withoutComment(text) {

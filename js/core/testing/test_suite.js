@@ -93,7 +93,7 @@ const needsPrintout = (action) => "condition" in action && action.condition.need
 const changesRom = (action) => action.kind === "set" && action.changesRom;
 
 /**
- * Runs tests.
+ * Runs all tests of the texts, or one test and its prerequisites. Throws `Cancelled` if `goesOn` resolves to false.
  * @param {Engine} engine
  * @param {TestedTexts} texts
  * @param {(done: number, total: number) => Promise<boolean>} goesOn called with the number of completed tests; resolves to true to continue

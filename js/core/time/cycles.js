@@ -51,7 +51,7 @@ export class Cycles {
     this.reset = reset;
   }
 
-  /** Records that time is paused. */
+  /** Records that time is paused: the next cycles start another run. */
   stop() {
     this.isPaused = true;
   }

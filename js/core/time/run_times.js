@@ -23,7 +23,7 @@ function timeOf(cycles) {
 }
 
 /**
- * Returns the times of runs.
+ * Returns the time and the stop of each run in a range of answers. Any refusal in the range is an error.
  * @param {string[]} answers
  * @param {number} first the number of the first answer to use, from 1
  * @param {number} last the number of the last answer to use; 0 for the end of the list

@@ -21,7 +21,7 @@ function startTag(name, attributes) {
 }
 
 /**
- * Returns an SVG element.
+ * Returns the source text of an SVG element. Without content, the element is self-closing.
  * @param {string} name
  * @param {Record<string, string | number>} attributes
  * @param {string} [content] the escaped content of the element
