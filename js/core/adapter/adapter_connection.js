@@ -12,7 +12,7 @@ import { INITIALIZE_FIRST, INITIALIZE_ONCE, NOT_JSON } from "../../words/server.
  * A request without a response yet. Long work checks `isCancelled` and throws Cancelled.
  * @typedef {{ seq: number, command: string, hasBegun: boolean, isCancelled: boolean }} PendingRequest
  *
- * A handler: serves a request and returns the body of its response, or a promise of the body.
+ * A request handler: returns the response body, or a promise of it.
  * @typedef {(args: any, pending: PendingRequest) => unknown} RequestHandler
  */
 
@@ -38,9 +38,9 @@ export class AdapterConnection extends MessageStream {
     this.isOpen = false;
     /** The end of the last queued request: each request waits for the one before it. */
     this.turn = Promise.resolve();
-    /** @type {Set<PendingRequest>} the requests without a response yet, both queued and begun */
+    /** @type {Set<PendingRequest>} the requests without a response, both queued and running */
     this.unanswered = new Set();
-    /** @type {(id: string) => void} stops the work whose progress has this id */
+    /** @type {(id: string) => void} stops the work that reports its progress under this id */
     this.stopWork = (id) => fail(say.noProgress(id));
   }
 
@@ -75,7 +75,7 @@ export class AdapterConnection extends MessageStream {
   }
 
   /**
-   * Returns the error of a request that comes too early or twice; "" if it can be served now.
+   * Returns the error message for a request that arrives before `initialize`, or for a second `initialize`. Returns "" if it can be served now.
    * @param {string} command
    */
   orderError(command) {
@@ -88,7 +88,7 @@ export class AdapterConnection extends MessageStream {
    * @param {any} args
    */
   async serve(pending, args) {
-    // A request that was cancelled in the queue has its response already.
+    // A request that was cancelled in the queue already has its response.
     if (!this.unanswered.has(pending)) return;
     const { seq, command } = pending;
     pending.hasBegun = true;
@@ -110,7 +110,7 @@ export class AdapterConnection extends MessageStream {
   }
 
   /**
-   * Runs the action that follows a response. Its errors go to the output because the request has its response already.
+   * Runs the action that follows a response. Errors of the action go to the output: the request already has its response.
    * @param {WithFollowUp} response
    */
   runFollowUp({ followUp }) {
@@ -122,8 +122,8 @@ export class AdapterConnection extends MessageStream {
   }
 
   /**
-   * Serves the request `cancel`. A queued request is rejected at once; a begun one is asked to end. A request that already has its response
-   * is not changed.
+   * Serves the request `cancel`. A queued request is rejected at once. A running request gets a cancel flag and ends later. Nothing happens if the
+   * request already has its response.
    * @param {any} args
    */
   cancel(args) {
@@ -138,8 +138,8 @@ export class AdapterConnection extends MessageStream {
   }
 
   /**
-   * Sends the response of a request that failed.
-   * @param {number} seq of the request, 0 if unknown
+   * Sends the error response for a request that failed.
+   * @param {number} seq the number of the request, 0 if unknown
    * @param {string} command
    * @param {unknown} thrown
    */

@@ -23,14 +23,14 @@ import { wordsOfLine } from "../../words/stops.js";
  * @typedef {import("./expression_values.js").ExpressionContext} ExpressionContext
  */
 
-/** The source reference of the text that is disassembled from ROM. */
+/** The source reference of the text disassembled from ROM. */
 const ROM_SOURCE = 1;
 /** The maximum number of instructions in a response to `disassemble`. */
 const MAX_ROWS = 8192;
 const MAX_COMPLETIONS = 500;
-/** A line whose last word is the start of a key's name. */
+/** A line whose last word is an incomplete key name. */
 const UNFINISHED_KEY = /(?:^\s*(?:press|release|keys)\s(?:.*\s)?|\bkey\s+)(\S*)$/;
-/** The maximum number of instructions to scan for calls. */
+/** The maximum number of instructions that `stepInTargets` scans for calls. */
 const MAX_SCANNED = 256;
 
 export class QueryHandlers {
@@ -38,7 +38,7 @@ export class QueryHandlers {
    * @param {Launched} launched
    * @param {Scopes} scopes
    * @param {ExpressionContext} expressionContext
-   * @param {{ firstLine: number, firstColumn: number }} counting the client's numbers of the first line and column: 0 or 1
+   * @param {{ firstLine: number, firstColumn: number }} counting the number of the first line and of the first column in the client: 0 or 1
    */
   constructor(launched, scopes, expressionContext, { firstLine, firstColumn }) {
     this.launched = launched;
@@ -95,13 +95,13 @@ export class QueryHandlers {
   /** @param {any} args */
   scopesOfFrame(args) {
     this.frameOf(args, 1);
-    // Scopes show no numbers: this only rejects a malformed `format`.
+    // Scopes show no numbers, so `baseOf` only rejects a malformed `format` here.
     baseOf(args);
     return { scopes: this.scopes.all() };
   }
 
   /**
-   * Returns the frame that a request names; fails if the stack has no such frame.
+   * Returns the stack frame for the `frameId` of a request; fails if the stack has no such frame.
    * @param {any} args
    * @param {number} [defaultId] the default id
    */
@@ -110,13 +110,13 @@ export class QueryHandlers {
   }
 
   /**
-   * Serves the request `stepInTargets`: the calls that a step can enter from the program counter on.
+   * Serves the request `stepInTargets`: returns the calls that a step can enter from the program counter.
    * @param {any} args
    */
   stepInTargets(args) {
     const frame = this.frameOf(args);
     const { map } = this.session;
-    // A caller's frame is inside its call already.
+    // The call of a caller's frame is already in progress.
     if (needNumber(args, "frameId") > 1) return { targets: [] };
     return {
       targets: callsFrom(this.session, frame.address).map(({ address, target }) => {
@@ -145,7 +145,7 @@ export class QueryHandlers {
   }
 
   /**
-   * Returns the place to watch for changes of a variable; "" if it has none.
+   * Returns the place to watch for changes of a variable; "" if the variable cannot be watched.
    * @param {number} reference
    * @param {string} name
    */
@@ -197,15 +197,15 @@ export class QueryHandlers {
   }
 
   /**
-   * Returns candidates for the word at the end of a line, and the typed start of this word. After `press`, `release` and `keys` they are
-   * keys; after `lamp`, lamps; otherwise names and the words of conditions, and at the start of a line also commands.
+   * Returns the completions for the word at the end of a line, and the typed start of this word. After `press`, `release` and `keys`, the completions
+   * are keys. After `lamp`, they are lamps. Elsewhere they are names and condition words, plus commands at the start of a line.
    * @param {string} before
    * @returns {{ words: string[], word: string }}
    */
   wordsAt(before) {
     const { session: { map }, expressionContext: { face } } = this;
-    const begun = UNFINISHED_KEY.exec(before);
-    if (begun) return { words: [...keysOf(face).keys()], word: begun[1] };
+    const unfinishedKey = UNFINISHED_KEY.exec(before);
+    if (unfinishedKey) return { words: [...keysOf(face).keys()], word: unfinishedKey[1] };
     const word = (/[A-Za-z_@][\w.]*$/.exec(before) || [""])[0];
     const first = before.slice(0, before.length - word.length).trim();
     if (/\blamp$/.test(first)) return { words: [...face.lampNumbers.keys()], word };
@@ -254,9 +254,9 @@ export class QueryHandlers {
 }
 
 /**
- * Returns the name of a frame, such as `show + 3` or `02C`, with its number in the requested base.
+ * Returns a frame name, such as `show + 3` or `02C`, with its number in the requested base.
  * @param {string} name
- * @param {boolean | null} isHex null: as it is
+ * @param {boolean | null} isHex null: the name stays unchanged
  */
 function nameInFormat(name, isHex) {
   if (isHex === null) return name;
@@ -266,8 +266,8 @@ function nameInFormat(name, isHex) {
 }
 
 /**
- * Returns the calls from an address on. The scan ends at an instruction after which control never continues with the next one, and at one
- * without a line in the program.
+ * Returns the calls that start at or after an address. The scan ends at an instruction that never continues with the next one, at an instruction
+ * without a source line, or after MAX_SCANNED instructions.
  * @param {import("../debug/debug_session.js").DebugSession} session
  * @param {number} from
  */

@@ -1,5 +1,5 @@
-// The client's breakpoints on lines, labels and addresses. The debugger gets one list of these and the breakpoints that the session had
-// before. Also the client's data breakpoints (watched places) and its exception filters (common mistakes).
+// Manages the client's breakpoints on lines, labels and addresses. The debugger gets one list that merges them with the session's earlier
+// breakpoints. Also manages data breakpoints (watched places) and exception filters (common mistakes).
 
 import { watchedPlaces } from "../bench/answers.js";
 import { LAST_ADDRESS } from "../bench/numbers.js";
@@ -19,7 +19,7 @@ import { stopsEachTime } from "../../words/machine.js";
  * @typedef {import("../debug/debug_session.js").DebugSession} DebugSession
  * @typedef {import("../debug/common_mistakes.js").Kind} MistakeKind
  *
- * A requested breakpoint. `address` is -1 if there is no instruction; `from` is the first hit that stops; `note` is the text to log.
+ * A requested breakpoint. `address` is -1 if no instruction was found. `from` is the number of the first hit that stops. `note` is the text to log.
  * `words` is the error message, "" if the breakpoint can be set.
  * @typedef {{ id: number, line: number, address: number, condition: string, from: number, note: string, words: string }} Wanted
  *
@@ -27,7 +27,7 @@ import { stopsEachTime } from "../../words/machine.js";
  * @typedef {{ id: number, verified: boolean, line?: number, message?: string, address: number }} SentBreakpoint
  * @typedef {"lines" | "labels" | "addresses"} Kind
  *
- * A requested data breakpoint: the name of the place, and in `words` the error message, "" if the place can be watched.
+ * A requested data breakpoint. `name` is the place. `words` is the error message, "" if the place can be watched.
  * @typedef {{ id: number, name: string, condition: string, from: number, words: string }} WantedData
  * @typedef {{ kind: string, condition: string }} WantedFilter a requested exception filter
  */
@@ -50,16 +50,17 @@ function firstHitOf(text) {
 }
 
 /**
- * Reads the fields that all kinds of breakpoints have.
- * @param {any} given
+ * Reads the fields that are common to all kinds of breakpoints.
+ * @param {any} item
  */
-function commonFieldsOf(given) {
-  const { from, words } = firstHitOf(textOrNone(given, "hitCondition"));
-  return { condition: textOrNone(given, "condition"), note: textOrNone(given, "logMessage"), from, words };
+function commonFieldsOf(item) {
+  const { from, words } = firstHitOf(textOrNone(item, "hitCondition"));
+  return { condition: textOrNone(item, "condition"), note: textOrNone(item, "logMessage"), from, words };
 }
 
 /**
- * Returns the address that a reference and an offset name, -1 if there is none, and an error message, "" if there is no error.
+ * Returns the address of a reference plus an offset, and an error message. Without an error, the message is ""; if the reference has no address, the
+ * address is -1.
  * @param {string} reference
  * @param {number} offset
  * @param {(reference: string) => number} addressOf
@@ -82,7 +83,7 @@ export class ClientBreakpoints {
     this.wanted = { lines: [], labels: [], addresses: [] };
     /** The addresses of breakpoints that the client did not set. */
     this.otherAddresses = session.debugger.session.breaks;
-    /** The RAM characters, as `B 0xSS`, that the bench watches though the client did not ask for it. */
+    /** The RAM characters, as `B 0xSS`, whose watches were set by someone other than the client. */
     this.otherWatches = watchesOf(session);
     /** @type {string[]} the RAM characters, as `B 0xSS`, that the bench watches for the client */
     this.clientWatches = [];
@@ -90,12 +91,12 @@ export class ClientBreakpoints {
     this.data = [];
     /** @type {WantedFilter[]} */
     this.faults = [];
-    /** @type {Map<number, Wanted>} the requested breakpoint for each id in the debugger's list */
+    /** @type {Map<number, Wanted>} the requested breakpoints, by their ids in the debugger's list */
     this.byId = new Map();
   }
 
   /**
-   * Copies the breakpoints of the session before a restart, and moves them with the program. Returns those that moved.
+   * Takes over the breakpoints from before a restart, and moves them with the program. Returns the breakpoints that moved.
    * @param {ClientBreakpoints} other
    */
   async takeFrom({ wanted, lastId, data, faults }) {
@@ -115,26 +116,26 @@ export class ClientBreakpoints {
 
   /**
    * @param {any} args
-   * @param {(line: number) => number} lineOf converts a line of the client to a line that counts from 1
+   * @param {(line: number) => number} lineOf converts a client's line number to one that counts from 1
    */
   setLines(args, lineOf) {
     const { map } = this.session;
-    return this.setWanted("lines", listOf(args, "breakpoints").map((given) => {
-      const { line, address, words } = instructionOfLine(lineOf(needNumber(given, "line")), map);
-      return this.newBreakpoint({ ...commonFieldsOf(given), line, address, ...(address < 0 ? { words } : {}) });
+    return this.setWanted("lines", listOf(args, "breakpoints").map((item) => {
+      const { line, address, words } = instructionOfLine(lineOf(needNumber(item, "line")), map);
+      return this.newBreakpoint({ ...commonFieldsOf(item), line, address, ...(address < 0 ? { words } : {}) });
     }));
   }
 
   /** @param {any} args */
   setLabels(args) {
     const { map } = this.session;
-    return this.setWanted("labels", listOf(args, "breakpoints").map((given) => {
-      const name = needText(given, "name").trim();
+    return this.setWanted("labels", listOf(args, "breakpoints").map((item) => {
+      const name = needText(item, "name").trim();
       const found = map.names.get(name);
       const words = found && found.isLabel ? "" : noLabel(name);
       const address = found && found.isLabel ? found.value : -1;
       const line = address < 0 ? 0 : map.lineOf(address);
-      return this.newBreakpoint({ ...commonFieldsOf(given), line, address, ...(words ? { words } : {}) });
+      return this.newBreakpoint({ ...commonFieldsOf(item), line, address, ...(words ? { words } : {}) });
     }));
   }
 
@@ -144,10 +145,10 @@ export class ClientBreakpoints {
    */
   setAddresses(args, addressOf) {
     const { map } = this.session;
-    return this.setWanted("addresses", listOf(args, "breakpoints").map((given) => {
-      const { wanted, words } = wantedAddress(needText(given, "instructionReference"), needNumber(given, "offset", 0), addressOf);
+    return this.setWanted("addresses", listOf(args, "breakpoints").map((item) => {
+      const { wanted, words } = wantedAddress(needText(item, "instructionReference"), needNumber(item, "offset", 0), addressOf);
       const { line, address } = words === "" ? instructionOfAddress(wanted, map) : { line: 0, address: -1 };
-      return this.newBreakpoint({ ...commonFieldsOf(given), line, address, ...(words === "" ? {} : { words }) });
+      return this.newBreakpoint({ ...commonFieldsOf(item), line, address, ...(words === "" ? {} : { words }) });
     }));
   }
 
@@ -173,7 +174,7 @@ export class ClientBreakpoints {
 
   // --- the debugger's list ---
 
-  /** Returns all breakpoints, one per address: the client's takes precedence over one that the session had. */
+  /** Returns all breakpoints, at most one per address. A client breakpoint replaces an earlier session breakpoint at the same address. */
   merged() {
     /** @type {Map<number, Wanted>} */
     const merged = new Map();
@@ -208,8 +209,9 @@ export class ClientBreakpoints {
   }
 
   /**
-   * Returns the client's id of the breakpoint that stopped, and the protocol's reason. The id is 0 if the client did not set it.
-   * @param {number} id in the debugger's list
+   * Returns the client's id for the breakpoint that stopped the machine, and the stop reason in the protocol. The id is 0 if the client did not set
+   * the breakpoint.
+   * @param {number} id the breakpoint id in the debugger's list
    */
   stoppedBreakpoint(id) {
     const found = this.byId.get(id);
@@ -219,13 +221,13 @@ export class ClientBreakpoints {
     return { id: found.id, reason: addresses.includes(found) ? "instruction breakpoint" : "breakpoint" };
   }
 
-  /** Finds the instruction of each line breakpoint again after the program has changed. Returns the breakpoints that moved. */
+  /** Moves each line breakpoint to its instruction after a program change. Returns the breakpoints that moved. */
   async moveWithProgram() {
     const { map } = this.session;
     const moved = this.wanted.lines.filter((each) => {
       const { line, address, words } = instructionOfLine(Math.max(1, each.line), map);
       const hasMoved = line !== each.line || address !== each.address;
-      // The message that no instruction follows is no longer true once one does.
+      // The message "no instruction follows" is obsolete once an instruction follows.
       const keptWords = each.address < 0 ? "" : each.words;
       Object.assign(each, { line, address, words: address < 0 ? words : keptWords });
       return hasMoved;
@@ -239,14 +241,14 @@ export class ClientBreakpoints {
   /** @param {any} args */
   async setData(args) {
     const { board } = this.session.debugger.session.statusQueries;
-    this.data = listOf(args, "breakpoints").map((given) => {
-      const name = needText(given, "dataId");
-      const { from, words } = firstHitOf(textOrNone(given, "hitCondition"));
+    this.data = listOf(args, "breakpoints").map((item) => {
+      const name = needText(item, "dataId");
+      const { from, words } = firstHitOf(textOrNone(item, "hitCondition"));
       const place = watchablePlace(name, board);
-      const access = textOrNone(given, "accessType") || "write";
+      const access = textOrNone(item, "accessType") || "write";
       this.lastId += 1;
       const error = !place ? say.notWatched(name) : access !== "write" ? say.ONLY_CHANGES : words;
-      return { id: this.lastId, name: place ? place.name : name, condition: textOrNone(given, "condition"), from, words: error };
+      return { id: this.lastId, name: place ? place.name : name, condition: textOrNone(item, "condition"), from, words: error };
     });
     const faults = await this.applyData();
     return this.data.map(({ id, words }) => {
@@ -256,8 +258,8 @@ export class ClientBreakpoints {
   }
 
   /**
-   * Sets the watches of the session. The bench watches the first RAM characters without a condition; the debugger finds changes of other
-   * places itself. Returns error messages by the ids of their data breakpoints.
+   * Sets the watches of the session. Up to MAX_WATCHES RAM characters without a condition are watched by the bench; the debugger detects all other
+   * changes itself. Returns error messages by data breakpoint id.
    */
   async applyData() {
     const { session, otherWatches } = this;
@@ -279,13 +281,16 @@ export class ClientBreakpoints {
   /** @param {any} args */
   setFilters(args) {
     const plain = listOf(args, "filters").map((kind) => ({ kind: String(kind), condition: "" }));
-    const options = listOf(args, "filterOptions").map((given) => (
-      { kind: needText(given, "filterId"), condition: textOrNone(given, "condition") }));
+    const options = listOf(args, "filterOptions").map((item) => (
+      { kind: needText(item, "filterId"), condition: textOrNone(item, "condition") }));
     this.faults = [...plain, ...options];
     return this.applyFilters();
   }
 
-  /** Makes the debugger stop at the requested mistakes. A filter whose condition has an error stops each time. Returns the answers. */
+  /**
+   * Sets the mistakes at which the debugger stops. If a filter condition has an error, the filter stops each time. Returns the response for each
+   * filter.
+   */
   applyFilters() {
     const { session, faults } = this;
     const { usual } = session.debugger;
@@ -300,12 +305,12 @@ export class ClientBreakpoints {
       if (condition) usual.conditions.set(mistake, condition);
       return fault ? { verified: false, message: stopsEachTime(inColumn(fault, column)) } : { verified: true };
     });
-    // The debugger checks every instruction only in pieces of MAX_CYCLES_PER_CALL.
+    // The debugger checks every instruction only if a piece has at most MAX_CYCLES_PER_CALL cycles.
     if (session.largestPiece >= MAX_CYCLES_PER_CALL) session.largestPiece = usual.stops.size > 0 ? MAX_CYCLES_PER_CALL : LARGEST_PIECE;
     return answers;
   }
 
-  /** Updates the breakpoints and watches that the client did not set, after lines in the console changed them. */
+  /** Rereads the breakpoints and watches that the client did not set. Called after console lines changed them. */
   noteOwnBreakpoints() {
     const { lines, labels, addresses } = this.wanted;
     const ofClient = new Set([...lines, ...labels, ...addresses].map(({ address }) => address));
@@ -327,7 +332,7 @@ export class ClientBreakpoints {
 }
 
 /**
- * Returns the RAM characters that the bench watches, as `B 0xSS`.
+ * Returns the RAM characters that the bench watches, in the form `B 0xSS`.
  * @param {DebugSession} session
  */
 function watchesOf(session) {
@@ -335,7 +340,7 @@ function watchesOf(session) {
 }
 
 /**
- * Returns a RAM character as `watch` names it, `B 0xSS`; "" for any other place.
+ * Returns a RAM character in the form of the `watch` line, `B 0xSS`; "" for any other place.
  * @param {string} name
  */
 export function watchOf(name) {
@@ -345,7 +350,7 @@ export function watchOf(name) {
 }
 
 /**
- * Returns the response to `dataBreakpointInfo` for a place; null if its changes cannot stop time.
+ * Returns the response to `dataBreakpointInfo` for a place; null if the place cannot be watched.
  * @param {string} name
  * @param {DebugSession} session
  */

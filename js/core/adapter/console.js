@@ -1,5 +1,4 @@
-// Serves the lines that users type in the debug console: bench lines with labels for addresses, keys by name, moves that have no button,
-// and expressions.
+// Serves the lines that users type in the debug console: bench lines with labels as addresses, key names, moves without a button, and expressions.
 
 import { ANSWER_FORMS, isQuery } from "../bench/answer_table.js";
 import { readRun, refusalOf } from "../bench/answers.js";
@@ -19,19 +18,19 @@ import { noKey } from "../../words/testing.js";
  * @typedef {import("./expression_values.js").ExpressionContext} ExpressionContext
  * @typedef {import("../bench/words.js").Words} Words
  *
- * The result of a line: the text to show, true in `changes` if the machine changed, and a move that begins once the text is shown.
+ * The result of a line: the text to show, whether the machine changed, and a move that begins after the text is shown (null for none).
  * @typedef {{ words: string, changes: boolean, move: (() => void) | null }} LineResult
  *
- * A callback between pieces of work. Receives the number of characters that are done, and returns false to cancel: then no line has an
+ * A callback between pieces of work. It receives the number of processed characters. If it returns false, the work is cancelled and no line has an
  * effect.
  * @typedef {(done: number) => Promise<boolean>} MayContinue
  */
 
-/** The words with which a line can start. */
+/** The words that can start a console line. */
 export const FIRST_WORDS = [
   "press", "release", "keys", "until", "change", "back", "forward", "set", "help", "display", ...ANSWER_FORMS.keys(),
 ];
-/** The maximum length of an input in characters, and the maximum number of its bench lines. */
+/** The maximum input length in characters, and the maximum number of bench lines in one input. */
 const MAX_LENGTH = 65536;
 const MAX_INPUTS = 1000;
 const HAS_COMPARISON = /^[^\n]*[=<>]/;
@@ -63,7 +62,7 @@ export class Console {
   /**
    * @param {string} text
    * @param {MayContinue} [mayContinue]
-   * @param {import("./number_format.js").Base} [base] of numbers
+   * @param {import("./number_format.js").Base} [base] the number base of the output
    * @returns {Promise<LineResult>}
    */
   async serveLine(text, mayContinue, base) {
@@ -77,13 +76,13 @@ export class Console {
     if (word === "until" || word === "change" || word === "back" || word === "forward") return this.moveTo(word, rest);
     if (word === "set" && !line.includes("\n")) return this.runBenchLines(linesOfSet(line.slice("set".length), this.session));
     if (word === "set") return this.serveBenchLines(line, mayContinue);
-    // Bench lines contain no comparison, so a line with one is an expression.
+    // Bench lines never contain comparisons, so a line with one is an expression.
     return ANSWER_FORMS.has(word) && !HAS_COMPARISON.test(line) ? this.serveBenchLines(line, mayContinue) : this.valueOf(line, base);
   }
 
   /**
    * @param {string} line
-   * @param {import("./number_format.js").Base} [base] of numbers
+   * @param {import("./number_format.js").Base} [base] the number base of the output
    */
   valueOf(line, base) {
     try {
@@ -103,7 +102,7 @@ export class Console {
   }
 
   /**
-   * Moves keys. While time is paused a key stays in its new position. While time runs, `press` presses it for a short time.
+   * Moves keys. While time is paused, a key stays in its new position. While time runs, `press` presses and releases the key.
    * @param {"press" | "release"} word
    * @param {string[]} names
    */
@@ -160,7 +159,7 @@ export class Console {
   }
 
   /**
-   * Parses the goal of a search: a place or a condition.
+   * Parses the goal of a move through time: a place or a condition.
    * @param {string} text
    */
   goalOf(text) {
@@ -182,9 +181,9 @@ export class Console {
     if (kinds.length > MAX_INPUTS) fail(say.tooManyLines(MAX_INPUTS));
     if (this.machine.isMoving && kinds.some((kind) => RUNS.has(kind))) fail(say.MACHINE_IS_RUNNING);
     if (kinds.every(isQuery)) return answerWith(this.session.debugger.session.ask(lines).join("\n"));
-    const done = await this.runBenchLines(lines, mayContinue);
+    const result = await this.runBenchLines(lines, mayContinue);
     if (kinds.some((kind) => BREAKS.has(kind))) this.calls.breaksChanged();
-    return done;
+    return result;
   }
 
   /**
@@ -209,8 +208,8 @@ export class Console {
 }
 
 /**
- * Returns the address that a text names; fails if it names none.
- * @param {string} text a label, with or without `@`, or a number
+ * Returns the address for a label or number; fails if the text is neither.
+ * @param {string} text a label with or without `@`, or a number
  * @param {ExpressionContext} context
  * @returns {number}
  */

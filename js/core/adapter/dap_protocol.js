@@ -4,11 +4,11 @@ import { fieldOf } from "../server/framing.js";
 import * as say from "../../words/adapter.js";
 import { isText } from "../../words/server.js";
 
-/** The error of a request. */
+/** An error that rejects a request. */
 export class AdapterError extends Error {
   /**
    * @param {string} words
-   * @param {boolean} [isShown] true if the client must show the message to the user
+   * @param {boolean} [isShown] true if the client shows the message to the user
    */
   constructor(words, isShown = false) {
     super(words);
@@ -16,7 +16,7 @@ export class AdapterError extends Error {
   }
 }
 
-/** The protocol's message for a request that is rejected while time runs. */
+/** The protocol's message that rejects a request while time runs. */
 export const NOT_STOPPED = "notStopped";
 /** The protocol's message for a request that the client has cancelled. */
 export const CANCELLED = "cancelled";
@@ -51,10 +51,10 @@ export function textOrNone(from, name) {
 }
 
 /**
- * Returns an integer. If it is missing, returns its default, or fails without one.
+ * Returns an integer. If it is missing, returns the default value, or fails if there is none.
  * @param {any} from
  * @param {string} name
- * @param {number} [defaultValue] the default
+ * @param {number} [defaultValue] returned if the field is missing
  * @returns {number}
  */
 export function needNumber(from, name, defaultValue) {
@@ -64,10 +64,10 @@ export function needNumber(from, name, defaultValue) {
 }
 
 /**
- * Returns an optional boolean.
+ * Returns an optional boolean; the default value if it is missing.
  * @param {any} from
  * @param {string} name
- * @param {boolean} defaultValue the default
+ * @param {boolean} defaultValue returned if the field is missing
  * @returns {boolean}
  */
 export function flagOf(from, name, defaultValue) {
@@ -89,7 +89,7 @@ export function listOf(from, name) {
 }
 
 /**
- * Returns the message of anything thrown.
+ * Returns the message of a thrown value.
  * @param {unknown} thrown
  */
 export function wordsOf(thrown) {

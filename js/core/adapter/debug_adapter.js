@@ -1,5 +1,5 @@
-// The debug adapter. An editor launches a program on a board, or opens a session file. It sets breakpoints, runs forward and back, and
-// shows the state of the machine. The debugger is the one of the page (debug/debug_session.js).
+// The debug adapter: an editor launches a program on a board, or opens a session file. The editor then sets breakpoints, runs forward and back, and
+// shows the machine state. The page uses the same debugger (debug/debug_session.js).
 //
 //     const adapter = new DebugAdapter(new AdapterConnection(write), engine, dataOfPage, host);   (launching.js describes a host)
 //     connection.take(bytes) ..; await adapter.leave() once the client has closed the connection
@@ -33,7 +33,7 @@ import * as say from "../../words/adapter.js";
  * @typedef {import("./launching.js").Launched} Launched
  * @typedef {import("./debugged_machine.js").MoveEnd} MoveEnd
  *
- * The open debug session: exists from launch or attach to the end.
+ * The open debug session, from launch or attach until the end of debugging.
  * @typedef {{ launched: Launched, machine: Machine, breakpoints: ClientBreakpoints, console: Console,
  *   answering: QueryHandlers }} OpenSession
  */
@@ -77,7 +77,7 @@ export class DebugAdapter {
   /**
    * @param {AdapterConnection} connection
    * @param {import("../engine/engine_host.js").EngineHost} engine
-   * @param {{ refusals: Record<string, string>, manual: import("../help/manual.js").ManualSection[] }} data of the page
+   * @param {{ refusals: Record<string, string>, manual: import("../help/manual.js").ManualSection[] }} data the refusal texts and the manual
    * @param {Host & { end: (status: number) => void }} host
    */
   constructor(connection, engine, { refusals, manual }, host) {
@@ -86,7 +86,7 @@ export class DebugAdapter {
     this.host = host;
     this.words = new Words(refusals);
     this.instructions = instructionsOf(manual);
-    /** The client's numbers of the first line and column, and the optional events that it accepts. */
+    /** The client's first line number and first column number, and the optional events that it accepts. */
     this.firstLine = 1;
     this.firstColumn = 1;
     this.acceptsInvalidated = false;
@@ -98,7 +98,7 @@ export class DebugAdapter {
     this.isConfigured = false;
     /** @type {Promise<string> | null} the result of `leaveOnce`; null before the first call */
     this.leaving = null;
-    /** @type {MoveEnd | null} the last stop */
+    /** @type {MoveEnd | null} the end of the last move */
     this.lastStop = null;
     /** @type {ShownBoard | null} null until the client asks for the board */
     this.shownBoard = null;
@@ -107,7 +107,7 @@ export class DebugAdapter {
   }
 
   /**
-   * Returns the open session; fails if nothing is launched.
+   * Returns the open session; fails if there is none.
    * @returns {OpenSession}
    */
   get current() {
@@ -187,7 +187,7 @@ export class DebugAdapter {
   }
 
   /**
-   * Reports to the user if ROM no longer has the bytes of the source.
+   * Warns the user if the bytes in ROM differ from the source.
    * @param {Launched} launched
    */
   reportRom({ session }) {
@@ -196,8 +196,8 @@ export class DebugAdapter {
   }
 
   /**
-   * Serves the request `restart`. A session that is written to its file is reset. Any other session is launched again: from the present
-   * texts, or from the present contents of its file.
+   * Serves the request `restart`. A session that saves to its file is reset. Any other session is launched again from the current source files or
+   * session file.
    * @param {any} args
    */
   async restart(args) {
@@ -207,9 +207,9 @@ export class DebugAdapter {
       await launched.session.debugger.session.serve("reset\n", async () => true);
       await machine.saveAndReport();
     } else {
-      const given = fieldOf(args, "arguments");
+      const newArgs = fieldOf(args, "arguments");
       const act = launched.isAttached ? attach : launch;
-      await this.begin(await act(this.engine, given === undefined ? launched.args : given, this.host, this.words));
+      await this.begin(await act(this.engine, newArgs === undefined ? launched.args : newArgs, this.host, this.words));
       for (const moved of await this.current.breakpoints.takeFrom(breakpoints)) this.sendBreakpoint(moved);
     }
     return new WithFollowUp(undefined, () => this.stopped(this.pauseEnd("entry")));
@@ -278,7 +278,7 @@ export class DebugAdapter {
     }
     const message = launched.isDebugged ? say.notInProgram(answering.programName)
       : say.NO_DEBUG;
-    return { breakpoints: listOf(args, "breakpoints").map((given) => ({ verified: false, line: needNumber(given, "line"), message })) };
+    return { breakpoints: listOf(args, "breakpoints").map((item) => ({ verified: false, line: needNumber(item, "line"), message })) };
   }
 
   /** @param {(breakpoints: ClientBreakpoints) => Promise<import("./client_breakpoints.js").SentBreakpoint[]>} act */
@@ -371,7 +371,7 @@ export class DebugAdapter {
   }
 
   /**
-   * Saves a change that a request made while time is paused. Returns the result of the request.
+   * Saves a change that a request made. Returns the result of the request, unchanged.
    * @template Result
    * @param {Result} result
    */
@@ -418,7 +418,7 @@ export class DebugAdapter {
     });
   }
 
-  /** Makes the client read the state again after a line has changed the machine. */
+  /** Makes the client reread the state after a console line has changed the machine. */
   sendInvalidated() {
     this.lastStop = this.pauseEnd("step");
     if (this.acceptsInvalidated) this.connection.sendEvent("invalidated", { areas: ["all"] });
@@ -438,7 +438,7 @@ export class DebugAdapter {
     return { words };
   }
 
-  /** @param {any} args `place`, the key's row and column, and `isDown` */
+  /** @param {any} args `place` (the key's row and column) and `isDown` */
   async changeKey(args) {
     const { machine, console: debugConsole } = this.current;
     const key = needText(args, "place");
@@ -449,7 +449,7 @@ export class DebugAdapter {
 
   // --- events ---
 
-  /** Sends the changes of the board if the client draws it. */
+  /** Sends the changes of the front panel if the client draws the board. */
   sendBoard() {
     const { shownBoard } = this;
     const news = shownBoard ? shownBoard.take() : {};
@@ -457,8 +457,8 @@ export class DebugAdapter {
   }
 
   /**
-   * Returns the end of a move for a pause that is not a stop.
-   * @param {string} reason in the protocol's words
+   * Returns the end of a move without a debugger stop.
+   * @param {string} reason a stop reason of the protocol
    * @returns {MoveEnd}
    */
   pauseEnd(reason) {

@@ -1,4 +1,5 @@
-// Runs the debugged session: one move at a time, in pieces. Other work waits for the end of a piece. Each stop is reported and saved.
+// Runs the debugged session: one move at a time, divided into pieces. Other work waits for the end of a piece. The machine reports and saves each
+// stop.
 
 import { Cancelled } from "../bench/faults.js";
 import { wordsOfCycles } from "../time/cycles.js";
@@ -17,7 +18,7 @@ import { stoppedAt } from "../../words/stops.js";
  * @typedef {import("./session_writer.js").SessionWriter} SessionWriter
  * @typedef {ReturnType<import("./progress.js").Progress["begin"]>} Work
  *
- * The end of a move: the protocol's reason, the message, and the id of the breakpoint that stopped it, 0 for none.
+ * The end of a move: the protocol's stop reason, the message, and the id of the breakpoint that stopped the move (0 for none).
  * @typedef {{ reason: string, words: string, id: number }} MoveEnd
  */
 
@@ -27,19 +28,19 @@ import { stoppedAt } from "../../words/stops.js";
  * @property {(moveEnd: MoveEnd) => void} stopped Reports the end of a move, once for each move.
  * @property {(words: string, category: "console" | "stdout" | "stderr") => void} output Prints a text that ends with a line feed, in a
  *   category of the protocol.
- * @property {() => Promise<void>} pause Resolves after other tasks had their turn. Called between the pieces of a move.
+ * @property {() => Promise<void>} pause Yields to other tasks. Called between two pieces of a move.
  * @property {() => void} stateChanged Reports that the state has changed, so views can update.
  * @property {(title: string) => Work} [work] Begins to report the progress of a move to the client.
  */
 
-/** @type {Record<string, string>} the protocol's reason for each stop */
+/** @type {Record<string, string>} the protocol's stop reasons, by the debugger's reasons */
 const REASONS = {
   goal: "step", break: "breakpoint", watch: "data breakpoint", pause: "pause", lacks: "step", arrival: "pause", beginning: "entry",
   call: "restart",
 };
-/** @type {Record<string, string>} the reason for a stop after going back, by the kind of the goal */
+/** @type {Record<string, string>} the debugger's stop reasons after a move back, by goal kind */
 const REASONS_BY_GOAL = { stop: "pause", arrival: "arrival", call: "call" };
-/** @type {Record<string, string>} the reason for a stop after going back to an arrival, by the event that ended the search */
+/** @type {Record<string, string>} the stop reasons after a move back to an arrival, by the event that ended the search */
 const REASONS_BY_END = { break: "break", change: "watch", beginning: "beginning" };
 /** The time between two updates of lamps and displays, in milliseconds. */
 const REPORT_INTERVAL = 100;
@@ -54,7 +55,7 @@ export class Machine {
   constructor(session, writer, calls, isRealTime = false) {
     this.isRealTime = isRealTime;
     if (isRealTime) session.largestPiece = FRAME_CYCLES;
-    /** The time at which the move began, in milliseconds. */
+    /** The start time of the move, in milliseconds. */
     this.startTime = 0;
     this.session = session;
     this.writer = writer;
@@ -62,17 +63,17 @@ export class Machine {
     this.shown = new ShownText(session);
     this.isMoving = false;
     this.mustPause = false;
-    /** Returns true if other work can use the session between two pieces of the present move. */
+    /** Returns true if other work can use the session between two pieces of the current move. */
     this.acceptsWork = () => false;
-    /** @type {(() => Promise<void>)[]} the work that waits for the end of a piece */
+    /** @type {(() => Promise<void>)[]} the tasks that wait for the end of a piece */
     this.waitingWork = [];
-    /** The number of log messages of the present move that are reported. */
+    /** The number of log messages of the current move that are already reported. */
     this.reportedNotes = 0;
     /** The time of the last update of lamps and displays, in milliseconds. */
     this.reportedAt = 0;
-    /** @type {Promise<void>} the end of the present move, or of the last one */
+    /** @type {Promise<void>} resolves at the end of the current or last move */
     this.move = Promise.resolve();
-    /** @type {Work | null} the progress of the present move; null in real time, in which the user sees the lamps change */
+    /** @type {Work | null} the progress report of the current move; null in real time because the lamps show the progress */
     this.work = null;
   }
 
@@ -91,7 +92,7 @@ export class Machine {
 
   /**
    * Runs to a JMS and steps into the subroutine that it calls.
-   * @param {number} address of the JMS
+   * @param {number} address the address of the JMS
    */
   stepIntoCall(address) {
     const { session } = this;
@@ -117,9 +118,9 @@ export class Machine {
   }
 
   /**
-   * Returns a move through the past as the end of a run.
+   * Converts a move through the past to the result of a run.
    * @param {{ isDone: boolean, words: string, end: string, id: number }} went
-   * @param {string} why the reason for the stop, unless REASONS_BY_END has one
+   * @param {string} why the stop reason; an entry of REASONS_BY_END takes precedence
    */
   endOfBack({ isDone, words, end, id }, why) {
     if (!isDone) this.calls.output(`${words}\n`, "console");
@@ -129,7 +130,7 @@ export class Machine {
   /**
    * @param {() => Promise<Pick<Stopped, "why" | "words" | "id"> & { tally: Tally | null }>} act
    * @param {() => boolean} acceptsWork
-   * @param {string} [title] for people
+   * @param {string} [title] the title of the progress report
    */
   beginMove(act, acceptsWork, title = say.RUNNING) {
     if (this.isMoving) fail(say.MACHINE_RUNS_ALREADY);
@@ -157,7 +158,7 @@ export class Machine {
       moveEnd = { reason: isPause ? "pause" : "exception", words, id: 0 };
     }
     this.acceptsWork = () => false;
-    // Work can arrive while the session is saved. It must be done now because no later step would do it.
+    // Work can arrive during the save. It must be done now because nothing else runs it later.
     do {
       await this.runWaitingWork();
       await this.saveAndReport();
@@ -167,7 +168,7 @@ export class Machine {
     this.calls.stopped(moveEnd);
   }
 
-  /** Reports what lamps and displays show, and saves the session. */
+  /** Reports the lamps and displays, and saves the session. */
   async saveAndReport() {
     this.reportShown();
     if (this.writer) await this.save(this.writer);
@@ -186,9 +187,9 @@ export class Machine {
   }
 
   /**
-   * Reports the last piece of a move, yields to other tasks and does the waiting work. Returns whether to continue the move.
-   * @param {Tally} [tally] of the last piece
-   * @param {number} [done] the cycles of the move that are run or searched
+   * Reports the last piece of a move, yields to other tasks and runs the waiting work. Returns true if the move continues.
+   * @param {Tally} [tally] the tally of the last piece
+   * @param {number} [done] the number of cycles of the move so far
    */
   async betweenPieces(tally, done = 0) {
     if (tally) this.reportTally(tally, tally.noted);
@@ -201,8 +202,8 @@ export class Machine {
   }
 
   /**
-   * Waits until a real 4004 would have run this number of cycles.
-   * @param {number} cycles since the begin of the move
+   * Waits until a real 4004 would reach this number of cycles.
+   * @param {number} cycles counted from the start of the move
    */
   async waitFor(cycles) {
     this.calls.stateChanged();
@@ -221,7 +222,7 @@ export class Machine {
   }
 
   /**
-   * Runs work that uses the session: at once while time is paused, otherwise between two pieces of the move.
+   * Runs work on the session: at once while time is paused, otherwise between two pieces of the move.
    * @template Result
    * @param {() => Result | Promise<Result>} act
    * @returns {Promise<Result>}
@@ -251,7 +252,7 @@ export class Machine {
   /**
    * Prints log messages and common mistakes.
    * @param {Tally} tally
-   * @param {number} count the number of log messages that are not reported yet
+   * @param {number} count the number of log messages to report
    */
   reportTally({ notes, usual }, count) {
     this.reportedNotes += count;

@@ -1,4 +1,4 @@
-// ROM for the requests `disassemble` and `readMemory`: instructions around an address, and bytes.
+// Reads ROM for the requests `disassemble` and `readMemory`: instructions near an address, and bytes.
 
 import { readListing } from "../bench/answers.js";
 import { LAST_ADDRESS, upTo } from "../bench/numbers.js";
@@ -8,12 +8,11 @@ import { MAX_LISTED } from "../bench/rom_bytes.js";
  * @typedef {import("../debug/debug_session.js").DebugSession} DebugSession
  * @typedef {import("../bench/answers.js").Listed} Listed
  *
- * An instruction: its address, which can be outside ROM, its bytes in hexadecimal, its text, its line in the program (0 for none), and its
- * label ("" for none).
+ * An instruction row. The address can be outside ROM. `bytes` is hexadecimal. `line` is the source line (0 for none), `name` the label ("" for none).
  * @typedef {{ address: number, bytes: string, words: string, line: number, name: string }} Row
  */
 
-/** @type {(listed: Listed) => number} the address after an instruction */
+/** @type {(listed: Listed) => number} the address of the next instruction */
 const endOf = ({ address, line }) => address + (line.slice(7, 9).trim() === "" ? 1 : 2);
 
 /**
@@ -34,8 +33,8 @@ function instructionsIn(session, from, to) {
 }
 
 /**
- * Returns `count` instructions. The first one is `offset` instructions after the one at an address, or before it if the offset is negative.
- * Rows outside ROM have only an address, which is negative before ROM.
+ * Returns `count` rows. The first row is `offset` instructions after the one at `address`; a negative offset counts back. Rows outside ROM have only
+ * an address; before ROM it is negative.
  * @param {DebugSession} session
  * @param {number} address
  * @param {number} offset
@@ -43,7 +42,7 @@ function instructionsIn(session, from, to) {
  * @returns {Row[]}
  */
 export function rowsAt(session, address, offset, count) {
-  // An instruction has at most two bytes. The listing begins at an instruction of the program so that it does not begin at a second byte.
+  // An instruction has at most two bytes. The listing starts at a known instruction start, so it never starts at a second byte.
   const begin = Math.max(0, address + 2 * Math.min(0, offset) - 1);
   const inStep = upTo(4).map((more) => begin + more).find((each) => each <= address && session.map.beginsInstruction(each)) ?? begin;
   const wholeInstructions = (/** @type {number} */ from, /** @type {number} */ to) => (
@@ -54,7 +53,7 @@ export function rowsAt(session, address, offset, count) {
   return upTo(count).map((at) => {
     const index = before.length + offset + at;
     const found = instructions[index];
-    return found ? rowOf(found, session) : nothingAt(index < 0 ? index : LAST_ADDRESS + 1 + index - instructions.length);
+    return found ? rowOf(found, session) : emptyRow(index < 0 ? index : LAST_ADDRESS + 1 + index - instructions.length);
   });
 }
 
@@ -72,7 +71,7 @@ function rowOf({ address, line }, { map }) {
  * @param {number} address outside ROM
  * @returns {Row}
  */
-function nothingAt(address) {
+function emptyRow(address) {
   return { address, bytes: "", words: "", line: 0, name: "" };
 }
 

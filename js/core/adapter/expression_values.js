@@ -1,4 +1,4 @@
-// Evaluates an expression at the current state: a place, a name of the program, a lamp, the display, a sum, or a condition.
+// Evaluates an expression in the current state: a place, a program name, a lamp, the display, a sum, or a condition.
 
 import { hex } from "../bench/numbers.js";
 import { expressionOf } from "../conditions/condition_language.js";
@@ -16,16 +16,16 @@ import { inColumn } from "../../words/conditions.js";
  * @typedef {import("../help/manual.js").Instruction} Instruction
  * @typedef {import("./number_format.js").Base} Base
  *
- * The context of an expression. `shown` returns what lamps and displays show.
+ * The evaluation context. `shown` returns the text of the lamps and displays.
  * @typedef {{ session: DebugSession, face: Face, instructions: Map<string, Instruction>, shown: () => string }} ExpressionContext
  */
 
-/** The places whose values are hexadecimal digits, and those whose values are marks. The value of any other place is a bit. */
+/** Patterns of places with hexadecimal digits, and of places with one character per bit or lamp. All other places hold a bit. */
 const HEX_PLACES = /^(acc|dcl|src|r\d+|p\d|ram\.\d\..*|st\..*|rom\d+|ram\d\.\d)$/;
 const MARK_PLACES = /^(chain\d|lamps)$/;
 
 /**
- * Returns the value of a place; "" if the text is not a place, or the board lacks it.
+ * Returns the value of a place; "" if the text is no place, or if the board does not have it.
  * @param {string} text
  * @param {ExpressionContext} context
  * @param {Base} base
@@ -43,7 +43,7 @@ function placeValue(text, { session, face }, base) {
 }
 
 /**
- * Returns the value of `pc` with its line, of `test` or of `owed`; "" for another text.
+ * Returns the value of `pc` (with its line), `test` or `owed`; "" for any other text.
  * @param {string} text
  * @param {DebugSession} session
  * @param {Base} base
@@ -56,7 +56,7 @@ function registerValue(text, session, base) {
 }
 
 /**
- * Returns the current line as an addition to an address; "" for none.
+ * Returns the current line as a suffix for an address; "" if it is unknown.
  * @param {DebugSession} session
  */
 function lineWords(session) {
@@ -64,7 +64,7 @@ function lineWords(session) {
 }
 
 /**
- * Returns the value of a name of the program; "" for another text.
+ * Returns the value of a program name; "" for any other text.
  * @param {string} text
  * @param {DebugSession} session
  */
@@ -77,10 +77,10 @@ function nameValue(text, { map }) {
 }
 
 /**
- * Returns the current value of an expression as text; throws AdapterError if it cannot be parsed.
+ * Returns the current value of an expression as text; throws AdapterError if the expression has an error.
  * @param {string} text
  * @param {ExpressionContext} context
- * @param {Base} [base] of numbers
+ * @param {Base} [base] the number base of the output
  */
 export function valueOfExpression(text, context, base = "usual") {
   const { session } = context;
@@ -96,7 +96,7 @@ export function valueOfExpression(text, context, base = "usual") {
 }
 
 /**
- * Returns the text of a hover: the current value of the word, the effect of an instruction, or the value of an expression.
+ * Returns the hover text: the current value of the word, the effect of an instruction, or the value of an expression.
  * @param {string} text
  * @param {ExpressionContext} context
  */

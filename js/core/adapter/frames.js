@@ -1,4 +1,4 @@
-// The stack frames of the protocol: one for the next instruction, and one for each call that has not returned.
+// The protocol's stack frames: one for the next instruction, and one for each call that has not returned.
 
 import { hex } from "../bench/numbers.js";
 import { areLive, callBefore } from "../machine/returns.js";
@@ -6,13 +6,13 @@ import { areLive, callBefore } from "../machine/returns.js";
 /**
  * @typedef {import("../debug/debug_session.js").DebugSession} DebugSession
  *
- * A stack frame. `line` is 0 if the address has no line. `call` is the address of the JMS that began the frame, -1 for the outermost frame.
- * `returns` are the return addresses below the frame, the newest first.
+ * A stack frame. `line` is 0 if the address has no source line. `call` is the address of the JMS that created the frame, -1 for the outermost frame.
+ * `returns` are the return addresses below the frame, newest first.
  * @typedef {{ address: number, line: number, name: string, call: number, returns: string[] }} Frame
  */
 
 /**
- * Returns the stack frames, the newest first.
+ * Returns the stack frames, newest first.
  * @param {DebugSession} session
  * @returns {Frame[]}
  */

@@ -1,5 +1,5 @@
-// Debugging of a test. The test runs first. A session is then rebuilt from its commands, so time can go back from the failure, or from the
-// end, to the beginning.
+// Debugging of a test. First the test runs. Then its commands rebuild a session, so that time can go back from the failure or the end to the start of
+// the test.
 
 import { DebugSession } from "../debug/debug_session.js";
 import { LONGEST_RUN } from "../engine/key_queue.js";
@@ -14,18 +14,18 @@ import * as say from "../../words/adapter.js";
  * @typedef {import("../testing/test_session.js").TestSession} TestSession
  * @typedef {import("../testing/test_suite.js").TestedTexts} TestedTexts
  *
- * A test and the absolute names of its files: `file` has the test, `tests` are the test files up to and including `file`.
+ * A test and the absolute names of its files. `file` contains the test. `tests` are the test files, in order, up to `file`.
  * @typedef {{ name: string, file: string, tests: string[], board: string, program: string }} TestFiles
  */
 
-/** @type {(name: string) => string} the URI of a file, for modules that find folders in a URI */
+/** @type {(name: string) => string} the URI of a file, for modules that need the folder of a URI */
 export const uriOf = (name) => `file://${name.split("/").map(encodeURIComponent).join("/")}`;
 /** @type {(uri: string) => string} the name of a file; the inverse of `uriOf` */
 export const nameOfUri = (uri) => decodeURIComponent(uri.slice("file://".length));
 
 /**
- * Finds the files of a test: those of its project, or those in its folder.
- * @param {string} name of the test
+ * Finds the files of a test: the files of its project, or else the files in its folder.
+ * @param {string} name the name of the test
  * @param {string} file the absolute name of its file
  * @param {(name: string) => string | null} read returns the text of a file; null if it cannot be read
  * @returns {TestFiles}
@@ -36,7 +36,7 @@ export function testFiles(name, file, read) {
 }
 
 /**
- * Returns the lines that repeat in a session what a test did.
+ * Returns the lines that repeat the commands of a test run in a session.
  * @param {TestSession} session
  */
 function linesOfRun({ actions: all }) {
@@ -48,7 +48,7 @@ function linesOfRun({ actions: all }) {
 }
 
 /**
- * Runs a test. Returns a session that has done the same, with its past, and the result of the test in words.
+ * Runs a test. Returns a session with the same commands and their past, and the test result as text.
  * @param {Engine} engine
  * @param {TestedTexts} texts
  * @param {TestFiles} test

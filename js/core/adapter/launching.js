@@ -1,5 +1,5 @@
-// Makes the session for `launch` and `attach`. `launch` makes a session in memory from the texts of a board and a program, or opens or
-// creates a session file. `attach` opens an existing session file: in a copy, unless its `write` is true.
+// Creates the session for `launch` and `attach`. `launch` creates a session in memory from the texts of a board and a program, or opens or creates a
+// session file. `attach` opens an existing session file. It works on a copy unless `write` is true.
 
 import { refusalOf } from "../bench/answers.js";
 import { BenchRefusal } from "../bench/faults.js";
@@ -23,8 +23,8 @@ import { leadsOut } from "../../words/server.js";
  * @typedef {import("../bench/words.js").Words} Words
  * @typedef {import("./session_writer.js").OpenFile} OpenFile
  *
- * The calls of the host:
- * - `nameOf` returns the absolute name of a file, given the folder of relative names; `beside` that of a file named in another file;
+ * The functions of the host:
+ * - `nameOf` returns the absolute name of a file, for a name relative to `folder`; `beside` does so relative to the file `other`;
  * - `read` returns a text, null if it cannot be read, and `whyUnread` the error message;
  * - `isThere` returns whether a file exists; `isInside` whether it is in a folder, also with symbolic links followed;
  * - `open` and `make` start a program that opens or creates a session file;
@@ -36,15 +36,15 @@ import { leadsOut } from "../../words/server.js";
  *   open: (name: string) => Promise<OpenFile>, make: (name: string) => Promise<OpenFile>,
  *   readSession: (name: string) => Promise<Uint8Array>, pause: () => Promise<void> }} Host
  *
- * The result of a launch or attach. `program` is a file's name, "" if the text was disassembled from ROM. `nameOf` returns the absolute
- * name of a file. `test` is the debugged test, null for none; `note` is its result.
+ * The result of a launch or attach. `program` is a file name, "" if the text was disassembled from ROM. `nameOf` returns the absolute name of a file.
+ * `test` is the debugged test, null for none; `note` is the test result.
  * @typedef {{ session: DebugSession, writer: SessionWriter | null, program: string, board: string, stopsOnEntry: boolean,
  *   isDebugged: boolean, isRealTime: boolean, isAttached: boolean, args: any, nameOf: (name: string) => string, test: TestFiles | null,
  *   note: string }} Launched
  *
  * @typedef {import("./launched_test.js").TestFiles} TestFiles
  *
- * The arguments of a launch or attach: absolute names of files, "" for none. `load` is true if the program must be put into ROM.
+ * The arguments of a launch or attach: absolute file names, "" for none. `load` is true if the program must be written to ROM.
  * @typedef {{ board: string, program: string, session: string, load: boolean, test: TestFiles | null }} WantedFiles
  */
 
@@ -52,7 +52,7 @@ import { leadsOut } from "../../words/server.js";
 const lastPart = (name) => name.replace(/^.*[\\/]/, "");
 
 /**
- * Reads the arguments that name files; finds the files that the project implies.
+ * Reads the arguments that name files, and adds the file names from the project.
  * @param {any} args
  * @param {Host} host
  * @returns {WantedFiles}
@@ -71,8 +71,8 @@ export function readWantedFiles(args, host) {
   const named = project === "" ? { board: "", program: "" } : filesOf(project, host);
   const program = ownProgram || named.program;
   if (program === "" && session === "") {
-    const words = say.LAUNCH_NEEDS;
-    throw new AdapterError(say.andBoard(words), true);
+    const message = say.LAUNCH_NEEDS;
+    throw new AdapterError(say.andBoard(message), true);
   }
   if (program !== "" && session === program) throw new AdapterError(say.ONE_FILE, true);
   const found = program === "" ? "" : boardOf(program, host);
@@ -82,7 +82,7 @@ export function readWantedFiles(args, host) {
 
 /**
  * Returns the board and the program of a project; throws if its file cannot be read.
- * @param {string} name of the project's folder, or of its file
+ * @param {string} name the name of the project folder or the project file
  * @param {Host} host
  */
 function filesOf(name, host) {
@@ -100,7 +100,7 @@ function filesOf(name, host) {
 }
 
 /**
- * Returns the name of a program's board, found in the same way as in the language server.
+ * Returns the board file of a program. The language server uses the same rule.
  * @param {string} program
  * @param {Host} host
  */
@@ -112,9 +112,9 @@ function boardOf(program, host) {
 }
 
 /**
- * Returns the text of a file with line feeds only; throws if it has a line that the bench cannot accept.
+ * Returns the text of a file with only line feeds as line ends; throws if the bench cannot accept a line.
  * @param {string} name
- * @param {";" | "#"} mark the mark of comments
+ * @param {";" | "#"} mark the character that starts a comment
  * @param {Host} host
  */
 function textIn(name, mark, host) {
@@ -127,8 +127,8 @@ function textIn(name, mark, host) {
 }
 
 /**
- * Returns the error for a text that the bench rejected.
- * @param {string} name of the file
+ * Returns the error for a text that the bench has rejected.
+ * @param {string} name the file name
  * @param {Refusal} refusal
  * @param {Words} words
  */
@@ -169,7 +169,7 @@ async function sessionFromTest(engine, test, host) {
 }
 
 /**
- * Opens a session file, or creates it. Returns the session and its writer.
+ * Opens or creates a session file. Returns the session and its writer.
  * @param {Engine} engine
  * @param {WantedFiles} wanted
  * @param {Host} host
@@ -182,7 +182,7 @@ async function sessionFromFile(engine, wanted, host, words) {
   if (isNew && (board === "" || program === "")) {
     throw new AdapterError(say.sessionMissing(wanted.session), true);
   }
-  // Errors in the arguments are reported before the file is opened.
+  // Errors in the texts are reported before the file is created.
   if (isNew) sessionFromTexts(engine, wanted, host, words);
   const file = await (isNew ? host.make(wanted.session) : host.open(wanted.session));
   try {
@@ -225,7 +225,7 @@ async function sessionFromCopy(engine, wanted, host, words) {
  * @param {DebugSession} session
  * @param {"wire" | "asm"} word
  * @param {string} text
- * @param {string} name of the text's file
+ * @param {string} name the file name of the text
  * @param {Words} words
  */
 async function serveText(session, word, text, name, words) {
@@ -235,7 +235,7 @@ async function serveText(session, word, text, name, words) {
 }
 
 /**
- * Returns where ROM differs from the program, in words; "" if the bytes are the same.
+ * Describes how ROM differs from the program; "" if the bytes are equal.
  * @param {DebugSession} session
  */
 export function differenceWords(session) {
@@ -263,7 +263,7 @@ function checkRom(session, engine, { program, session: file }, words) {
 }
 
 /**
- * Makes the session of a `launch`: for a test, from texts, or with a session file.
+ * Creates the session for a `launch`: from a test, from texts, or with a session file.
  * @param {Engine} engine
  * @param {any} args
  * @param {Host} host
@@ -275,11 +275,11 @@ export async function launch(engine, args, host, words) {
   const opened = wanted.test ? await sessionFromTest(engine, wanted.test, host)
     : wanted.session === "" ? { session: sessionFromTexts(engine, wanted, host, words), writer: null, note: "" }
       : await sessionFromFile(engine, wanted, host, words);
-  return launchedOf(opened, wanted, args, host);
+  return withOptions(opened, wanted, args, host);
 }
 
 /**
- * Makes the session of an `attach` from an existing session file. Without `write` the file does not change.
+ * Creates the session for an `attach` to an existing session file. Without `write`, the file does not change.
  * @param {Engine} engine
  * @param {any} args
  * @param {Host} host
@@ -292,18 +292,18 @@ export async function attach(engine, args, host, words) {
   const wanted = readWantedFiles(args, host);
   if (!host.isThere(wanted.session)) throw new AdapterError(say.noSession(wanted.session), true);
   const opened = isWritten ? await sessionFromFile(engine, wanted, host, words) : await sessionFromCopy(engine, wanted, host, words);
-  return { ...launchedOf(opened, wanted, args, host), isAttached: true };
+  return { ...withOptions(opened, wanted, args, host), isAttached: true };
 }
 
 /**
- * Adds the options in the arguments to a session.
+ * Adds the options of the request to a session.
  * @param {{ session: DebugSession, writer: SessionWriter | null, note: string }} opened
  * @param {WantedFiles} wanted
  * @param {any} args
  * @param {Host} host
  * @returns {Launched}
  */
-function launchedOf({ session, writer, note }, { program, board, test }, args, host) {
+function withOptions({ session, writer, note }, { program, board, test }, args, host) {
   if (session.boardText === "") session.boardText = session.debugger.session.ask("board\n").slice(1).join("\n");
   session.debugger.usual.map = session.map;
   return {

@@ -14,10 +14,10 @@ import * as say from "../../words/adapter.js";
 /**
  * @typedef {import("../debug/debug_session.js").DebugSession} DebugSession
  *
- * A range of memory: the number of its first place, its contents, and a function that returns the word of `poke` for an index in it.
+ * A memory range: the number of its first byte, its contents, and a function that returns the `poke` place for an index in it.
  * @typedef {{ begin: number, bytes: Uint8Array, place: (at: number) => string }} MemoryRange
  *
- * The place that a request names: a range, and an index in it, which can be outside the range.
+ * The location that a request names: a range, and an index in it. The index can be outside the range.
  * @typedef {{ range: MemoryRange, from: number }} RangePlace
  */
 
@@ -25,7 +25,7 @@ const [CHARACTERS_AT, STATUS_AT, BANK_SIZE] = [0x10000, 0x20000, 0x100];
 const BANKS = 8;
 
 /**
- * Returns the memory reference of a place.
+ * Formats a number as a memory reference.
  * @param {number} number
  * @returns {string}
  */
@@ -33,11 +33,11 @@ export function referenceOf(number) {
   return number < 0 ? `-${referenceOf(-number)}` : `0x${hex(number, 3)}`;
 }
 
-/** @type {(bank: number) => string} the memory reference of a bank's first RAM character */
+/** @type {(bank: number) => string} the memory reference of a bank's first nibble */
 export const referenceOfBank = (bank) => referenceOf(CHARACTERS_AT + BANK_SIZE * bank);
 
 /**
- * Returns the number of a RAM character or a status character by its place; -1 for any other place.
+ * Returns the memory number of a RAM character or a status character; -1 for any other place.
  * @param {string} name
  */
 export function numberOfPlace(name) {
@@ -49,8 +49,8 @@ export function numberOfPlace(name) {
 }
 
 /**
- * Returns the number for a memory reference.
- * @param {string} reference a number, a bank such as `ram.0`, a RAM or status character, or an expression for an address
+ * Returns the memory number for a memory reference.
+ * @param {string} reference a number, a bank such as `ram.0`, a RAM or status character, or an address expression
  * @param {(reference: string) => number} addressOf
  */
 function numberOfReference(reference, addressOf) {
@@ -62,7 +62,7 @@ function numberOfReference(reference, addressOf) {
 }
 
 /**
- * Returns the range of memory that contains a place; null if the board has no such place.
+ * Returns the memory range that contains a number; null if the board does not have it.
  * @param {DebugSession} session
  * @param {number} number
  * @returns {MemoryRange | null}
@@ -83,7 +83,7 @@ function rangeAt(session, number) {
 }
 
 /**
- * Returns the place that a request names; fails if the board has no such place.
+ * Returns the location that a request names; fails if the board does not have it.
  * @param {any} args
  * @param {DebugSession} session
  * @param {(reference: string) => number} addressOf
@@ -114,7 +114,7 @@ export function readMemory(args, session, addressOf) {
 }
 
 /**
- * Serves the request `writeMemory`: writes all bytes, or none if the bench rejects one. With `allowPartial` it skips bytes outside memory.
+ * Serves the request `writeMemory`: writes all bytes, or none if the bench rejects one. With `allowPartial`, it skips bytes outside the range.
  * @param {any} args
  * @param {DebugSession} session
  * @param {(reference: string) => number} addressOf
@@ -126,15 +126,15 @@ export async function writeMemory(args, session, addressOf) {
   const [first, end] = [Math.max(0, from), Math.min(bytes.length, from + data.length)];
   const isWhole = first === from && end === from + data.length;
   if (!isWhole && !flagOf(args, "allowPartial", false)) fail(say.OUTSIDE_OF_MEMORY);
-  const given = end > first ? data.subarray(first - from, end - from) : new Uint8Array(0);
-  const lines = [...given].map((byte, at) => `poke ${place(first + at)} ${byte}\n`).join("");
+  const dataInRange = end > first ? data.subarray(first - from, end - from) : new Uint8Array(0);
+  const lines = [...dataInRange].map((byte, at) => `poke ${place(first + at)} ${byte}\n`).join("");
   const bench = session.debugger.session;
-  // The lines are tried on a copy before the first byte is written.
+  // First, a copy runs the lines: if one is rejected, nothing is written.
   const answers = lines === "" ? [] : bench.ask(lines);
   const refused = answers.findIndex((answer) => refusalOf(answer));
   if (refused >= 0) fail(say.benchAnswered(lines.split("\n")[refused], answers[refused]));
   if (lines !== "") await bench.serve(lines, async () => true);
-  return { offset: first - from, bytesWritten: given.length };
+  return { offset: first - from, bytesWritten: dataInRange.length };
 }
 
 /** @param {string} text */

@@ -1,4 +1,4 @@
-// Handlers for requests that move time: continue, steps, going back, restarting a frame, jumping to a line.
+// Handlers for requests that move time: continue, step, go back, restart a frame, go to a line.
 
 import { LAST_ADDRESS, hex } from "../bench/numbers.js";
 import { instructionOfLine } from "../debug/breakpoints.js";
@@ -50,7 +50,7 @@ export class Moves {
   }
 
   /**
-   * Returns the response of a move; the move begins once the response is sent.
+   * Returns the response to a move request; the move begins after the response is sent.
    * @param {any} args
    * @param {(machine: Machine) => void} act
    */

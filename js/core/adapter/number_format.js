@@ -1,14 +1,14 @@
-// The format of numbers in responses. By default values of the machine are hexadecimal and sums are decimal. With `format.hex` a client
-// chooses one base for all numbers.
+// The number format of responses. By default, machine values are hexadecimal and sums are decimal. With `format.hex`, a client selects one base for
+// all numbers.
 
 import { fieldOf } from "../server/framing.js";
 import { fail, flagOf } from "./dap_protocol.js";
 import * as say from "../../words/adapter.js";
 
-/** @typedef {"usual" | "hex" | "decimal"} Base of numbers; "usual" is the default format */
+/** @typedef {"usual" | "hex" | "decimal"} Base a number base; "usual" is the default format */
 
 /**
- * Returns a flag in the `format` of a request.
+ * Returns a boolean from the `format` argument of a request.
  * @param {any} args
  * @param {"hex" | "line"} name
  * @returns {boolean | null} null if the request does not specify it
@@ -21,7 +21,7 @@ export function formatFlag(args, name) {
 }
 
 /**
- * Returns the base that a request asks for.
+ * Returns the number base for a request.
  * @param {any} args
  * @returns {Base}
  */
@@ -33,7 +33,7 @@ export function baseOf(args) {
 
 /**
  * Converts the numbers in a value to a base.
- * @param {string} text with numbers that begin with 0x; a name of the program has both bases, `0x1F, 31`
+ * @param {string} text contains numbers that begin with 0x; the value of a program name has both bases: `0x1F, 31`
  * @param {Base} base
  */
 export function inBase(text, base) {
@@ -43,7 +43,7 @@ export function inBase(text, base) {
 }
 
 /**
- * Formats a number; its default base is decimal.
+ * Formats a number; "usual" means decimal.
  * @param {number} number
  * @param {Base} base
  */

@@ -1,13 +1,13 @@
-// Progress of long work for clients that show it (`progressStart`, `progressUpdate`, `progressEnd`). The user can stop the work.
+// Reports the progress of long work to clients that support it (`progressStart`, `progressUpdate`, `progressEnd`). The user can stop the work.
 
 import { AdapterError } from "./dap_protocol.js";
 import * as say from "../../words/adapter.js";
 
-/** The times until the first report and between two reports, in milliseconds. */
-const REPORTED_AFTER = 1000;
-const REPORTED_EVERY = 500;
+/** The delay before the first report and the interval between reports, in milliseconds. */
+const FIRST_REPORT_DELAY = 1000;
+const REPORT_INTERVAL = 500;
 
-/** Work that can take long. */
+/** A piece of work that can take long. */
 class Work {
   /**
    * @param {Progress} progress
@@ -24,12 +24,12 @@ class Work {
 
   /**
    * Reports progress if it is due.
-   * @param {() => string} message the progress in words
+   * @param {() => string} message returns the progress as text
    */
   reportIfDue(message) {
     const now = performance.now();
     if (!this.progress.isOn || now < this.due) return;
-    this.due = now + REPORTED_EVERY;
+    this.due = now + REPORT_INTERVAL;
     if (this.id === "") this.id = this.progress.start(this, message());
     else this.progress.sendEvent("progressUpdate", { progressId: this.id, message: message() });
   }
@@ -46,14 +46,14 @@ export class Progress {
     this.sendEvent = sendEvent;
     /** True if the client shows progress. */
     this.isOn = false;
-    this.after = REPORTED_AFTER;
+    this.after = FIRST_REPORT_DELAY;
     this.lastId = 0;
-    /** @type {Map<string, Work>} the work that is reported, by its progress id */
+    /** @type {Map<string, Work>} the reported work, by progress id */
     this.works = new Map();
   }
 
   /**
-   * Returns the progress of work that begins now.
+   * Creates the progress report for work that starts now.
    * @param {string} title
    * @param {() => void} stop ends the work early
    */
@@ -81,7 +81,7 @@ export class Progress {
   }
 
   /**
-   * Stops work that is reported.
+   * Stops reported work; throws AdapterError if no work has this id.
    * @param {string} progressId
    */
   stop(progressId) {

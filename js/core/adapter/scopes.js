@@ -1,4 +1,4 @@
-// The state of the machine as the protocol's scopes of variables: registers, pairs, RAM, ports, lamps, keys, names of the program.
+// Presents the machine state as scopes of variables: registers, pairs, RAM, ports, lamps, keys, program names.
 
 import { readBoard, readMarks } from "../bench/answers.js";
 import { hex, upTo } from "../bench/numbers.js";
@@ -17,11 +17,11 @@ import { sourceOfBank } from "../../words/debug.js";
  *
  * A variable:
  * - `evaluateName`: an expression with the same value;
- * - `place`: its place for set_place.js, "" if it cannot be set;
- * - `variablesReference`: the reference of the variables in it, 0 for none, and `count`, their number;
+ * - `place`: the place that set_place.js sets, "" if it cannot be set;
+ * - `variablesReference`: the reference of its child variables, 0 for none; `count`: the number of children;
  * - `memory`: its memory reference;
  * - `isDecimal`: true if its value is a decimal number;
- * - `watched`: the place to watch for its changes, if it is not `place`.
+ * - `watched`: the place to watch for changes, if it differs from `place`.
  * @typedef {{ name: string, value: string, evaluateName?: string, place: string, variablesReference: number, count?: number,
  *   memory?: string, isDecimal?: boolean, watched?: string }} Variable
  * @typedef {import("./number_format.js").Base} Base
@@ -32,14 +32,14 @@ import { sourceOfBank } from "../../words/debug.js";
 
 /** The references of the scopes. */
 const [REGISTERS, PAIRS, RAM, PORTS, LAMPS, KEYS, NAMES] = [1, 2, 3, 4, 5, 6, 7];
-/** The reference of bank B is BANK + B; that of RAM register R of bank B is REGISTER + 16 * B + R. */
+/** Bank B has the reference BANK + B; RAM register R of bank B has the reference REGISTER + 16 * B + R. */
 const [BANK, REGISTER] = [100, 200];
 
 /** @type {(digit: string) => string} */
 const inHex = (digit) => `0x${digit}`;
 
 /**
- * Makes a variable.
+ * Creates a variable.
  * @param {string} name
  * @param {string} value
  * @param {string} [place]
@@ -50,7 +50,7 @@ function variable(name, value, place = "") {
 }
 
 /**
- * Makes a variable whose value is a decimal number.
+ * Creates a variable with a decimal value.
  * @param {string} name
  * @param {string} value
  * @param {string} [place]
@@ -59,13 +59,13 @@ function variable(name, value, place = "") {
 const decimal = (name, value, place) => ({ ...variable(name, value, place), isDecimal: true });
 
 /**
- * Makes a variable that cannot be set.
+ * Creates a variable that cannot be set but can be watched.
  * @param {string} name
  * @param {string} value
  * @param {string} place
  * @returns {Variable}
  */
-const shown = (name, value, place) => ({ ...variable(name, value), evaluateName: place, watched: place });
+const readOnly = (name, value, place) => ({ ...variable(name, value), evaluateName: place, watched: place });
 
 /** @param {ShownState} state */
 function registers({ standing: { registers: cpu } }) {
@@ -108,7 +108,7 @@ function registersOfBank({ standing }, bank) {
 const memoryOf = (place) => referenceOf(numberOfPlace(place));
 
 /**
- * Returns the characters and status characters of a RAM register. A character's name includes the constants of the program with its number.
+ * Returns the nibbles and status characters of a RAM register. The name of a nibble includes the program constants with its number.
  * @param {ShownState} state
  * @param {number} bank
  * @param {number} register
@@ -139,14 +139,14 @@ function ports({ standing, face }) {
   const { roms, chains, sources } = standing.ports;
   const rams = [...standing.ram].flatMap(([bank, ram]) => [...ram.ports].map(([name, out]) => ({ bank, name, out })));
   return [
-    ...roms.map(({ chip, out, in: read }) => shown(named(`rom${chip}`), `out ${inHex(out)}, in ${inHex(read)}`, `rom${chip}`)),
-    ...rams.map(({ name, out }) => shown(named(`ram${name}`), `out ${inHex(out)}`, `ram${name}`)),
-    ...chains.map((bits, at) => shown(named(`chain${at}`), bits, `chain${at}`)),
+    ...roms.map(({ chip, out, in: read }) => readOnly(named(`rom${chip}`), `out ${inHex(out)}, in ${inHex(read)}`, `rom${chip}`)),
+    ...rams.map(({ name, out }) => readOnly(named(`ram${name}`), `out ${inHex(out)}`, `ram${name}`)),
+    ...chains.map((bits, at) => readOnly(named(`chain${at}`), bits, `chain${at}`)),
     ...sources.map((source) => sourceOf(source)),
   ];
 }
 
-/** @param {string} source the SRC byte that the ROMs keep, as `21`, or a bank keeps, as `0.21` */
+/** @param {string} source the SRC byte stored in the ROMs (`21`), or in a RAM bank (`0.21`) */
 function sourceOf(source) {
   const [bank, byte] = source.split(".");
   if (byte === undefined) return variable("SRC", say.selectsRom(inHex(bank), parseInt(bank[0], 16)));
@@ -158,7 +158,7 @@ function lamps({ session, face, board }) {
   const marks = readMarks(session.debugger.session.ask("lamps\n")[0]).join("");
   return board.lamps.map((line, at) => {
     const name = (face.lamps.get(at) || { text: "" }).text.replace(/_/g, " ");
-    return shown(name || `lamp ${at}`, say.lampIs(marks[at] === "*"), `lamp ${at}`);
+    return readOnly(name || `lamp ${at}`, say.lampIs(marks[at] === "*"), `lamp ${at}`);
   });
 }
 
@@ -217,7 +217,7 @@ export class Scopes {
   /**
    * Returns the variables of a scope, bank or RAM register; null if the reference is unknown.
    * @param {number} reference
-   * @param {Base} [base] of numbers
+   * @param {Base} [base] the number base of the values
    * @returns {Variable[] | null}
    */
   variables(reference, base = "usual") {
@@ -227,7 +227,7 @@ export class Scopes {
   }
 
   /**
-   * Returns the variables of a reference in the default format; null if the reference is unknown.
+   * Returns the variables of a reference in the default number format; null if the reference is unknown.
    * @param {number} reference
    */
   variablesIn(reference) {
@@ -239,11 +239,11 @@ export class Scopes {
   }
 
   /**
-   * Sets a variable. Returns its new value in words.
+   * Sets a variable. Returns its new value as text.
    * @param {number} reference
    * @param {string} name
    * @param {string} value
-   * @param {Base} base of numbers
+   * @param {Base} base the number base of the result
    */
   async set(reference, name, value, base) {
     const found = (this.variables(reference) || []).find((each) => each.name === name);

@@ -1,5 +1,5 @@
-// Saves a session in memory to its file. A program that has the file open (`mcs4 open FILE`) receives the session's new lines. If
-// they do not continue the history of the file, as after going back, the file is replaced, and the program continues with it.
+// Saves a session in memory to its file. The program that has the file open (`mcs4 open FILE`) receives the new lines of the session. If the new
+// lines do not continue the history of the file (after going back), the file is replaced, and the program continues with it.
 
 import { refusalOf } from "../bench/answers.js";
 import { joinLines } from "../bench/inputs.js";
@@ -10,9 +10,8 @@ import * as say from "../../words/adapter.js";
  * @typedef {import("../engine/worker_session.js").WorkerSession} WorkerSession
  * @typedef {import("../engine/timeline.js").Segment} Segment
  *
- * A program with a session file open. `ask` sends lines and returns their answers, `count` in number. `replace` replaces the file by a
- * session with these bytes that has served these lines. If `check` throws, or the file cannot be replaced, `replace` throws and the file
- * does not change.
+ * A program with an open session file. `ask` sends lines and returns their `count` answers. `replace` replaces the file with a session that has these
+ * bytes and has served these lines. If `check` throws, or the file cannot be replaced, `replace` throws and the file does not change.
  * @typedef {{ bytes: Uint8Array, ask: (lines: string, count: number) => Promise<string[]>,
  *   replace: (bytes: Uint8Array, lines: string, count: number, check: (answers: string[]) => void) => Promise<void>,
  *   end: () => Promise<void> }} OpenFile
@@ -21,18 +20,18 @@ import * as say from "../../words/adapter.js";
 export class SessionWriter {
   /**
    * @param {OpenFile} file
-   * @param {WorkerSession} session that began with the bytes of the file
+   * @param {WorkerSession} session started from the bytes of the file
    */
   constructor(file, session) {
     this.file = file;
-    /** @type {Segment | null} the segment whose commands the file has; null if the contents of the file are unknown */
+    /** @type {Segment | null} the segment whose commands are in the file; null if the file contents are unknown */
     this.segment = session.timeline.last;
-    /** The number of commands since the begin of the segment that the file has. */
+    /** The number of commands in the file, counted from the start of the segment. */
     this.count = 0;
   }
 
   /**
-   * Returns the lines that the file lacks; null if they do not continue its history.
+   * Returns the lines that are missing in the file; null if they do not continue the history of the file.
    * @param {WorkerSession} session
    */
   missingLines({ timeline, unrecorded }) {
@@ -43,7 +42,7 @@ export class SessionWriter {
   }
 
   /**
-   * Brings the file to the state of the session; throws AdapterError if the program rejects a line or reaches another state.
+   * Updates the file to the state of the session; throws AdapterError if the program rejects a line or reaches another state.
    * @param {WorkerSession} session
    */
   async write(session) {

@@ -1,4 +1,4 @@
-// Sets a place of the machine: a place of `poke`, TEST, a register pair or a key.
+// Sets a place of the machine: a place that `poke` accepts, TEST, a register pair or a key.
 
 import { refusalOf } from "../bench/answers.js";
 import { expressionOf } from "../conditions/condition_language.js";
@@ -14,13 +14,13 @@ import { cannotBeSet, inColumn } from "../../words/conditions.js";
 /** @typedef {import("../debug/debug_session.js").DebugSession} DebugSession */
 
 /**
- * Returns the current value of an expression as a number; throws AdapterError if it has none.
- * @param {string} text a numeral, a name of the program, a place or a sum
+ * Returns the current value of an expression as a number; throws AdapterError if its value is not a number.
+ * @param {string} text a numeral, a program name, a place or a sum
  * @param {DebugSession} session
- * @param {number} [begin] the column of the text in the typed line
+ * @param {number} [begin] the column in the typed line at which the text starts
  */
 export function valueOf(text, session, begin = 0) {
-  // A client can send back the text that it shows, with its addition: `0x012, line 9`.
+  // A client can return a text that it shows, with its suffix: `0x012, line 9`.
   const valueText = text.trim().replace(/^(\w+),.*$/, "$1");
   if (valueText === "") throw new AdapterError(say.noNumber(say.NOTHING));
   const { expression, fault, column } = expressionOf(valueText, session.names);
@@ -30,11 +30,11 @@ export function valueOf(text, session, begin = 0) {
 }
 
 /**
- * Returns the bench lines that set a place, even if it has the value already.
- * @param {string} place from `settablePlace`, or a key as `key 0 2`
- * @param {string} text of the value
+ * Returns the bench lines that set a place. The lines are the same if the place already has the value.
+ * @param {string} place a place from `settablePlace`, or a key in the form `key 0 2`
+ * @param {string} text the value as an expression
  * @param {DebugSession} session
- * @param {number} [begin] the column of the text in the typed line
+ * @param {number} [begin] the column in the typed line at which the text starts
  */
 function linesFor(place, text, session, begin = 0) {
   const key = place.startsWith("key ") ? keyOfText(place.slice("key ".length)) : null;
@@ -49,7 +49,7 @@ function linesFor(place, text, session, begin = 0) {
 }
 
 /**
- * Returns the bench lines for a line with `set`.
+ * Returns the bench lines for a `set` line.
  * @param {string} text the text after `set`: `r4 = r5 + 1`
  * @param {DebugSession} session
  */
@@ -63,7 +63,7 @@ export function linesOfSet(text, session) {
 }
 
 /**
- * Returns the place to set, with a key as `key 0 2`; throws AdapterError if the text names none.
+ * Returns the place to set, a key in the form `key 0 2`; throws AdapterError if the text names nothing that can be set.
  * @param {string} text a place of the machine, or `key NAME`
  * @param {import("../board/face.js").Face} face
  * @returns {string}
@@ -80,8 +80,8 @@ export function placeToSet(text, face) {
 /**
  * Sets a place; throws AdapterError if the bench rejects it.
  * @param {DebugSession} session
- * @param {string} place from `settablePlace`, or a key as `key 0 2`
- * @param {string} text of the value
+ * @param {string} place a place from `settablePlace`, or a key in the form `key 0 2`
+ * @param {string} text the value as an expression
  */
 export async function setPlace(session, place, text) {
   const { first } = await session.debugger.session.serve(linesFor(place, text, session), async () => true);

@@ -1,4 +1,4 @@
-// The lamps and displays of a board as text, and the changes of this text.
+// Reads the lamps and displays of a board as text, and reports when this text changes.
 
 import { readMarks } from "../bench/answers.js";
 import { DisplayText } from "../board/display_text.js";
@@ -20,14 +20,14 @@ export class ShownText {
     this.before = this.now();
   }
 
-  /** Returns a mark for each lamp, `*` if it is on. */
+  /** Returns one mark per lamp, `*` if the lamp is on. */
   get marks() {
     return readMarks(this.session.debugger.session.ask("lamps\n")[0]).join("");
   }
 
   /**
-   * Returns the text of the display and the names of the other lamps that are on; without a display the marks of all lamps and the names of
-   * those that are on. The digits of a multiplexed display are those that a person perceives.
+   * Returns the display text and the names of the other lamps that are on. Without a display, returns the marks of all lamps and the names of those
+   * that are on. A multiplexed display shows the digits that a person perceives.
    */
   now() {
     const { marks } = this;
@@ -38,8 +38,8 @@ export class ShownText {
   }
 
   /**
-   * Returns the text of a multiplexed display as perceived.
-   * @param {number} count of lamps
+   * Returns the perceived text of a multiplexed display.
+   * @param {number} count the number of lamps
    */
   perceivedText(count) {
     return new SeenText(this.face, count).read(this.session.debugger.session.ask(SEEN_QUERY));

@@ -1,5 +1,5 @@
-// The front panel of a board for an editor that draws it (editor_view.js). Sends the board and its text once, and lamps, keys and TEST as
-// they change. Also moves the keys that the user presses in the drawing.
+// Sends the front panel of a board to an editor that draws it (editor_view.js): the board and its text once, and lamps, keys and TEST when they
+// change. Also moves the keys that the user presses in the drawing.
 
 import { readBoard } from "../bench/answers.js";
 import { SnapshotReader } from "../bench/snapshot.js";
@@ -17,11 +17,11 @@ import * as say from "../../words/adapter.js";
  * @typedef {import("./debugged_machine.js").Machine} Machine
  *
  * The changes since the last report:
- * - `board`: the answers to `board`, and `boardText`: the board's text;
+ * - `board`: the answer to `board`; `boardText`: the board text;
  * - `lamps`: a mark for each lamp, `*` if it is on;
- * - `keys`: the keys that are down, as `row.column`, and `test`: the level of TEST;
+ * - `keys`: the pressed keys as `row.column`; `test`: the TEST level;
  * - `isRunning`: true if time runs;
- * - `litShares`: while time runs, the lamps of the next 30 ms as perceived;
+ * - `litShares`: the perceived brightness of the lamps in the next 30 ms, while time runs;
  * - `printed`: the new output of the printer.
  * @typedef {{ board?: string[], boardText?: string, lamps?: string, keys?: string[], test?: string, isRunning?: boolean,
  *   litShares?: import("../engine/brightness_meter.js").LitShares, printed?: import("../engine/printing.js").Printed }} ShownNews
@@ -33,16 +33,16 @@ export class ShownBoard {
     this.machine = machine;
     this.reader = new SnapshotReader();
     this.board = "";
-    /** @type {boolean | null} the last report of `isRunning`; null before the first one */
+    /** @type {boolean | null} the last reported `isRunning`; null before the first report */
     this.isRunning = null;
     this.face = new Face("");
     this.lampCount = 0;
-    /** The last report of `litShares` as JSON, "" while time is paused. */
+    /** The last reported `litShares` as JSON, "" while time is paused. */
     this.litShares = "";
   }
 
   /**
-   * Returns the changes since the last report; all values the first time.
+   * Returns the changes since the last report; all values in the first report.
    * @returns {ShownNews}
    */
   take() {
@@ -76,7 +76,7 @@ export class ShownBoard {
     if (printing) printing.clear();
   }
 
-  /** Returns the brightness of the lamps if it changed while time runs. */
+  /** Returns the perceived lamp brightness if time runs and the brightness has changed. */
   takeLitShares() {
     const { machine, face, lampCount, litShares: before } = this;
     this.litShares = "";
@@ -91,7 +91,7 @@ export class ShownBoard {
  * Presses or releases a key: at once while time is paused, otherwise through the key queue.
  * @param {Machine} machine
  * @param {Console} debugConsole
- * @param {string} text the key's place: `0 2`, or `test 0`
+ * @param {string} text the key position: `0 2` or `test 0`
  * @param {boolean} isDown
  */
 export async function changeKey(machine, debugConsole, text, isDown) {

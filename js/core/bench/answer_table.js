@@ -1,21 +1,21 @@
-// The form of the answer to each input line, and the lines that open a text. Both are read from the table tools/lib/answers.txt, whose head
-// explains the columns.
+// The answer format of each input line, and the lines that open a text. Both come from the table tools/lib/answers.txt; its header explains the
+// columns.
 
 import table from "#answer-table";
 
 /**
- * An input line and its answer, by the first word of the line. `opensText`: a text follows the line. `isQuery`: the line changes
- * nothing. `first`: the form of the answer's first line. `further`: the form of its further lines, null if it has one line only. `count`:
- * the number of further lines, in the spelling of the table.
+ * An input line and its answer format, by the first word of the line. `opensText`: a text follows the line. `isQuery`: the line changes nothing.
+ * `first`: the pattern of the first answer line. `further`: the pattern of the other answer lines, null if there are none. `count`: the number of
+ * further lines, in the notation of the table.
  * @typedef {{ opensText: boolean, isQuery: boolean, first: RegExp, further: RegExp | null, count: string }} Form
  */
 
 const COLUMNS = 5;
-/** The beginning of the expression for the answer to a command. */
+/** The start of the pattern for the answer to a command. */
 const COMMAND_ANSWER = "^ok ";
 
 /**
- * Parses the table of answers; returns its rows by their first words.
+ * Parses the answer table; returns its rows by first word.
  * @param {string} text the table
  * @returns {Map<string, Form>}
  */
@@ -27,11 +27,11 @@ export function readForms(text) {
   }]));
 }
 
-/** The table of answers, by the first word of the input line. */
+/** The answer table, by the first word of the input line. */
 export const ANSWER_FORMS = readForms(table);
 
 /**
- * Returns whether a word begins a query: a line that changes nothing.
+ * Returns whether a word starts a query: a line that changes nothing.
  * @param {string} word
  */
 export function isQuery(word) {
@@ -39,11 +39,11 @@ export function isQuery(word) {
   return form !== undefined && form.isQuery;
 }
 
-/** The form of a line of a listing. */
+/** The pattern of a listing line. */
 const LISTING_LINE = /** @type {RegExp} */ (/** @type {Form} */ (ANSWER_FORMS.get("list")).further);
 
 /**
- * Returns whether an answer is a line of a listing.
+ * Returns whether an answer is a listing line.
  * @param {string} answer
  */
 export function isListingLine(answer) {

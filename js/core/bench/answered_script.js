@@ -8,14 +8,14 @@ import * as say from "../../words/bench.js";
 /**
  * @typedef {import("./inputs.js").Input} Input
  *
- * An input, its line number from 1, and the first line of its answer ("" if it was not answered).
+ * An input, its line number from 1, and the first line of its answer ("" if it has no answer).
  * @typedef {{ input: Input, at: number, answer: string }} AnsweredInput
  *
- * The inputs of a script with their answers. `words` is a message if the answers do not belong to the script, otherwise "".
+ * The inputs of a script with their answers. `words` is an error message if the answers do not belong to the script, otherwise "".
  * @typedef {{ inputs: AnsweredInput[], words: string }} AnsweredScript
  */
 
-const OPENED = /^session (\d+)$/;
+const SESSION_ANSWER = /^session (\d+)$/;
 
 /**
  * Returns whether a line can begin the answer to an input.
@@ -30,8 +30,8 @@ function canBeginAnswer({ kind, line }, answer) {
 }
 
 /**
- * Returns the number of lines in the complete answer to an input. If the first line states a count, lines that are missing at the end of
- * `answers` are included.
+ * Returns the number of lines in the complete answer to an input. If the first line states a count, the result includes lines that are missing at the
+ * end of `answers`.
  * @param {Input} input
  * @param {string[]} answers
  * @param {number} from
@@ -43,7 +43,7 @@ function completeLength(input, answers, from) {
 }
 
 /**
- * Returns the index of the first line of an answer that does not have the required form; -1 if all lines have it.
+ * Returns the index of the first answer line with a wrong format; -1 if all lines are correct.
  * @param {Input} input
  * @param {string[]} answers
  * @param {number} from
@@ -61,9 +61,9 @@ class AnswerMatcher {
   /** @param {string[]} answers */
   constructor(answers) {
     this.answers = answers;
-    this.commands = Number((OPENED.exec(answers[0]) || ["", "0"])[1]);
+    this.commands = Number((SESSION_ANSWER.exec(answers[0]) || ["", "0"])[1]);
     this.at = 1;
-    /** A message if the answers do not belong to the inputs, otherwise "". */
+    /** An error message if the answers do not belong to the inputs, otherwise "". */
     this.words = "";
     /** True if the last answer is incomplete. */
     this.isCut = false;
@@ -74,7 +74,7 @@ class AnswerMatcher {
   }
 
   /**
-   * Takes the answer to the next input. Returns its first line; "" if the input was not answered.
+   * Consumes the answer to the next input. Returns its first line; "" if the input has no answer.
    * @param {Input} input
    * @param {number} line the input's line number
    */
@@ -98,7 +98,7 @@ class AnswerMatcher {
 }
 
 /**
- * Finds the answers to the inputs of a script. The first answer is `session N`; each following `ok` must carry the next count.
+ * Finds the answers to the inputs of a script. The first answer must be `session N`; each following `ok` must have the next command number.
  * @param {string} script
  * @param {string[]} answers
  * @returns {AnsweredScript}
@@ -107,7 +107,7 @@ export function answeredScript(script, answers) {
   const inputs = readNumberedInputs(script);
   const unanswered = inputs.map((placed) => ({ ...placed, answer: "" }));
   if (answers.length > 0 && refusalOf(answers[0])) return { inputs: unanswered, words: "" };
-  if (answers.length === 0 || !OPENED.test(answers[0])) return { inputs: unanswered, words: say.FIRST_IS_SESSION };
+  if (answers.length === 0 || !SESSION_ANSWER.test(answers[0])) return { inputs: unanswered, words: say.FIRST_IS_SESSION };
   const matcher = new AnswerMatcher(answers);
   const answered = inputs.map(({ input, at }) => ({ input, at, answer: matcher.take(input, at) }));
   const { words, isOver, at } = matcher;

@@ -22,8 +22,8 @@ import { isListingLine } from "./answer_table.js";
  */
 
 /**
- * Parses a refusal; returns its number and the line that it names (0 if it names none), or null for any other answer. A refusal of a
- * board also names a part, which is ignored.
+ * Parses a refusal. Returns its number and its line number (0 if it has none); null for any other answer. The refusal of a board also names a part,
+ * which is ignored.
  * @param {string} answer
  * @returns {Refusal | null}
  */
@@ -33,7 +33,7 @@ export function refusalOf(answer) {
 }
 
 /**
- * Parses the answer to a run, such as `ok 7 ran 100 end`. Returns its cycles and the word for why it ended; null for any other answer.
+ * Parses the answer to a run, such as `ok 7 ran 100 end`. Returns its cycles and the reason word; null for any other answer.
  * @param {string} answer
  * @returns {Run | null}
  */
@@ -43,7 +43,7 @@ export function readRun(answer) {
 }
 
 /**
- * Returns whether a command was rejected or its run stopped early.
+ * Returns whether a command was rejected or a run stopped early.
  * @param {string} answer
  */
 export function isStop(answer) {
@@ -65,7 +65,7 @@ export function readRegisters(answer) {
 }
 
 /**
- * Reads the counter and the pending second cycle from the answer to `regs`.
+ * Reads the program counter and the pending second cycle from the answer to `regs`.
  * @param {string} answer
  */
 export function readCounter(answer) {
@@ -99,15 +99,15 @@ export function readMarks(answer) {
 }
 
 /**
- * Returns the watched RAM characters as places, such as `ram.0.0x3F`.
- * @param {string} answer to `watches`
+ * Returns the watched RAM characters as place names, such as `ram.0.0x3F`.
+ * @param {string} answer the answer to `watches`
  */
 export function watchedPlaces(answer) {
   return readMarks(answer).map((place) => `ram.${place.replace(".", ".0x")}`);
 }
 
 /**
- * Reads the answer to `map`; after a refusal the map is empty.
+ * Reads the answer to `map`; returns an empty map for a refusal.
  * @param {string[]} answers
  * @returns {ProgramMap}
  */
@@ -123,7 +123,7 @@ export function readMap(answers) {
 }
 
 /**
- * Returns the lines of a listing among answers.
+ * Returns the listing lines among the answers, with their addresses.
  * @param {string[]} answers
  * @returns {Listed[]}
  */
@@ -132,7 +132,7 @@ export function readListing(answers) {
 }
 
 /**
- * Returns the tables of a board in the bench's spelling, in which each value is valid JSON.
+ * Returns the TOML tables in the answer to `board`. The bench writes each value as valid JSON.
  * @param {string[]} answers
  * @returns {Record<string, any>[]}
  */

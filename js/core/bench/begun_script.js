@@ -1,4 +1,4 @@
-// Checks whether a session started with a script, and counts the lines of the script that the session has already received.
+// Checks whether a session started with a script, and counts the script lines that the session has already received.
 
 import { answeredScript } from "./answered_script.js";
 import { endOfInputs, opensText } from "./inputs.js";
@@ -10,13 +10,13 @@ import * as say from "../../words/bench.js";
  * @typedef {import("../engine/engine_host.js").EngineHost} EngineHost
  * @typedef {import("../engine/engine_host.js").State} State
  *
- * The number of lines of a script that a session has received. If the session did not start with the script, `words` is a message and
- * `differing` lists answers that differ: `<` marks the session's, `>` the script's.
+ * The number of script lines that a session has received. If the session did not start with the script, `words` is an error message, and `differing`
+ * lists answers that differ: `<` marks the answers of the session, `>` those of the script.
  * @typedef {{ lines: number, words: string, differing: string[] }} BegunScript
  */
 
 const BANKS = 8;
-/** Characters of lines that are served at once: between two pieces the user can interrupt. */
+/** The number of characters that are served at once: the user can interrupt between two pieces. */
 const PIECE_LENGTH = 4096;
 /** The maximum number of differing lines that are shown. */
 const MAX_SHOWN = 4;
@@ -24,7 +24,7 @@ const MAX_SHOWN = 4;
 const QUERIES = `seq\nboard\nstate\n${upTo(BANKS).map((bank) => `ram ${bank}\n`).join("")}${listQueries(PAGES)}`;
 
 /**
- * Splits the answer to `state` into a line for each key and value; returns all answers.
+ * Splits each `state` answer into one line per key and value; returns all answers.
  * @param {string[]} answers
  */
 function splitState(answers) {
@@ -35,8 +35,8 @@ function splitState(answers) {
 }
 
 /**
- * Returns the first lines that differ, each after `<` or `>`. If one list is longer, returns the lines between the common prefix and the
- * common suffix.
+ * Returns the first lines that differ, marked `<` or `>`. If the lists differ in length, returns the lines between the common prefix and the common
+ * suffix.
  * @param {string[]} actual
  * @param {string[]} expected
  */
@@ -55,7 +55,7 @@ export function differences(actual, expected) {
 }
 
 /**
- * Returns the number of script lines up to and including the accepted input with this count; -1 if fewer inputs are accepted.
+ * Returns the number of script lines up to the accepted input number `commands`; -1 if the script has fewer accepted inputs.
  * @param {import("./answered_script.js").AnsweredInput[]} inputs
  * @param {number} commands
  */
@@ -71,7 +71,7 @@ function linesUpTo(inputs, commands) {
 }
 
 /**
- * Serves lines in a new session, piece by piece; returns the state and the answers.
+ * Serves lines in a new session, piece by piece; returns the final state and the answers.
  * @param {EngineHost} engine
  * @param {string} lines
  * @param {() => Promise<any>} yieldToMessages called after each piece
@@ -90,9 +90,9 @@ async function serveScript(engine, lines, yieldToMessages) {
 }
 
 /**
- * Compares a session with a new session that serves the script up to the same number of commands.
+ * Compares a session with a new session that has served the same number of script commands.
  * @param {EngineHost} engine
- * @param {State} state of the session
+ * @param {State} state the state of the session
  * @param {string} script
  * @param {() => Promise<any>} yieldToMessages called after each piece of long work
  * @returns {Promise<BegunScript>}
@@ -108,8 +108,8 @@ export async function begunScript(engine, state, script, yieldToMessages) {
     const accepted = inputs.filter(({ answer }) => answer.startsWith("ok ")).length;
     return { lines: 0, words: say.acceptedMore(commands, accepted), differing: [] };
   }
-  const begun = await serveScript(engine, script.split("\n").slice(0, lines).map((line) => `${line}\n`).join(""), yieldToMessages);
-  const expected = engine.ask(begun.state, QUERIES).answers;
+  const sameStart = await serveScript(engine, script.split("\n").slice(0, lines).map((line) => `${line}\n`).join(""), yieldToMessages);
+  const expected = engine.ask(sameStart.state, QUERIES).answers;
   const differing = differences(splitState(actual), splitState(expected));
   return { lines, words: differing.length > 0 ? say.answersDiffer(commands) : "", differing };
 }

@@ -1,4 +1,4 @@
-// The page's access to the bench: requests to the worker and their replies. A worker that no longer answers is ended and replaced.
+// The page's access to the bench: sends requests to the worker and receives replies. A worker that stops answering is terminated and replaced.
 
 import { WorkerDied, unpackFault } from "./faults.js";
 
@@ -14,24 +14,24 @@ import { WorkerDied, unpackFault } from "./faults.js";
  * Options of a request: a signal that cancels it, and a callback for its progress.
  * @typedef {{ signal?: AbortSignal, progress?: (done: number, total: number) => void }} Ways
  *
- * The methods of a worker that the page uses.
+ * The worker methods that the page uses.
  * @typedef {{ postMessage: (message: ToWorker, transfer: Transferable[]) => void, terminate: () => void,
  *   addEventListener: (kind: string, listen: (event: any) => void) => void }} WorkerLike
  *
- * The callbacks for messages without a request: a frame at full speed, an error that stopped full speed, and a dead worker.
+ * Callbacks for messages without a request: a frame at full speed, an error that stopped full speed, and the death of the worker.
  * @typedef {{ frame: (frame: Frame) => void, failed: (fault: Error) => void, died: () => void }} Listener
  */
 
 /**
- * The type of an object that makes the requests named in `Part`: a caller declares only the requests that it needs.
+ * A caller for the requests in `Part`: a module declares only the requests that it uses.
  * @template Part
  * @typedef {{ call<Name extends CallName & keyof Part>(call: Name, words: Parameters<Requests[Name]>, ways?: Ways):
  *   Promise<Awaited<ReturnType<Requests[Name]>>> }} Caller
  */
 
-/** The milliseconds between pings of a worker with unanswered requests. */
+/** The interval between pings of a worker with unanswered requests, in milliseconds. */
 const PING_INTERVAL = 1000;
-/** The number of pings without an answer after which the worker counts as dead. */
+/** The number of unanswered pings after which the worker counts as dead. */
 const MAX_SILENT_PINGS = 10;
 
 /** The page's end of the connection to the worker. */
@@ -53,18 +53,18 @@ export class Bench {
     this.worker = null;
     this.number = 0;
     this.silent = 0;
-    /** True while the worker sends frames without a request, at full speed. */
+    /** True while the worker runs at full speed and sends frames without a request. */
     this.isRunning = false;
-    /** True if a silent worker never counts as dead: a request to the prover is one long piece of work. */
+    /** True if a silent worker never counts as dead: the prover is silent during its work. */
     this.isPatient = false;
     /** The size of a session file in bytes. */
     this.size = 0;
-    /** @type {ArrayBuffer[]} buffers of received files, which return to the worker with the next request */
+    /** @type {ArrayBuffer[]} buffers of received files; the next request returns them to the worker */
     this.spare = [];
     setInterval(() => this.watch(), PING_INTERVAL);
   }
 
-  /** Starts a worker. The promise resolves when the worker has loaded the module. */
+  /** Starts a worker. The promise resolves after the worker has loaded the module. */
   async start() {
     const worker = this.makeWorker();
     this.worker = worker;
@@ -82,7 +82,7 @@ export class Bench {
    * @template {CallName} Name
    * @param {Name} call
    * @param {Parameters<Requests[Name]>} words
-   * @param {Ways} [options] for a call that serves lines: a callback for its progress, and a signal that cancels it without any effect
+   * @param {Ways} [options] a progress callback, and a signal that cancels a call that serves lines; a cancelled call has no effect
    * @returns {Promise<Awaited<ReturnType<Requests[Name]>>>}
    */
   call(call, words, options = {}) {
@@ -126,7 +126,7 @@ export class Bench {
       waiting.progress(message.done, message.total);
       return;
     }
-    // An early result that overtakes replies to older requests is ignored: its request waits for the reply.
+    // An early result is ignored if older requests still wait for a reply: its request waits for the regular reply.
     if (message.kind === "early" && message.number !== this.oldest) return;
     this.waiting.delete(message.number);
     if (message.kind === "reply" && message.fault) waiting.fail(unpackFault(message.fault));
@@ -144,7 +144,7 @@ export class Bench {
   }
 
   /**
-   * Asks the worker to cancel a request. Ends the worker if it does not react.
+   * Asks the worker to cancel a request. Terminates the worker if it does not react in time.
    * @param {number} number
    */
   cancel(number) {
@@ -155,7 +155,7 @@ export class Bench {
     }, 2 * PING_INTERVAL);
   }
 
-  /** Pings a worker that has unanswered requests. The limit counts pings, not time, because the machine can sleep. */
+  /** Pings a worker with unanswered requests. The limit counts pings instead of time because the computer can sleep. */
   watch() {
     if (this.isPatient || (this.waiting.size === 0 && !this.isRunning)) {
       this.silent = 0;

@@ -1,5 +1,5 @@
-// The format of a board's text, defined once for the page: the keys of each part, their ranges, the maximum number of parts, and the lines
-// of each part. Only the bench decides whether a board is valid; a unit test compares each limit with the bench.
+// The format of a board text, defined once for the page: the keys of each part, their ranges, the maximum number of parts, and the lines of each
+// part. Only the bench decides whether a board is valid; a unit test compares each limit with the bench.
 
 import { upTo } from "./numbers.js";
 
@@ -7,7 +7,7 @@ import { upTo } from "./numbers.js";
  * @typedef {import("./answers.js").Board} Board
  * @typedef {"rom" | "ram" | "chain" | "keys" | "lamp"} Kind
  *
- * A line of the board: of a ROM's port, of a RAM chip's port, or a bit of a chain.
+ * A signal line of the board: of a ROM port, of a RAM port, or of a chain bit.
  * @typedef {{ name: string, kind: "rom" | "ram" | "bit", isInput: boolean }} BoardLine
  */
 
@@ -22,7 +22,7 @@ export const KEYS = {
 /** The kinds of parts, in the bench's order. */
 export const KINDS = /** @type {Kind[]} */ (Object.keys(KEYS));
 
-/** @type {Record<string, { from: number, to: number }>} the first and the last value of each numeric key, by part and key */
+/** @type {Record<string, { from: number, to: number }>} the range of each numeric key, by `part.key` */
 export const RANGES = {
   "rom.chip": { from: 0, to: 15 }, "ram.bank": { from: 0, to: 7 }, "ram.chips": { from: 1, to: 4 }, "chain.chips": { from: 1, to: 8 },
   "keys.chain": { from: 0, to: 3 }, "keys.first": { from: 0, to: 79 }, "keys.rows": { from: 1, to: 10 },
@@ -38,7 +38,7 @@ export const BITS_PER_CHIP = 10;
 const PORT_LINES = upTo(4);
 
 /**
- * Returns all lines of a board: ROMs first, then RAM, then chains.
+ * Returns all signal lines of a board: ROMs first, then RAM, then chains.
  * @param {Pick<Board, "roms" | "banks"> & { chains: { chips: number }[] }} board
  * @returns {BoardLine[]}
  */
@@ -59,7 +59,7 @@ export function boardLines({ roms, banks, chains }) {
   return lines;
 }
 
-/** The names of all lines that a board can have. */
+/** The names of all signal lines that a board can have. */
 export const LINE_NAMES = new Set(boardLines({
   roms: upTo(MAX_PARTS.rom).map((chip) => ({ chip, port: "0000" })),
   banks: upTo(MAX_PARTS.ram).map((bank) => ({ bank, chips: RANGES["ram.chips"].to })),

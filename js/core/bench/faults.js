@@ -1,4 +1,4 @@
-// The errors that a call to the bench can throw, in the page and in the worker, and their form in messages between the two.
+// The errors that a bench call can throw in the page and in the worker, and their representation in messages.
 
 import * as say from "../../words/bench.js";
 
@@ -11,33 +11,33 @@ export class BenchRefusal extends Error {
   }
 }
 
-/** The WebAssembly module trapped during a call; the module is restarted before this error is thrown. */
+/** The WebAssembly module trapped during a call. The module is restarted before this error is thrown. */
 export class BenchTrap extends Error {}
 
-/** The user cancelled a call; it had no effect. */
+/** The user cancelled a call. The call had no effect. */
 export class Cancelled extends Error {
   constructor() {
     super(say.IT_WAS_CANCELLED);
   }
 }
 
-/** The worker no longer answers. */
+/** The worker stopped answering. */
 export class WorkerDied extends Error {
   constructor() {
     super(say.WORKER_STOPPED);
   }
 }
 
-/** The number of the refusal for a failed allocation. */
+/** The refusal number for a failed allocation. */
 export const NO_MEMORY = 90;
 
 /**
- * The form of an error in a message.
+ * An error in a message between page and worker.
  * @typedef {{ kind: "refusal" | "trap" | "cancelled" | "other", words: string, number: number }} PackedFault
  */
 
 /**
- * Converts an error to its form in a message.
+ * Converts an error to its message representation.
  * @param {unknown} fault
  * @returns {PackedFault}
  */
@@ -49,7 +49,7 @@ export function packFault(fault) {
 }
 
 /**
- * Returns the error that a message carries.
+ * Converts an error from a message back to an exception.
  * @param {PackedFault} packed
  * @returns {Error}
  */

@@ -1,21 +1,21 @@
-// Splits lines into inputs, finds offsets at which lines can be cut, and matches answers to inputs.
+// Splits lines into inputs, finds offsets at which the lines can be divided, and matches answers to inputs.
 
 import { ANSWER_FORMS } from "./answer_table.js";
 import { LAST_ADDRESS, numberOf } from "./numbers.js";
 
-/** The maximum length of a line; the bench rejects a longer line whole. */
+/** The maximum line length in characters; the bench rejects longer lines. */
 export const MAX_LINE_LENGTH = 255;
-/** The numbers of refusals: a line is too long, or has a character outside ASCII. */
+/** The refusal numbers for a line that is too long, and for a line with a non-ASCII character. */
 export const LINE_TOO_LONG = 12;
 export const NOT_ASCII = 14;
-/** A character that the bench accepts in no line. */
+/** A character that the bench never accepts. */
 export const INVALID_CHARACTER = /[^\t -~]/u;
 /** The maximum number of places in a `trace` line. */
 export const MOST_PLACES = 16;
 const ONE_WORD = /^[ \t]*([a-z]+)[ \t]*$/;
 
 /**
- * A command or a query: its line, the words of that line, the first word (`kind`), and the lines of the text that follows.
+ * A command or query: its line, the words of the line, the first word (`kind`), and the lines of its text.
  * @typedef {{ line: string, words: string[], kind: string, text: string[] }} Input
  */
 
@@ -28,7 +28,7 @@ export function withoutReturn(whole) {
 }
 
 /**
- * Returns whether a text follows a line, up to a line with a dot.
+ * Returns whether a line opens a text. The text ends at a line with a dot.
  * @param {string} line
  */
 export function opensText(line) {
@@ -38,14 +38,14 @@ export function opensText(line) {
 }
 
 /**
- * Returns whether a line is `seq`. Sent after other lines, its answer marks the end of their answers.
+ * Returns whether a line is `seq`. A trailing `seq` marks the end of the previous answers.
  * @param {string} line
  */
 export function isSeq(line) {
   return /^[ \t]*seq[ \t]*$/.test(line);
 }
 
-/** The form of the answer to `seq`. */
+/** The pattern of the answer to `seq`. */
 export const SEQ_ANSWER = /^seq \d+$/;
 
 /**
@@ -84,10 +84,10 @@ export function readInputs(lines) {
 }
 
 /**
- * Returns the first offset at which an input ends and the piece from `from` has at least the wanted number of characters.
+ * Returns the first offset at which an input ends and at least `minLength` characters follow `from`.
  * @param {string} lines
- * @param {number} from the offset at which an input begins
- * @param {number} minLength the wanted number of characters
+ * @param {number} from the offset of the first input
+ * @param {number} minLength the minimum length of the piece in characters
  */
 export function endOfInputs(lines, from, minLength) {
   let at = from;
@@ -103,7 +103,7 @@ export function endOfInputs(lines, from, minLength) {
 }
 
 /**
- * Returns the address after the bytes in a line of a listing.
+ * Returns the address after the last byte of a listing line.
  * @param {string} answer
  */
 function endOfListingLine(answer) {
@@ -111,7 +111,7 @@ function endOfListingLine(answer) {
 }
 
 /**
- * Returns whether a line belongs to the same listing as the line before it. Addresses rise within a listing.
+ * Returns whether a line belongs to the same listing as the previous line. Addresses rise within a listing.
  * @param {string} before
  * @param {string} answer
  */
@@ -123,7 +123,7 @@ function continuesListing(before, answer) {
  * Returns the maximum number of lines in the answer to an input.
  * @param {Input} input
  * @param {string} first the first line of the answer
- * @param {string} count the column COUNT of the table of answers
+ * @param {string} count the COUNT column of the answer table
  */
 export function maxLines(input, first, count) {
   if (count === "all") return Infinity;
@@ -151,7 +151,7 @@ export function answerLength(input, answers, from) {
 }
 
 /**
- * Returns the lines of the answer to each input, in the order of the inputs; none for an input that was not served.
+ * Returns the answer lines of each input, in input order; an empty list for an input that was not served.
  * @param {Input[]} inputs
  * @param {string[]} answers
  */
@@ -166,7 +166,7 @@ export function matchAnswers(inputs, answers) {
 }
 
 /**
- * Joins lines to a text; each ends with a line feed.
+ * Joins lines into a text in which each line ends with a line feed.
  * @param {string[]} lines
  */
 export function joinLines(lines) {

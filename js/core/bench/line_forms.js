@@ -1,5 +1,4 @@
-// The grammar of the bench's lines: their words, and the ranges of their numbers. For a line that the bench rejects, `faultOfLine` names
-// the wrong word.
+// The grammar of bench lines: their words and number ranges. If the bench rejects a line, `faultOfLine` names the wrong word.
 
 import { ANSWER_FORMS } from "./answer_table.js";
 import { INVALID_CHARACTER, LINE_TOO_LONG, MAX_LINE_LENGTH, MOST_PLACES, NOT_ASCII } from "./inputs.js";
@@ -8,10 +7,10 @@ import { similarWords } from "../text/alike.js";
 import * as say from "../../words/lines.js";
 
 /**
- * The error in a line: the number of the refusal, and a message that names the wrong word.
+ * The error in a line: the refusal number, and a message that names the wrong word.
  * @typedef {{ number: number, words: string }} LineFault
  *
- * A kind of place: the form of its name, the maximum of each number in the name (`most`), and the maximum of its value (`value`).
+ * A kind of place: the pattern of its name, the maximum of each number in the name (`most`), and the maximum value (`value`).
  * @typedef {{ form: RegExp, most: number[], value: number }} PlaceForm
  * @typedef {[number, number]} Range the first and the last number
  */
@@ -29,7 +28,7 @@ const MAX_LISTED = 256;
 
 /** @type {(most: number) => Range} */
 const rangeTo = (max) => [0, max];
-/** @type {Record<string, Range[]>} the ranges of the numbers after the first word */
+/** @type {Record<string, Range[]>} the number ranges after the first word */
 const NUMBER_RANGES = {
   press: [rangeTo(MAX_BYTE), rangeTo(MAX_BYTE)],
   release: [rangeTo(MAX_BYTE), rangeTo(MAX_BYTE)],
@@ -45,7 +44,7 @@ const NUMBER_RANGES = {
 };
 const NUMERAL = "(0x[0-9a-fA-F]+|[0-9]+)";
 
-/** @type {(form: string, most: number[], value?: number) => PlaceForm} `N` in the form is a number */
+/** @type {(form: string, most: number[], value?: number) => PlaceForm} each `N` in the form stands for a number */
 const place = (form, most, value = 0) => ({ form: new RegExp(`^${form.replace(/\./g, "\\.").replace(/N/g, NUMERAL)}$`), most, value });
 /** The places that `poke` and `trace` accept. */
 const PLACE_FORMS = [
@@ -58,7 +57,7 @@ const TRACE_ONLY_FORMS = [
   place("lamps", []), place("ret", []), place("src", []), place("romN", [MAX_NIBBLE]), place("ramN.N", [MAX_BANK, 3]), place("chainN", [3]),
   place("romN.N", [MAX_NIBBLE, 3]), place("ramN.N.N", [MAX_BANK, 3, 3]), place("chainN.N", [3, 79]),
 ];
-/** The names of places for completion and for suggestions. A name that ends in a dot is incomplete. */
+/** Place names for completion and suggestions. A name that ends with a dot is incomplete. */
 export const POKE_NAMES = ["acc", "cy", "pc", "dcl", ...upTo(16).map((at) => `r${at}`), "rom.", "ram.", "st."];
 export const TRACE_NAMES = [...POKE_NAMES, "lamps", "ret", "src"];
 
@@ -66,7 +65,7 @@ export const TRACE_NAMES = [...POKE_NAMES, "lamps", "ret", "src"];
 const numeral = (word) => (new RegExp(`^${NUMERAL}$`).test(word) ? Number(word) : NaN);
 
 /**
- * Returns the error if a word is not a number in the range, otherwise null.
+ * Returns an error if a word is not a number in the range, otherwise null.
  * @param {string} word
  * @param {Range} range
  * @returns {LineFault | null}
@@ -77,7 +76,7 @@ function faultOfNumber(word, [first, last]) {
 }
 
 /**
- * Returns the kind of the place that a word names; null if it names none.
+ * Returns the kind of a place; null if the word is not a place.
  * @param {string} word
  * @param {PlaceForm[]} places
  */
@@ -86,7 +85,7 @@ function placeFormOf(word, places) {
 }
 
 /**
- * Returns whether the numbers in a place's name are in their ranges.
+ * Returns whether the numbers in a place name are in their ranges.
  * @param {string} word
  * @param {PlaceForm} found
  */
@@ -113,7 +112,7 @@ function faultOfPoke(word, value) {
 
 /**
  * Returns the error in the words after `trace`; null if there is none.
- * @param {string} count the cycles
+ * @param {string} count the number of cycles, as a numeral
  * @param {string[]} places
  */
 function faultOfTrace(count, places) {
@@ -126,7 +125,7 @@ function faultOfTrace(count, places) {
 }
 
 /**
- * Returns the error in the words of a line; null if there is none.
+ * Returns the error in a line, given as words; null if there is none.
  * @param {string[]} words
  * @returns {LineFault | null}
  */
@@ -143,7 +142,7 @@ function faultOfWords([first, ...words]) {
 }
 
 /**
- * Returns the first character of a line that the bench accepts in no line; "" if there is none.
+ * Returns the first character of a line that the bench never accepts; "" if there is none.
  * @param {string} line
  */
 export function invalidCharacterIn(line) {
@@ -151,7 +150,7 @@ export function invalidCharacterIn(line) {
 }
 
 /**
- * Returns the error in a line's syntax; null if it is correct. The bench can still reject the line, for example on another board.
+ * Returns the syntax error in a line; null if the syntax is correct. The bench can still reject the line, for example because of its board.
  * @param {string} line without a line feed
  * @returns {LineFault | null}
  */

@@ -1,5 +1,5 @@
-// Replaces names in lines: `@NAME` by the value of that name in the program, and `set PLACE = VALUE` by the lines that set the place.
-// Leaves the texts inside the lines unchanged.
+// Replaces names in lines: `@NAME` becomes the value of that program name, and `set PLACE = VALUE` becomes the lines that set the place. Texts inside
+// the lines do not change.
 
 import { readSetting } from "../conditions/setting.js";
 import { opensText, withoutReturn } from "./inputs.js";
@@ -10,7 +10,7 @@ import { inColumn } from "../../words/conditions.js";
 /**
  * @typedef {import("../machine/source_map.js").SourceMap} SourceMap
  *
- * The lines after the replacement. If a name is wrong, `words` is the first error message and `line` its line number; otherwise "" and 0.
+ * The lines after the replacement. If a name is wrong, `words` is the first error message and `line` its line number; otherwise they are "" and 0.
  * @typedef {{ lines: string, words: string, line: number }} Put
  */
 
@@ -20,7 +20,7 @@ const SET = /^\s*set(?!\S)(.*)$/;
 /**
  * Replaces the names in lines.
  * @param {string} lines
- * @param {SourceMap | null} map of the program in ROM; null if its names are unknown
+ * @param {SourceMap | null} map the source map of the program in ROM; null if unknown
  * @returns {Put}
  */
 export function replaceNames(lines, map) {
@@ -32,10 +32,10 @@ export function replaceNames(lines, map) {
   };
   /** @type {(text: string, at: number) => string} */
   const replaceIn = (text, at) => {
-    const set = SET.exec(text);
-    if (!set) return replaceNamesIn(text, at);
-    const { lines: setting, fault, column } = readSetting(set[1], map);
-    reportError(fault && `${inColumn(fault, column + text.length - set[1].length)}.`, at);
+    const setMatch = SET.exec(text);
+    if (!setMatch) return replaceNamesIn(text, at);
+    const { lines: setting, fault, column } = readSetting(setMatch[1], map);
+    reportError(fault && `${inColumn(fault, column + text.length - setMatch[1].length)}.`, at);
     return setting.trimEnd();
   };
   /** @type {(text: string, at: number) => string} */

@@ -1,9 +1,9 @@
-// Conversion of numbers to and from text.
+// Converts numbers to and from text.
 
 export const LAST_ADDRESS = 4095;
 
 /**
- * Returns a number in upper-case hexadecimal, padded with zeros.
+ * Formats a number in upper-case hexadecimal, padded with zeros.
  * @param {number} number
  * @param {number} digits the minimum number of digits
  */
@@ -20,9 +20,9 @@ export function numberOf(word) {
 }
 
 /**
- * Parses a count, which can contain commas; returns 0 if it is not from 1 to the maximum.
+ * Parses a count, which can contain commas. Returns 0 for other text or a count above `max`.
  * @param {string} text
- * @param {number} max the maximum
+ * @param {number} max the largest valid count
  */
 export function parseCount(text, max) {
   const plain = text.trim().replace(/,/g, "");
@@ -31,21 +31,21 @@ export function parseCount(text, max) {
 }
 
 /**
- * Formats a number with one decimal digit. A number halfway between two is rounded to the even digit, as `printf` does in C.
- * @param {number} value not negative
+ * Formats a number with one decimal digit. A tie is rounded to the even digit, like `printf` in C.
+ * @param {number} value zero or more
  */
 export function formatTenths(value) {
-  // Only odd multiples of 1/4 are exactly halfway in binary.
+  // Only odd multiples of 1/4 are exact ties in binary.
   if ((value * 4) % 2 !== 1) return value.toFixed(1);
   const lower = Math.floor(value * 10);
   return ((lower + (lower % 2)) / 10).toFixed(1);
 }
 
 /**
- * Returns a count with its noun: `1 line`, `1,543 cycles`.
+ * Formats a count with its noun: `1 line`, `1,543 cycles`.
  * @param {number} count
- * @param {string} singular the singular
- * @param {string} [plural] the plural
+ * @param {string} singular the noun in singular
+ * @param {string} [plural] the noun in plural
  */
 export function counted(count, singular, plural = `${singular}s`) {
   return `${count.toLocaleString("en")} ${count === 1 ? singular : plural}`;

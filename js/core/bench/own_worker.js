@@ -1,5 +1,5 @@
-// Runs long work in a separate worker, so that the worker of the session stays free. The separate worker exists only during the work;
-// stopping the work ends that worker at once.
+// Runs long work in a separate worker, so that the session worker stays responsive. The separate worker exists only during the work. Stopping the
+// work terminates the worker at once.
 
 import { WorkerDied } from "./faults.js";
 
@@ -7,7 +7,7 @@ import { WorkerDied } from "./faults.js";
  * @typedef {import("./bench_client.js").Bench} Bench
  * @typedef {import("../testing/prepared.js").TextFault} TextFault
  *
- * The end of the work: errors in the texts, which prevented the work, and whether the user stopped it.
+ * The result of the work: errors in the texts that prevented it, and whether the user stopped it.
  * @typedef {{ faults: TextFault[], isStopped: boolean }} Ended
  */
 
@@ -24,7 +24,7 @@ export class OwnWorker {
     this.made = null;
   }
 
-  /** The connection to the worker, made on first use. */
+  /** The connection to the worker, created on first use. */
   get bench() {
     if (!this.made) {
       this.made = this.makeBench();
@@ -34,8 +34,8 @@ export class OwnWorker {
   }
 
   /**
-   * Starts the worker, runs the work in it, and ends it.
-   * @param {AbortSignal} signal ends the worker at once
+   * Starts the worker, runs the work in it, and ends the worker.
+   * @param {AbortSignal} signal terminates the worker at once
    * @param {(bench: Bench) => Promise<TextFault[]>} work
    * @returns {Promise<Ended>}
    */

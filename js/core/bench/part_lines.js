@@ -1,4 +1,4 @@
-// Finds the parts of a board in its text, as ranges of lines. Parts are named `rom 1`, `ram 0` (a bank), `chain 0`, `keys` and `lamp 3`.
+// Finds the line range of each part in a board text. Part names are `rom 1`, `ram 0` (a bank), `chain 0`, `keys` and `lamp 3`.
 
 import { readBoardText } from "../text/board_reader.js";
 
@@ -8,16 +8,16 @@ import { readBoardText } from "../text/board_reader.js";
  */
 
 /**
- * The TOML key whose value is the part's number, by the kind of part. The other kinds are numbered in order.
+ * The TOML key that holds the number of a part, by part kind. Parts of other kinds are numbered in order.
  * @type {Record<string, string>}
  */
 const NUMBER_KEYS = { rom: "chip", ram: "bank" };
 const COUNTED_KINDS = ["chain", "lamp"];
 
 /**
- * Returns the name of a part, such as `rom 1`; "" for a table without a name.
+ * Returns the name of a part, such as `rom 1`; "" for a table that is not a named part.
  * @param {Entry} entry
- * @param {Record<string, number>} counts the parts so far of each kind that is numbered in order; updated
+ * @param {Record<string, number>} counts the parts found so far, for each kind numbered in order; updated
  */
 function nameOf({ table, keys }, counts) {
   const kind = table.replace(/[[\]]/g, "");
@@ -32,7 +32,7 @@ function nameOf({ table, keys }, counts) {
 }
 
 /**
- * Returns the range of lines of each part in a board's text. A part that is not finished can be missing.
+ * Returns the line range of each part in a board text. An unfinished part can be missing.
  * @param {string} text
  * @returns {Map<string, Lines>}
  */

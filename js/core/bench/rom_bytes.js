@@ -1,4 +1,4 @@
-// The bytes of ROM, from the answer to `list`.
+// Reads the bytes of ROM from the answers to `list`.
 
 import { readListing } from "./answers.js";
 import { LAST_ADDRESS, hex, upTo } from "./numbers.js";
@@ -9,11 +9,11 @@ export const PAGE_BYTES = 256;
 export const PAGES = upTo(ADDRESSES / PAGE_BYTES);
 /** The maximum number of lines in the answer to `list`. */
 export const MAX_LISTED = 256;
-/** The value for an address that no line lists. */
+/** The value for an address that is not in the listing. */
 export const NO_BYTE = -1;
 
 /**
- * Returns the queries for the bytes of ROM pages.
+ * Returns the `list` queries for some ROM pages.
  * @param {number[]} pages
  */
 export function listQueries(pages) {
@@ -21,7 +21,7 @@ export function listQueries(pages) {
 }
 
 /**
- * Returns the bytes in the answers to `list`, by address; `NO_BYTE` for an address that no line lists.
+ * Returns the bytes in `list` answers, by address; `NO_BYTE` for an address that is not in the listing.
  * @param {string[]} answers
  */
 export function bytesOf(answers) {

@@ -1,5 +1,5 @@
-// Reads ROM images in S-records and in BNPF, the format in which customers sent 4001 masks to Intel. Writes BNPF. Detects the format of an
-// image from its first bytes and its name.
+// Reads ROM images in the S-record format and the BNPF format; customers sent 4001 masks to Intel in BNPF. Writes BNPF. Detects the image format from
+// the first bytes and the file name.
 
 import { hex } from "./numbers.js";
 import { ImageBytes, NotARecord, NotAnImage, readLines } from "./rom_image.js";
@@ -9,12 +9,12 @@ import * as say from "../../words/bench.js";
 
 // --- S-records ---
 
-/** The number of address bytes, by the type of a data record. */
+/** The number of address bytes, by data record type. */
 const ADDRESS_SIZES = new Map([["1", 2], ["2", 3], ["3", 4]]);
 const END_TYPES = ["7", "8", "9"];
 
 /**
- * Puts the bytes of a record into the image; returns whether it is the last record.
+ * Stores the bytes of a record in the image; returns whether it is an end record.
  * @param {string} record
  * @param {ImageBytes} image
  */
@@ -33,9 +33,9 @@ function storeSRecord(record, image) {
 }
 
 /**
- * Parses S-records; returns the bytes of the image. Throws `NotAnImage` for an error.
+ * Parses S-records; returns the image bytes. Throws `NotAnImage` for an error.
  * @param {string} text
- * @param {number} [offset] is added to each address
+ * @param {number} [offset] added to each address
  */
 export function readSRecords(text, offset = 0) {
   const image = new ImageBytes(offset);
@@ -54,11 +54,11 @@ export function readSRecords(text, offset = 0) {
 // --- BNPF ---
 
 const WORD_LENGTH = 9;
-/** The text after the `B` of a word: three letters of the word, or the end of the line after fewer. */
+/** The text after the `B` of a BNPF word: three letters of the word, or fewer at the end of the line. */
 const AFTER_B = /[ \t]*(?:[NP][ \t]*[NP][ \t]*[NP]|(?:[NP][ \t]*)?(?:[NP][ \t]*)?$)/iy;
 
 /**
- * Returns whether a word begins at a `B`; false for a `B` in a comment, such as the word `BNPF`.
+ * Returns whether a BNPF word begins at a `B`. A `B` in a comment, as in the word `BNPF`, does not begin one.
  * @param {string} line
  * @param {number} at
  */
@@ -69,8 +69,8 @@ function beginsWord(line, at) {
 }
 
 /**
- * Parses BNPF; returns the bytes of the image. A word is `B`, eight letters `P` (1) or `N` (0), the highest bit first, and `F`. A word can
- * continue on the next line. Anything between words is ignored.
+ * Parses BNPF; returns the image bytes. A word is `B`, eight letters `P` (1) or `N` (0) with the highest bit first, and `F`. A word can continue on
+ * the next line. Text between words is ignored.
  * @param {string} text
  * @param {number} [from] the address of the first word
  */
@@ -98,19 +98,19 @@ export function readBnpf(text, from = 0) {
 }
 
 /**
- * Returns a byte as a word of BNPF.
+ * Formats a byte as a BNPF word.
  * @param {number} byte
  */
 function bnpfWord(byte) {
   return `B${byte.toString(2).padStart(8, "0").replace(/1/g, "P").replace(/0/g, "N")}F`;
 }
 
-/** The number of words on a written line. */
+/** The number of BNPF words per written line. */
 const WORDS_PER_LINE = 4;
 
 /**
- * Writes a range of bytes as BNPF. Each line starts with the address of its first word, as a comment.
- * @param {Int16Array} bytes by address
+ * Formats a range of bytes as BNPF. Each line starts with the address of its first word, as a comment.
+ * @param {Int16Array} bytes the bytes, by address
  * @param {number} from the first address
  * @param {number} count
  */
@@ -130,7 +130,7 @@ const hasOnly = (bytes, is) => bytes.every(is);
 const isTextByte = (/** @type {number} */ byte) => byte === 9 || byte === 10 || byte === 13 || (byte >= 32 && byte < 127);
 
 /**
- * Returns whether bytes are a text in ASCII or UTF-8. UTF-8 counts only with a line feed.
+ * Returns whether bytes are ASCII or UTF-8 text. Non-ASCII text must contain a line feed.
  * @param {Uint8Array} bytes
  */
 function isText(bytes) {
@@ -146,7 +146,7 @@ function isText(bytes) {
 }
 
 /**
- * Returns the format of an image, from its name and its first bytes; null for a text in an unknown format.
+ * Returns the image format, detected from the name and the first bytes; null for text in an unknown format.
  * @param {string} name
  * @param {Uint8Array} bytes
  * @returns {ImageForm | null}

@@ -1,26 +1,26 @@
-// Reads ROM images in raw bytes and in Intel HEX, and writes Intel HEX. (S-records and BNPF: rom_formats.js.)
+// Reads raw ROM images and Intel HEX; writes Intel HEX. (For S-records and BNPF, see rom_formats.js.)
 
 import { ADDRESSES, NO_BYTE } from "./rom_bytes.js";
 import { hex } from "./numbers.js";
 import * as say from "../../words/bench.js";
 
-/** The error for bytes that are not an image. */
+/** An error in a ROM image. */
 export class NotAnImage extends Error {}
 
-/** The error for a line that is not a record: the file can be in another format. */
+/** A line that is not a record: the file can have another format. */
 export class NotARecord extends NotAnImage {}
 
-/** The maximum number of data bytes in a written record. */
+/** The maximum number of data bytes per written record. */
 const BYTES_PER_RECORD = 16;
 /** The record types for data, and for the end of the file. */
 const DATA_TYPE = 0;
 const END_TYPE = 1;
-/** The record types for segments and upper address halves; their values must be 0 for a 4004. */
+/** The record types for segment and linear base addresses; their values must be 0 for a 4004. */
 const BASE_TYPES = [2, 4];
 /** The record types for a program's start address, which linkers write. Such records are ignored: the 4004 starts at 000. */
 const START_TYPES = [3, 5];
 
-/** The bytes of an image that is being read. */
+/** The bytes of an image during reading. */
 export class ImageBytes {
   /** @param {number} offset added to each address */
   constructor(offset) {
@@ -33,7 +33,7 @@ export class ImageBytes {
   }
 
   /**
-   * Stores bytes from an address on. Throws `NotAnImage` for an address outside ROM or one that already has a byte.
+   * Stores bytes from an address on. Throws `NotAnImage` if an address is outside ROM or already has a byte.
    * @param {number} address
    * @param {ArrayLike<number>} data
    */
@@ -64,7 +64,7 @@ export function readBytes(file, from = 0) {
 }
 
 /**
- * Reads a text line by line; adds the line number to the message of a `NotAnImage` error.
+ * Calls `read` for each line of a text. Adds the line number to the message of a `NotAnImage` error.
  * @param {string} text
  * @param {(line: string) => void} read
  */
@@ -80,7 +80,7 @@ export function readLines(text, read) {
 }
 
 /**
- * Parses a record of Intel HEX. Throws `NotARecord`, or `NotAnImage` for a wrong checksum.
+ * Parses an Intel HEX record. Throws `NotARecord`, or `NotAnImage` for a wrong checksum.
  * @param {string} text
  * @returns {{ address: number, type: number, data: number[] }}
  */
@@ -97,12 +97,12 @@ function readRecord(text) {
   return { address: high * 256 + low, type, data: bytes.slice(4, -1) };
 }
 
-/** The number of data bytes in a record, for the types that fix it. */
+/** The number of data bytes per record, for types with a fixed size. */
 const DATA_SIZES = new Map([[END_TYPE, 0], ...BASE_TYPES.map((type) => /** @type {[number, number]} */ ([type, 2])),
   ...START_TYPES.map((type) => /** @type {[number, number]} */ ([type, 4]))]);
 
 /**
- * Stores the bytes of a data record, and checks a record of another known type. Throws `NotAnImage` for an error.
+ * Stores a data record, and checks records of the other known types. Throws `NotAnImage` for an error.
  * @param {{ address: number, type: number, data: number[] }} record
  * @param {ImageBytes} image
  */
@@ -115,9 +115,9 @@ function storeRecord({ address, type, data }, image) {
 }
 
 /**
- * Parses Intel HEX; returns the bytes of the image. Throws `NotAnImage` for an error.
+ * Parses Intel HEX; returns the image bytes. Throws `NotAnImage` for an error.
  * @param {string} text
- * @param {number} [offset] is added to each address
+ * @param {number} [offset] added to each address
  */
 export function readHex(text, offset = 0) {
   const image = new ImageBytes(offset);
@@ -136,7 +136,7 @@ export function readHex(text, offset = 0) {
 }
 
 /**
- * Writes a record of Intel HEX.
+ * Formats an Intel HEX record.
  * @param {number} address
  * @param {number} type
  * @param {number[]} data
@@ -148,7 +148,7 @@ function formatRecord(address, type, data) {
 }
 
 /**
- * Writes bytes as Intel HEX, without the addresses that have no byte. A record has at most 16 bytes.
+ * Formats bytes as Intel HEX; addresses without a byte are left out. A record has at most 16 data bytes.
  * @param {Int16Array} bytes
  */
 export function writeHex(bytes) {

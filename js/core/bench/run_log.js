@@ -1,9 +1,9 @@
-// The lines that running time served, for the console: each key change as one entry, and consecutive runs together as one.
+// A console log of the lines that running time served: one entry per key change, and one entry for consecutive runs.
 
 import * as say from "../../words/bench.js";
 
 /**
- * Served lines, with the last answer. `runs` is the number of consecutive `run` lines; 0 for a line of another kind.
+ * Served lines with the last answer. `runs` is the number of consecutive `run` lines, 0 for any other line.
  * @typedef {{ line: string, answer: string, runs: number, cycles: number }} RanEntry
  */
 
@@ -15,7 +15,7 @@ export class RunLog {
   }
 
   /**
-   * Appends entries. A run after a run is added to the last entry.
+   * Appends entries. Merges consecutive runs into one entry.
    * @param {RanEntry[]} entries
    */
   add(entries) {
@@ -40,7 +40,7 @@ export class RunLog {
 }
 
 /**
- * Returns the text of an entry for the console.
+ * Returns the console text of an entry.
  * @param {RanEntry} entry
  */
 export function wordsOfRuns({ line, runs, cycles }) {

@@ -1,4 +1,4 @@
-// The snapshot of a session: its queries, and the changes from one snapshot to the next.
+// Reads snapshots of a session: their queries, and the changes between two snapshots.
 
 import { readRam } from "./answers.js";
 import { matchAnswers } from "./inputs.js";
@@ -16,7 +16,7 @@ import { itemsOf, partsOfState, portsOf, registersOf } from "./state_line.js";
  */
 
 /**
- * Returns the queries of a snapshot for a board.
+ * Returns the snapshot queries for a board.
  * @param {Pick<Board, "banks">} board
  */
 export function snapshotQueries(board) {
@@ -24,7 +24,7 @@ export function snapshotQueries(board) {
 }
 
 /**
- * Returns the answer to each query of a snapshot, its lines joined to one text.
+ * Returns one text for each query of a snapshot: its answer lines, joined.
  * @param {Input[]} inputs the queries
  * @param {string[]} answers
  */
@@ -32,12 +32,12 @@ export function snapshotOf(inputs, answers) {
   return matchAnswers(inputs, answers).map((lines) => lines.join("\n"));
 }
 
-/** @type {StateParts} the parts before the first snapshot */
+/** @type {StateParts} the initial parts, before the first snapshot */
 const NO_PARTS = { registers: "", test: "", ports: "", keys: "", lamps: "", breaks: "", watches: "" };
 
 /**
- * Reads snapshots and returns the changes between them. Each snapshot is read for the front panel. The other parts are read only from
- * snapshots that are drawn.
+ * Reads snapshots and returns the changes between them. Front-panel changes are read from each snapshot. The other parts are read only from drawn
+ * snapshots.
  */
 export class SnapshotReader {
   constructor() {
@@ -51,14 +51,14 @@ export class SnapshotReader {
     this.registers = null;
   }
 
-  /** Forgets the last snapshot: the next one counts as changed in all parts. */
+  /** Forgets the last snapshot, so that the next snapshot counts as changed in all parts. */
   forget() {
     this.snapshot = this.before = [];
     this.parts = this.partsBefore = NO_PARTS;
   }
 
   /**
-   * Stores a snapshot; returns the changes in the front panel since the last snapshot.
+   * Stores a snapshot; returns the front-panel changes since the previous snapshot.
    * @param {string[]} snapshot
    * @returns {ChangedFront}
    */
@@ -76,7 +76,7 @@ export class SnapshotReader {
   }
 
   /**
-   * Returns the changes in all other parts of the last snapshot since the last call.
+   * Returns the changes in all other parts of the snapshot since the previous call.
    * @returns {Changed}
    */
   readRest() {

@@ -1,4 +1,4 @@
-// Parses the answer to `state`: one line with keys and values in a fixed order, for everything except ROM and RAM.
+// Parses the answer to `state`: one line of keys and values in a fixed order. It covers everything except ROM and RAM.
 
 import { readRegisters } from "./answers.js";
 
@@ -6,8 +6,8 @@ import { readRegisters } from "./answers.js";
  * @typedef {import("./answers.js").Ports} Ports
  * @typedef {import("./answers.js").Registers} Registers
  *
- * The parts of the line that are shown separately, as unparsed text: an unchanged part is not parsed again. The level of the TEST pin is
- * also part of `registers`, and the keys that are down are also part of `ports`.
+ * The parts of the line as unparsed text. An unchanged part is not parsed again. `registers` also contains the TEST level, and `ports` also contains
+ * the pressed keys.
  * @typedef {{ registers: string, test: string, ports: string, keys: string, lamps: string, breaks: string, watches: string }} StateParts
  */
 
@@ -26,7 +26,7 @@ export function partsOfState(answer) {
 }
 
 /**
- * Returns the value of a key of the line, as unparsed text.
+ * Returns the value of a key in the line, as unparsed text.
  * @param {string} answer
  * @param {string} key
  */
@@ -37,15 +37,15 @@ export function valueIn(answer, key) {
 }
 
 /**
- * Removes the count of commands from the line, to compare the states of two sessions.
- * @param {string} answer to `state`; other answers can follow in the same text
+ * Removes the command count from the line, so that states of two sessions can be compared.
+ * @param {string} answer the answer to `state`; other answers can follow in the same text
  */
 export function withoutSeq(answer) {
   return answer.replace(/^state seq \d+ /, "");
 }
 
 /**
- * Returns the items of a value that is a list; none for `-`.
+ * Returns the items of a list value; an empty list for `-`.
  * @param {string} value
  */
 export function itemsOf(value) {
@@ -53,7 +53,7 @@ export function itemsOf(value) {
 }
 
 /**
- * Parses the part of the line with the registers.
+ * Parses the register part of the line.
  * @param {string} part
  * @returns {Registers}
  */
@@ -63,7 +63,7 @@ export function registersOf(part) {
 
 /**
  * Parses the part of the line with ports, chains and keys.
- * @param {string} part from the value of `src` on
+ * @param {string} part the text after `src`
  * @returns {Ports}
  */
 export function portsOf(part) {

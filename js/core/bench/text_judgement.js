@@ -1,15 +1,15 @@
-// Parses the answers to `wiring` and `errors`, which check a text and change nothing.
+// Parses the answers to `wiring` and `errors`. Both queries check a text without any change to the session.
 
 /**
- * The error in a board's text.
+ * The error in a board text.
  * @typedef {object} BoardError
- * @property {number} number of the refusal, as in the answer to `wire`
- * @property {number} line from 1; 0 if none is named
- * @property {string} section the name of the table with the error, such as `lamp`; "" for a key outside tables and for invalid TOML
- * @property {number} index the table's number among those with the same name, from 1; 0 if the answer gives none
+ * @property {number} number the refusal number, as in the answer to `wire`
+ * @property {number} line the line number from 1; 0 if the answer has none
+ * @property {string} section the name of the wrong table, such as `lamp`; "" for a key outside tables and for invalid TOML
+ * @property {number} index the number of the table among tables with the same name, from 1; 0 if the answer has none
  * @property {string} key the wrong key; "" if the error is in the table itself
  *
- * The error in a line of a program: the line number from 1, and the number of the refusal.
+ * The error in a program line: the line number from 1, and the refusal number.
  * @typedef {{ line: number, number: number }} LineError
  */
 
@@ -18,7 +18,7 @@ export const MAX_ERRORS = 100;
 const WIRING_REFUSAL = /^no (\d+)(?: line (\d+))?(?: (rom|ram|chain|keys|lamp))?(?: (\d+))?(?: key (\S+))?$/;
 
 /**
- * Parses the answer to `wiring`; returns null if the text is valid.
+ * Parses the answer to `wiring`. Returns null if the text is valid.
  * @param {string} answer
  * @returns {BoardError | null}
  */
@@ -28,7 +28,7 @@ export function readWiring(answer) {
 }
 
 /**
- * Parses the answer to `errors`.
+ * Parses the answer to `errors`. Returns an empty list if the text is valid.
  * @param {string[]} answers
  * @returns {LineError[]}
  */

@@ -1,18 +1,18 @@
-// Texts for users: the messages of refusals and errors, and durations.
+// Texts for users: messages for refusals and errors, and durations.
 
 import { BenchRefusal, BenchTrap, Cancelled, WorkerDied } from "./faults.js";
 import { counted } from "./numbers.js";
 import * as say from "../../words/bench.js";
 
-/** The messages of refusals and errors. */
+/** Messages for refusals and errors. */
 export class Words {
-  /** @param {Record<string, string>} refusals the meaning of each refusal, by its number */
+  /** @param {Record<string, string>} refusals the refusal meanings, by refusal number */
   constructor(refusals) {
     this.refusals = refusals;
   }
 
   /**
-   * Returns the meaning of a refusal.
+   * Returns the meaning of a refusal number.
    * @param {number} number
    */
   ofRefusal(number) {
@@ -20,7 +20,7 @@ export class Words {
   }
 
   /**
-   * Returns the message for an error; for a refusal, with its number.
+   * Returns the error message. The message for a refusal includes its number.
    * @param {unknown} fault
    */
   ofFault(fault) {
@@ -31,7 +31,7 @@ export class Words {
   }
 
   /**
-   * Returns the message for a failed call to the session.
+   * Returns the message after a failed call to the session.
    * @param {unknown} fault
    */
   ofFailure(fault) {
@@ -44,7 +44,7 @@ export class Words {
 }
 
 /**
- * Returns the text for the number of errors in a text.
+ * Returns the number of errors as text, such as `2 faults`.
  * @param {number} count
  */
 export function countOfFaults(count) {
@@ -52,7 +52,7 @@ export function countOfFaults(count) {
 }
 
 /**
- * Returns a duration in its two largest units, such as `1 hour 2 minutes`; "" below half a second.
+ * Formats a duration with its two largest units, such as `1 hour 2 minutes`; "" for less than half a second.
  * @param {number} milliseconds
  */
 export function wordsOfTime(milliseconds) {

@@ -1,29 +1,29 @@
-// Announcements for screen readers. A text is announced once it has not changed for a while; texts that change earlier are skipped.
+// Announcements for screen readers. A text is announced after it has been unchanged for STILL_TIME. Texts that change earlier are skipped.
 
-/** The milliseconds without a change before a text is announced, and the minimum time between announcements. */
+/** The time without a change before an announcement, and the minimum time between announcements, in milliseconds. */
 export const STILL_TIME = 1000;
 
-/** Announces one changing text, such as a display. */
+/** Announces one changing text, such as a display text. */
 export class Announcer {
   /** @param {(text: string) => void} say announces a text */
   constructor(say) {
     this.say = say;
     this.text = "";
     this.announced = "";
-    /** True before the first text of a board, which is not announced. */
+    /** True until the first text of a board arrives. The first text is not announced. */
     this.isFirst = true;
     /** True if the text has not changed since the timer started. */
     this.isStill = true;
     this.timer = 0;
   }
 
-  /** Starts with another board, whose first text is not announced. */
+  /** Starts with a new board. The first text of a board is not announced. */
   begin() {
     this.isFirst = true;
   }
 
   /**
-   * Sets the text, to be announced once it is still.
+   * Sets the text. It is announced after it stays unchanged for STILL_TIME.
    * @param {string} text
    */
   announce(text) {
@@ -43,7 +43,7 @@ export class Announcer {
     this.timer = Number(setTimeout(() => this.onTimer(), STILL_TIME));
   }
 
-  /** Announces the text if it was still while the timer ran, otherwise starts the timer again. */
+  /** Announces the text if it did not change while the timer ran; otherwise restarts the timer. */
   onTimer() {
     this.timer = 0;
     if (!this.isStill) {

@@ -1,4 +1,4 @@
-// The keys of a board: their positions, their legends, and the characters on the keyboard that press them.
+// The keys of a board: their positions, their legends, and the keyboard characters that press them.
 
 import { matrixKey, pinKey, textOfKey } from "./key_place.js";
 import * as say from "../../words/board.js";
@@ -9,25 +9,25 @@ import * as say from "../../words/board.js";
  *
  * @typedef {import("./key_place.js").Key} Key
  *
- * A key of the board, or the button or switch at its TEST pin. `words` is its description. `isNamed` is true if the front panel gives its
- * legend. `letter` is the character on the keyboard that presses it, "" for none.
+ * A key of the board, or the button or switch at the TEST pin. `words` is its description. `isNamed` is true if the front panel defines its legend.
+ * `letter` is the keyboard character that presses it, "" for none.
  * @typedef {{ key: Key, legend: string, words: string, isNamed: boolean, isSwitch: boolean, letter: string }} BoardKey
  */
 
-/** The characters for keys without a free character in their names, in order. */
-const LETTERS = "1234567890qwertyuiopasdfghjklzxcvbnm";
+/** The characters for keys whose names have no free character, in order. */
+const FALLBACK_LETTERS = "1234567890qwertyuiopasdfghjklzxcvbnm";
 
 /**
- * Returns the first free character for a key: from its name, otherwise from `LETTERS`; "" if none is free.
+ * Returns a free character for a key: the first one in its name, or else in `FALLBACK_LETTERS`; "" if none is free.
  * @param {string} name
  * @param {Set<string>} used
  */
 function freeLetter(name, used) {
-  return [...name.toLowerCase(), ...name.toUpperCase(), ...LETTERS].find((letter) => !used.has(letter)) || "";
+  return [...name.toLowerCase(), ...name.toUpperCase(), ...FALLBACK_LETTERS].find((letter) => !used.has(letter)) || "";
 }
 
 /**
- * Returns the keys of a board, row by row, and then the button or switch at the TEST pin, if the front panel has one.
+ * Returns the keys of a board, row by row, followed by the button or switch at the TEST pin if the front panel has one.
  * @param {Pick<Board, "rows" | "columns">} board
  * @param {Pick<Face, "keys" | "test">} face
  * @returns {BoardKey[]}
@@ -46,9 +46,9 @@ export function keysOf(board, face) {
       const key = matrixKey(row, column);
       const named = face.keys.get(textOfKey(key));
       const legend = named ? named.text.replace(/_/g, " ") : `${row}.${column}`;
-      const words = say.keyAt(legend, row, column);
+      const description = say.keyAt(legend, row, column);
       const letter = legend === "" ? "" : takeLetter(legend, named ? named.text : "");
-      keys.push({ key, legend, words, isNamed: Boolean(named && legend), isSwitch: false, letter });
+      keys.push({ key, legend, words: description, isNamed: Boolean(named && legend), isSwitch: false, letter });
     }
   }
   return face.test ? [...keys, testKey(face.test, takeLetter)] : keys;
@@ -61,21 +61,21 @@ export function keysOf(board, face) {
  */
 function testKey({ kind, name, level }, takeLetter) {
   const legend = name.replace(/_/g, " ");
-  const words = say.keyAtTest(kind, legend);
-  return { key: pinKey(level), legend, words, isNamed: true, isSwitch: kind === "switch", letter: takeLetter(legend, name) };
+  const description = say.keyAtTest(kind, legend);
+  return { key: pinKey(level), legend, words: description, isNamed: true, isSwitch: kind === "switch", letter: takeLetter(legend, name) };
 }
 
 /**
- * The legends that special keys of the keyboard press.
+ * The legends of the board keys that special keyboard keys press, by keyboard key.
  * @type {Record<string, string>}
  */
 const SPECIAL_KEYS = { Enter: "=", Escape: "C", Backspace: "CE", Delete: "CE", ",": "." };
 
 /**
- * Returns the board's key that a key of the keyboard presses; undefined if it presses none. A letter also presses a key of the other case.
+ * Returns the board key for a keyboard key; undefined if there is none. A letter also matches in the other case.
  * @template {BoardKey} Shown
  * @param {Shown[]} keys
- * @param {string} keyboardKey the keyboard event's `key`
+ * @param {string} keyboardKey the `key` of the keyboard event
  * @returns {Shown | undefined}
  */
 export function keyOfKeyboard(keys, keyboardKey) {

@@ -1,5 +1,5 @@
-// The perceived brightness of a board's lamps. A steady lamp is on or off at once. A flickering lamp has the brightness of its duty cycle.
-// Earlier light fades over the persistence of vision (`EYE_MS`).
+// Computes the perceived brightness of the lamps. A steady lamp is on or off at once. The brightness of a flickering lamp follows its duty cycle.
+// Earlier light fades with the persistence of vision (`EYE_MS`).
 
 import { fittingGroups, isScanned } from "./face_board.js";
 import { NOT_LIT, isLit } from "./digit_patterns.js";
@@ -12,16 +12,16 @@ import { EYE_MS } from "../time/mcs4_time.js";
  * @typedef {import("../engine/brightness_meter.js").ShownDisplay} ShownDisplay
  */
 
-/** The duty cycle from which a flickering lamp counts as on. */
+/** The minimum duty cycle at which a flickering lamp counts as on. */
 export const MIN_ON_DUTY = 0.5;
-/** The minimum milliseconds without a change before a lamp or a display can count as steady. */
+/** The minimum time without a change after which a lamp or display can count as steady, in milliseconds. */
 const MIN_REST = 2;
-/** The exponent from duty cycle to perceived brightness: the eye distinguishes dark lamps better than bright ones. */
+/** The exponent that relates duty cycle to perceived brightness: the eye distinguishes dark lamps better than bright ones. */
 const GAMMA = 2.2;
-/** The minimum duty cycle of each level of brightness: dim, half, full. */
+/** The minimum duty cycles of the brightness levels: dim, half, full. */
 const LEVELS = [0.01, 0.15, 0.6];
 export const FULL_LEVEL = LEVELS.length;
-/** The minimum duty cycle that is kept; a smaller one becomes 0. */
+/** The smallest stored duty cycle; smaller ones become 0. */
 const MIN_DUTY = 0.0001;
 const SEGMENTS = 8;
 
@@ -34,7 +34,7 @@ export function brightnessOf(duty) {
 }
 
 /**
- * Returns the level of brightness of a lamp: 0 for dark, otherwise 1 (dim) to `FULL_LEVEL`.
+ * Returns the brightness level of a lamp: 0 for dark, otherwise 1 (dim) to `FULL_LEVEL`.
  * @param {number} duty the duty cycle
  */
 export function levelOf(duty) {
@@ -42,22 +42,22 @@ export function levelOf(duty) {
 }
 
 /**
- * Decides whether a lamp or a display is steady: if it has not changed for the persistence of vision, or if its current rest is more than
- * twice its longest rest in the current series of changes. A single change is therefore perceived at once. Bits that are shifted in are
- * perceived at the end of the shift. A flickering lamp is never steady.
+ * Decides whether a lamp or display is steady. It is steady if it has not changed for the persistence of vision, or if the current rest is more than
+ * twice the longest rest in the current series of changes. A single change is therefore perceived at once. Bits that shift in are perceived at the
+ * end of the shift. A flickering lamp is never steady.
  */
 class Stillness {
   constructor() {
-    /** The milliseconds since the last change, and the longest rest between changes in the current series of changes. */
+    /** The milliseconds since the last change, and the longest rest in the current series of changes. */
     this.rest = Infinity;
     this.longest = 0;
   }
 
   /**
-   * Adds a period of time.
+   * Updates the rests with a period of time.
    * @param {Moved} moved the changes in the period
    * @param {number} cycles the length of the period in cycles
-   * @param {number} time the length of the period in milliseconds; Infinity if it does not follow the last period
+   * @param {number} time the length of the period in milliseconds; Infinity after a gap
    */
   add(moved, cycles, time) {
     if (time === Infinity) {
@@ -78,12 +78,12 @@ class Stillness {
   }
 }
 
-/** A digit as perceived. */
+/** A perceived digit. */
 export class SeenDigit {
   constructor() {
-    /** @type {Map<number, number>} the share of each pattern in the perceived picture */
+    /** @type {Map<number, number>} the shares of the patterns in the perceived picture */
     this.parts = new Map();
-    /** The pattern of a steady digit; NOT_LIT for a digit that changes. */
+    /** The pattern of a steady digit; NOT_LIT for a changing digit. */
     this.steady = NOT_LIT;
   }
 
@@ -99,8 +99,8 @@ export class SeenDigit {
   }
 
   /**
-   * Fades the picture.
-   * @param {number} remaining the share of the picture that remains
+   * Reduces the shares of all patterns in the picture.
+   * @param {number} remaining the factor for each share, from 0 to 1
    */
   fade(remaining) {
     this.steady = NOT_LIT;
@@ -111,20 +111,20 @@ export class SeenDigit {
   }
 
   /**
-   * Adds a pattern to the picture.
+   * Adds a share of a pattern to the picture.
    * @param {number} pattern
-   * @param {number} share its share
+   * @param {number} share the share of the pattern, from 0 to 1
    */
   add(pattern, share) {
     this.parts.set(pattern, (this.parts.get(pattern) || 0) + share);
   }
 
-  /** The pattern with the largest share; 0 (dark) if there is none. */
+  /** The pattern with the largest share; 0 (dark) if the picture is empty. */
   get pattern() {
     return this.longest.pattern;
   }
 
-  /** True if the pattern with the largest share has less than half of the picture. */
+  /** True if no pattern has at least half of the picture. */
   get isSmeared() {
     const total = [...this.parts.values()].reduce((sum, part) => sum + part, 0);
     return this.longest.part < MIN_ON_DUTY * total;
@@ -137,7 +137,7 @@ export class SeenDigit {
     return longest;
   }
 
-  /** The duty cycle of each segment, and of the decimal point. */
+  /** The duty cycles of the segments and the decimal point. */
   get segments() {
     const seen = new Array(SEGMENTS).fill(0);
     for (const [pattern, part] of this.parts) {
@@ -151,29 +151,29 @@ export class SeenDigit {
 export class Brightness {
   /**
    * @param {Face} face
-   * @param {number} count of the board's lamps
+   * @param {number} count the number of lamps on the board
    */
   constructor(face, count) {
     /** @type {number[]} the duty cycle of each lamp */
     this.lamps = new Array(count).fill(0);
-    /** @type {boolean[]} whether each lamp counts as on */
+    /** @type {boolean[]} true for each lamp that counts as on */
     this.isOn = [];
     const groups = fittingGroups(face, count);
     this.displays = groups.filter(({ kind }) => kind === "display");
-    /** @type {number[][]} the duty cycle of each lamp of other scanned groups, row by row */
+    /** @type {number[][]} the duty cycles of the lamps in other multiplexed groups, row by row */
     this.scanned = groups.filter((group) => isScanned(group) && group.kind !== "display")
       .map(({ rows, columns }) => new Array(rows * columns).fill(0));
     /** @type {SeenDigit[][]} */
     this.digits = [];
-    /** @type {Stillness[]} one for each lamp */
+    /** @type {Stillness[]} the stillness of the lamps */
     this.stillness = [];
-    /** @type {Stillness[]} one for each display */
+    /** @type {Stillness[]} the stillness of the displays */
     this.stillDisplays = [];
     this.begin("");
   }
 
   /**
-   * Starts with the lamps of an instant as the perceived picture.
+   * Resets the perceived picture to the lamps at one instant.
    * @param {string} marks a `*` for each lamp that is on
    */
   begin(marks) {
@@ -186,9 +186,9 @@ export class Brightness {
   }
 
   /**
-   * Adds the light of a period of time.
+   * Adds the light of a period to the picture.
    * @param {LitShares} litShares
-   * @param {number} time the length of the period in milliseconds; Infinity if it does not follow the last period
+   * @param {number} time the length of the period in milliseconds; Infinity after a gap
    */
   add(litShares, time) {
     const { cycles } = litShares;
@@ -199,7 +199,7 @@ export class Brightness {
       stillness.add(litShares.moved[at], cycles, time);
       const { isStill } = stillness;
       const isLitNow = isLit(litShares.marks, at);
-      // A lamp that goes off fades, so that a short flash stays visible.
+      // A lamp that goes out fades, so that a short flash stays visible.
       if (isStill && isLitNow) this.lamps[at] = 1;
       this.isOn[at] = isStill ? isLitNow : this.lamps[at] >= MIN_ON_DUTY;
     });
@@ -213,9 +213,9 @@ export class Brightness {
   /**
    * Updates duty cycles with the light of a period.
    * @param {number[]} parts the duty cycles, by lamp
-   * @param {number[]} lit the cycles in which each lamp was on
-   * @param {number} cycles the length of the period
-   * @param {number} remaining the share of the former picture that remains
+   * @param {number[]} lit the number of cycles for which each lamp was on
+   * @param {number} cycles the length of the period in cycles
+   * @param {number} remaining the share of the earlier picture that remains
    */
   fade(parts, lit, cycles, remaining) {
     for (let at = 0; at < parts.length; at++) {
@@ -228,8 +228,8 @@ export class Brightness {
    * Updates a display with the patterns of a period.
    * @param {number} at the index of the display
    * @param {ShownDisplay} shown
-   * @param {number} cycles the length of the period
-   * @param {number} remaining the share of the former picture that remains
+   * @param {number} cycles the length of the period in cycles
+   * @param {number} remaining the share of the earlier picture that remains
    */
   addDisplay(at, { patterns, moved, shown }, cycles, remaining) {
     const isStill = this.stillDisplays[at].isStill && !isScanned(this.displays[at]);
@@ -244,7 +244,7 @@ export class Brightness {
     });
   }
 
-  /** The pattern with the largest share, for each digit of each display. */
+  /** The patterns with the largest shares, by display and digit. */
   get patterns() {
     return this.digits.map((display) => display.map(({ pattern }) => pattern));
   }

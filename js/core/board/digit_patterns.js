@@ -1,4 +1,4 @@
-// The digits of a display as patterns: numbers in which segment a is 1, b is 2, up to g, which is 64. The decimal point is 128.
+// Display digits as patterns: bit masks with 1 for segment a, 2 for b, up to 64 for g, and 128 for the decimal point.
 
 import { SEGMENTS } from "./face_words.js";
 
@@ -6,19 +6,19 @@ import { SEGMENTS } from "./face_words.js";
 
 export const MINUS = 64;
 export const POINT = 128;
-/** The pattern of a multiplexed digit that is off at this instant, because its line is 0. */
+/** The pattern of a multiplexed digit whose digit line is currently 0. */
 export const NOT_LIT = -1;
 const LIT = "*".charCodeAt(0);
 
-/** @type {Map<number, string>} the character that each pattern of seven segments shows */
+/** @type {Map<number, string>} the characters of the seven-segment patterns */
 const CHARACTERS = new Map([...SEGMENTS].map(([marks, sign]) => [segmentsAt(marks, 0), sign]));
 /** The pattern for a BCD value above 9: segments a, b, e and g. */
 const INVALID_DIGIT = 1 + 2 + 16 + 64;
-/** The patterns of the digits 0 to 9, in the shape of a 7447. */
+/** The patterns of the digits 0 to 9, in the shapes of a 7447 decoder. */
 const DIGITS = [..."0123456789"].map(patternOf);
 
 /**
- * Returns the pattern that shows a digit, a minus or a blank; `INVALID_DIGIT` for any other character.
+ * Returns the pattern of a digit, a minus or a blank; `INVALID_DIGIT` for any other character.
  * @param {string} character
  */
 export function patternOf(character) {
@@ -28,15 +28,15 @@ export function patternOf(character) {
 
 /**
  * Returns whether a lamp is on.
- * @param {string} marks a `*` for each lamp that is on
- * @param {number} at the number of the lamp
+ * @param {string} marks one mark per lamp, `*` if the lamp is on
+ * @param {number} at the lamp number
  */
 export function isLit(marks, at) {
   return marks.charCodeAt(at) === LIT;
 }
 
 /**
- * Returns the pattern that seven lamps show, segment a first.
+ * Returns the pattern on seven lamps, segment a first.
  * @param {string} marks
  * @param {number} at the number of the first lamp
  */
@@ -47,7 +47,7 @@ function segmentsAt(marks, at) {
 }
 
 /**
- * Returns whether digits have a decimal point, from the number of lamps per digit.
+ * Returns whether digits with this number of lamps have a decimal point.
  * @param {number} columns
  */
 export function hasPoints(columns) {
@@ -55,7 +55,7 @@ export function hasPoints(columns) {
 }
 
 /**
- * Returns the value of four lamps, the most significant one first.
+ * Returns the value of four lamps, most significant first.
  * @param {string} marks
  * @param {number} at the number of the first lamp
  */
@@ -64,10 +64,9 @@ function valueAt(marks, at) {
 }
 
 /**
- * Returns the pattern of each digit at an instant. In a BCD display that is not multiplexed, leading zeros and a point after the last digit
- * are dark.
+ * Returns the pattern of each digit at one instant. A BCD display without multiplexing blanks leading zeros and a point after the last digit.
  * @param {Group} display
- * @param {string} marks a `*` for each lamp that is on
+ * @param {string} marks one mark per lamp, `*` if the lamp is on
  * @returns {number[]}
  */
 export function patternsAt(display, marks) {
@@ -75,7 +74,7 @@ export function patternsAt(display, marks) {
 }
 
 /**
- * Returns the patterns of multiplexed digits. All digits share their segment lines, so leading zeros are not dark.
+ * Returns the patterns of multiplexed digits. Leading zeros are not blanked because all digits share their segment lines.
  * @param {Group} display
  * @param {string} marks
  */
@@ -87,7 +86,7 @@ function multiplexedPatterns({ first, rows, columns, by }, marks) {
 }
 
 /**
- * Returns the patterns of digits that are not multiplexed.
+ * Returns the patterns of digits without multiplexing.
  * @param {Group} display
  * @param {string} marks
  */
@@ -110,7 +109,7 @@ function directPatterns({ first, rows, columns }, marks) {
 }
 
 /**
- * Returns the number that patterns show, without leading dark digits and without a point at the end. An unknown pattern becomes `?`.
+ * Returns the number that the patterns show, without leading blanks and without a trailing point. An unknown pattern becomes `?`.
  * @param {number[]} patterns
  */
 export function shownNumber(patterns) {

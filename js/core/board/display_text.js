@@ -1,14 +1,14 @@
-// The text of a board's displays, as `mcs4 display` prints it.
+// The text of the displays on a board, as `mcs4 display` prints it.
 
 import { isLit, patternsAt, shownNumber } from "./digit_patterns.js";
 
 /** @typedef {import("./face.js").Group} Group */
 
-/** Converts the lamps of a board to the text of its displays. */
+/** Converts the lamps of a board to its display text. */
 export class DisplayText {
   /**
    * @param {Group[]} displays
-   * @param {{ at: number, text: string }[]} names the numbers and names of lamps
+   * @param {{ at: number, text: string }[]} names the named lamps: their numbers and names
    */
   constructor(displays, names) {
     this.displays = displays;
@@ -16,17 +16,17 @@ export class DisplayText {
   }
 
   /**
-   * Returns the number on the displays, after a minus if the lamp `minus` is on, and the names of the other lamps that are on.
-   * @param {string} marks a `*` for each lamp that is on
+   * Returns the number on the displays and the names of the other lamps that are on. If the lamp `minus` is on, a minus precedes the number.
+   * @param {string} marks one mark per lamp, `*` if the lamp is on
    */
   read(marks) {
     return this.words(this.displays.map((display) => patternsAt(display, marks)), (at) => isLit(marks, at));
   }
 
   /**
-   * Returns the number and the names, as `read` does, for a perceived picture.
-   * @param {number[][]} patterns the patterns of each display
-   * @param {(lamp: number) => boolean} isSeen returns whether a lamp counts as on
+   * Returns the number and the names like `read`, for a perceived picture.
+   * @param {number[][]} patterns the digit patterns, by display
+   * @param {(lamp: number) => boolean} isSeen returns whether a lamp is perceived as on
    */
   words(patterns, isSeen) {
     let minus = "";
@@ -41,7 +41,7 @@ export class DisplayText {
 }
 
 /**
- * Joins the number and the names to one text.
+ * Joins the number and the names into one text.
  * @param {{ number: string, names: string }} read
  */
 export function wholeText({ number, names }) {

@@ -1,48 +1,48 @@
-// Parses the front panel of a board: names, colours and positions in the comments of its text. The syntax is defined in tools/lib/face.txt.
+// Parses the front panel of a board: the names, colours and positions in the comments of the board text. tools/lib/face.txt defines the syntax.
 
 import { COLOURS, fitsHead, fitsWords, headOf, isNumber, limit, messageOf, sizeOf, wordsOf } from "./face_words.js";
 import { matrixKey, textOfKey } from "./key_place.js";
 import * as say from "../../words/board.js";
 
 /**
- * An error in a line. `isRefused` is true if names or displays depend on the line: tools that need those reject the text.
+ * An error in a line. `isRefused` is true if names or displays depend on the line. Tools that need names or displays reject such a text.
  * @typedef {{ line: number, words: string, isRefused: boolean }} Fault
  * @typedef {import("./face_words.js").Kind} Kind
  * @typedef {import("./key_place.js").MatrixKey} MatrixKey
  * @typedef {{ text: string, line: number }} FaceText a name or a colour, and its line number
  * @typedef {{ row: number, column: number, lamp: number, line: number }} GridLamp
  *
- * A group of lamps from lamp `first` on: a display, a die, a bar or a matrix. In a display, each digit is a row, with four or seven columns
- * and one more for a decimal point. If `by` is -1, each lamp of the group has its own line. Otherwise the group is multiplexed: it has one
- * lamp for each column, and from lamp `by` on one lamp for each row. The group's lamp at a row and a column is on while
- * the board's lamps for that row and that column are both on.
+ * A group of lamps that starts at lamp `first`: a display, a die, a bar or a matrix. In a display, each row is a digit, with four or seven columns
+ * and one more for a decimal point. If `by` is -1, each lamp of the group has its own line. Otherwise the group is multiplexed: it has one board lamp
+ * per column, and one board lamp per row, starting at lamp `by`. A lamp of the group is on while the board lamps for its row and its column are both
+ * on.
  * @typedef {{ kind: string, first: number, rows: number, columns: number, by: number, line: number }} Group
  *
- * The `button` or `switch` at the TEST pin. `level` is the level of TEST while it is pressed.
+ * The `button` or `switch` at the TEST pin. `level` is the TEST level while it is pressed.
  * @typedef {{ kind: string, name: string, level: number, line: number }} TestPin
  *
- * A line of the front panel: the word that begins it, the first word after that, the text after the colon, and the line number.
+ * A front-panel line: its first word, the kind of that word, the second word, the text after the colon, and the line number.
  * @typedef {{ name: string, kind: Kind, first: string, words: string, line: number }} Line
  *
- * A printer: at each rising edge of its strobe, it prints the word for the code at its port.
+ * A printer. At each rising edge of the strobe line, it prints the word for the code at its port.
  * @typedef {{ strobe: string, port: string, words: string[], line: number }} Printer
  */
 
-/** The maximum number of words in all lists of names, colours and positions together: several times the need of a board. */
+/** The maximum number of words in all lists of names, colours and positions together; several times what a board needs. */
 const MAX_WORDS = limit("words");
 
 /** The front panel in a board's text. */
 export class Face {
-  /** @param {string} text of the board */
+  /** @param {string} text the board text */
   constructor(text) {
     this.title = "";
-    /** @type {Map<string, FaceText & { key: MatrixKey }>} the names of the keys by `row column`, "" for a position without a key */
+    /** @type {Map<string, FaceText & { key: MatrixKey }>} the key names, by `row column`; "" for a position without a key */
     this.keys = new Map();
-    /** @type {Map<number, FaceText>} the names of lamps, by number */
+    /** @type {Map<number, FaceText>} the lamp names, by number */
     this.lamps = new Map();
-    /** @type {Map<string, number>} the numbers of lamps, by name */
+    /** @type {Map<string, number>} the lamp numbers, by name */
     this.lampNumbers = new Map();
-    /** @type {Map<number, FaceText>} the colours of lamps, by number */
+    /** @type {Map<number, FaceText>} the lamp colours, by number */
     this.colours = new Map();
     /** @type {GridLamp[]} */
     this.grid = [];
@@ -54,19 +54,19 @@ export class Face {
     this.buzzer = null;
     /** @type {Printer | null} */
     this.printer = null;
-    /** @type {Map<string, FaceText>} the names of ports and chains, by `rom0`, `ram0.0` or `chain0` */
+    /** @type {Map<string, FaceText>} the names of ports and chains, by identifier (`rom0`, `ram0.0`, `chain0`) */
     this.ports = new Map();
     /** @type {Fault[]} */
     this.faults = [];
-    /** All lines of the front panel, to compare two front panels. */
+    /** All front-panel lines as one text, for comparisons. */
     this.comments = "";
-    /** @type {Map<string, number>} the line numbers of things that can be defined only once */
+    /** @type {Map<string, number>} the line numbers of definitions that can occur only once, by definition */
     this.lines = new Map();
     /** @type {{ row: number, column: number, word: string, line: number }[]} the words of grid lines */
     this.gridWords = [];
-    /** True if names or displays depend on the line that is being read. */
+    /** True if names or displays depend on the current line. */
     this.isRefused = false;
-    /** The number of words read from lists. When it exceeds the limit, reading stops. */
+    /** The number of words read from lists. Reading stops when the number exceeds MAX_WORDS. */
     this.wordCount = 0;
     text.split("\n").forEach((line, at) => this.read(line.replace(/\r$/, ""), at + 1));
     for (const word of this.gridWords) this.putOnGrid(word);
@@ -82,8 +82,8 @@ export class Face {
   }
 
   /**
-   * Returns whether a thing is defined for the first time; otherwise reports an error.
-   * @param {string} name of the thing
+   * Records a definition that can occur only once. Returns true for the first definition; otherwise reports an error and returns false.
+   * @param {string} name the identifier of the definition
    * @param {number} line
    * @param {string} words the name of the error message
    * @param {...(string | number)} about values for the error message
@@ -96,7 +96,7 @@ export class Face {
   }
 
   /**
-   * Reads a line of the board's text.
+   * Reads a line of the board text.
    * @param {string} text
    * @param {number} line
    */
@@ -115,7 +115,7 @@ export class Face {
   }
 
   /**
-   * Reads the title of the board.
+   * Reads the board title.
    * @param {string} text
    * @param {number} line
    */
@@ -124,7 +124,7 @@ export class Face {
   }
 
   /**
-   * Reads the names of a row of keys.
+   * Reads the key names of a row.
    * @param {number} row
    * @param {string} text
    * @param {number} line
@@ -140,7 +140,7 @@ export class Face {
   }
 
   /**
-   * Reads the names of lamps.
+   * Reads lamp names.
    * @param {number} first the number of the first lamp
    * @param {string} text
    * @param {number} line
@@ -162,7 +162,7 @@ export class Face {
   }
 
   /**
-   * Reads a list of colours, one for each lamp.
+   * Reads a list of colours for consecutive lamps.
    * @param {number} first the number of the first lamp
    * @param {string} text
    * @param {number} line
@@ -186,7 +186,7 @@ export class Face {
   }
 
   /**
-   * Sets the colours of lamps.
+   * Sets the colours of consecutive lamps.
    * @param {number} first the number of the first lamp
    * @param {Iterable<string>} words the colours; `_` for none
    * @param {number} line
@@ -206,7 +206,7 @@ export class Face {
   }
 
   /**
-   * Reads a row of the grid.
+   * Reads a grid row.
    * @param {number} row
    * @param {string} text
    * @param {number} line
@@ -221,7 +221,7 @@ export class Face {
   }
 
   /**
-   * Puts the lamp that a word names on the grid. Called when the names of all lamps are known.
+   * Places the lamp with this name or number on the grid. All lamp names must be known before this call.
    * @param {{ row: number, column: number, word: string, line: number }} word
    */
   putOnGrid({ row, column, word, line }) {
@@ -243,7 +243,7 @@ export class Face {
   }
 
   /**
-   * Returns whether a multiplexed group is within the limits and names no lamp twice; otherwise reports an error.
+   * Returns whether a multiplexed group is within the limits and uses each lamp only once; otherwise reports an error.
    * @param {Group} group
    */
   canBeScanned({ kind, first, rows, columns, by, line }) {
@@ -269,8 +269,8 @@ export class Face {
 
   /**
    * Reads the buzzer.
-   * @param {string} place the output line that drives it
-   * @param {string} text its name
+   * @param {string} place the output line that drives the buzzer
+   * @param {string} text the name of the buzzer
    * @param {number} line
    */
   readBuzzer(place, text, line) {
@@ -279,8 +279,8 @@ export class Face {
 
   /**
    * Reads the printer.
-   * @param {string} strobe the output line of its strobe
-   * @param {string} text the port, and the word for each code
+   * @param {string} strobe the strobe output line
+   * @param {string} text the port and the words for the codes
    * @param {number} line
    */
   readPrinter(strobe, text, line) {
@@ -315,7 +315,7 @@ function* repeated(word, count) {
 const readGroup = (face, line) => face.readGroup(line);
 
 /**
- * The method that reads a line, by the word that begins the line.
+ * The methods that read lines, by the first word of the line.
  * @type {Record<string, (face: Face, line: Line) => void>}
  */
 const READERS = {
@@ -332,7 +332,7 @@ const READERS = {
 };
 
 /**
- * Returns the errors in the front panel of a board's text, sorted by line.
+ * Returns the errors in the front panel of a board text, sorted by line.
  * @param {string} text
  * @returns {Fault[]}
  */
@@ -341,7 +341,7 @@ export function faceFaults(text) {
 }
 
 /**
- * Returns the message for the errors beyond the maximum, with their number; "" if there are none.
+ * Returns a message with the number of unlisted errors; "" if all errors are listed.
  * @param {unknown[]} faults
  * @param {number} most the maximum number of listed errors
  */

@@ -1,4 +1,4 @@
-// Compares a front panel with its board: parts that the board lacks, and the groups, names and colours of the lamps that it has.
+// Compares a front panel with its board: finds parts that the board does not have, and looks up the groups, names and colours of existing lamps.
 
 import { sortedByLine } from "./face.js";
 import { KINDS, messageOf } from "./face_words.js";
@@ -13,7 +13,7 @@ import { upTo } from "../bench/numbers.js";
  */
 
 /**
- * Returns whether the board has a ROM (`rom0`), a RAM chip (`ram0.0`) or a chain (`chain0`).
+ * Returns whether the board has a ROM (`rom0`), RAM chip (`ram0.0`) or chain (`chain0`).
  * @param {Board} board
  * @param {string} place
  */
@@ -38,7 +38,7 @@ export function hasOutput(board, line) {
 }
 
 /**
- * Returns the buzzer of a front panel; null if there is none, or if the board lacks its output line.
+ * Returns the buzzer of a front panel; null if it has none, or if its output line is missing on the board.
  * @param {Board} board
  * @param {Face} face
  */
@@ -47,7 +47,7 @@ export function buzzerOf(board, { buzzer }) {
 }
 
 /**
- * Returns the printer of a front panel; null if there is none, or if the board lacks one of its output lines.
+ * Returns the printer of a front panel; null if it has none, or if one of its output lines is missing on the board.
  * @param {Board} board
  * @param {Face} face
  */
@@ -56,7 +56,7 @@ export function printerOf(board, { printer }) {
 }
 
 /**
- * Returns the number after the last lamp of a group.
+ * Returns the number of the lamp after a group.
  * @param {Group} group
  */
 export function endOfGroup({ first, rows, columns, by }) {
@@ -64,7 +64,7 @@ export function endOfGroup({ first, rows, columns, by }) {
 }
 
 /**
- * Returns the numbers of a group's lamps.
+ * Returns the lamp numbers of a group.
  * @param {Group} group
  */
 export function lampsOfGroup({ first, rows, columns, by }) {
@@ -72,20 +72,20 @@ export function lampsOfGroup({ first, rows, columns, by }) {
   return by < 0 ? from(first, rows * columns) : [...from(first, columns), ...from(by, rows)];
 }
 
-/** @param {Group} group returns whether it is multiplexed */
+/** @param {Group} group returns whether the group is multiplexed */
 export const isScanned = ({ by }) => by >= 0;
 
 /**
- * Returns the groups whose lamps all exist on the board.
+ * Returns the groups whose lamps are all on the board.
  * @param {Face} face
- * @param {number} count of the board's lamps
+ * @param {number} count the number of lamps on the board
  */
 export function fittingGroups(face, count) {
   return face.groups.filter((group) => endOfGroup(group) <= count);
 }
 
 /**
- * Returns the number of the lamp that is the minus of a display; -1 if there is none.
+ * Returns the number of the minus lamp of a display; -1 if there is none.
  * @param {Face} face
  */
 export function minusLamp({ lampNumbers }) {
@@ -93,9 +93,9 @@ export function minusLamp({ lampNumbers }) {
 }
 
 /**
- * Returns the numbers of lamps that are neither in a group nor on the grid. The minus of a display counts as in a group.
+ * Returns the numbers of lamps that are neither in a group nor on the grid. The minus lamp counts as part of the display.
  * @param {Face} face
- * @param {number} count of the board's lamps
+ * @param {number} count the number of lamps on the board
  */
 export function looseLamps(face, count) {
   const groups = fittingGroups(face, count);
@@ -105,7 +105,7 @@ export function looseLamps(face, count) {
 }
 
 /**
- * Returns the lines of a printer: its strobe, and the four lines of its code.
+ * Returns the output lines of a printer: the strobe line and four code lines.
  * @param {import("./face.js").Printer} printer
  */
 export function linesOfPrinter({ strobe, port }) {
@@ -113,7 +113,7 @@ export function linesOfPrinter({ strobe, port }) {
 }
 
 /**
- * Returns an error for each part that the front panel names and the board lacks, sorted by line.
+ * Returns an error for each front-panel part that is missing on the board, sorted by line.
  * @param {Face} face
  * @param {Board} board
  * @returns {Fault[]}
@@ -131,7 +131,7 @@ export function missingParts(face, board) {
     add("row", line, board.rows ? "key not there" : "no keys", text, row, column, board.rows, board.columns);
   }
   for (const [lamp, { text, line }] of face.lamps) if (lamp >= count) add("lamp", line, "lamp not there", text, lamp, count);
-  for (const [line, lamp] of lastColours(face)) if (lamp >= count) add("colour", line, "no lamp for colour", lamp, count);
+  for (const [line, lamp] of lastColouredLamps(face)) if (lamp >= count) add("colour", line, "no lamp for colour", lamp, count);
   for (const { lamp, line } of face.grid) if (lamp >= count) add("grid", line, "no lamp for place", lamp, count);
   for (const group of face.groups) {
     if (endOfGroup(group) > count) add(group.kind, group.line, "no lamps for group", group.kind, endOfGroup(group) - 1, count);
@@ -146,8 +146,8 @@ export function missingParts(face, board) {
 }
 
 /**
- * Returns whether names or displays depend on a kind of line.
- * @param {string} kind the word that begins the line
+ * Returns whether names or displays depend on lines of this kind.
+ * @param {string} kind the first word of the line
  */
 function isRefused(kind) {
   const found = KINDS.get(kind);
@@ -155,28 +155,28 @@ function isRefused(kind) {
 }
 
 /**
- * Returns the name of each lamp; "" for a lamp without a name.
+ * Returns the lamp names by lamp number; "" for an unnamed lamp.
  * @param {Face} face
- * @param {number} count of the board's lamps
+ * @param {number} count the number of lamps on the board
  */
 export function lampNames(face, count) {
   return upTo(count).map((at) => (face.lamps.get(at) || { text: "" }).text.replace(/_/g, " "));
 }
 
 /**
- * Returns the colour of each lamp; "" if the front panel gives none.
+ * Returns the lamp colours by lamp number; "" for a lamp without a colour.
  * @param {Face} face
- * @param {number} count of the board's lamps
+ * @param {number} count the number of lamps on the board
  */
 export function lampColours(face, count) {
   return upTo(count).map((at) => (face.colours.get(at) || { text: "" }).text);
 }
 
 /**
- * Returns the last lamp that each line colours, by line number.
+ * Returns the number of the last lamp in each colour line, by line number.
  * @param {Face} face
  */
-function lastColours(face) {
+function lastColouredLamps(face) {
   /** @type {Map<number, number>} */
   const last = new Map();
   for (const [lamp, { line }] of face.colours) last.set(line, Math.max(lamp, last.get(line) || 0));

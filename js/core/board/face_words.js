@@ -1,25 +1,25 @@
-// The syntax of a front panel: the words that begin lines, the words after them, and the error messages. All are read from the table
-// tools/lib/face.txt, whose head explains the columns.
+// The syntax of the front panel: the first words of lines, the words after them, and the error messages. All of it comes from the table
+// tools/lib/face.txt; its header explains the columns.
 
 import table from "#face-table";
 
 /**
- * A kind of line. `head`: the form of the text between its first word and the colon (`N`, `N to N`, `place`, `line`, or `-` for none).
- * `counts`: its words count towards the limit. `isRefused`: names or displays depend on it. `size`: the meaning of its numbers. `words`:
- * the form of the words after the colon, null for any. `form` and `other`: the messages for a wrong head and for wrong words.
+ * A kind of line. `head`: the form of the text between the first word and the colon (`N`, `N to N`, `place`, `line`, or `-` for none). `counts`: true
+ * if the words count towards the limit. `isRefused`: true if names or displays depend on the line. `size`: the meaning of the numbers. `words`: the
+ * pattern of the text after the colon, null for any text. `form` and `other`: the messages for a wrong head and for wrong words.
  * @typedef {{ head: string, counts: boolean, isRefused: boolean, size: string, words: RegExp | null, form: string, other: string }} Kind
  */
 
 const rows = table.split("\n").filter((line) => line !== "" && !line.startsWith("#")).map((line) => line.split("\t"));
 
 /**
- * Returns the rows of the table that begin with a word, without that word.
+ * Returns the table rows that start with a word, without that word.
  * @param {string} word
  */
 const rowsOf = (word) => rows.filter((row) => row[0] === word).map((row) => row.slice(1));
 
 /**
- * Returns the word and the kind of line in a row of the table.
+ * Returns the first word and the kind of line from a table row.
  * @param {string[]} columns
  * @returns {[string, Kind]}
  */
@@ -30,25 +30,25 @@ function kindOf([word, head, counts, weight, size, words, form, other]) {
   }];
 }
 
-/** @type {Map<string, Kind>} the kinds of lines, by the words that begin them */
+/** @type {Map<string, Kind>} the kinds of lines, by first word */
 export const KINDS = new Map(rowsOf("kind").map(kindOf));
 export const COLOURS = new Set(rowsOf("colour").map(([word]) => word));
-/** @type {Map<string, string>} the character that segments a to g show, by their marks */
+/** @type {Map<string, string>} the characters of a seven-segment digit, by the marks of segments a to g */
 export const SEGMENTS = new Map(rowsOf("digit").map(([marks, sign]) => [marks, sign === "_" ? " " : sign]));
 const LIMITS = new Map(rowsOf("limit").map(([name, number]) => [name, Number(number)]));
 const HEADS = new Map(rowsOf("head").map(([name, expression]) => [name, new RegExp(expression)]));
-/** The word that each synonym means. */
+/** The synonyms of first words, mapped to the words that they replace. */
 const SYNONYMS = new Map(rowsOf("other").map(([word, meant]) => [word, meant]));
 const MESSAGES = new Map(rowsOf("say").map(([name, words]) => [name, words]));
-/** A line of a front panel: the word, the number or place, the number after `to`, and the text after the colon. */
+/** A front-panel line: the first word, the number or place, the number after `to`, and the text after the colon. */
 const LINE = /^[ \t]*#[ \t]*([A-Za-z]+)(?:[ \t]+([^ \t:]+)(?:[ \t]+to[ \t]+([^ \t:]+))?)?[ \t]*:(.*)$/i;
 
-/** @param {string} name of a limit; returns its value */
+/** @param {string} name a limit of the table; returns its value */
 export const limit = (name) => LIMITS.get(name) || 0;
 
 /**
  * Returns an error message.
- * @param {string} name of the message
+ * @param {string} name the name of the message
  * @param {...(string | number)} about values for `{1}`, `{2}` ..
  */
 export function messageOf(name, ...about) {
@@ -56,15 +56,15 @@ export function messageOf(name, ...about) {
   return about.reduce((/** @type {string} */ words, value, at) => words.replace(`{${at + 1}}`, () => String(value)), message);
 }
 
-/** @param {string} text is split at blanks and tabs */
+/** @param {string} text the text to split at blanks and tabs */
 export const wordsOf = (text) => text.split(/[ \t]+/).filter(Boolean);
 
-/** @param {string | undefined} word returns whether it is a decimal number of at most four digits */
+/** @param {string | undefined} word returns whether the word is a decimal number of at most four digits */
 export const isNumber = (word) => isHead("N", word);
 
 /**
- * Returns whether a word has the form of a head.
- * @param {string} name of the head
+ * Returns whether a word matches a head pattern.
+ * @param {string} name the name of the pattern
  * @param {string | undefined} word
  */
 function isHead(name, word) {
@@ -73,8 +73,8 @@ function isHead(name, word) {
 }
 
 /**
- * Returns whether the text between the first word of a line and the colon is correct.
- * @param {Kind} kind of the line
+ * Returns whether the text between the first word and the colon is correct.
+ * @param {Kind} kind the kind of the line
  * @param {string | undefined} first
  * @param {string | undefined} last the word after `to`
  */
@@ -85,7 +85,7 @@ export function fitsHead({ head }, first, last) {
 }
 
 /**
- * Returns whether a kind of line allows the words after the colon.
+ * Returns whether the words after the colon are correct for a kind of line.
  * @param {Kind} kind
  * @param {string[]} words
  */
@@ -94,8 +94,8 @@ export function fitsWords({ words: expression }, words) {
 }
 
 /**
- * Parses the words of a group. Returns its rows and columns, and the first lamp that scans it (-1 if none does). Returns null if the words
- * give no size.
+ * Parses the size of a group. Returns its rows and columns, and the first lamp that scans it (-1 for a group without multiplexing). Returns null if
+ * the words are not a size.
  * @param {Kind} kind
  * @param {string[]} words
  */
@@ -112,7 +112,7 @@ export function sizeOf(kind, words) {
 }
 
 /**
- * Parses a line of a front panel: its first word, the words before the colon, and the text after it. Returns null for any other line.
+ * Parses a front-panel line: its first word, the words before the colon, and the text after the colon. Returns null for any other line.
  * @param {string} text
  */
 export function headOf(text) {

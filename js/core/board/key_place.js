@@ -1,20 +1,20 @@
-// A key of a board as a value: its row and column, or the TEST pin. Only this module converts keys to text and back.
+// A key of a board as a value: a row and column, or the TEST pin. Only this module converts keys to text and back.
 
 /**
- * A key of the matrix: its row and its column, from 0.
+ * A matrix key: its row and column, from 0.
  * @typedef {{ kind: "matrix", row: number, column: number }} MatrixKey
  *
- * The key at the TEST pin: `level` is the level of the pin while it is pressed, 0 or 1.
+ * The key at the TEST pin. `level` is the pin level while the key is pressed, 0 or 1.
  * @typedef {{ kind: "pin", level: number }} PinKey
  *
  * @typedef {MatrixKey | PinKey} Key
  */
 
-/** The factor that makes one number of a row and a column: more than the columns of a board. */
+/** The factor that combines row and column into one number; larger than the maximum number of columns. */
 const COLUMNS = 256;
 
 /**
- * Returns a key of the matrix.
+ * Creates a matrix key.
  * @param {number} row
  * @param {number} column
  * @returns {MatrixKey}
@@ -24,8 +24,8 @@ export function matrixKey(row, column) {
 }
 
 /**
- * Returns the key at the TEST pin.
- * @param {number} level of the pin while the key is pressed
+ * Creates the key at the TEST pin.
+ * @param {number} level the pin level while the key is pressed
  * @returns {PinKey}
  */
 export function pinKey(level) {
@@ -43,7 +43,7 @@ export function isSameKey(one, other) {
 }
 
 /**
- * Returns the text of a key: `0 2`, as in the bench's lines, or `test 0`.
+ * Returns a key as text: `0 2`, as in bench lines, or `test 0`.
  * @param {Key} key
  */
 export function textOfKey(key) {
@@ -62,7 +62,7 @@ export function keyOfText(text) {
 }
 
 /**
- * Returns the bench's line that presses or releases a key.
+ * Returns the bench line that presses or releases a key.
  * @param {"press" | "release"} word
  * @param {Key} key
  */
@@ -71,9 +71,9 @@ export function lineOfKey(word, key) {
   return `test ${word === "press" ? key.level : 1 - key.level}`;
 }
 
-/** The set of matrix keys that are down, as the bench reported them. */
+/** The set of pressed matrix keys, as reported by the bench. */
 export class KeysDown {
-  /** @param {string[]} items of the list in the answer: `0.2` for row 0, column 2 */
+  /** @param {string[]} items the pressed keys: `0.2` for row 0, column 2 */
   constructor(items = []) {
     /** @type {Set<number>} */
     this.numbers = new Set();
@@ -88,9 +88,9 @@ export class KeysDown {
   }
 
   /**
-   * Returns whether a key is down.
+   * Returns whether a key is pressed.
    * @param {Key} key
-   * @param {string} level the current level of the TEST pin
+   * @param {string} level the current TEST level, `0` or `1`
    */
   has(key, level) {
     return key.kind === "matrix" ? this.numbers.has(key.row * COLUMNS + key.column) : level === String(key.level);

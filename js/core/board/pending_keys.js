@@ -1,25 +1,25 @@
-// Predicts which keys will be down after all pending changes: those on their way to the worker, and those in the worker's queue. A key that
-// is typed again before its release is reported therefore does not stay down.
+// Predicts which keys will be pressed after all pending changes: changes in transit to the worker, and changes in the worker's queue. Without the
+// prediction, a key that is pressed twice in quick succession could stay down.
 
 import { isSameKey } from "./key_place.js";
 
 /**
  * @typedef {import("../engine/key_queue.js").Change} Change
  * @typedef {import("./key_place.js").Key} Key
- * @typedef {{ key: Key, word: "press" | "release" | "forget" }} Asked a change, or `forget` to drop the key's queued changes
+ * @typedef {{ key: Key, word: "press" | "release" | "forget" }} Asked a key change, or `forget` to drop the queued changes of the key
  */
 
-/** The changes of keys that are not done yet. */
+/** The key changes that are not done yet. */
 export class PendingKeys {
   constructor() {
-    /** @type {Change[]} the changes in the worker's queue, from its last report */
+    /** @type {Change[]} the worker's queue in its last report */
     this.waiting = [];
-    /** @type {Asked[]} the changes on their way to the worker */
+    /** @type {Asked[]} the changes in transit to the worker */
     this.sent = [];
   }
 
   /**
-   * Adds a change that is sent to the worker. Returns a callback to call once the worker has received it.
+   * Adds a change in transit to the worker. Returns a function that the caller calls when the worker has received the change.
    * @param {Asked} change
    */
   send(change) {
@@ -30,9 +30,9 @@ export class PendingKeys {
   }
 
   /**
-   * Returns whether a key will be down after all pending changes.
+   * Returns whether a key will be pressed after all pending changes.
    * @param {Key} key
-   * @param {boolean} isDown true if the bench reports the key as down
+   * @param {boolean} isDown true if the bench reports the key as pressed
    */
   willBeDown(key, isDown) {
     /** @type {Asked[]} */

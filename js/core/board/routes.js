@@ -1,5 +1,5 @@
-// Computes the route of a wire in the wiring diagram. A wire runs straight to its pin or, if a part is in the way, through the gap above or
-// below that part. If parts were moved, a wire can run from right to left. This module does not draw.
+// Computes wire routes in the wiring diagram. A wire runs straight to its pin. If a part is in the way, the wire runs through the gap above or below
+// that part. After the user moves parts, a wire can run from right to left. This module does not draw.
 
 /**
  * @typedef {import("./wiring.js").Point} Point
@@ -9,21 +9,21 @@
  * @typedef {[Point, Point, Point, Point]} Curve a cubic Bezier curve: its start, two control points, and its end
  */
 
-/** The distance of control points from pins, for a wire within one column or from right to left. */
+/** The distance from a pin to a control point, for wires within one column or from right to left. */
 const CONTROL_OFFSET = 12;
-/** The distance of turning points from pins and parts. */
+/** The distance from pins and parts to the turning points of a wire. */
 const TURN_DISTANCE = 8;
-/** The minimum distance of a control point from its end of the curve, for other wires. */
+/** The minimum distance from a curve end to its control point, for other wires. */
 const MIN_BEND = 30;
-/** The distance of a wire from the part that it runs along. */
+/** The distance between a wire and the part that it runs along. */
 const LANE_DISTANCE = 5;
-/** The offsets that separate wires along the same part. */
+/** The offsets that separate several wires along the same part. */
 const LANE_OFFSETS = [0, -2, 2, -4, 4];
-/** The number of intervals into which a curve is sampled. */
+/** The number of sampling intervals per curve. */
 const SAMPLES = 24;
 
 /**
- * Returns the direct curve between the ends of a wire. Between ends in one column it is an arc to the right.
+ * Returns the direct curve between the ends of a wire. If both ends are in one column, the curve is an arc to the right.
  * @param {Ends} ends
  * @returns {Curve}
  */
@@ -34,7 +34,7 @@ function directCurve({ from, to }) {
 }
 
 /**
- * Returns a curve that is horizontal at both ends.
+ * Returns a curve with horizontal ends.
  * @param {Point} from
  * @param {Point} to
  * @returns {Curve}
@@ -45,9 +45,9 @@ function levelCurve(from, to) {
 }
 
 /**
- * Returns a point of a curve.
+ * Returns a point on a curve.
  * @param {Curve} curve
- * @param {number} part the curve's parameter, from 0 (start) to 1 (end)
+ * @param {number} part the curve parameter, from 0 (start) to 1 (end)
  * @returns {Point}
  */
 export function pointAt(curve, part) {
@@ -68,7 +68,7 @@ function isInside({ x, y }, box) {
 }
 
 /**
- * Returns whether a part covers some of a curve.
+ * Returns whether a part covers any sampled point of a curve.
  * @param {Curve} curve
  * @param {Box} box
  */
@@ -77,7 +77,7 @@ export function isCovered(curve, box) {
 }
 
 /**
- * Returns the y coordinates of the lanes above and below each part, the shortest detour first.
+ * Returns the y coordinates of the lanes above and below all parts, shortest detour first.
  * @param {Ends} ends
  * @param {Box[]} boxes
  */
@@ -89,7 +89,7 @@ function lanesOf({ from, to }, boxes) {
 }
 
 /**
- * Returns the y coordinate of the shortest lane that is free of all parts between the ends.
+ * Returns the y coordinate of the shortest lane that avoids all parts between the ends.
  * @param {Ends} ends
  * @param {Box[]} between
  */
@@ -102,11 +102,11 @@ function laneAround({ from, to }, between) {
 }
 
 /**
- * Returns the curves of a wire that turns at two points and is horizontal between them.
+ * Returns the curves of a wire with two turning points and a horizontal section between them.
  * @param {Ends} ends
- * @param {number} y of the horizontal part
- * @param {number} left the x coordinate of the first point
- * @param {number} right the x coordinate of the second point
+ * @param {number} y the y coordinate of the horizontal section
+ * @param {number} left the x coordinate of the first turning point
+ * @param {number} right the x coordinate of the second turning point
  * @returns {Curve[]}
  */
 function turningRoute({ from, to }, y, left, right) {
@@ -114,10 +114,10 @@ function turningRoute({ from, to }, y, left, right) {
 }
 
 /**
- * Returns the curves of a wire that turns near its pins. The wire leaves to the right and arrives from the left; between the two turns it
- * can run from right to left.
+ * Returns the curves of a wire that turns near its pins. The wire leaves to the right and arrives from the left. Between the two turns it can run
+ * from right to left.
  * @param {Ends} ends
- * @param {number} y of the horizontal part
+ * @param {number} y the y coordinate of the horizontal section
  * @returns {Curve[]}
  */
 function detourRoute(ends, y) {
@@ -132,10 +132,10 @@ function detourRoute(ends, y) {
 }
 
 /**
- * Returns the curves of a wire: the first route that no part covers, or the direct one if there is none.
+ * Returns the curves of a wire: the first route that no part covers, or the direct curve if there is no such route.
  * @param {Ends} ends
- * @param {Box[]} boxes of the parts
- * @param {number} number of the wire, which selects its offset from other wires along a part
+ * @param {Box[]} boxes the boxes of the parts
+ * @param {number} number the wire number; it selects the offset that separates wires along the same part
  * @returns {Curve[]}
  */
 export function routeOf(ends, boxes, number) {
@@ -157,7 +157,7 @@ export function routeOf(ends, boxes, number) {
 }
 
 /**
- * Returns curves as the `d` attribute of an SVG path.
+ * Formats curves as the `d` attribute of an SVG path.
  * @param {Curve[]} curves
  */
 export function pathText(curves) {

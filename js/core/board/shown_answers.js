@@ -1,5 +1,5 @@
-// Converts answers about lamps to the text of the display. An answer to `lamps` gives the text at an instant. An answer to `trace` with the
-// place `lamps` alone gives the perceived text over that time.
+// Converts answers about lamps to display text. An answer to `lamps` gives the text at one instant. An answer to `trace` with `lamps` as its only
+// place gives the perceived text over the traced time.
 
 import { SeenText, hasScannedDisplay } from "../engine/seen_text.js";
 import { DisplayText, wholeText } from "./display_text.js";
@@ -10,20 +10,20 @@ import * as say from "../../words/board.js";
  * @typedef {import("../bench/answers.js").Board} Board
  * @typedef {import("./face.js").Face} Face
  *
- * The text for each answer about the lamps. `words` is an error message, or "".
+ * The display text of each answer about lamps. `words` is an error message, or "".
  * @typedef {{ lines: string[], words: string }} Shown
  */
 
-/** The first line of an answer to `trace` with the place `lamps` alone. */
+/** The first line of an answer to `trace` with `lamps` as its only place. */
 const TRACE = /^trace ran \d+ \w+ lines (\d+) ([.*]+|-)$/;
 const REFUSAL = /^no \d/;
 
-/** Converts answers about the lamps of a board with a display. */
+/** Converts answers about the lamps of a board that has a display. */
 class ShownAnswers {
   /**
    * @param {Face} face
    * @param {Board} board
-   * @param {string} name of the board
+   * @param {string} name the board name, for messages
    */
   constructor(face, board, name) {
     this.name = name;
@@ -35,8 +35,8 @@ class ShownAnswers {
   }
 
   /**
-   * Returns an error message if there are too few lamps for the displays, otherwise "".
-   * @param {string} marks a `*` for each lamp that is on
+   * Returns an error message if the displays need more lamps, otherwise "".
+   * @param {string} marks one mark per lamp, `*` if the lamp is on; `-` if the board has no lamps
    * @param {number} line the line number of the answer
    */
   faultOf(marks, line) {
@@ -45,10 +45,10 @@ class ShownAnswers {
   }
 
   /**
-   * Converts the answer that begins at an index.
+   * Converts the answer that starts at an index.
    * @param {string[]} answers
    * @param {number} at the index
-   * @returns {{ text: string, words: string, count: number }} `count` is the number of lines in the answer, 0 if it is not about lamps
+   * @returns {{ text: string, words: string, count: number }} `count` is the number of lines in the answer, 0 if the answer is not about lamps
    */
   read(answers, at) {
     const failed = (/** @type {string} */ words) => ({ text: "", words, count: 1 });
@@ -56,8 +56,8 @@ class ShownAnswers {
     if (REFUSAL.test(answer)) return failed(say.isRefusal(at + 1, answer));
     const [word, marks = ""] = answer.split(" ");
     if (word === "lamps") {
-      const words = this.faultOf(marks, at + 1) || (this.isScanned ? say.isInstant(at + 1, this.name) : "");
-      return words === "" ? { text: wholeText(this.text.read(marks)), words, count: 1 } : failed(words);
+      const message = this.faultOf(marks, at + 1) || (this.isScanned ? say.isInstant(at + 1, this.name) : "");
+      return message === "" ? { text: wholeText(this.text.read(marks)), words: message, count: 1 } : failed(message);
     }
     const [, rows, first] = TRACE.exec(answer) || [];
     if (first === undefined) return { text: "", words: "", count: 0 };
@@ -70,10 +70,10 @@ class ShownAnswers {
 }
 
 /**
- * Converts all answers about a board's lamps to the text of its display.
+ * Converts all answers about the lamps of a board to display text.
  * @param {Face} face
  * @param {Board} board
- * @param {string} name of the board
+ * @param {string} name the board name, for messages
  * @param {string[]} answers
  * @returns {Shown}
  */

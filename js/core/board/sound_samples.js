@@ -1,9 +1,9 @@
-// Converts the levels of a buzzer's line to sound samples, one for each cycle.
+// Converts the levels of a buzzer line to sound samples, one per cycle.
 
 /** @typedef {import("../engine/sounding.js").Heard} Heard */
 
 /**
- * Returns the samples for the levels of a line: 1 for high, -1 for low.
+ * Returns the samples of a line: 1 for high, -1 for low.
  * @param {Heard} heard
  */
 export function samplesOf({ cycles, level, edges }) {
@@ -16,9 +16,9 @@ export function samplesOf({ cycles, level, edges }) {
   return samples;
 }
 
-/** Collects the samples of frames until there are enough to play. */
+/** Collects the samples of frames until there are enough for playback. */
 export class SoundPieces {
-  /** @param {number} minSamples the minimum number of samples that are played at once */
+  /** @param {number} minSamples the minimum number of samples for playback */
   constructor(minSamples) {
     this.minSamples = minSamples;
     /** @type {Float32Array[]} */
@@ -33,7 +33,7 @@ export class SoundPieces {
   }
 
   /**
-   * Adds the samples of a frame. If there are enough, removes and returns all samples; otherwise returns null.
+   * Adds the samples of a frame. Returns all collected samples if there are enough, and removes them; otherwise returns null.
    * @param {Heard} heard
    */
   add(heard) {

@@ -1,12 +1,12 @@
-// Converts the codes sent to a printer to the lines of its printout.
+// Converts the codes sent to a printer to printout lines.
 
-/** The width of the printer tape in characters. A text that does not fit on a line starts the next one. */
+/** The width of the printer tape in characters. A word that does not fit on a line starts the next line. */
 const WIDTH = 24;
-/** The word in a front panel for a code that ends the line. */
+/** The front-panel word for a code that ends the line. */
 const FEED = "feed";
 
 /**
- * Returns the text that a code prints; `?` if the front panel has no word for it.
+ * Returns the printed text of a code; `?` if the front panel defines no word for it.
  * @param {string | undefined} word
  */
 function textOfWord(word) {
@@ -14,9 +14,9 @@ function textOfWord(word) {
 }
 
 /**
- * Returns the lines of a printout. The last line is still open.
+ * Returns the printout lines. The last line can still grow.
  * @param {number[]} codes
- * @param {string[]} words the words for codes 0, 1 ..
+ * @param {string[]} words the words for the codes, by code
  */
 export function printoutLines(codes, words) {
   const lines = [""];

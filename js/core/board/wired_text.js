@@ -1,16 +1,16 @@
-// The text of the wired board. Its comments define the front panel, even after the text in the editor has changed. The session keeps the
-// text because the bench does not.
+// Finds the text of the wired board. The comments of that text define the front panel, even if the text in the editor has changed since. The session
+// stores the text because the bench does not.
 
 import { BoardDraft } from "../drawing/board_draft.js";
 import { sentText } from "../text/text_fault.js";
 
-/** @typedef {{ text: string, board: string }} WiredText a text, and the bench's answer to `board` once it is wired */
+/** @typedef {{ text: string, board: string }} WiredText a board text, and the bench's answer to `board` for it */
 
-/** The maximum number of texts that are kept: going back can lead to an earlier board. */
+/** The maximum number of stored texts: a move back in time can return to an earlier board. */
 const MAX_TEXTS = 4;
 
 /**
- * Returns whether a text describes the wired board; comments can differ.
+ * Returns whether a text describes the wired board. Comments do not matter.
  * @param {string} text
  * @param {WiredText} wired
  */
@@ -19,23 +19,23 @@ export function isTextOf(text, wired) {
 }
 
 /**
- * Returns the text of the board in the bench; "" if the text is unknown.
- * @param {string[]} answers to `board`
- * @param {string} text in the editor
- * @param {WiredText[] | undefined} kept the texts that the session keeps; undefined if it has none yet: then the editor's text is returned
+ * Returns the text of the board in the bench; "" if it is unknown.
+ * @param {string[]} answers the answer to `board`
+ * @param {string} text the text in the editor
+ * @param {WiredText[] | undefined} storedTexts the texts stored in the session; if undefined, the editor's text is returned
  * @returns {WiredText}
  */
-export function currentWiredText(answers, text, kept) {
+export function currentWiredText(answers, text, storedTexts) {
   const board = answers.join("\n");
-  if (!kept || new BoardDraft(text).isAsBench(answers)) return { text, board };
-  return kept.find((each) => each.board === board) || { text: "", board };
+  if (!storedTexts || new BoardDraft(text).isAsBench(answers)) return { text, board };
+  return storedTexts.find((each) => each.board === board) || { text: "", board };
 }
 
 /**
- * Returns the texts for the session to keep after a board is wired, the newest first.
+ * Returns the texts that the session stores after a board is wired, newest first.
  * @param {WiredText} wired
- * @param {WiredText[]} [kept]
+ * @param {WiredText[]} [storedTexts]
  */
-export function textsToKeep(wired, kept = []) {
-  return [wired, ...kept.filter(({ board }) => board !== wired.board)].slice(0, MAX_TEXTS);
+export function textsToKeep(wired, storedTexts = []) {
+  return [wired, ...storedTexts.filter(({ board }) => board !== wired.board)].slice(0, MAX_TEXTS);
 }

@@ -1,4 +1,4 @@
-// The layout of the wiring diagram: the parts of a board with their pins, the wires between them, and their positions. This module does not
+// Computes the layout of the wiring diagram: the parts of a board with their pins and positions, and the wires between pins. This module does not
 // draw.
 
 import { BITS_PER_CHIP } from "../bench/board_form.js";
@@ -9,39 +9,37 @@ import * as say from "../../words/board.js";
  * @typedef {import("./face.js").TestPin} TestPin
  * @typedef {{ place: string, name: string }} Buzzer
  *
- * A pin of a part. `line` is the name of the board's line that it is connected to ("" for the TEST pin). `id` is the same name for a pin of
- * a port or a bit of a chain, otherwise its function: `clock 0`, `data 0`, `row 1`, `column 2`, `lamp 3` or `buzzer 0`. `colour` is the
- * colour of a lamp. `number` is the pin's number on the 16-pin package of a chip.
+ * A pin of a part. `line` is the signal line at the pin ("" for the TEST pin). For a port pin or a chain bit, `id` is the name of the line; otherwise
+ * it names the function: `clock 0`, `data 0`, `row 1`, `column 2`, `lamp 3` or `buzzer 0`. `colour` is the lamp colour. `number` is the pin number on
+ * the 16-pin chip package.
  * @typedef {{ id: string, line: string, label: string, colour?: string, number?: number, x: number, y: number }} Pin
  * @typedef {Omit<Pin, "x" | "y">} PinToPut
  *
- * A part. `id` is its name (`rom 1`, `ram 0.2`, `chain 0`, `keys`, `lamps`, `test`, `buzzer` or `processor`). `says` are the lines of its
- * description.
+ * A part. `id` is its name (`rom 1`, `ram 0.2`, `chain 0`, `keys`, `lamps`, `test`, `buzzer` or `processor`). `says` are its description lines.
  * @typedef {{ id: string, kind: string, title: string, x: number, y: number, width: number, height: number, pins: Pin[],
  *   says: string[] }} Part
  *
- * A wire from the pin that drives a line to a pin that uses it.
+ * A wire from the pin that drives a signal line to a pin that uses the line.
  * @typedef {{ line: string, from: Pin, to: Pin }} Wire
  * @typedef {{ parts: Part[], wires: Wire[], width: number, height: number }} Picture
  *
- * The parts of the front panel that the diagram shows. `names` and `colours`: those of the lamps, "" for none. `test`: the button or switch
- * at the TEST pin.
+ * The front-panel parts in the diagram. `names` and `colours` are those of the lamps, "" for none. `test` is the button or switch at the TEST pin.
  * @typedef {{ names: string[], colours: string[], test: TestPin | null, buzzer: Buzzer | null }} Appearance
  *
  * @typedef {{ x: number, y: number }} Point
  *
- * The positions of parts that the user dragged, by the parts' ids.
+ * The positions of parts that the user dragged, by part id.
  * @typedef {Map<string, Point>} Moved
  */
 
-/** Lengths in the diagram: between two pins, of a part's title bar, between two parts, and of the margin. */
+/** Lengths in the diagram: the distance between pins, the title bar height, the gap between parts, and the margin. */
 export const PIN_STEP = 18;
 export const TITLE_HEIGHT = 26;
 const GAP = 14;
 const MARGIN = 10;
-/** The maximum number of unused chain bits that are shown, so that they can be wired. */
+/** The maximum number of unused chain bits in the diagram; the user can wire them. */
 const MAX_FREE_BITS = 6;
-/** The columns of parts: their widths, and the room for wires to the left of each. */
+/** The columns of the diagram: their widths, and the space for wires on their left. */
 const COLUMNS = [
   { room: 0, width: 84 },
   { room: 24, width: 112 },
@@ -52,7 +50,7 @@ const COLUMNS = [
 /** The maximum length of a title in the first column. */
 const MAX_TITLE_LENGTH = 11;
 
-/** Pin numbers on the package: TEST of the 4004, port lines 0 to 3 of the 4001 and 4002, and clock, data and bits 0 to 9 of the 4003. */
+/** Pin numbers on the package: TEST of the 4004; port lines 0 to 3 of the 4001 and 4002; clock, data and bits 0 to 9 of the 4003. */
 const TEST_NUMBER = 10;
 const PORT_NUMBERS = [16, 15, 14, 13];
 const CLOCK_NUMBER = 1;
@@ -89,16 +87,16 @@ class Column {
   }
 }
 
-/** The uses of each line of the board, as descriptions. */
+/** The uses of each signal line, as descriptions. */
 class Uses {
   /**
    * @param {Board} board
    * @param {Buzzer | null} buzzer
    */
   constructor(board, buzzer) {
-    /** @type {Map<string, string[]>} the descriptions of each line's uses */
+    /** @type {Map<string, string[]>} the use descriptions, by line */
     this.words = new Map();
-    /** @type {Map<string, number>} the rank of each line, by its first use */
+    /** @type {Map<string, number>} the ranks of the lines, in the order of first use */
     this.order = new Map();
     board.chains.forEach(({ clock, data }, at) => {
       this.add(clock, say.clocksChain(at));
@@ -119,9 +117,9 @@ class Uses {
   }
 
   /**
-   * Adds a use of a line.
+   * Adds a use of a signal line.
    * @param {string} line
-   * @param {string} words the description
+   * @param {string} words the description of the use
    */
   add(line, words) {
     if (!this.words.has(line)) this.order.set(line, this.order.size);
@@ -129,7 +127,7 @@ class Uses {
   }
 
   /**
-   * Returns the rank of a line by its first use: rows first, then columns, then lamps.
+   * Returns the rank of a line. The order is that of first use: clock and data lines, rows, columns, lamps.
    * @param {string} line
    */
   rankOf(line) {
@@ -137,7 +135,7 @@ class Uses {
   }
 
   /**
-   * Returns the descriptions of a line's uses.
+   * Returns the use descriptions of a line.
    * @param {string} line
    */
   of(line) {
@@ -145,8 +143,8 @@ class Uses {
   }
 
   /**
-   * Returns a sentence about the uses of a line.
-   * @param {string} name of the line or its pin
+   * Returns a sentence that describes the uses of a line.
+   * @param {string} name the name of the line or its pin
    * @param {string} line
    */
   describe(name, line) {
@@ -176,7 +174,7 @@ function drawProcessor(column, test) {
 }
 
 /**
- * Returns the name of a button or switch, with blanks for underscores.
+ * Returns the name of a button or switch, with blanks instead of underscores.
  * @param {TestPin} test
  */
 function nameOf({ name }) {
@@ -222,10 +220,10 @@ function drawRam(column, bank, chip, uses) {
 }
 
 /**
- * Adds a chain to a column, with its used bits and some unused ones.
+ * Adds a chain to a column, with its used bits and some unused bits.
  * @param {Column} column
  * @param {Board["chains"][number]} chain
- * @param {number} at the number of the chain
+ * @param {number} at the chain number
  * @param {Uses} uses
  */
 function drawChain(column, { clock, data, chips }, at, uses) {
@@ -276,7 +274,7 @@ function drawBuzzer(column, { place, name }) {
 }
 
 /**
- * Returns the wires of all lines. A wire runs from the pin of the port or chain that owns the line to each other pin on the line.
+ * Returns all wires. A wire runs from the pin of the port or chain that owns the line to each other pin on the line.
  * @param {Part[]} parts
  */
 function wiresOf(parts) {
@@ -299,8 +297,8 @@ function wiresOf(parts) {
 }
 
 /**
- * Returns the columns of the diagram; an empty column takes no room.
- * @param {boolean[]} areUsed by column
+ * Returns the columns of the diagram. An empty column takes no space.
+ * @param {boolean[]} areUsed true for each column with parts
  */
 function columnsOf(areUsed) {
   let right = MARGIN;
@@ -312,7 +310,7 @@ function columnsOf(areUsed) {
 }
 
 /**
- * Moves parts, with their pins, to the positions to which the user dragged them.
+ * Moves parts with their pins to the positions that the user chose.
  * @param {Part[]} parts
  * @param {Moved} moved
  */
@@ -356,8 +354,8 @@ export function drawBoard(board, appearance = { names: [], colours: [], test: nu
 }
 
 /**
- * Returns whether a line of a port is high.
- * @param {string} digit the value of the port, as a hexadecimal digit
+ * Returns whether a port line is high.
+ * @param {string} digit the port value, as a hexadecimal digit
  * @param {number} line
  */
 export function isHigh(digit, line) {
@@ -365,8 +363,8 @@ export function isHigh(digit, line) {
 }
 
 /**
- * Returns whether a line of a ROM's port is high: for an input line, the level that the chip reads; for an output line, the latch.
- * @param {string} mask the port in the board's text, line 3 first
+ * Returns whether a ROM port line is high. An input line has the level that the chip reads; an output line has the latched level.
+ * @param {string} mask the port directions in the board text, line 3 first
  * @param {{ out: string, in: string }} portLevels
  * @param {number} line
  */

@@ -1,16 +1,16 @@
-// Compiles conditions (docs/MANUAL.md, "Conditions"), in which the names of a front panel and of a program can occur. A compiled condition
-// lists the places that it depends on. Its method `holds` evaluates it on the bench's answers about these places.
+// Compiles conditions (docs/MANUAL.md, "Conditions"). Conditions can contain front-panel names and program names. A compiled condition lists the
+// places that it depends on. Its method `holds` evaluates it on the bench's answers about these places.
 //
 //     const { condition, fault } = conditionOf("lamp open on and (r9 >= 8 or cy = 1)", { face, board, map });
 //     if (condition) .. `trace 1000 ${condition.places.join(" ")}` ..; condition.holds(valuesOf(row))
 //
-// `places` has at most 16 entries, each once: places that `trace` reports, and STATE_PLACES, which `state` reports. (probes.js queries
-// both.) `values` are the reported values, in the same order. `fault` is an error message, and `column` its column, from 0.
+// `places` has at most 16 different entries: places that `trace` reports, and STATE_PLACES, which `state` reports (probes.js queries both). `values`
+// are the reported values in the same order. `fault` is an error message, and `column` is the error's column, from 0.
 //
 // There are three kinds of conditions:
 // - conditionOf: the condition of a breakpoint;
-// - tracedConditionOf: the same without STATE_PLACES, for callers that only use `trace`;
-// - testConditionOf: the condition in a line of a test, which can also use cycles, the printout and perceived lamps.
+// - tracedConditionOf: like conditionOf, but without STATE_PLACES, for callers that only use `trace`;
+// - testConditionOf: a condition in a test line, which can also use cycles, the printout and perceived lamps.
 
 import { MOST_PLACES } from "../bench/inputs.js";
 import { meaningOf } from "./meaning.js";
@@ -25,38 +25,38 @@ import * as say from "../../words/conditions.js";
  * @typedef {import("../machine/source_map.js").SourceMap} SourceMap
  * @typedef {import("./parser.js").ConditionNode} ConditionNode
  *
- * The names that a condition can use: the front panel, the board from the answer to `board`, the names of the program, and the names in
- * Watch with their expressions.
+ * The names that a condition can use: the names of the front panel, the board (from the answer to `board`), the program names, and the watch names
+ * with their expressions.
  * @typedef {{ face: Face, board: Board, map: Pick<SourceMap, "names" | "nameOf"> | null, watched?: Map<string, string> }} Names
  *
- * Values that `trace` does not report. `test`, `owed` and `keys`: in the spelling of `state`. `cycles`: the cycles since the last mark in a
- * test. `seen`: the answer about the perceived lamps. `printed`: the printed words.
+ * Values that `trace` does not report. `test`, `owed` and `keys` are in the spelling of `state`. `cycles` counts from the last mark in a test. `seen`
+ * is the answer about the perceived lamps. `printed` holds the printed words.
  * @typedef {{ test: string, owed: string, keys: string, cycles: number, seen: string[], printed: string[] }} Beside
  *
- * A compiled condition. `explain` returns "" if the condition holds, otherwise a message with the actual and the required values.
- * `negation` is the text of the opposite condition. `needs` names the members of `Beside` that it depends on. `address` is the address in
- * a condition `pc = ADDRESS`, otherwise -1.
+ * A compiled condition. `explain` returns "" if the condition is true, otherwise a message with the actual and the required values. `negation` is the
+ * text of the opposite condition. `needs` lists the fields of `Beside` that the condition uses. `address` is the address in a condition `pc =
+ * ADDRESS`, otherwise -1.
  * @typedef {{ text: string, negation: string, places: string[], holds: (values: string[], beside?: Beside) => boolean, explain: (values:
  * string[], beside?: Beside) => string, needs: string[], address: number }} Condition
  * @typedef {{ condition: Condition, fault: "", column: -1 } | { condition: null, fault: string, column: number }} ReadCondition
  *
- * A compiled value or condition. `textOf` returns its text: a place in the spelling of `trace`, any other value as a decimal number, a
- * condition as `true` or `false`. `number` returns its value, and is null for a condition.
+ * A compiled value or condition. `textOf` returns its value as text: a place as `trace` spells it, any other value in decimal, a condition as `true`
+ * or `false`. `number` returns the numeric value; it is null for a condition.
  * @typedef {{ places: string[], textOf: (values: string[]) => string, number: ((values: string[]) => number) | null }} Expression
  * @typedef {{ expression: Expression, fault: "", column: -1 } | { expression: null, fault: string, column: number }} ReadExpression
  */
 
-/** @type {Beside} the default values, at the end of an instruction */
+/** @type {Beside} the default values, which apply at the end of an instruction */
 const DEFAULTS = { test: "", owed: "0", keys: "", cycles: 0, seen: [], printed: [] };
 
-/** @param {Names} names returns a function that returns whether a name is that of a lamp */
+/** @param {Names} names returns a function that tests whether a name is a lamp name */
 const lampTestOf = ({ face }) => (/** @type {string} */ name) => face.lampNumbers.has(name);
 
 /** @type {(place: string) => place is "test" | "owed" | "keys"} */
 const isStatePlace = (place) => STATE_PLACES.has(place);
 
 /**
- * Throws `Unreadable` if there are too many places for one `trace`.
+ * Throws `Unreadable` if one `trace` line cannot hold all places.
  * @param {string[]} places
  */
 function checkCount({ length }) {
@@ -64,7 +64,7 @@ function checkCount({ length }) {
 }
 
 /**
- * Returns the result of a parser, or the error that it throws.
+ * Returns the result of a parser, or the error that the parser throws.
  * @template Read
  * @param {() => Read} read
  * @returns {{ read: Read, fault: "", column: -1 } | { read: null, fault: string, column: number }}
@@ -79,7 +79,7 @@ function resultOrError(read) {
 }
 
 /**
- * Returns the condition from a parser, or the error that it throws.
+ * Returns the condition from a parser, or the error that the parser throws.
  * @param {() => Condition} read
  * @returns {ReadCondition}
  */
@@ -94,7 +94,7 @@ const withSingleBlanks = (text) => text.trim().replace(/\s+/g, " ");
 /**
  * Returns the text of the opposite condition.
  * @param {ConditionNode} node
- * @param {string} text of the condition
+ * @param {string} text the text of the condition
  */
 function negationOf(node, text) {
   if (node.kind === "not" && /^(not\b|!)/i.test(node.text)) return withSingleBlanks(node.part.text);
@@ -103,30 +103,30 @@ function negationOf(node, text) {
 
 /**
  * Parses and compiles the text of a condition.
- * @param {string} whole the text
+ * @param {string} whole the text of the condition
  * @param {Names} names
- * @param {Looked} looked receives the places that the condition depends on
+ * @param {Looked} dependencies collects the places that the condition depends on
  * @returns {Pick<Condition, "text" | "negation"> & import("./meaning.js").Meaning}
  */
-function meaningOfText(whole, names, looked) {
+function meaningOfText(whole, names, dependencies) {
   const node = parseCondition(whole, lampTestOf(names));
   const text = withSingleBlanks(whole);
-  return { ...meaningOf(node, names, looked), text, negation: negationOf(node, text) };
+  return { ...meaningOf(node, names, dependencies), text, negation: negationOf(node, text) };
 }
 
 /**
- * Compiles the condition of a breakpoint.
+ * Compiles a breakpoint condition.
  * @param {string} whole the text
  * @param {Names} names
  * @returns {ReadCondition}
  */
 export function conditionOf(whole, names) {
   return conditionOrError(() => {
-    const looked = new Looked();
-    const { text, negation, address, matches, explain } = meaningOfText(whole, names, looked);
-    checkCount(looked.places);
+    const dependencies = new Looked();
+    const { text, negation, address, matches, explain } = meaningOfText(whole, names, dependencies);
+    checkCount(dependencies.places);
     return {
-      text, negation, places: looked.places, needs: [], address,
+      text, negation, places: dependencies.places, needs: [], address,
       holds: (values, beside = DEFAULTS) => matches(values, beside),
       explain: (values, beside = DEFAULTS) => (matches(values, beside) ? "" : explain(values, beside, false)),
     };
@@ -134,27 +134,27 @@ export function conditionOf(whole, names) {
 }
 
 /**
- * Compiles the condition in a line of a test. `trace` reports its places; the test supplies the values in `needs`.
+ * Compiles the condition in a test line. `trace` reports its places; the test supplies the values in `needs`.
  * @param {string} whole the text
  * @param {Names} names
  * @returns {ReadCondition}
  */
 export function testConditionOf(whole, names) {
   return conditionOrError(() => {
-    const looked = new Looked(true);
-    const { text, negation, address, matches, explain } = meaningOfText(whole, names, looked);
-    const { places: allPlaces } = looked;
+    const dependencies = new Looked(true);
+    const { text, negation, address, matches, explain } = meaningOfText(whole, names, dependencies);
+    const { places: allPlaces } = dependencies;
     const statePlaces = allPlaces.filter(isStatePlace);
     const places = allPlaces.filter((place) => !isStatePlace(place));
     checkCount(places);
-    /** @type {(values: string[], beside: Beside) => string[]} returns the values of all places, in their order */
+    /** @type {(values: string[], beside: Beside) => string[]} returns the values of all places, in order */
     const allValues = (values, beside) => {
       let at = 0;
       return allPlaces.map((place) => (isStatePlace(place) ? beside[place] : values[at++]));
     };
     const valuesOf = statePlaces.length === 0 ? (/** @type {string[]} */ values) => values : allValues;
     return {
-      text, negation, places, needs: [...looked.needs, ...statePlaces], address,
+      text, negation, places, needs: [...dependencies.needs, ...statePlaces], address,
       holds: (values, beside = DEFAULTS) => matches(valuesOf(values, beside), beside),
       explain: (values, beside = DEFAULTS) => {
         const known = valuesOf(values, beside);
@@ -165,7 +165,7 @@ export function testConditionOf(whole, names) {
 }
 
 /**
- * Compiles a condition that depends only on places that `trace` reports; other places are an error.
+ * Compiles a condition that uses only places that `trace` reports. Any other place is an error.
  * @param {string} text
  * @param {Names} names
  * @returns {ReadCondition}
@@ -184,16 +184,16 @@ export function tracedConditionOf(text, names) {
  */
 export function expressionOf(text, names) {
   const { read: expression, ...wrong } = resultOrError(() => {
-    const looked = new Looked();
+    const dependencies = new Looked();
     const node = parse(text, lampTestOf(names));
     if (isCondition(node)) {
-      const { matches } = meaningOf(node, names, looked);
-      checkCount(looked.places);
-      return { places: looked.places, number: null, textOf: (/** @type {string[]} */ values) => String(matches(values, DEFAULTS)) };
+      const { matches } = meaningOf(node, names, dependencies);
+      checkCount(dependencies.places);
+      return { places: dependencies.places, number: null, textOf: (/** @type {string[]} */ values) => String(matches(values, DEFAULTS)) };
     }
-    const { read, textOf } = valueIn(node, names, looked);
-    checkCount(looked.places);
-    return { places: looked.places, number: read, textOf: textOf || ((/** @type {string[]} */ values) => String(read(values))) };
+    const { read, textOf } = valueIn(node, names, dependencies);
+    checkCount(dependencies.places);
+    return { places: dependencies.places, number: read, textOf: textOf || ((/** @type {string[]} */ values) => String(read(values))) };
   });
   return /** @type {ReadExpression} */ ({ expression, ...wrong });
 }

@@ -1,21 +1,21 @@
-// Parses durations in tests: `538`, `538 cycles`, `54 us`, `20 ms` or `1.5 s`. The blank before `us`, `ms` and `s` is optional.
+// Parses durations in tests: `538`, `538 cycles`, `54 us`, `20 ms` or `1.5 s`. The blank before the unit is optional for `us`, `ms` and `s`.
 
 import { cyclesOfMs } from "../time/mcs4_time.js";
 
-/** The maximum duration in a line: three hours. */
+/** The maximum duration in a line, in cycles: three hours. */
 const MAX_CYCLES = 1000000000;
-/** The milliseconds in each unit. */
+/** The lengths of the units in milliseconds. */
 const UNIT_MILLISECONDS = new Map([["us", 0.001], ["ms", 1], ["s", 1000]]);
 
 /**
- * A duration in cycles (0 if it is invalid), and the number of words that it consists of.
+ * A duration in cycles (0 if it is invalid), and the number of words that it uses.
  * @typedef {{ cycles: number, words: number }} Duration
  */
 
 /**
- * Parses the duration that begins at a word.
+ * Parses the duration that starts at a word.
  * @param {string[]} words
- * @param {number} from the index of that word
+ * @param {number} from the index of the first word
  * @returns {Duration}
  */
 export function durationOf(words, from) {
@@ -33,7 +33,7 @@ export function durationOf(words, from) {
 }
 
 /**
- * Parses words that together must be one duration; returns its cycles, or 0 if they are not.
+ * Parses words that must form exactly one duration. Returns its cycles, or 0 if the words are invalid.
  * @param {string[]} words
  */
 export function wholeDuration(words) {

@@ -1,5 +1,5 @@
-// Compiles the conditions that begin with a keyword: `lamps`, `display` and `printed` for the front panel, `cycles`, and `chain0` for the
-// bits of a chain. Also compiles a condition that the program counter is at an address. The parser has split each into words.
+// Compiles conditions that start with a keyword: `lamps`, `display` and `printed` for the front panel, `cycles`, and `chain0` for the bits of a
+// chain. Also compiles conditions on the program counter. The parser has already split them into words.
 
 import { hex, upTo } from "../bench/numbers.js";
 import { DisplayText } from "../board/display_text.js";
@@ -17,14 +17,14 @@ import * as say from "../../words/conditions.js";
  * @typedef {import("./meaning.js").Meaning} Meaning
  * @typedef {import("./values.js").Looked} Looked
  *
- * The parts of such a condition. `what` names the measured thing, and `isMany` is true if that name is a plural. `want` is the text of the
- * required value. `measure` returns the text of the actual value, `matches` compares it, and `remark` returns a remark for the message.
+ * The parts of a keyword condition. `what` names the measured value; `isMany` is true if that name is plural. `want` is the text of the required
+ * value. `measure` returns the text of the actual value, `matches` compares it, and `remark` returns an addition to the message.
  * @typedef {{ what: string, want: string, isMany?: boolean, measure: (values: string[], beside: Beside) => string,
  *   matches: (is: string, beside: Beside) => boolean, remark?: (is: string) => string, address?: number }} Asked
  */
 
 /**
- * Returns the compiled condition with these parts.
+ * Compiles a keyword condition from its parts.
  * @param {Asked} asked
  * @returns {Meaning}
  */
@@ -40,7 +40,7 @@ function meaningOfForm({ what, want, isMany = false, measure, matches, remark, a
 }
 
 /**
- * Returns whether a text matches a pattern, in which `?` is any character.
+ * Returns whether a text matches a pattern. `?` in the pattern stands for any character.
  * @param {string} text
  * @param {string} pattern
  */
@@ -48,36 +48,36 @@ function matchesPattern(text, pattern) {
   return text.length === pattern.length && [...pattern].every((mark, at) => mark === "?" || mark === text[at]);
 }
 
-/** @type {(value: string) => string} returns the marks of all lamps, from the value of the place `lamps` */
+/** @type {(value: string) => string} converts the value of the place `lamps` to lamp marks */
 const marksOf = (value) => (value === "-" ? "" : value);
 
 /**
- * Returns whether a lamp without a name belongs to a display.
- * @param {number} at the number of the lamp
+ * Returns whether a lamp is an unnamed lamp of a display.
+ * @param {number} at the lamp number
  * @param {Names} names
  */
-function isOfDisplay(at, { face }) {
+function isDisplayLamp(at, { face }) {
   if (face.lamps.has(at)) return false;
   return face.groups.some((group) => group.kind === "display" && lampsOfGroup(group).includes(at));
 }
 
 /**
- * Compiles `lamps` with a pattern of `*` (on), `.` (off) and `?` (any), or with the names of all lamps that must be on. With names, the
- * unnamed lamps of a display are ignored.
+ * Compiles `lamps` with a pattern of `*` (on), `.` (off) and `?` (any), or with the names of all lamps that must be on. With names, unnamed display
+ * lamps are ignored.
  * @param {string[]} words
  * @param {Names} names
- * @param {Looked} looked
+ * @param {Looked} dependencies
  */
-export function lampsMeaning(words, names, looked) {
+export function lampsMeaning(words, names, dependencies) {
   const count = names.board.lamps.length;
   if (words.length === 0) fail(say.LAMPS_FORM);
   let want = words.join("");
   if (!/^[*.?]+$/.test(want)) {
     const wanted = new Set(words.join(" ") === "none" ? [] : words.map((name) => lampNumberOf(name, names)));
-    want = upTo(count).map((at) => (wanted.has(at) ? "*" : isOfDisplay(at, names) ? "?" : ".")).join("");
+    want = upTo(count).map((at) => (wanted.has(at) ? "*" : isDisplayLamp(at, names) ? "?" : ".")).join("");
   }
   if (want.length !== count) fail(say.wrongPatternLength(want.length, count));
-  const place = looked.at("lamps");
+  const place = dependencies.at("lamps");
   /** @type {(is: string) => string} */
   const remark = (is) => {
     const lit = [...names.face.lamps].filter(([at]) => is[at] === "*").sort(([one], [other]) => one - other);
@@ -89,13 +89,13 @@ export function lampsMeaning(words, names, looked) {
 }
 
 /**
- * Compiles `display 42`, for the number on the display, or `display 0 overflow`, for the number and the names of lamps, in the spelling of
- * `mcs4 display`. Multiplexed digits count as perceived.
+ * Compiles `display 42` for the number on the display, or `display 0 overflow` for the number and lamp names as `mcs4 display` prints them. For
+ * multiplexed digits, the perceived number counts.
  * @param {string[]} words
  * @param {Names} names
- * @param {Looked} looked
+ * @param {Looked} dependencies
  */
-export function displayMeaning(words, names, looked) {
+export function displayMeaning(words, names, dependencies) {
   const { face, board } = names;
   const displays = face.groups.filter(({ kind }) => kind === "display");
   if (displays.length === 0) fail(say.NO_DISPLAY);
@@ -105,25 +105,25 @@ export function displayMeaning(words, names, looked) {
   const wordsOf = ({ number, names: lit }) => (lit === "" || number === want ? number : `${number} ${lit}`);
   const matches = (/** @type {string} */ is) => is === want;
   if (hasScannedDisplay(face)) {
-    looked.need("seen", say.DIGITS_ARE_MULTIPLEXED);
+    dependencies.need("seen", say.DIGITS_ARE_MULTIPLEXED);
     const seen = new SeenText(face, board.lamps.length);
     return meaningOfForm({ what: "display", want, matches, measure: (_, beside) => wordsOf(seen.read(beside.seen)) });
   }
   const reader = new DisplayText(displays, [...face.lamps].map(([at, { text }]) => ({ at, text })));
-  const place = looked.at("lamps");
+  const place = dependencies.at("lamps");
   return meaningOfForm({ what: "display", want, matches, measure: (values) => wordsOf(reader.read(marksOf(values[place]))) });
 }
 
 /**
- * Compiles `printed 12+ 30= 42`, for the last words of the printout. The word `nothing` stands for an empty printout.
+ * Compiles `printed 12+ 30= 42`, which compares the last printed words. The word `nothing` stands for an empty printout.
  * @param {string[]} words
  * @param {Names} names
- * @param {Looked} looked
+ * @param {Looked} dependencies
  */
-export function printedMeaning(words, { face, board }, looked) {
+export function printedMeaning(words, { face, board }, dependencies) {
   if (!printerOf(board, face)) fail(say.NO_PRINTER);
   if (words.length === 0) fail(say.PRINTED_FORM);
-  looked.need("printed", say.LINE_BY_LINE);
+  dependencies.need("printed", say.LINE_BY_LINE);
   const want = words.join(" ");
   return meaningOfForm({
     what: "printed", want, matches: (is) => is === want, measure: (_, { printed }) => printed.slice(-words.length).join(" ") || "nothing",
@@ -131,16 +131,16 @@ export function printedMeaning(words, { face, board }, looked) {
 }
 
 /**
- * Compiles `cycles 538`, `cycles at most 20 ms` or `cycles at least 1 s`, for the cycles since the last mark in a test.
+ * Compiles `cycles 538`, `cycles at most 20 ms` or `cycles at least 1 s`, which compare the cycles since the last mark in a test.
  * @param {string[]} words
  * @param {Names} names
- * @param {Looked} looked
+ * @param {Looked} dependencies
  */
-export function cyclesMeaning(words, names, looked) {
+export function cyclesMeaning(words, names, dependencies) {
   const bound = words[0] === "at" ? words.slice(0, 2).join(" ") : "";
   const cycles = wholeDuration(words.slice(bound === "" ? 0 : 2));
   if (cycles < 1 || !/^(|at most|at least)$/.test(bound)) fail(say.CYCLES_FORM);
-  looked.need("cycles", say.onlyInTests("cycles"));
+  dependencies.need("cycles", say.onlyInTests("cycles"));
   /** @type {(is: number) => boolean} */
   const matches = (is) => (bound === "" ? is === cycles : bound === "at most" ? is <= cycles : is >= cycles);
   return meaningOfForm({
@@ -150,24 +150,24 @@ export function cyclesMeaning(words, names, looked) {
 }
 
 /**
- * Compiles `chain0 1100??????`, for the bits of a chain.
- * @param {string} name of the chain
+ * Compiles `chain0 1100??????`, which compares the bits of a chain.
+ * @param {string} name the name of the chain
  * @param {string[]} words
  * @param {Names} names
- * @param {Looked} looked
+ * @param {Looked} dependencies
  */
-export function chainMeaning(name, words, { board }, looked) {
+export function chainMeaning(name, words, { board }, dependencies) {
   const place = placeOf(name);
   if (!place || place.probesOn(board).length === 0) return fail(say.boardLacks(name));
   const bits = 10 * board.chains[Number(name.slice("chain".length))].chips;
   const want = words.join("");
   if (!/^[01?]+$/.test(want) || want.length !== bits) fail(say.chainBits(name.slice("chain".length), bits));
-  const at = looked.at(name);
+  const at = dependencies.at(name);
   return meaningOfForm({ what: name, want, measure: (values) => values[at], matches: (is) => matchesPattern(is, want) });
 }
 
 /**
- * Returns the text of an address with its name in the program: `012 (next + 2)`.
+ * Returns an address with its program name: `012 (next + 2)`.
  * @param {number} address
  * @param {Names} names
  */
@@ -177,15 +177,15 @@ function namedAddress(address, { map }) {
 }
 
 /**
- * Compiles the condition that the program counter is at an address, between two instructions.
+ * Compiles a comparison of the program counter with an address. It is true only between two instructions.
  * @param {number} address
- * @param {string} want the address in the condition's spelling
+ * @param {string} want the address as written in the condition
  * @param {Names} names
- * @param {Looked} looked
+ * @param {Looked} dependencies
  */
-export function counterMeaning(address, want, names, looked) {
+export function counterMeaning(address, want, names, dependencies) {
   const digits = hex(address, 3);
-  const at = looked.at("pc");
+  const at = dependencies.at("pc");
   return meaningOfForm({
     what: "pc", want, address,
     measure: (values, { owed }) => `${namedAddress(parseInt(values[at], 16), names)}${owed === "1" ? say.WITHIN_INSTRUCTION : ""}`,

@@ -1,5 +1,5 @@
-// Compiles the syntax tree of a condition, for a board and a program, to functions that evaluate it on the bench's answers. Collects the
-// places that the condition depends on. This module does not simulate the machine.
+// Compiles a condition's syntax tree, for a board and a program, into functions that evaluate it on the bench's answers. Collects the places that the
+// condition depends on. This module does not simulate the machine.
 
 import { chainMeaning, counterMeaning, cyclesMeaning, displayMeaning, lampsMeaning, printedMeaning } from "./forms.js";
 import { fail } from "./scanner.js";
@@ -18,7 +18,7 @@ import * as say from "../../words/conditions.js";
  * @typedef {import("./values.js").Looked} Looked
  * @typedef {import("./values.js").Value} Value
  *
- * A compiled condition. `explain` returns a message with the actual and the required value, or, with `isNot`, with the forbidden value.
+ * A compiled condition. `explain` returns a message with the actual and the required value; if `isNot` is true, with the forbidden value.
  * `address` is the address in a condition `pc = ADDRESS`, otherwise -1.
  * @typedef {{ matches: (values: string[], beside: Beside) => boolean,
  *   explain: (values: string[], beside: Beside, isNot: boolean) => string, address: number }} Meaning
@@ -30,17 +30,17 @@ const COMPARISONS = {
   ">": (is, than) => is > than, ">=": (is, than) => is >= than,
 };
 
-/** @type {Record<string, (words: string[], names: Names, looked: Looked) => Meaning>} the compilers of conditions, by keyword */
+/** @type {Record<string, (words: string[], names: Names, looked: Looked) => Meaning>} the condition compilers, by keyword */
 const COMPILERS = { lamps: lampsMeaning, display: displayMeaning, printed: printedMeaning, cycles: cyclesMeaning };
 
 /**
- * Returns the compiled comparison of two values.
+ * Compiles a comparison of a value with the value on the other side of the sign.
  * @param {Value} value
  * @param {CompareNode["sign"]} sign
  * @param {Value} wanted
  * @returns {Meaning}
  */
-function comparedMeaning(value, sign, wanted) {
+function comparisonMeaning(value, sign, wanted) {
   const compare = COMPARISONS[sign];
   return {
     address: -1,
@@ -54,9 +54,9 @@ function comparedMeaning(value, sign, wanted) {
 }
 
 /**
- * Throws `Unreadable` if a value is compared with a constant above its maximum.
+ * Throws `Unreadable` if the constant in a comparison exceeds the maximum of the other value.
  * @param {Value} value
- * @param {ValueNode} node of the constant
+ * @param {ValueNode} node the syntax node of the constant
  * @param {Value} wanted the constant
  */
 function checkRange(value, node, wanted) {
@@ -70,66 +70,66 @@ function checkRange(value, node, wanted) {
  * Compiles a comparison.
  * @param {CompareNode} node
  * @param {Names} names
- * @param {Looked} looked
+ * @param {Looked} dependencies
  * @returns {Meaning}
  */
-function compareMeaning({ sign, left, right }, names, looked) {
-  const value = valueIn(left, names, looked);
-  const wanted = valueIn(right, names, looked);
+function compareMeaning({ sign, left, right }, names, dependencies) {
+  const value = valueIn(left, names, dependencies);
+  const wanted = valueIn(right, names, dependencies);
   checkRange(value, right, wanted);
   checkRange(wanted, left, value);
-  if (value.name !== "pc" || !wanted.isConstant || (sign !== "=" && sign !== "!=")) return comparedMeaning(value, sign, wanted);
+  if (value.name !== "pc" || !wanted.isConstant || (sign !== "=" && sign !== "!=")) return comparisonMeaning(value, sign, wanted);
   const address = wanted.read([]);
-  const meaning = counterMeaning(address, String(address), names, looked);
+  const meaning = counterMeaning(address, String(address), names, dependencies);
   return sign === "=" ? meaning : notMeaning(meaning, "");
 }
 
 /**
- * Compiles a place with its value, such as `r0 5`. Several values after a RAM character belong to that character and the next ones.
+ * Compiles a place followed by its value, such as `r0 5`. Several values after a RAM character apply to that character and the following ones.
  * @param {HoldsNode} node
  * @param {Names} names
- * @param {Looked} looked
+ * @param {Looked} dependencies
  * @returns {Meaning}
  */
-function holdsMeaning({ place, values, text, column }, names, looked) {
+function holdsMeaning({ place, values, text, column }, names, dependencies) {
   const [first] = values;
-  if (values.length === 1) return compareMeaning({ kind: "compare", sign: "=", left: place, right: first, text, column }, names, looked);
-  const characters = characterValues(place, values.length, names, looked);
+  if (values.length === 1) return compareMeaning({ kind: "compare", sign: "=", left: place, right: first, text, column }, names, dependencies);
+  const characters = characterValues(place, values.length, names, dependencies);
   const wanted = values.map((value, at) => {
-    const each = valueIn(value, names, looked);
+    const each = valueIn(value, names, dependencies);
     checkRange(characters[at], value, each);
     return each;
   });
   /** @type {(each: Value[], given: string[]) => string} */
-  const joined = (each, given) => each.map((value) => value.read(given)).join(" ");
+  const joined = (each, answers) => each.map((value) => value.read(answers)).join(" ");
   return {
     address: -1,
-    matches: (given) => characters.every((value, at) => value.read(given) === wanted[at].read(given)),
-    explain: (given, _, isNot) => say.mustBe(characters[0].name, joined(characters, given), joined(wanted, given), false, isNot),
+    matches: (answers) => characters.every((value, at) => value.read(answers) === wanted[at].read(answers)),
+    explain: (answers, _, isNot) => say.mustBe(characters[0].name, joined(characters, answers), joined(wanted, answers), false, isNot),
   };
 }
 
 /**
- * Compiles a condition that begins with a keyword.
+ * Compiles a condition that starts with a keyword.
  * @param {FormNode} node
  * @param {Names} names
- * @param {Looked} looked
+ * @param {Looked} dependencies
  */
-function formMeaning({ words: [head, ...following] }, names, looked) {
+function formMeaning({ words: [head, ...following] }, names, dependencies) {
   const words = following.map(({ text }) => text);
   const form = COMPILERS[head.text];
-  return form ? form(words, names, looked) : chainMeaning(head.text, words, names, looked);
+  return form ? form(words, names, dependencies) : chainMeaning(head.text, words, names, dependencies);
 }
 
 /**
  * Compiles `lamp NAME on` or `key NAME down`.
  * @param {PanelIsNode} node
  * @param {Names} names
- * @param {Looked} looked
+ * @param {Looked} dependencies
  * @returns {Meaning}
  */
-function panelMeaning({ what, name, isOn }, names, looked) {
-  const value = what === "lamp" ? lampValue(name, names, looked) : keyValue(name, names, looked);
+function panelMeaning({ what, name, isOn }, names, dependencies) {
+  const value = what === "lamp" ? lampValue(name, names, dependencies) : keyValue(name, names, dependencies);
   const words = what === "lamp" ? ["off", "on"] : ["up", "down"];
   return {
     address: -1,
@@ -139,9 +139,9 @@ function panelMeaning({ what, name, isOn }, names, looked) {
 }
 
 /**
- * Returns the opposite of a compiled condition.
+ * Negates a compiled condition.
  * @param {Meaning} meaning
- * @param {string} text of the condition if it is joined by `and` or `or`, otherwise ""
+ * @param {string} text the condition's text if it is joined by `and` or `or`, otherwise ""
  * @returns {Meaning}
  */
 function notMeaning(meaning, text) {
@@ -155,7 +155,7 @@ function notMeaning(meaning, text) {
 }
 
 /**
- * Returns the conjunction or disjunction of compiled conditions.
+ * Joins compiled conditions with `and` or `or`.
  * @param {"or" | "and"} operator
  * @param {Meaning[]} parts
  * @param {string} text
@@ -180,20 +180,20 @@ function joinedMeaning(operator, parts, text) {
  * Compiles a condition.
  * @param {ConditionNode} node
  * @param {Names} names
- * @param {Looked} looked receives the places that the condition depends on
+ * @param {Looked} dependencies collects the places that the condition depends on
  * @returns {Meaning}
  */
-export function meaningOf(node, names, looked) {
+export function meaningOf(node, names, dependencies) {
   return atColumn(node.column, () => {
     if (node.kind === "not") {
       const isJoined = node.part.kind === "or" || node.part.kind === "and";
-      return notMeaning(meaningOf(node.part, names, looked), isJoined ? node.part.text : "");
+      return notMeaning(meaningOf(node.part, names, dependencies), isJoined ? node.part.text : "");
     }
-    if (node.kind === "compare") return compareMeaning(node, names, looked);
-    if (node.kind === "holds") return holdsMeaning(node, names, looked);
-    if (node.kind === "panel") return panelMeaning(node, names, looked);
-    if (node.kind === "at") return counterMeaning(labelIn(node.label, names), `@${node.label}`, names, looked);
-    if (node.kind === "form") return formMeaning(node, names, looked);
-    return joinedMeaning(node.kind, node.parts.map((part) => meaningOf(part, names, looked)), node.text);
+    if (node.kind === "compare") return compareMeaning(node, names, dependencies);
+    if (node.kind === "holds") return holdsMeaning(node, names, dependencies);
+    if (node.kind === "panel") return panelMeaning(node, names, dependencies);
+    if (node.kind === "at") return counterMeaning(labelIn(node.label, names), `@${node.label}`, names, dependencies);
+    if (node.kind === "form") return formMeaning(node, names, dependencies);
+    return joinedMeaning(node.kind, node.parts.map((part) => meaningOf(part, names, dependencies)), node.text);
   });
 }

@@ -1,5 +1,5 @@
-// Parses conditions (docs/MANUAL.md, "Conditions") to a syntax tree; each node has its text and column. Names are resolved later, except
-// the names of lamps and keys: these can contain any character, so the parser must recognise them.
+// Parses conditions (docs/MANUAL.md, "Conditions") into a syntax tree. Each node has its text and column. Most names are resolved later. Names of
+// lamps and keys can contain any character, so the parser itself must recognise them.
 //
 //     condition  = and { or and }      and = not { and not }      not = { "not" } ( lamps | .. | value [ sign value ] )
 //     value      = operand { ("+" | "-" | "&") operand }          operand = number | name | place | "(" value ")"
@@ -11,15 +11,15 @@ import * as say from "../../words/conditions.js";
  * @typedef {import("./scanner.js").Token} Token
  * @typedef {"=" | "!=" | "<" | "<=" | ">" | ">="} Sign
  *
- * A value. `name`: the name of a value or a place, with `in` or `out` after a port. `lamp`, `key`: a lamp or a key by its name. `sum`: the
- * sum, difference or bitwise AND of two values.
+ * A value. `name`: a named value or a place; `way` is the direction after a port. `lamp`, `key`: a lamp or key with its name. `sum`: the sum,
+ * difference or bitwise AND of two values.
  * @typedef {{ kind: "number", value: number, text: string, column: number }} NumberNode
  * @typedef {{ kind: "name", text: string, way: "" | "in" | "out", column: number }} NameNode
  * @typedef {{ kind: "lamp" | "key", text: string, column: number }} PanelNode
  * @typedef {{ kind: "sum", sign: "+" | "-" | "&", left: ValueNode, right: ValueNode, text: string, column: number }} SumNode
  * @typedef {NumberNode | NameNode | PanelNode | SumNode} ValueNode
  *
- * A condition. `form`: a keyword (`lamps`, `display`, `printed`, `cycles` or a chain) with the words after it. `holds`: a place with its
+ * A condition. `form`: a keyword (`lamps`, `display`, `printed`, `cycles` or a chain) with the words after it. `holds`: a place with its required
  * values. `panel`: `lamp NAME on` or `key NAME down`. `at`: `at LABEL`.
  * @typedef {{ kind: "or" | "and", parts: ConditionNode[], text: string, column: number }} JoinedNode
  * @typedef {{ kind: "not", part: ConditionNode, text: string, column: number }} NotNode
@@ -32,29 +32,29 @@ import * as say from "../../words/conditions.js";
  * @typedef {ConditionNode | ValueNode} Node
  */
 
-/** The keywords of the language, for syntax colouring. */
+/** The keywords of conditions, for syntax colouring. */
 export const WORDS = new Set(["or", "and", "not", "lamps", "lamp", "key", "display", "printed", "cycles", "at", "most", "least", "on",
   "off", "down", "up", "none", "in", "out"]);
 
-/** The maximum length of a condition, and the maximum nesting of parentheses. */
+/** The maximum length of a condition in characters, and the maximum nesting depth of parentheses. */
 export const MAX_LENGTH = 2000;
 export const MAX_DEPTH = 30;
 
-/** @type {Record<string, Sign>} the operator of each spelling */
+/** @type {Record<string, Sign>} the comparison operators, by spelling */
 const OPERATORS = { "=": "=", "==": "=", "!=": "!=", "<": "<", "<=": "<=", ">": ">", ">=": ">=" };
 const JOINS = new Map([["or", "or"], ["||", "or"], ["and", "and"], ["&&", "and"]]);
 const PORT = /^(rom\d+|ram\d+\.\d+)$/i;
-/** The kinds of nodes that are conditions. */
+/** The node kinds that are conditions. */
 const CONDITION_KINDS = new Set(["or", "and", "not", "compare", "form", "holds", "panel", "at"]);
-/** The number of numerals after the first word of a place that is written with blanks, such as `ram 0 0x12`. */
+/** The number of numerals after the first word of a place in the spelling with blanks, such as `ram 0 0x12`. */
 const SPACED_NUMERALS = new Map([["ram", 2], ["st", 3]]);
-/** The kinds of nodes whose text stays without parentheses, because it is a single name or number. */
+/** The node kinds whose text needs no parentheses: single names and numbers. */
 const BARE_KINDS = new Set(["number", "name", "lamp", "key"]);
 const PANEL_MESSAGES = { lamp: say.LAMP_FORM, key: say.KEY_FORM };
 const STATES = new Map([["on", true], ["off", false], ["down", true], ["up", false]]);
 
 /**
- * Returns whether a node is a condition, not a value.
+ * Returns whether a node is a condition. Any other node is a value.
  * @param {Node} node
  * @returns {node is ConditionNode}
  */
@@ -66,7 +66,7 @@ export function isCondition(node) {
 class Parser {
   /**
    * @param {string} text
-   * @param {(name: string) => boolean} isLampName returns whether a lamp has the name
+   * @param {(name: string) => boolean} isLampName returns whether the name is a lamp name
    */
   constructor(text, isLampName) {
     this.text = text;
@@ -86,7 +86,7 @@ class Parser {
   }
 
   /**
-   * Returns "or" or "and" for a token that is such an operator, otherwise "".
+   * Returns "or" or "and" if a token is one of these operators, otherwise "".
    * @param {Token} token
    */
   operatorOf({ kind, text }) {
@@ -116,7 +116,7 @@ class Parser {
   }
 
   /**
-   * Returns a token in the spelling of the text.
+   * Returns a token as it appears in the text.
    * @param {Token} token
    */
   textOf({ kind, text }) {
@@ -124,7 +124,7 @@ class Parser {
   }
 
   /**
-   * Parses operands joined by `or`, or by `and`.
+   * Parses operands joined by one operator, `or` or `and`.
    * @param {"or" | "and"} by
    * @returns {Node}
    */
@@ -141,7 +141,7 @@ class Parser {
   }
 
   /**
-   * Parses a comparison after any number of `not`.
+   * Parses any number of `not`, followed by a comparison.
    * @returns {Node}
    */
   parseNegated() {
@@ -155,7 +155,7 @@ class Parser {
   }
 
   /**
-   * Returns a node that must be a condition; throws `Unreadable` for a value. `@NAME` becomes `at NAME`.
+   * Checks that a node is a condition; throws `Unreadable` for a value. Converts `@NAME` to `at NAME`.
    * @param {Node} node
    * @returns {ConditionNode}
    */
@@ -169,7 +169,7 @@ class Parser {
   }
 
   /**
-   * Returns a node that must be a value; throws `Unreadable` for a condition.
+   * Checks that a node is a value; throws `Unreadable` for a condition.
    * @param {Node} node
    * @returns {ValueNode}
    */
@@ -178,7 +178,7 @@ class Parser {
   }
 
   /**
-   * Parses a comparison, a place with its values, or a single value.
+   * Parses a comparison, a place followed by values, or a single value.
    * @returns {Node}
    */
   parseComparison() {
@@ -211,7 +211,7 @@ class Parser {
   }
 
   /**
-   * Returns the node for a place with its values.
+   * Returns the node for a place followed by values.
    * @param {NameNode} place
    * @param {ValueNode[]} values
    * @returns {HoldsNode}
@@ -220,7 +220,7 @@ class Parser {
     return { kind: "holds", place, values, text: this.textFrom(place.column), column: place.column };
   }
 
-  /** Returns whether the next token begins a value. */
+  /** Returns whether the next token starts a value. */
   isValueNext() {
     const token = this.scanner.peek();
     return token.kind === "number" || (token.kind === "word" && this.operatorOf(token) === "" && !this.isNot(token));
@@ -262,7 +262,7 @@ class Parser {
   }
 
   /**
-   * Parses a number, a name, a place, a condition with a keyword, or an expression in parentheses.
+   * Parses a number, a name, a place, a keyword condition, or an expression in parentheses.
    * @returns {Node}
    */
   parseOperand() {
@@ -279,7 +279,7 @@ class Parser {
     return this.parseNamed(token);
   }
 
-  /** The last column of the text, for errors at its end. */
+  /** The last column of the text, used for errors at the end. */
   get lastColumn() {
     return Math.max(0, this.text.length - 1);
   }
@@ -303,7 +303,7 @@ class Parser {
   }
 
   /**
-   * Parses a name, a place, or a condition with a keyword.
+   * Parses a name, a place, or a keyword condition.
    * @param {Token} token
    * @returns {Node}
    */
@@ -330,8 +330,8 @@ class Parser {
   }
 
   /**
-   * Parses the optional direction after a port; returns "" if there is none.
-   * @param {string} word the port
+   * Parses an optional `in` or `out` after a port; returns "" if it is missing.
+   * @param {string} word the name of the port
    * @returns {"" | "in" | "out"}
    */
   parseDirection(word) {
@@ -344,7 +344,7 @@ class Parser {
 
   /**
    * Parses the label after `at`.
-   * @param {number} column of `at`
+   * @param {number} column the column of `at`
    * @returns {AtNode}
    */
   parseLabel(column) {
@@ -357,8 +357,8 @@ class Parser {
   // --- Keywords followed by names ---
 
   /**
-   * Parses `lamp NAME on` or `key NAME down`, or, without `on` or `down`, a value. Returns null if the word `lamp` or `key` is itself a
-   * name of the program, followed by an operator.
+   * Parses `lamp NAME on` or `key NAME down`. Without `on` or `down`, the result is a value. Returns null if the word `lamp` or `key` is itself a
+   * program name before an operator.
    * @param {Token} token
    * @param {"lamp" | "key"} what
    * @returns {Node | null}
@@ -383,7 +383,7 @@ class Parser {
   }
 
   /**
-   * Parses `lamps` with names or marks; or, before an operator, `lamps` as a number with one bit for each lamp.
+   * Parses `lamps` with names or marks. Before an operator, `lamps` is a number with one bit per lamp.
    * @param {Token} token
    * @returns {Node}
    */
@@ -398,7 +398,7 @@ class Parser {
   }
 
   /**
-   * Parses `display TEXT`, with an optional `=` or `!=` before the text.
+   * Parses `display TEXT`, with an optional `=` or `!=` before TEXT.
    * @param {Token} head
    * @returns {ConditionNode}
    */
@@ -416,7 +416,7 @@ class Parser {
     return text === "!=";
   }
 
-  /** Returns the next token without consuming it. Characters that are not an operator count as a word. */
+  /** Returns the next token without consuming it. A text that does not start with an operator counts as a word. */
   peekLoosely() {
     const { scanner } = this;
     const { place } = scanner;
@@ -428,9 +428,9 @@ class Parser {
   }
 
   /**
-   * Returns the words up to the next `and`, `or` or closing parenthesis.
-   * @param {boolean} isText true if the words can be in quotes
-   * @param {boolean} [hasLamps] true if the words can be names of lamps: a lamp can be named `or`
+   * Returns the words before the next `and`, `or` or closing parenthesis.
+   * @param {boolean} isText true if the words can be quoted
+   * @param {boolean} [hasLamps] true if the words can be lamp names, which include names such as `or`
    */
   wordsAfter(isText, hasLamps = false) {
     const { scanner } = this;
@@ -455,21 +455,21 @@ class Parser {
   }
 
   /**
-   * Returns whether all words from a column to the end are names of lamps.
+   * Returns whether all words from a column to the end are lamp names.
    * @param {number} column
    */
   isLampsFrom(column) {
     return this.text.slice(column).trim().split(/\s+/).every((word) => this.isLampName(word));
   }
 
-  /** Returns the words of a text in quotes. */
+  /** Returns the words of a quoted text. */
   parseQuoted() {
     const token = this.scanner.next();
     return token.text.split(/\s+/).filter(Boolean).map((text) => ({ ...token, text }));
   }
 
   /**
-   * Returns the node for a keyword with its words.
+   * Returns the node for a keyword and its words.
    * @param {Token} head the keyword
    * @param {Token[]} words
    * @returns {FormNode}
@@ -480,8 +480,8 @@ class Parser {
   }
 
   /**
-   * Parses the bits after a chain.
-   * @param {Token} head the name of the chain
+   * Parses the bit pattern after a chain.
+   * @param {Token} head the chain name
    * @returns {ConditionNode}
    */
   parseChain(head) {
@@ -506,7 +506,7 @@ class Parser {
 /**
  * Parses a value or a condition; throws `Unreadable` for an error.
  * @param {string} text
- * @param {(name: string) => boolean} [isLampName] returns whether a lamp has the name
+ * @param {(name: string) => boolean} [isLampName] returns whether the name is a lamp name
  * @returns {Node}
  */
 export function parse(text, isLampName = () => false) {
@@ -517,7 +517,7 @@ export function parse(text, isLampName = () => false) {
 /**
  * Parses a condition; throws `Unreadable` for an error.
  * @param {string} text
- * @param {(name: string) => boolean} [isLampName] returns whether a lamp has the name
+ * @param {(name: string) => boolean} [isLampName] returns whether the name is a lamp name
  * @returns {ConditionNode}
  */
 export function parseCondition(text, isLampName = () => false) {

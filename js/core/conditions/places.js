@@ -1,5 +1,5 @@
-// Parses the names of places in the machine: a register, a register pair, a RAM character, a line, a port, a chain or the lamps. A place
-// can have several spellings; it is shown in the spelling of `trace`. A place lists the `trace` places that report its value on a board.
+// Parses place names: a register, a register pair, a RAM character, a line, a port, a chain or the lamps. If a place has several spellings, it is
+// shown in the spelling of `trace`. Each place lists the `trace` places that report its value on a board.
 
 import { BITS_PER_CHIP } from "../bench/board_form.js";
 import { LAST_ADDRESS, hex, numberOf, upTo } from "../bench/numbers.js";
@@ -7,42 +7,43 @@ import { LAST_ADDRESS, hex, numberOf, upTo } from "../bench/numbers.js";
 /**
  * @typedef {import("../bench/answers.js").Board} Board
  *
- * A place. `name` is the spelling that is shown. `probesOn` returns the `trace` places that report its value; none if the board lacks it.
- * `value` returns its value in the spelling of `trace`, and `number` as a number. `most` returns its maximum, -1 if it is not a number.
+ * A place. `name` is its displayed name. `probesOn` returns the `trace` places that report its value; an empty list if the board does not have the
+ * place. `value` returns its value in the spelling of `trace`, and `number` its value as a number. `most` returns its maximum, -1 if the value is not
+ * a number.
  * @typedef {{ name: string, most: (board: Board) => number, probesOn: (board: Board) => string[], value: (answers: string[]) => string,
  * number: (answers: string[]) => number }} Place
  */
 
-/** The name of the accumulator in manuals of other processors. */
+/** The accumulator name in the manuals of other processors. */
 const ACCUMULATOR = "a";
-/** The number of main memory characters, and of status characters, in a register of a RAM chip. */
+/** The number of nibbles, and of status characters, in a RAM register. */
 export const CHARACTERS = 16;
 export const STATUS = 4;
-/** The maximum values of places. All others have 4 bits, except register pairs and ROM bytes; `ret` is not a number. */
+/** The maximum values of places. All other places have 4 bits, except register pairs and ROM bytes. The value of `ret` is not a number. */
 const MAX_VALUES = new Map([["cy", 1], ["test", 1], ["owed", 1], ["pc", LAST_ADDRESS], ["dcl", 7], ["src", 255], ["ret", -1]]);
 const MAX_BYTE = 255;
 const MAX_DIGIT = 15;
-/** The maximum number of lamps that fit a number with one bit for each: larger numbers are not exact. */
+/** The maximum number of lamps whose bits fit exactly into one JavaScript number. */
 const MAX_LAMPS = 52;
 
-/** The names of places that every board has, for completion. */
+/** The place names that exist on every board, for completion. */
 export const PLACE_WORDS = [
   "acc", "cy", "pc", "dcl", "src", "test", "lamps", ...upTo(16).map((at) => `r${at}`), ...upTo(8).map((at) => `p${at}`)];
 
-/** @param {string} place returns its maximum value; -1 if it is not a number */
+/** @param {string} place a place name; returns its maximum value, -1 if the value is not a number */
 export const maxOf = (place) => MAX_VALUES.get(place) ?? (/^(p\d$|rom\.)/.test(place) ? MAX_BYTE : MAX_DIGIT);
 
-/** @param {string[]} answers returns the first one */
+/** @param {string[]} answers the answers; returns the first one */
 const firstAnswer = ([answer]) => answer;
 
 /**
- * Returns the number with these hexadecimal digits, the most significant one first.
+ * Returns the number for hexadecimal digits, most significant first.
  * @param {string[]} answers
  */
 const asNumber = (answers) => parseInt(answers.join(""), 16);
 
 /**
- * Returns a place whose value `trace` reports under the same name.
+ * Returns a place that `trace` reports under the same name.
  * @param {string} name
  * @param {(board: Board) => boolean} [isOn] returns whether a board has the place
  * @returns {Place}
@@ -52,7 +53,7 @@ function singlePlace(name, isOn = () => true) {
 }
 
 /**
- * Returns a line, whose value is 0 or 1.
+ * Returns the place for a signal line, with value 0 or 1.
  * @param {string} name
  * @param {(board: Board) => boolean} isOn returns whether a board has the line
  * @returns {Place}
@@ -62,7 +63,7 @@ function linePlace(name, isOn) {
 }
 
 /**
- * Returns whether a bank of the board has a chip.
+ * Returns whether a RAM bank of the board has a chip.
  * @param {Board} board
  * @param {number} bank
  * @param {number} chip
@@ -72,7 +73,7 @@ function hasRam({ banks }, bank, chip) {
 }
 
 /**
- * Parses the name of a register or a register pair.
+ * Parses the name of a register or register pair.
  * @param {string} name
  * @returns {Place | null}
  */
@@ -85,7 +86,7 @@ function registerPlace(name) {
 }
 
 /**
- * Parses the name of a RAM character or a status character: `ram.0.0x12`, `ram 0 0x12` or `st.0.1.2`.
+ * Parses the name of a RAM or status character: `ram.0.0x12`, `ram 0 0x12` or `st.0.1.2`.
  * @param {string} text
  * @returns {Place | null}
  */
@@ -100,7 +101,7 @@ function memoryPlace(text) {
 }
 
 /**
- * Parses the name of a port or of its line: `rom1`, `rom1.2`, `ram0.0` or `ram0.0.3`.
+ * Parses the name of a port or a port line: `rom1`, `rom1.2`, `ram0.0` or `ram0.0.3`.
  * @param {string} name
  * @returns {Place | null}
  */
@@ -115,7 +116,7 @@ function portPlace(name) {
 }
 
 /**
- * Returns the lamps as a number: bit k is 1 if lamp k is on.
+ * Converts lamp marks to a number: bit k is 1 if lamp k is on.
  * @param {string[]} answers
  */
 function lampsNumber([marks]) {
@@ -123,7 +124,7 @@ function lampsNumber([marks]) {
 }
 
 /**
- * Parses `lamps`, or the name of a lamp, a chain, or a bit of a chain.
+ * Parses `lamps`, or the name of a lamp, a chain, or a chain bit.
  * @param {string} name
  * @returns {Place | null}
  */
@@ -137,7 +138,7 @@ function lampPlace(name) {
   const lamp = /^lamp[ .]?(\d+)$/.exec(name);
   if (lamp) {
     const at = Number(lamp[1]);
-    // The value of a lamp is the level of its line.
+    // The value of a lamp is the level of its signal line.
     return {
       ...linePlace(`lamp ${at}`, () => true), probesOn: ({ lamps }) => lamps.slice(at, at + 1),
       value: ([answer]) => (answer === "1" ? "*" : "."),
@@ -151,7 +152,7 @@ function lampPlace(name) {
 }
 
 /**
- * Parses the name of a place; returns null for any other text.
+ * Parses a place name; returns null for any other text.
  * @param {string} text
  * @returns {Place | null}
  */
@@ -161,8 +162,8 @@ export function placeOf(text) {
 }
 
 /**
- * Returns the accumulator for `A`, which is not one of its names; null for any other word. Callers try all other meanings of the word
- * first, for example a name in *Watch*.
+ * Returns the accumulator for `A`, which the bench does not accept as its name; null for any other word. Callers first try all other meanings of the
+ * word, such as a watch name.
  * @param {string} text
  */
 export function placeByAlias(text) {

@@ -1,4 +1,4 @@
-// Queries the bench for the values of places. `trace` reports most of them, and `state` reports those that only commands change.
+// Queries the bench for the values of places. `trace` reports most places. `state` reports the places that only commands change.
 
 import { MOST_PLACES } from "../bench/inputs.js";
 import { valueIn } from "../bench/state_line.js";
@@ -16,13 +16,13 @@ export class Probes {
     this.groups = [];
     for (let from = 0; from < traced.length; from += MOST_PLACES) this.groups.push(traced.slice(from, from + MOST_PLACES));
     this.asksState = traced.length < places.length;
-    /** The lines of the queries. */
+    /** The query lines. */
     this.lines = this.groups.map((group) => `trace 1 ${group.join(" ")}\n`).join("") + (this.asksState ? "state\n" : "");
   }
 
   /**
-   * Returns the values of the places, in their order.
-   * @param {Answers} answers to the queries
+   * Returns the values of the places, in order.
+   * @param {Answers} answers the answers to the queries
    * @returns {string[]}
    */
   take(answers) {

@@ -8,7 +8,7 @@ import * as say from "../../words/conditions.js";
  *   `end` is the column after the last one
  */
 
-/** An error in a condition or in a line of properties. Its column counts from 0; -1 if it is not known yet. */
+/** An error in a condition or in a property line. `column` counts from 0; it is -1 until it is known. */
 export class Unreadable extends Error {
   /**
    * @param {string} words
@@ -35,11 +35,11 @@ const SIGN = /\|\||&&|==|!=|<=|>=|[=<>!()+\-&]/y;
 const TEXT = /"([^"]*)"/y;
 const WORD = /[A-Za-z_@][\w.@]*/y;
 const NUMBER = /\d\w*/y;
-/** A word with any characters. */
+/** A word of any characters except blanks. */
 const RAW = /\S+/y;
 
 /**
- * Parses a numeral, such as `10`, `0xA` or `0b1010`; returns NaN for any other text.
+ * Parses a numeral such as `10`, `0xA` or `0b1010`; returns NaN for any other text.
  * @param {string} text
  */
 export function numeralOf(text) {
@@ -57,7 +57,7 @@ export class Scanner {
   }
 
   /**
-   * Consumes the text that matches a sticky expression; returns the match, or null.
+   * Consumes the text that matches a sticky regular expression; returns the match, or null.
    * @param {RegExp} form
    * @returns {RegExpExecArray | null}
    */
@@ -82,33 +82,33 @@ export class Scanner {
   }
 
   /**
-   * Scans a token; throws `Unreadable` for characters that begin none.
+   * Scans a token; throws `Unreadable` at characters that start no token.
    * @returns {Token}
    */
   scan() {
     this.take(BLANKS);
     const column = this.at;
     /** @type {(kind: TokenKind, text: string) => Token} */
-    const made = (kind, text) => ({ kind, text, column, end: this.at });
-    if (column === this.text.length) return made("end", "");
+    const token = (kind, text) => ({ kind, text, column, end: this.at });
+    if (column === this.text.length) return token("end", "");
     const sign = this.take(SIGN);
-    if (sign) return made("sign", sign[0]);
+    if (sign) return token("sign", sign[0]);
     const text = this.take(TEXT);
-    if (text) return made("text", text[1]);
+    if (text) return token("text", text[1]);
     const word = this.take(WORD);
-    if (word) return made("word", word[0]);
+    if (word) return token("word", word[0]);
     const number = this.take(NUMBER);
     if (!number) {
       const [rest] = /** @type {RegExpExecArray} */ (this.take(RAW));
       return fail(rest.startsWith('"') ? say.NO_END_OF_TEXT : say.unknownSign(rest), column);
     }
     if (Number.isNaN(numeralOf(number[0]))) fail(say.noNumeral(number[0]), column);
-    return made("number", number[0]);
+    return token("number", number[0]);
   }
 
   /**
-   * Consumes the next word up to a blank, and returns it; null at the end. Names on a front panel can contain any characters.
-   * @param {boolean} isInside true if a parenthesis is open: then closing parentheses at the end do not belong to the word
+   * Consumes and returns the next word, up to a blank; returns null at the end. Front-panel names can contain any characters.
+   * @param {boolean} isInside true inside parentheses: closing parentheses at the end do not belong to the word
    * @returns {Token | null}
    */
   raw(isInside) {
@@ -122,7 +122,7 @@ export class Scanner {
     return { kind: "word", text, column, end: this.at };
   }
 
-  /** Moves back before the token that `peek` has scanned. */
+  /** Moves back to before the token that `peek` has scanned. */
   back() {
     if (this.seen) this.at = this.seen.column;
     this.seen = null;

@@ -1,4 +1,4 @@
-// Parses `set PLACE = VALUE` or `set PLACE VALUE`, and translates it to lines of the bench.
+// Parses `set PLACE = VALUE` or `set PLACE VALUE`, and translates it to bench lines.
 
 import { LAST_ADDRESS, hex, numberOf } from "../bench/numbers.js";
 import { parse } from "./parser.js";
@@ -10,17 +10,17 @@ import * as say from "../../words/conditions.js";
 /**
  * @typedef {import("./condition_language.js").Names} Names
  * @typedef {import("./parser.js").ValueNode} ValueNode
- * @typedef {{ place: string, value: ValueNode }} Setting `place` is in the spelling that `settablePlace` returns
+ * @typedef {{ place: string, value: ValueNode }} Setting `place` has the spelling that `settablePlace` returns
  *
- * The lines of the bench; or an error message, and its column in the text after `set`.
+ * The bench lines; or an error message, with its column in the text after `set`.
  * @typedef {{ place: string, lines: string, fault: string, column: number }} ReadSetting
  */
 
-/** The places that can be set, without `test` and the bytes of ROM. */
+/** The places that can be set, except `test` and ROM bytes. */
 const SETTABLE = /^(acc|cy|pc|dcl|r\d+|p\d|(ram|st)\..*)$/;
 
 /**
- * Returns the bench's spelling of a place that can be set; "" for any other text.
+ * Returns the bench's spelling of a place if `set` can change it; "" for any other text.
  * @param {string} text
  */
 export function settablePlace(text) {
@@ -33,9 +33,9 @@ export function settablePlace(text) {
 }
 
 /**
- * Returns the lines that set a place.
- * @param {string} place in the spelling that `settablePlace` returns
- * @param {number} value within the place's range
+ * Returns the bench lines that set a place.
+ * @param {string} place the place, as spelled by `settablePlace`
+ * @param {number} value the value, in the range of the place
  */
 export function linesOfSetting(place, value) {
   if (place === "test") return `test ${value}\n`;
@@ -58,8 +58,8 @@ export function settingOf(text) {
 }
 
 /**
- * Returns the setting of a place; throws `Unreadable` if the place cannot be set.
- * @param {import("./parser.js").NameNode} left the place
+ * Returns the setting for a place; throws `Unreadable` if the place cannot be set.
+ * @param {import("./parser.js").NameNode} left the node of the place
  * @param {ValueNode} value
  * @returns {Setting}
  */
@@ -70,10 +70,10 @@ function settingOfParts({ text, column }, value) {
 }
 
 /**
- * Translates the text after `set` to lines. VALUE consists of numbers and names of the program.
+ * Translates the text after `set` to bench lines. VALUE can contain numbers and program names.
  * @param {string} text
- * @param {Names["map"]} map of the program
- * @param {import("./condition_language.js").Board | null} [board] if it is known: then a place that it lacks is an error
+ * @param {Names["map"]} map the source map of the program
+ * @param {import("./condition_language.js").Board | null} [board] if given, a place that the board does not have is an error
  * @returns {ReadSetting}
  */
 export function readSetting(text, map, board = null) {

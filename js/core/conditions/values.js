@@ -1,5 +1,5 @@
-// Compiles the values in a condition: numbers, places, sums, and names of the program, of *Watch* and of the front panel. A compiled value
-// is computed from the bench's answers about its places.
+// Compiles the values in a condition: numbers, places, sums, program names, watch names and front-panel names. A compiled value is computed from the
+// bench's answers about its places.
 
 import { keysOf, pinOf } from "../explore/explored_inputs.js";
 import { similarWords } from "../text/alike.js";
@@ -14,33 +14,33 @@ import * as say from "../../words/conditions.js";
  * @typedef {import("./parser.js").NameNode} NameNode
  * @typedef {import("./parser.js").SumNode} SumNode
  *
- * A compiled value. `name` is its displayed name. `most` is its maximum, Infinity if unknown. `isConstant` is true if it depends on no
- * place. `read` returns its number, and `textOf` its displayed text.
+ * A compiled value. `name` is its displayed name. `most` is its maximum, Infinity if unknown. `isConstant` is true if the value depends on no place.
+ * `read` returns the value as a number, and `textOf` as displayed text.
  * @typedef {{ name: string, most: number, isConstant: boolean, read: (values: string[]) => number, textOf?: (values: string[]) => string }}
  *   Value
  *
- * A value that only a test can supply, because the bench does not report it.
+ * A value that only a test can supply because the bench does not report it.
  * @typedef {"cycles" | "seen" | "printed"} Need
  */
 
-/** The places that `state` reports and `trace` does not; only commands change them. */
+/** The places that `state` reports and `trace` does not. Only commands change them. */
 export const STATE_PLACES = new Set(["test", "owed", "keys"]);
-/** The maximum nesting of names in *Watch*: a name can stand for an expression with other names. */
+/** The maximum nesting depth of watch names: the expression of a watch name can contain other watch names. */
 const MAX_NAME_DEPTH = 3;
-/** The last character of a RAM bank: a character is selected by the byte that SRC sends. */
+/** The number of the last nibble in a RAM bank. The byte that SRC sends selects the nibble. */
 const LAST_CHARACTER = 255;
-/** The hint for each word that other programs use for a place. */
+/** Hints for the words that other assemblers and emulators use for a place. */
 const HINTS = new Map([["a", say.ACCUMULATOR_HINT], ["accu", say.ACCUMULATOR_HINT], ["accumulator", say.ACCUMULATOR_HINT],
   ["c", say.CARRY_HINT], ["carry", say.CARRY_HINT], ["ip", say.COUNTER_HINT], ["bank", say.BANK_HINT]]);
-/** The factor that splits a number of up to 53 bits into two halves, because JavaScript's bit operators work on 32 bits. */
+/** The factor that splits a number of up to 53 bits into two halves. JavaScript's bitwise operators only work on 32 bits. */
 const HALF_FACTOR = 2 ** 26;
 
-/** The dependencies of a condition: its places, each once, and the values that a test must supply. */
+/** The dependencies of a condition: its places without duplicates, and the values that a test must supply. */
 export class Looked {
   /** @param {boolean} [isTest] true for a condition in a test */
   constructor(isTest = false) {
     this.isTest = isTest;
-    /** The current nesting depth of names in *Watch*. */
+    /** The current nesting depth of watch names. */
     this.depth = 0;
     /** @type {string[]} */
     this.places = [];
@@ -49,7 +49,7 @@ export class Looked {
   }
 
   /**
-   * Adds a place if it is new; returns its index.
+   * Adds a place if it is missing; returns its index.
    * @param {string} place
    */
   at(place) {
@@ -58,7 +58,7 @@ export class Looked {
   }
 
   /**
-   * Adds a value that a test must supply. Throws `Unreadable` for a condition outside a test.
+   * Adds a value that a test must supply. Throws `Unreadable` if the condition is not in a test.
    * @param {Need} need
    * @param {string} fault the error message
    */
@@ -69,7 +69,7 @@ export class Looked {
 }
 
 /**
- * Returns a constant value.
+ * Creates a constant value.
  * @param {number} number
  * @returns {Value}
  */
@@ -91,9 +91,9 @@ function bitwiseAnd(one, other) {
 const OPERATIONS = { "+": (one, other) => one + other, "-": (one, other) => one - other, "&": bitwiseAnd };
 
 /**
- * Returns a value of 0 or 1.
+ * Creates a value that is 0 or 1.
  * @param {string} name
- * @param {number} at the index of its place
+ * @param {number} at the index of the place
  * @param {(answer: string) => number} read
  * @returns {Value}
  */
@@ -102,7 +102,7 @@ function bitValue(name, at, read) {
 }
 
 /**
- * Returns the number of the lamp with a name or a number; throws `Unreadable` if there is none.
+ * Returns the lamp number for a lamp name or number; throws `Unreadable` if there is no such lamp.
  * @param {string} name
  * @param {Names} names
  */
@@ -115,38 +115,38 @@ export function lampNumberOf(name, { face, board }) {
 }
 
 /**
- * Returns the value of a lamp: 1 if it is on.
+ * Returns the value of a lamp: 1 if the lamp is on.
  * @param {string} name
  * @param {Names} names
- * @param {Looked} looked
+ * @param {Looked} dependencies
  * @returns {Value}
  */
-export function lampValue(name, names, looked) {
+export function lampValue(name, names, dependencies) {
   const lamp = lampNumberOf(name, names);
-  return bitValue(`lamp ${name}`, looked.at("lamps"), (marks) => Number(marks[lamp] === "*"));
+  return bitValue(`lamp ${name}`, dependencies.at("lamps"), (marks) => Number(marks[lamp] === "*"));
 }
 
 /**
- * Returns the value of a key: 1 if it is down.
+ * Returns the value of a key: 1 if the key is pressed.
  * @param {string} name
  * @param {Names} names
- * @param {Looked} looked
+ * @param {Looked} dependencies
  * @returns {Value}
  */
-export function keyValue(name, { face }, looked) {
+export function keyValue(name, { face }, dependencies) {
   const key = [...keysOf(face), ...(face.test ? [pinOf(face)] : [])].find((each) => each.name === name);
   if (!key) {
     const known = [...keysOf(face), ...(face.test ? [pinOf(face)] : [])].map((each) => each.name);
     return fail(say.noKeyOfPanel(name, known.join(" ")));
   }
   const [word, ...numbers] = key.down.split(" ");
-  if (word === "test") return bitValue(`key ${name}`, looked.at("test"), (answer) => Number(answer === numbers[0]));
+  if (word === "test") return bitValue(`key ${name}`, dependencies.at("test"), (answer) => Number(answer === numbers[0]));
   const item = numbers.join(".");
-  return bitValue(`key ${name}`, looked.at("keys"), (answer) => Number(answer.split(",").includes(item)));
+  return bitValue(`key ${name}`, dependencies.at("keys"), (answer) => Number(answer.split(",").includes(item)));
 }
 
 /**
- * Returns the value of a name of the program. The case is ignored if exactly one name then matches. Returns undefined if no name matches.
+ * Looks up a program name. The case is ignored if exactly one name then matches. Returns undefined if no name matches.
  * @param {string} name
  * @param {Names["map"]} map
  */
@@ -157,7 +157,7 @@ function sourceName(name, map) {
 }
 
 /**
- * Returns the address of a label; throws `Unreadable` if there is none.
+ * Returns the address of a label; throws `Unreadable` if the label does not exist.
  * @param {string} name
  * @param {Names} names
  */
@@ -167,34 +167,34 @@ export function labelIn(name, names) {
 }
 
 /**
- * Returns the value of a place; throws `Unreadable` if the board lacks the place, or if its value is not a number.
+ * Returns the value of a place; throws `Unreadable` if the board does not have the place, or if its value is not a number.
  * @param {import("./places.js").Place | null} place
  * @param {Names} names
- * @param {Looked} looked
- * @returns {Value | null} null for null
+ * @param {Looked} dependencies
+ * @returns {Value | null} null if `place` is null
  */
-function placeValue(place, { board }, looked) {
+function placeValue(place, { board }, dependencies) {
   if (!place) return null;
   const { name } = place;
   const probes = place.probesOn(board);
   if (probes.length === 0) fail(say.boardLacks(name));
   const most = place.most(board);
   if (most < 0) fail(say.isNoNumber(name));
-  const indexes = probes.map((probe) => looked.at(probe));
+  const indexes = probes.map((probe) => dependencies.at(probe));
   const answersOf = (/** @type {string[]} */ values) => indexes.map((at) => values[at]);
   return { name, most, isConstant: false, read: (values) => place.number(answersOf(values)),
     textOf: (values) => place.value(answersOf(values)) };
 }
 
 /**
- * Returns the value of a port with a direction. `rom1 in` is the value that RDR reads: an output line reads as its bit in the mask.
- * `rom1 out` and `ram0.1 out` are the port's latch, with 0 for input lines.
+ * Returns the value of a port with a direction. `rom1 in` is the value that RDR reads; an output line reads as the bit in the mask. `rom1 out` and
+ * `ram0.1 out` are the port latch, with 0 for input lines.
  * @param {NameNode} node
  * @param {Names} names
- * @param {Looked} looked
+ * @param {Looked} dependencies
  * @returns {Value}
  */
-function portValue({ text, way }, { board }, looked) {
+function portValue({ text, way }, { board }, dependencies) {
   const port = text.toLowerCase();
   const place = placeOf(port);
   if (!place || place.probesOn(board).length === 0) return fail(say.boardLacks(port));
@@ -203,7 +203,7 @@ function portValue({ text, way }, { board }, looked) {
   const mask = rom ? [...rom.port] : [];
   const bitsOf = (/** @type {string} */ mark) => mask.reduce((sum, each, at) => sum + (each === mark ? 2 ** (3 - at) : 0), 0);
   const [inputs, ones] = [bitsOf("i"), bitsOf("1")];
-  const at = looked.at(place.name);
+  const at = dependencies.at(place.name);
   const read = (/** @type {string[]} */ values) => {
     const levels = parseInt(values[at], 16);
     return way === "in" ? (levels & inputs) | ones : levels & ~inputs;
@@ -212,7 +212,7 @@ function portValue({ text, way }, { board }, looked) {
 }
 
 /**
- * Returns a hint about the likely meaning of an unknown word; "" if there is none.
+ * Returns a hint about the probable meaning of an unknown word; "" if there is none.
  * @param {string} text
  */
 export function hintFor(text) {
@@ -222,7 +222,7 @@ export function hintFor(text) {
 }
 
 /**
- * Returns a hint about an unknown name: its likely meaning, or similar names.
+ * Returns a hint about an unknown name: the probable meaning, or similar names.
  * @param {string} text
  * @param {Names} names
  */
@@ -235,7 +235,7 @@ function suggestionFor(text, { map, watched, face }) {
 }
 
 /**
- * Throws `Unreadable` for an unknown name.
+ * Throws `Unreadable` with a hint about an unknown name.
  * @param {string} text
  * @param {Names} names
  * @returns {never}
@@ -245,63 +245,63 @@ function failForUnknown(text, names) {
 }
 
 /**
- * Returns the value of a name in *Watch*; its expression can contain other such names.
+ * Returns the value of a watch name. Its expression can contain other watch names.
  * @param {string} name
- * @param {string} text its expression
+ * @param {string} text the expression of the watch name
  * @param {Names} names
- * @param {Looked} looked
+ * @param {Looked} dependencies
  * @returns {Value}
  */
-function watchedValue(name, text, names, looked) {
-  if (looked.depth >= MAX_NAME_DEPTH) return fail(say.namesTooDeep(name, MAX_NAME_DEPTH));
+function watchedValue(name, text, names, dependencies) {
+  if (dependencies.depth >= MAX_NAME_DEPTH) return fail(say.namesTooDeep(name, MAX_NAME_DEPTH));
   const node = parse(text, (lamp) => names.face.lampNumbers.has(lamp));
   if (isCondition(node)) return fail(say.isNoValue(name, text));
-  looked.depth += 1;
+  dependencies.depth += 1;
   try {
-    return { ...valueIn(node, names, looked), name };
+    return { ...valueIn(node, names, dependencies), name };
   } catch (fault) {
-    // The error's column is a column of the expression, not of the condition.
+    // The column of the error is relative to the expression, not to the condition.
     throw fault instanceof Unreadable ? new Unreadable(say.inName(name, fault.message)) : fault;
   } finally {
-    looked.depth -= 1;
+    dependencies.depth -= 1;
   }
 }
 
 /**
- * Returns the value of a name or a place.
+ * Returns the value of a name or place.
  * @param {NameNode} node
  * @param {Names} names
- * @param {Looked} looked
+ * @param {Looked} dependencies
  * @returns {Value}
  */
-function nameValue(node, names, looked) {
+function nameValue(node, names, dependencies) {
   const { text, way } = node;
   const word = text.toLowerCase();
-  if (way !== "") return portValue(node, names, looked);
+  if (way !== "") return portValue(node, names, dependencies);
   if (text.startsWith("@")) {
     const found = sourceName(text.slice(1), names.map);
     return constant(found ? found.value : fail(say.noLabel(text.slice(1))));
   }
-  if (word === "test" || word === "owed") return bitValue(word, looked.at(word), Number);
-  const place = placeValue(placeOf(text), names, looked);
+  if (word === "test" || word === "owed") return bitValue(word, dependencies.at(word), Number);
+  const place = placeValue(placeOf(text), names, dependencies);
   if (place) return place;
   const watched = names.watched && names.watched.get(text);
-  if (watched !== undefined) return watchedValue(text, watched, names, looked);
+  if (watched !== undefined) return watchedValue(text, watched, names, dependencies);
   const found = sourceName(text, names.map);
   if (found) return constant(found.value);
-  if (names.face.lampNumbers.has(text)) return lampValue(text, names, looked);
-  return placeValue(placeByAlias(text), names, looked) || failForUnknown(text, names);
+  if (names.face.lampNumbers.has(text)) return lampValue(text, names, dependencies);
+  return placeValue(placeByAlias(text), names, dependencies) || failForUnknown(text, names);
 }
 
 /**
- * Returns the values of consecutive RAM characters, from a place on.
+ * Returns the values of consecutive RAM characters, starting at a place.
  * @param {NameNode} node
  * @param {number} count
  * @param {Names} names
- * @param {Looked} looked
+ * @param {Looked} dependencies
  * @returns {Value[]}
  */
-export function characterValues({ text, column }, count, names, looked) {
+export function characterValues({ text, column }, count, names, dependencies) {
   return atColumn(column, () => {
     const place = placeOf(text);
     const [, bank, byte] = /^ram\.(\d)\.0x(\w+)$/.exec(place ? place.name : "") || fail(say.isOneValue(place ? place.name : text));
@@ -309,7 +309,7 @@ export function characterValues({ text, column }, count, names, looked) {
       const at = parseInt(byte, 16) + more;
       const each = at <= LAST_CHARACTER ? placeOf(`ram.${bank}.${at}`) : null;
       if (more > 0 && (!each || each.probesOn(names.board).length === 0)) fail(say.NO_RAM_FOR_LAST);
-      return placeValue(each || place, names, looked) || failForUnknown(text, names);
+      return placeValue(each || place, names, dependencies) || failForUnknown(text, names);
     });
   });
 }
@@ -318,17 +318,17 @@ export function characterValues({ text, column }, count, names, looked) {
  * Returns the value of a sum.
  * @param {SumNode} node
  * @param {Names} names
- * @param {Looked} looked
+ * @param {Looked} dependencies
  * @returns {Value}
  */
-function sumValue({ sign, left, right, text }, names, looked) {
-  const [first, second] = [valueIn(left, names, looked), valueIn(right, names, looked)];
+function sumValue({ sign, left, right, text }, names, dependencies) {
+  const [first, second] = [valueIn(left, names, dependencies), valueIn(right, names, dependencies)];
   const isConstant = first.isConstant && second.isConstant;
   return { name: text, most: Infinity, isConstant, read: (values) => OPERATIONS[sign](first.read(values), second.read(values)) };
 }
 
 /**
- * Returns the number of a constant value; throws `Unreadable` if the value depends on the machine.
+ * Returns the number of a constant value; throws `Unreadable` if the value depends on the machine state.
  * @param {ValueNode} node
  * @param {Names["map"]} map
  * @returns {number}
@@ -344,20 +344,20 @@ export function constantIn(node, map) {
  * Compiles a value.
  * @param {ValueNode} node
  * @param {Names} names
- * @param {Looked} looked
+ * @param {Looked} dependencies
  * @returns {Value}
  */
-export function valueIn(node, names, looked) {
+export function valueIn(node, names, dependencies) {
   return atColumn(node.column, () => {
     if (node.kind === "number") return constant(node.value);
-    if (node.kind === "sum") return sumValue(node, names, looked);
-    if (node.kind === "name") return nameValue(node, names, looked);
-    return node.kind === "key" ? keyValue(node.text, names, looked) : lampValue(node.text, names, looked);
+    if (node.kind === "sum") return sumValue(node, names, dependencies);
+    if (node.kind === "name") return nameValue(node, names, dependencies);
+    return node.kind === "key" ? keyValue(node.text, names, dependencies) : lampValue(node.text, names, dependencies);
   });
 }
 
 /**
- * Returns the result of `read`; sets the column of an `Unreadable` error that has none.
+ * Returns the result of `read`. If `read` throws `Unreadable` without a column, sets the column.
  * @template Result
  * @param {number} column
  * @param {() => Result} read

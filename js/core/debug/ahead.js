@@ -1,5 +1,5 @@
-// Looks ahead: finds the number of cycles until a goal is reached, with queries or on a temporary copy of the session. The session itself
-// stays unchanged, even if the page is closed in the middle. The session is then run for that number of cycles.
+// Looks ahead: finds the number of cycles until a goal is reached, with queries or on a temporary copy of the session. The session itself does not
+// change, even if the page is closed during the search. Afterwards, the session runs for that number of cycles.
 
 import { Cancelled } from "../bench/faults.js";
 import { LONGEST_RUN } from "../engine/key_queue.js";
@@ -16,7 +16,7 @@ import { LARGEST_PIECE, endWithout, watcherOf } from "./goals.js";
  */
 
 /**
- * Returns the lines that run a piece, with the watcher's queries.
+ * Returns the lines that run a piece, including the watcher's queries.
  * @param {Watcher} watcher
  * @param {number} cycles
  */
@@ -30,10 +30,10 @@ function pieceLines(watcher, cycles) {
 }
 
 /**
- * Searches the answers of a piece for the goal or a stop; returns null if there is neither.
+ * Searches the answers of a piece for the goal or a stop; returns null if neither is found.
  * @param {Answers} answers
  * @param {Watcher} watcher
- * @returns {Found | null} its cycles count from the beginning of the piece
+ * @returns {Found | null} the cycles count from the start of the piece
  */
 function foundIn(answers, watcher) {
   let done = 0;
@@ -46,12 +46,12 @@ function foundIn(answers, watcher) {
 }
 
 /**
- * Searches for a goal from now on; the keys stay in their current states.
+ * Searches for a goal from the current state; the keys do not move.
  * @param {Engine} engine
- * @param {Uint8Array} file is not changed
+ * @param {Uint8Array} file the session file; not changed
  * @param {Goal} goal
- * @param {(done: number) => Promise<boolean>} shouldContinue called after each piece with the number of cycles searched; returns whether to
- *   continue. Otherwise `searchGoal` throws `Cancelled`
+ * @param {(done: number) => Promise<boolean>} shouldContinue called after each piece with the number of cycles searched. If it returns false,
+ *   `searchGoal` throws `Cancelled`
  * @param {number} maxCycles the maximum number of cycles to search
  * @param {() => Uint8Array} [codes] returns the contents of ROM
  * @returns {Promise<Found>}
@@ -73,7 +73,7 @@ export async function searchGoal(engine, file, goal, shouldContinue, maxCycles, 
 }
 
 /**
- * Returns the cycles of a `run` line; 0 for a key change.
+ * Returns the number of cycles of a `run` line; 0 for a key change.
  * @param {import("../engine/asking.js").SentLine} planned
  */
 export function cyclesOfLine({ line, change }) {
@@ -81,11 +81,11 @@ export function cyclesOfLine({ line, change }) {
 }
 
 /**
- * Returns the cycles until the next lines reach the goal; -1 if they do not, or stop earlier.
+ * Returns the cycles until the next lines reach the goal; -1 if they do not reach it or stop earlier.
  * @param {Engine} engine
- * @param {Uint8Array} file is not changed
+ * @param {Uint8Array} file the session file; not changed
  * @param {PlannedLine[]} planned the next lines
- * @param {Watcher} watcher that has received the answers to all runs so far
+ * @param {Watcher} watcher up to date with all earlier runs
  */
 export function cyclesToGoal(engine, file, planned, watcher) {
   const lines = planned.map((each) => (
@@ -107,20 +107,20 @@ export function cyclesToGoal(engine, file, planned, watcher) {
 }
 
 /**
- * Returns the first lines, up to a number of cycles. The last run is shortened.
+ * Returns the lines up to a number of cycles. The last run is shortened if necessary.
  * @param {PlannedLine[]} planned
  * @param {number} cycles
  * @returns {PlannedLine[]}
  */
 export function linesUpTo(planned, cycles) {
   /** @type {PlannedLine[]} */
-  const cut = [];
+  const result = [];
   let left = cycles;
   for (const each of planned) {
     const run = cyclesOfLine(each);
     if (left === 0) break;
-    cut.push(run > left ? { line: `run ${left}`, change: null } : each);
+    result.push(run > left ? { line: `run ${left}`, change: null } : each);
     left -= Math.min(run, left);
   }
-  return cut;
+  return result;
 }

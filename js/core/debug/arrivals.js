@@ -1,5 +1,5 @@
-// Soft breakpoints, which do not stop at every arrival: they have a condition, a hit count, or a note that is logged instead of a stop.
-// Arrivals are found ahead on a copy of the session. The copy stops at each arrival and reports the values of the places in the conditions.
+// Soft breakpoints. A soft breakpoint does not stop at every arrival: it has a condition, a hit count, or a note that is logged instead of a stop.
+// Arrivals are found in advance on a copy of the session. The copy stops at each arrival and reports the places in the conditions.
 
 import { Probes } from "../conditions/probes.js";
 import { Answers } from "../engine/tracing.js";
@@ -9,16 +9,16 @@ import { cyclesOfLine } from "./ahead.js";
  * @typedef {import("../engine/engine_host.js").EngineHost} Engine
  * @typedef {import("../engine/key_queue.js").PlannedLine} PlannedLine
  *
- * A compiled soft breakpoint. `from` is the number of the first hit that stops. `holds` evaluates the condition on the values of `places`.
- * `words` returns the text of the note from these values, and is null for a breakpoint that stops.
+ * A compiled soft breakpoint. `from` is the number of the first hit that stops. `holds` evaluates the condition on the values of `places`. `words`
+ * returns the note text for these values; it is null for a breakpoint that stops.
  * @typedef {{ id: number, address: number, from: number, hits: number, places: string[], holds: (values: string[]) => boolean,
  *   words: ((values: string[]) => string) | null }} SoftBreakpoint
  *
- * @typedef {{ id: number, cycles: number, words: string }} Logged a logged note: the breakpoint, the cycles before it, and its text
+ * @typedef {{ id: number, cycles: number, words: string }} Logged a logged note: its breakpoint, the cycles before it, and its text
  *
- * The result of looking ahead. `cycles`: the cycles before the first stop, -1 if there is none. `id`: the breakpoint or watch that stops.
- * `hits`: the hits of each breakpoint. `notes`: the last logged notes, and `noted` the number of all. `why`: "watch" if the change of a
- * place stops, which `change` describes. `changes`: the counted changes of each watch (data_watches.js).
+ * The result of looking ahead. `cycles`: the cycles before the first stop, -1 for no stop. `id`: the breakpoint or watch that stops. `hits`: the hits
+ * by breakpoint. `notes`: the last logged notes; `noted`: the number of all logged notes. `why`: "watch" if a change of a place stops; `change`
+ * describes that change. `changes`: the counted changes by watch (data_watches.js).
  * @typedef {{ cycles: number, id: number, hits: Map<number, number>, notes: Logged[], noted: number, why: "break" | "watch",
  *   change: string, changes: Map<number, number> }} Seen
  */
@@ -38,16 +38,16 @@ export function nothingSeen() {
 
 /** Finds arrivals at soft breakpoints. */
 export class Arrivals {
-  /** @param {SoftBreakpoint[]} breakpoints at different addresses */
+  /** @param {SoftBreakpoint[]} breakpoints the soft breakpoints, at most one per address */
   constructor(breakpoints) {
     this.breakpoints = breakpoints;
     this.byAddress = new Map(breakpoints.map((each) => [each.address, each]));
     this.places = ["pc", ...new Set(breakpoints.flatMap(({ places }) => places))];
     this.placeIndexes = new Map(breakpoints.map(({ id, places }) => [id, places.map((place) => this.places.indexOf(place))]));
     this.first = breakpoints.map(({ address }) => `break ${address}\n`).join("");
-    /** The queries after each run. */
+    /** The queries that follow each run. */
     this.probes = new Probes(this.places);
-    /** The number of arrivals per cycle in the last run. */
+    /** The arrivals per cycle in the previous run. */
     this.density = 0;
     this.copy = new Uint8Array(0);
   }
@@ -57,9 +57,9 @@ export class Arrivals {
   }
 
   /**
-   * Searches the next lines for arrivals, up to the first stop.
+   * Searches the next lines for arrivals. The search ends at the first stop.
    * @param {Engine} engine
-   * @param {Uint8Array} file is not changed
+   * @param {Uint8Array} file the session file; not changed
    * @param {PlannedLine[]} planned
    * @returns {Seen}
    */
@@ -77,17 +77,17 @@ export class Arrivals {
         continue;
       }
       const before = done;
-      const ran = this.run(engine, this.copy, { lines, count, cycles: cyclesOfLine(each) },
+      const cyclesRun = this.run(engine, this.copy, { lines, count, cycles: cyclesOfLine(each) },
         (end, row, part) => end !== "break" || this.isStop(row, before + part, seen));
-      if (ran < 0) return seen;
-      done += ran;
+      if (cyclesRun < 0) return seen;
+      done += cyclesRun;
       [lines, count] = ["", 0];
     }
     return seen;
   }
 
   /**
-   * Returns whether the next lines reach no breakpoint, with one query.
+   * Returns true if the next lines reach no breakpoint. Needs only one query.
    * @param {Engine} engine
    * @param {Uint8Array} file
    * @param {PlannedLine[]} planned
@@ -98,17 +98,17 @@ export class Arrivals {
   }
 
   /**
-   * Runs a session that has the breakpoints; returns the cycles, or -1 if `visit` ends the run.
+   * Runs a copy of the session in which the breakpoints are set. Returns the number of cycles, or -1 if `visit` ends the run.
    * @param {Engine} engine
-   * @param {Uint8Array} file of the session, which is changed
+   * @param {Uint8Array} file the copy of the session; changed
    * @param {{ lines: string, count: number, cycles: number }} run the lines before the run, the number of their answers, and the cycles
    * @param {(end: string, row: string[], ran: number) => boolean} visit called at each stop with the word for why the run ended, the values
    *   of `places`, and the cycles so far; returns whether to end the run
    */
   run(engine, file, { lines, count, cycles }, visit) {
-    let [before, skipped, ran, arrivals] = [lines, count, 0, 0];
-    while (ran < cycles) {
-      const left = cycles - ran;
+    let [before, skipped, cyclesRun, arrivals] = [lines, count, 0, 0];
+    while (cyclesRun < cycles) {
+      const left = cycles - cyclesRun;
       const runs = Math.min(left, MAX_RUNS, Math.max(1, Math.round(2 * this.density * left)));
       const pair = `run ${Math.floor(left / runs)}\n${this.probes.lines}`;
       const answers = new Answers(engine.serve(file, before + pair.repeat(runs), file).answers);
@@ -117,18 +117,18 @@ export class Arrivals {
       while (!answers.isEmpty) {
         const { cycles: part, end } = answers.takeRun();
         const row = this.probes.take(answers);
-        ran += part;
+        cyclesRun += part;
         if (end === "end") continue;
         arrivals += 1;
-        if (visit(end, row, ran)) return -1;
+        if (visit(end, row, cyclesRun)) return -1;
       }
     }
     this.density = arrivals / cycles;
-    return ran;
+    return cyclesRun;
   }
 
   /**
-   * Returns the breakpoint at the current address if its condition holds; otherwise null.
+   * Returns the breakpoint at the current address if its condition is true; otherwise null.
    * @param {string[]} row the values of `places`
    */
   breakpointAt(row) {
@@ -146,14 +146,14 @@ export class Arrivals {
   }
 
   /**
-   * Counts an arrival and logs its note; returns whether it stops.
+   * Counts an arrival and logs the note of its breakpoint. Returns whether the arrival stops time.
    * @param {string[]} row the values of `places`
-   * @param {number} cycles before it
-   * @param {Seen} seen receives the hit, and the note or the stop
+   * @param {number} cycles the cycles before the arrival
+   * @param {Seen} seen collects the hit, and the note or the stop
    */
   isStop(row, cycles, seen) {
     const found = this.byAddress.get(parseInt(row[0], 16));
-    // A breakpoint that always stops is set in the session itself.
+    // A breakpoint that always stops is not in the list; the session itself stops there.
     if (!found) return true;
     const { id, holds, words, from } = found;
     const values = this.valuesFor(found, row);
@@ -178,7 +178,7 @@ export class Arrivals {
   }
 
   /**
-   * Restores earlier hit counts, because the counted hits did not happen.
+   * Restores earlier hit counts after lines failed: the counted hits did not happen.
    * @param {number[]} hits
    */
   restoreHits(hits) {
@@ -188,8 +188,8 @@ export class Arrivals {
   }
 
   /**
-   * Adds hits to the hit counts, after the session has done the lines.
-   * @param {Seen} seen the result for these lines
+   * Adds new hits to the hit counts after the session has run the lines.
+   * @param {Seen} seen the result of `look` for these lines
    */
   count({ hits }) {
     for (const breakpoint of this.breakpoints) breakpoint.hits += hits.get(breakpoint.id) || 0;

@@ -1,4 +1,4 @@
-// Searches for a condition, forward or back: the search stops when the condition becomes true.
+// Searches forward or back for the moment at which a condition becomes true.
 
 import { expressionOf, tracedConditionOf } from "../conditions/condition_language.js";
 import { placeOf } from "../conditions/places.js";
@@ -12,7 +12,7 @@ import * as say from "../../words/debug.js";
  */
 
 /**
- * Compiles a condition to search for; `fault` is an error message with its column, or "".
+ * Compiles a condition for a search. `fault` is an error message with its column, or "".
  * @param {string} text
  * @param {Names} names
  * @returns {{ asked: Asked | null, fault: string }}
@@ -20,7 +20,7 @@ import * as say from "../../words/debug.js";
 export function searchConditionOf(text, names) {
   const { condition, ...wrong } = tracedConditionOf(text, names);
   if (!condition) {
-    // For a value with an unknown name, report that name, not the missing comparison.
+    // If a value contains an unknown name, the message names it instead of the missing comparison.
     const value = expressionOf(text, names);
     const { fault, column } = value.expression ? wrong : value;
     return { asked: null, fault: inColumn(fault, column) };
@@ -29,7 +29,7 @@ export function searchConditionOf(text, names) {
 }
 
 /**
- * Parses the text of a search: a place, whose changes are searched, or a condition.
+ * Parses the search text: a place, whose next change is searched, or a condition.
  * @param {string} text
  * @param {Names} names
  * @returns {{ goal: { kind: "change", place: string } | { kind: "when", condition: string } | null, fault: string }}
@@ -43,9 +43,9 @@ export function goalOfText(text, names) {
 }
 
 /**
- * Returns whether a change makes a condition true.
+ * Returns whether a condition changes from false to true between two rows.
  * @param {Asked} asked
- * @param {string} before the row of its places before the change
+ * @param {string} before the row before the change
  * @param {string} after the row after the change
  */
 export function becomesTrue({ holds }, before, after) {

@@ -1,5 +1,5 @@
-// Keeps the breakpoints of the current session: a list that moves with the source, and the bench's breakpoints, which are set from the
-// list. Breakpoints that only the bench has are added to the list: for example from a typed `break`, or from a session file of mcs4.
+// Manages the breakpoints of the current session: a list that moves with the source text, and the bench's breakpoints, which follow the list.
+// Breakpoints that only the bench has are added to the list, for example from a typed `break` or from a session file written by mcs4.
 
 import { BreakpointList, MAX_BREAKPOINTS, MOST_ON, instructionOfAddress, instructionOfLine } from "./breakpoints.js";
 import { isSoft } from "./soft_breakpoints.js";
@@ -17,17 +17,17 @@ import * as say from "../../words/debug.js";
 /**
  * The callbacks of the keeper.
  * @typedef {object} KeeperCalls
- * @property {(placed: Placed[]) => Promise<[number, string][]>} set Replaces all breakpoints of the bench. Resolves to the ids of those
- *   that cannot be compiled, each with an error message.
- * @property {() => void} changed Handles a change of the list, or of an error of one of its breakpoints.
- * @property {() => void} counted Handles a change of hit counts alone.
- * @property {() => void} touched Handles a change by the user: the list must be saved.
+ * @property {(placed: Placed[]) => Promise<[number, string][]>} set Replaces all breakpoints of the bench. Resolves to the ids and error messages of
+ *   the breakpoints that cannot be compiled.
+ * @property {() => void} changed Handles a change of the list or of its error messages.
+ * @property {() => void} counted Handles a change of hit counts only.
+ * @property {() => void} touched Handles a change by the user; the list must be saved.
  * @property {(words: string) => void} showMessage Shows a message near the user's last action.
  * @property {(fault: unknown) => void} failed Reports an error that `set` threw.
  */
 
 const TOO_MANY = say.tooManyEnabled(MOST_ON);
-/** The maximum number of sessions whose lists are kept. */
+/** The maximum number of sessions with a stored list. */
 const MAX_LISTS = 30;
 
 /** The breakpoints of the current session, in the list and in the bench. */
@@ -36,47 +36,47 @@ export class BreakpointKeeper {
   constructor(calls) {
     this.calls = calls;
     this.list = new BreakpointList();
-    /** @type {Map<string, BreakpointList>} the lists of recent sessions, by session id, the newest last */
+    /** @type {Map<string, BreakpointList>} the lists of recent sessions, by session id, newest last */
     this.lists = new Map();
-    /** @type {SourceMap | null} the map of the source, null if ROM does not contain its bytes */
+    /** @type {SourceMap | null} the source map; null if the source is not the program in ROM */
     this.map = null;
-    /** The reason if ROM does not contain the bytes of the source. */
+    /** The reason why ROM does not contain the bytes of the source, or "". */
     this.words = "";
-    /** @type {string[]} the expressions in *Watch*, whose names conditions can contain */
+    /** @type {string[]} the watch expressions; conditions can use their names */
     this.watched = [];
     /** @type {Map<number, string>} the error messages of breakpoints that cannot be compiled, by id */
     this.faults = new Map();
-    /** @type {Set<number> | null} the addresses of the bench's breakpoints; null before the first report about a session */
+    /** @type {Set<number> | null} the breakpoint addresses on the bench; null before the first report about a session */
     this.onBench = null;
-    /** @type {string[] | null} a report that the bench sent before it received the list; applied afterwards */
+    /** @type {string[] | null} a bench report from before the last request; applied after its answer */
     this.waiting = null;
-    /** True if the session was saved with a list of breakpoints. */
+    /** True if the saved session contains a list of breakpoints. */
     this.isKept = false;
-    /** The number of requests to the bench without an answer, and the content of the last request. */
+    /** The number of unanswered requests to the bench, and the contents of the last request. */
     this.asked = 0;
     this.last = "";
     /** @type {Promise<void>} resolves when all requests are done */
     this.settled = Promise.resolve();
-    /** @type {{ id: number, some: Partial<KeptBreakpoint> } | null} an edit of a breakpoint that is typed but not entered yet */
+    /** @type {{ id: number, some: Partial<KeptBreakpoint> } | null} a breakpoint edit that the user has typed but not entered */
     this.typed = null;
   }
 
   // --- Reports from other parts of the page ---
 
   /**
-   * Switches to another session. A list that was kept for it is used again if it equals the saved one: only the kept list can restore
-   * breakpoints on undo.
-   * @param {string} id of the session
-   * @param {KeptBreakpoint[] | undefined} kept the saved breakpoints; undefined if none were saved: then those of its file are used
+   * Switches to another session. The stored list of that session is reused if it equals the saved one: only the stored list can restore breakpoints
+   * on undo.
+   * @param {string} id the session id
+   * @param {KeptBreakpoint[] | undefined} savedBreakpoints the saved breakpoints; if undefined, the breakpoints of the session file are used
    */
-  open(id, kept) {
+  open(id, savedBreakpoints) {
     const old = this.lists.get(id);
-    this.list = old && JSON.stringify(old.kept) === JSON.stringify(kept) ? old : new BreakpointList(kept);
+    this.list = old && JSON.stringify(old.kept) === JSON.stringify(savedBreakpoints) ? old : new BreakpointList(savedBreakpoints);
     this.list.forgetHits();
     this.lists.delete(id);
     this.lists.set(id, this.list);
     for (const oldest of [...this.lists.keys()].slice(0, -MAX_LISTS)) this.lists.delete(oldest);
-    this.isKept = kept !== undefined;
+    this.isKept = savedBreakpoints !== undefined;
     this.map = null;
     this.words = "";
     this.onBench = null;
@@ -88,7 +88,7 @@ export class BreakpointKeeper {
   }
 
   /**
-   * Sets the expressions in *Watch*.
+   * Sets the watch expressions.
    * @param {string[]} texts
    */
   takeWatched(texts) {
@@ -96,15 +96,15 @@ export class BreakpointKeeper {
     if (this.onBench) this.apply();
   }
 
-  /** Sends the list again after the bench was restarted without breakpoints. */
+  /** Sends the list again after a restart of the bench without breakpoints. */
   again() {
     this.last = "";
     this.apply();
   }
 
   /**
-   * Moves the breakpoints after edits of the source.
-   * @param {Edit[]} edits in order
+   * Moves the breakpoints after edits of the source text.
+   * @param {Edit[]} edits the edits, in order
    */
   edited(edits) {
     const moved = edits.filter((edit) => this.list.edit(edit));
@@ -114,9 +114,9 @@ export class BreakpointKeeper {
   }
 
   /**
-   * Sets the map of the source, and moves the breakpoints to its instructions.
-   * @param {SourceMap | null} map null if ROM does not contain the bytes of the source
-   * @param {string} words the reason for null
+   * Sets the source map, and moves the breakpoints to its instructions.
+   * @param {SourceMap | null} map null if the source is not the program in ROM
+   * @param {string} words the reason if `map` is null
    */
   takeMap(map, words) {
     this.map = map;
@@ -128,8 +128,8 @@ export class BreakpointKeeper {
   }
 
   /**
-   * Updates the list from the bench's breakpoints in a snapshot.
-   * @param {string[]} breaks the addresses, in the spelling of the answer
+   * Updates the list from the bench's breakpoint addresses in a snapshot.
+   * @param {string[]} breaks the addresses, as in the answer
    */
   take(breaks) {
     const addresses = breaks.map((address) => parseInt(address, 16));
@@ -140,7 +140,7 @@ export class BreakpointKeeper {
     }
     this.onBench = new Set(addresses);
     if (!before) {
-      // First report after opening: another program set the breakpoints of the file that the list lacks.
+      // This is the first report after opening. If the session was saved without a list, its breakpoints come from the file.
       if (!this.isKept) for (const address of addresses) this.addFromBench(address);
       this.calls.changed();
       return;
@@ -157,7 +157,7 @@ export class BreakpointKeeper {
   }
 
   /**
-   * Adds a breakpoint that only the bench has to the list.
+   * Adds a bench breakpoint to the list.
    * @param {number} address
    */
   addFromBench(address) {
@@ -174,7 +174,7 @@ export class BreakpointKeeper {
   }
 
   /**
-   * Removes a breakpoint that the bench no longer has from the list.
+   * Removes a breakpoint from the list because the bench no longer has it.
    * @param {number} address
    */
   removeGone(address) {
@@ -195,7 +195,7 @@ export class BreakpointKeeper {
   // --- Actions of the user ---
 
   /**
-   * Toggles the breakpoint of a line. Without an instruction on the line, the breakpoint moves to the next instruction.
+   * Toggles the breakpoint of a line. If the line has no instruction, the breakpoint moves to the next instruction.
    * @param {number} line
    */
   toggleLine(line) {
@@ -212,7 +212,7 @@ export class BreakpointKeeper {
   }
 
   /**
-   * Returns the breakpoint of a line, or adds one. Returns undefined if no instruction follows the line.
+   * Returns the breakpoint of a line; adds one if there is none. Returns undefined if no instruction follows the line.
    * @param {number} line
    */
   ofLine(line) {
@@ -221,7 +221,7 @@ export class BreakpointKeeper {
     return this.list.atLine(line) || this.list.atLine(next);
   }
 
-  /** Returns the message that the breakpoint has no effect yet, with the reason; "" if there is no reason. */
+  /** Returns a message that the breakpoint has no effect yet, with the reason; "" if there is no reason. */
   wordsOfLater() {
     return this.words ? say.untilThen(this.words) : "";
   }
@@ -242,7 +242,7 @@ export class BreakpointKeeper {
   }
 
   /**
-   * Adds a breakpoint, which is disabled if the maximum number of breakpoints is already enabled.
+   * Adds a breakpoint. It is disabled if the maximum number of breakpoints is already enabled.
    * @param {Partial<KeptBreakpoint>} some
    */
   add(some) {
@@ -263,7 +263,7 @@ export class BreakpointKeeper {
   }
 
   /**
-   * Saves an edit of a breakpoint while the user types. The bench receives it when the user enters it.
+   * Saves a breakpoint edit while the user types. The bench receives it when the user enters it.
    * @param {number} id
    * @param {Partial<KeptBreakpoint>} some
    */
@@ -274,7 +274,7 @@ export class BreakpointKeeper {
   }
 
   /**
-   * The breakpoints to be saved in the session, with the edit that is being typed.
+   * The breakpoints to save in the session, including the edit that the user is typing.
    * @returns {KeptBreakpoint[]}
    */
   get kept() {
@@ -283,7 +283,7 @@ export class BreakpointKeeper {
   }
 
   /**
-   * Changes some members of a breakpoint.
+   * Changes some fields of a breakpoint.
    * @param {number} id
    * @param {Partial<KeptBreakpoint>} some
    */
@@ -302,7 +302,7 @@ export class BreakpointKeeper {
   }
 
   /**
-   * Enables all breakpoints, up to the maximum, or disables all.
+   * Enables breakpoints up to the maximum, or disables all breakpoints.
    * @param {boolean} isOn
    */
   switchAll(isOn) {
@@ -328,7 +328,7 @@ export class BreakpointKeeper {
 
   // --- The bench ---
 
-  /** True while a request to the bench is not answered. */
+  /** True while a request to the bench is unanswered. */
   get isApplying() {
     return this.asked > 0;
   }
@@ -339,11 +339,11 @@ export class BreakpointKeeper {
     this.apply();
   }
 
-  /** Sends the list to the bench, unless the bench already has it. `settled` resolves when the bench has set it. */
+  /** Sends the list to the bench unless the bench already has it. `settled` resolves after the bench has set it. */
   apply() {
     this.calls.changed();
     const { placed } = this.list;
-    // A name in a condition can have another meaning in another text.
+    // The same name can have another meaning in another text, so texts are part of the comparison.
     const names = placed.some(isSoft) ? [this.map ? this.map.text : "", this.watched] : [];
     const next = JSON.stringify([names, placed.map((each) => ({ ...each, line: 0, hits: 0 }))]);
     const isNone = placed.length === 0 && this.onBench !== null && this.onBench.size === 0;
@@ -353,7 +353,7 @@ export class BreakpointKeeper {
   }
 
   /**
-   * Sends the list at once, so that no later request to the bench overtakes it. Answers are handled in the order of the requests.
+   * Sends the list at once, so that no later request to the bench overtakes it. Answers are handled in request order.
    * @param {Placed[]} placed
    */
   send(placed) {
@@ -371,7 +371,7 @@ export class BreakpointKeeper {
    * Handles the bench's answer to a list.
    * @param {BreakpointList} list
    * @param {number[]} hard the addresses of the breakpoints that always stop
-   * @param {[number, string][]} faults the ids of breakpoints that cannot be compiled, each with an error message
+   * @param {[number, string][]} faults the ids and error messages of breakpoints that cannot be compiled
    */
   handleAnswer(list, hard, faults) {
     if (list !== this.list) return;
@@ -381,7 +381,7 @@ export class BreakpointKeeper {
     this.takeWaiting();
   }
 
-  /** Applies the report that was postponed: a line typed in the meantime can have set or deleted breakpoints. */
+  /** Applies the postponed report: a line typed in the meantime can have set or deleted breakpoints. */
   takeWaiting() {
     const { waiting } = this;
     if (this.isApplying || !waiting) return;

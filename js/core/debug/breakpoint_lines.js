@@ -1,5 +1,4 @@
-// Reads and writes breakpoints as lines of a project: `break line 14 at 0x00F off from 5 if "r4 = 7" log "R4 is {r4}"`. Default values are
-// left out.
+// Reads and writes breakpoints as project lines: `break line 14 at 0x00F off from 5 if "r4 = 7" log "R4 is {r4}"`. Default values are omitted.
 
 import { hex } from "../bench/numbers.js";
 import { MAX_BREAKPOINTS } from "./breakpoints.js";
@@ -9,11 +8,11 @@ import { MAX_BREAKPOINTS } from "./breakpoints.js";
 const TEXT = '"((?:[^"\\\\]|\\\\.)*)"';
 const LINE = new RegExp("^break(?: line (\\d{1,5}))?(?: at 0x([0-9A-F]{3}))?( off)?(?: from (\\d{1,9}))?"
   + `(?: if ${TEXT})?(?: log ${TEXT})?$`);
-/** The maximum length of a condition or a note. */
+/** The maximum length of a condition or note, in characters. */
 export const MAX_TEXT_LENGTH = 250;
 
 /**
- * Returns a text in quotes.
+ * Puts a text in quotes, with escapes.
  * @param {string} text
  */
 function quote(text) {
@@ -21,7 +20,7 @@ function quote(text) {
 }
 
 /**
- * Returns the text inside quotes, without escapes.
+ * Removes the escapes from a quoted text.
  * @param {string} [text]
  */
 function unquote(text = "") {
@@ -29,7 +28,7 @@ function unquote(text = "") {
 }
 
 /**
- * Returns a line for each breakpoint.
+ * Returns one line per breakpoint.
  * @param {KeptBreakpoint[]} breakpoints
  */
 export function linesOfBreakpoints(breakpoints) {
@@ -40,7 +39,7 @@ export function linesOfBreakpoints(breakpoints) {
 }
 
 /**
- * Parses a line; returns its breakpoint, or null for any other line and for one without a line number or an address.
+ * Parses a breakpoint line. Returns null for any other line, and for a breakpoint with neither a line number nor an address.
  * @param {string} line
  * @returns {KeptBreakpoint | null}
  */
@@ -55,7 +54,7 @@ export function breakpointOfLine(line) {
 }
 
 /**
- * Returns at most as many breakpoints as a session can keep.
+ * Returns the first breakpoints, up to the maximum number in a session.
  * @param {KeptBreakpoint[]} breakpoints
  */
 export function limitBreakpoints(breakpoints) {

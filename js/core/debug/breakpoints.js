@@ -1,5 +1,5 @@
-// The list of breakpoints. A breakpoint belongs to a line of the program's text and moves with that line. If the text is the program in
-// ROM, each breakpoint also has an address. A breakpoint outside the text has only an address.
+// The list of breakpoints. A breakpoint belongs to a source line and moves with that line. If the source is the program in ROM, each breakpoint also
+// has an address. A breakpoint outside the source has only an address.
 
 import * as say from "../../words/debug.js";
 
@@ -7,39 +7,41 @@ import * as say from "../../words/debug.js";
  * @typedef {import("../machine/source_map.js").SourceMap} SourceMap
  * @typedef {import("./soft_breakpoints.js").Placed} Placed
  *
- * A breakpoint. `line` counts from 1, and is 0 without a line. `address` is its last address, -1 if it never had one. `isOn` is true if it
- * is enabled. The other members are those of `Placed`.
+ * A breakpoint. `line` counts from 1; it is 0 if the breakpoint has no line. `address` is the last known address, -1 if there was none. `isOn` is
+ * true if the breakpoint is enabled. The other fields are those of `Placed`.
  * @typedef {{ id: number, line: number, address: number, isOn: boolean, condition: string, from: number, note: string, hits: number }}
  *   Breakpoint
  * @typedef {Omit<Breakpoint, "id" | "hits">} KeptBreakpoint a breakpoint in a saved session or project
  *
- * An edit that replaces the text between two positions (lines count from 0). `isWhole` is true if it replaces the whole text.
+ * An edit that replaces the text between two positions. Lines count from 0. `isWhole` is true if the edit replaces the whole text.
  * @typedef {{ from: { line: number, ch: number }, to: { line: number, ch: number }, text: string[], removed?: string[],
  *   origin?: string, isWhole?: boolean }} Edit
  */
 
-/** The maximum number of enabled breakpoints: the bench has room for as many. */
+/** The maximum number of enabled breakpoints, a limit of the bench. */
 export const MOST_ON = 32;
 /** The maximum number of breakpoints in a list. */
 export const MAX_BREAKPOINTS = 256;
-/** The maximum number of deleted breakpoints that are kept, to be restored with their lines on undo. */
+/** The maximum number of stored deleted breakpoints. Undo restores them with their lines. */
 const MAX_DELETED = 256;
-/** The maximum number of replaced texts whose breakpoints are kept. */
+/** The maximum number of replaced texts with stored breakpoints. */
 const MAX_TEXTS = 30;
 
 /** @type {Omit<Breakpoint, "id" | "line" | "address">} the default values */
 const DEFAULTS = { isOn: true, condition: "", from: 1, note: "", hits: 0 };
 
-/** The breakpoints of a program's text and of ROM. */
+/** The breakpoints of a source text and of ROM. */
 export class BreakpointList {
-  /** @param {Partial<KeptBreakpoint>[]} [kept] */
-  constructor(kept = []) {
+  /** @param {Partial<KeptBreakpoint>[]} [savedBreakpoints] */
+  constructor(savedBreakpoints = []) {
     this.lastId = 0;
-    /** @type {Breakpoint[]} sorted by line, those without a line last */
-    this.all = kept.map((each) => this.make(each));
-    /** @type {{ text: string, breakpoint: Breakpoint }[]} breakpoints deleted with their lines, with the lines' texts, the newest last */
+    /** @type {Breakpoint[]} sorted by line; breakpoints without a line are last */
+    this.all = savedBreakpoints.map((each) => this.make(each));
+    /**
+     * @type {{ text: string, breakpoint: Breakpoint }[]} the breakpoints that were deleted with their lines, and the texts of the lines, newest last
+     */
     this.deleted = [];
-    /** @type {Map<string, Breakpoint[]>} the breakpoints of texts that were replaced as a whole, by text, the newest last */
+    /** @type {Map<string, Breakpoint[]>} the breakpoints of replaced texts, by text, newest last */
     this.byText = new Map();
     this.sort();
   }
@@ -65,10 +67,10 @@ export class BreakpointList {
    * @param {Partial<KeptBreakpoint>} some
    */
   add(some) {
-    const made = this.make(some);
-    this.all.push(made);
+    const breakpoint = this.make(some);
+    this.all.push(breakpoint);
     this.sort();
-    return made;
+    return breakpoint;
   }
 
   /** @param {number} id */
@@ -77,7 +79,7 @@ export class BreakpointList {
   }
 
   /**
-   * Changes some members of a breakpoint.
+   * Changes some fields of a breakpoint.
    * @param {number} id
    * @param {Partial<KeptBreakpoint>} some
    */
@@ -115,7 +117,7 @@ export class BreakpointList {
   }
 
   /**
-   * Moves breakpoints after an edit of the text; returns whether one has moved.
+   * Moves breakpoints after an edit of the text. Returns whether any breakpoint has moved.
    * @param {Edit} edit
    */
   edit(edit) {
@@ -123,8 +125,8 @@ export class BreakpointList {
   }
 
   /**
-   * Handles the replacement of the whole text. Keeps the breakpoints of the old text, and restores those of the new text if it was in the
-   * editor before. Returns whether it was.
+   * Handles the replacement of the whole text. Stores the breakpoints of the old text. If the new text was in the editor before, restores its
+   * breakpoints and returns true; otherwise returns false.
    * @param {Edit} edit
    */
   replaceText({ removed = [], text }) {
@@ -132,7 +134,7 @@ export class BreakpointList {
     const known = this.byText.get(text.join("\n"));
     if (!known) return false;
     const ids = new Set(known.map(({ id }) => id));
-    // A breakpoint that was changed in the meantime keeps the change. A breakpoint without a line belongs to ROM, not to the text.
+    // A breakpoint that has changed since keeps the change. A breakpoint without a line belongs to ROM, not to the text.
     const restored = known.filter(({ id, line }) => line > 0 || this.get(id))
       .map((each) => ({ ...(this.get(each.id) || each), line: each.line, address: each.address }));
     const ofRom = this.all.filter(({ id, line, address }) => (
@@ -145,7 +147,7 @@ export class BreakpointList {
   }
 
   /**
-   * Keeps the current breakpoints as those of a text.
+   * Stores the current breakpoints as those of a text.
    * @param {string} text
    */
   remember(text) {
@@ -154,7 +156,7 @@ export class BreakpointList {
     for (const oldest of [...this.byText.keys()].slice(0, -MAX_TEXTS)) this.byText.delete(oldest);
   }
 
-  /** Limits the number of breakpoints and of enabled breakpoints to their maximums. */
+  /** Limits the number of breakpoints and of enabled breakpoints. */
   limit() {
     let count = 0;
     this.all = this.all.slice(0, MAX_BREAKPOINTS).map((each) => {
@@ -164,7 +166,7 @@ export class BreakpointList {
   }
 
   /**
-   * Moves breakpoints with their lines, and deletes those whose lines are deleted. Returns whether one has moved.
+   * Moves breakpoints with their lines, and deletes breakpoints whose lines are deleted. Returns whether any breakpoint has moved.
    * @param {Edit} edit
    */
   move(edit) {
@@ -176,7 +178,7 @@ export class BreakpointList {
     this.all = this.all.flatMap((each) => {
       if (each.line < first) return [each];
       if (each.line > last) return [{ ...each, line: each.line + shift }];
-      // The breakpoint of a replaced line stays on that line number if the replacement has enough lines.
+      // The breakpoint of a replaced line keeps its line number if the replacement has enough lines.
       if (each.line < first + count) return [each];
       this.keepDeleted(each, edit);
       return [];
@@ -185,7 +187,9 @@ export class BreakpointList {
     return (isUndone && this.restoreDeleted(edit, first, count)) || isMoved;
   }
 
-  /** Detaches all breakpoints that have an address from their lines, after the whole text was replaced. Returns whether there are any. */
+  /**
+   * Detaches breakpoints with an address from their lines, after another text has replaced the whole text. Returns whether there are any breakpoints.
+   */
   detachAll() {
     this.all = this.all.map((each) => (each.address >= 0 ? { ...each, line: 0 } : each));
     this.sort();
@@ -193,7 +197,7 @@ export class BreakpointList {
   }
 
   /**
-   * Keeps a breakpoint that is deleted with its line, so that undo can restore it.
+   * Stores a breakpoint that is deleted with its line, so that undo can restore it.
    * @param {Breakpoint} breakpoint
    * @param {Edit} edit
    */
@@ -203,7 +207,7 @@ export class BreakpointList {
   }
 
   /**
-   * Restores the breakpoints of lines that undo restores; returns whether there are any.
+   * Restores the breakpoints on lines that an undo restores. Returns whether any was restored.
    * @param {Edit} edit
    * @param {number} first the first restored line, from 1
    * @param {number} count the number of restored lines
@@ -222,7 +226,7 @@ export class BreakpointList {
   }
 
   /**
-   * Sets the addresses of all breakpoints, after the text became the program in ROM. Returns a message about each breakpoint that moved.
+   * Computes the addresses of all breakpoints, after the text became the program in ROM. Returns a message about each breakpoint that moved.
    * @param {SourceMap} map
    */
   locate(map) {
@@ -253,7 +257,7 @@ export class BreakpointList {
 
   /**
    * Adds hits to the hit counts.
-   * @param {[number, number][]} hits the ids of breakpoints, each with the number of new hits
+   * @param {[number, number][]} hits pairs of a breakpoint id and its number of new hits
    */
   count(hits) {
     for (const [id, more] of hits) {
@@ -274,10 +278,10 @@ export class BreakpointList {
 }
 
 /**
- * Returns the number of equal lines at the beginning, or at the end, of two texts.
+ * Returns the number of equal lines at the start or the end of two texts.
  * @param {string[]} oldLines the lines of one text
  * @param {string[]} newLines the lines of the other text
- * @param {number} max the maximum result
+ * @param {number} max the largest possible result
  * @param {boolean} isAtEnd
  */
 function countEqualLines(oldLines, newLines, max, isAtEnd) {
@@ -289,9 +293,8 @@ function countEqualLines(oldLines, newLines, max, isAtEnd) {
 }
 
 /**
- * Returns the first and last line that an edit replaces, from 1, and the number of new lines. Equal lines at the beginning and the end are
- * excluded. Text inserted at the beginning of a line counts as before that line. `isOther` is true if the edit replaces the whole text and
- * keeps no line of it.
+ * Returns the first and last line that an edit replaces, from 1, and the number of new lines. Equal lines at the start and the end are excluded. Text
+ * inserted at the start of a line counts as before that line. `isOther` is true if the edit replaces the whole text with a completely different text.
  * @param {Edit} edit
  */
 function replacedLines({ from, to, text, removed = Array(to.line - from.line + 1).fill("\n"), isWhole = false }) {
@@ -300,33 +303,33 @@ function replacedLines({ from, to, text, removed = Array(to.line - from.line + 1
   const one = countEqualLines(removed, text, most, isBefore);
   const other = countEqualLines(removed, text, most - one, !isBefore);
   const [before, after] = isBefore ? [other, one] : [one, other];
-  const staying = [...text.slice(0, before), ...text.slice(text.length - after)];
-  const isOther = isWhole && staying.join("").trim() === "" && removed.length > 2 && text.length > 2;
+  const unchangedLines = [...text.slice(0, before), ...text.slice(text.length - after)];
+  const isOther = isWhole && unchangedLines.join("").trim() === "" && removed.length > 2 && text.length > 2;
   return { first: from.line + 1 + before, last: to.line + 1 - after, count: text.length - before - after, isOther };
 }
 
 /**
- * Returns the line and address of the instruction on a line, or of the next instruction. `words` is a message if the line differs. Without
- * a next instruction, the address is -1.
+ * Returns the line and address of the instruction on a line, or of the next instruction. `words` is a message if the result is another line. If no
+ * instruction follows, the address is -1.
  * @param {number} line
  * @param {SourceMap} map
  */
 export function instructionOfLine(line, map) {
-  const own = map.addressOf(line);
-  if (own !== undefined) return { line, address: own, words: "" };
+  const ownAddress = map.addressOf(line);
+  if (ownAddress !== undefined) return { line, address: ownAddress, words: "" };
   for (let next = line + 1; next <= map.count; next++) {
     const address = map.addressOf(next);
     if (address !== undefined) {
-      const words = say.movedToNext(line, next);
-      return { line: next, address, words };
+      const message = say.movedToNext(line, next);
+      return { line: next, address, words: message };
     }
   }
   return { line, address: -1, words: say.nothingFollows(line) };
 }
 
 /**
- * Returns the line of the instruction at an address. For an address inside an instruction, returns the next instruction with a message; if
- * none follows, that instruction.
+ * Returns the line of the instruction at an address. For the second byte of an instruction, returns the next instruction with a message, or the same
+ * instruction if none follows.
  * @param {number} address
  * @param {SourceMap} map
  */

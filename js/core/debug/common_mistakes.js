@@ -1,17 +1,17 @@
-// Reports common mistakes of programs as they happen (docs/MANUAL.md, "Common mistakes"):
+// Reports common programming mistakes as they happen (docs/MANUAL.md, "Common mistakes"):
 // - a fourth nested JMS;
 // - a BBL without a call;
 // - a WRR at a port without outputs, or an RDR at a port without inputs;
-// - a write to a chip that the board lacks;
-// - an instruction at an address that no line of the program defines;
-// - an SRC that was meant for another instruction.
+// - a write to a chip that is not on the board;
+// - an instruction at an address outside the program text;
+// - an SRC that was sent for another instruction.
 //
-// Before each run, this module queries what the run would do. It does not simulate instructions; selected.js knows which of them use the
+// Before each run, this module asks the bench what the run will do. It does not simulate instructions. selected.js knows which instructions use the
 // selection by SRC.
 //
 //     const mistakes = new CommonMistakes(session);
-//     mistakes.begin();                                  before time runs: each kind is reported once after this
-//     const { faults, stop } = mistakes.look(lines);     before the lines; `stop`: the cycles up to a mistake that stops time, or -1
+//     mistakes.begin();                                  before time runs; each kind is then reported once
+//     const { faults, stop } = mistakes.look(lines);     before the lines run; `stop`: the cycles up to a mistake that stops time, or -1
 
 import { readBoard } from "../bench/answers.js";
 import { hex } from "../bench/numbers.js";
@@ -30,24 +30,27 @@ import * as say from "../../words/debug.js";
  * @typedef {import("../engine/worker_session.js").WorkerSession} WorkerSession
  * @typedef {"calls" | "return" | "lines" | "chip" | "bytes" | "source"} Kind
  *
- * A mistake: the address of its instruction, the cycles before that instruction, and a description. `isAgain` is true if a mistake of the
- * same kind was reported before.
+ * A mistake: the address of the instruction, the cycles before the instruction, and a description. `isAgain` is true if a mistake of the same kind
+ * was reported before.
  * @typedef {{ kind: Kind, address: number, cycles: number, words: string, isAgain?: boolean }} CommonMistake
  * @typedef {import("../conditions/condition_language.js").Condition} Condition
  * @typedef {{ faults: CommonMistake[], stop: number }} Looked
  */
 
 const KIND_COUNT = Object.keys(say.KINDS).length;
-/** The cycles that are checked after time starts and after each key change: half a second of a real 4004. Then samples are checked. */
+/**
+ * The number of cycles that are fully checked after time starts and after each key change: half a second of a real 4004. Later, only samples are
+ * checked.
+ */
 const CHECKED_CYCLES = 50000;
-/** One of this many calls of `look` checks a sample, of `SAMPLE_CYCLES` cycles. */
+/** One of SAMPLE_INTERVAL calls of `look` checks a sample of SAMPLE_CYCLES cycles. */
 const SAMPLE_INTERVAL = 16;
 const SAMPLE_CYCLES = 2000;
-/** The maximum number of cycles that one call of `look` checks. At full speed, lines have more: checking all would be too slow. */
+/** The maximum number of cycles that one call of `look` checks. Lines at full speed have more cycles; a check of all cycles would be too slow. */
 export const MAX_CYCLES_PER_CALL = 10000;
 
 /** @type {Looked} */
-const NOTHING = { faults: [], stop: -1 };
+const NO_MISTAKES = { faults: [], stop: -1 };
 
 /** Finds common mistakes in the next lines of a session. */
 export class CommonMistakes {
@@ -56,26 +59,26 @@ export class CommonMistakes {
     this.session = session;
     /** @type {Set<Kind>} the kinds that stop time */
     this.stops = new Set();
-    /** @type {Map<Kind, Condition>} the condition that must hold before the instruction for a kind to stop time */
+    /** @type {Map<Kind, Condition>} the stop conditions by kind, evaluated before the instruction */
     this.conditions = new Map();
-    /** @type {SourceMap | null} the map of the program in ROM, null if its text is unknown */
+    /** @type {SourceMap | null} the source map of the program in ROM; null if the source is unknown */
     this.map = null;
-    /** @type {Uint8Array | null} the contents of ROM, null before they are read */
+    /** @type {Uint8Array | null} the contents of ROM; null until they are read */
     this.codes = null;
     /** @type {Selected | null} */
     this.selected = null;
-    /** @type {Set<Kind>} the kinds that were reported since time started */
+    /** @type {Set<Kind>} the kinds reported since time started */
     this.reported = new Set();
     /** The address of the last mistake that stopped time, -1 for none. */
     this.stoppedAt = -1;
-    /** The address of a mistake that is not reported again when the session continues there, -1 for none. */
+    /** The address of a mistake that is skipped once because the session continues there; -1 for none. */
     this.skippedAt = -1;
-    /** The cycles that are still to be checked in full. */
+    /** The number of cycles that must still be fully checked. */
     this.left = CHECKED_CYCLES;
     this.callCount = 0;
   }
 
-  /** Prepares for running time: each kind can be reported again. */
+  /** Prepares for running time: every kind can be reported again. */
   begin() {
     this.reported.clear();
     this.left = CHECKED_CYCLES;
@@ -83,21 +86,21 @@ export class CommonMistakes {
     this.stoppedAt = -1;
   }
 
-  /** Forgets ROM, the board and the selection by SRC, after something other than running time has changed the session. */
+  /** Forgets ROM, the board and the selection by SRC. Called after anything but running time has changed the session. */
   forget() {
     this.codes = null;
     this.selected = null;
   }
 
   /**
-   * Returns the mistakes in the next lines, up to the first that stops time.
+   * Returns the mistakes in the next lines, up to the first mistake that stops time.
    * @param {PlannedLine[]} planned the next lines
-   * @param {Uint8Array} [file] the session before the lines, if they are already done
+   * @param {Uint8Array} [file] the session before the lines, if the lines have already run
    * @returns {Looked}
    */
   look(planned, file = this.session.file) {
     const most = this.cyclesToCheck(planned);
-    if (most === 0 || (this.reported.size === KIND_COUNT && this.conditions.size === 0)) return NOTHING;
+    if (most === 0 || (this.reported.size === KIND_COUNT && this.conditions.size === 0)) return NO_MISTAKES;
     const all = this.faultsIn(linesUpTo(planned, most), file);
     const last = all.find((fault) => this.isStop(fault, planned, file));
     const faults = all.filter(({ isAgain }) => !isAgain);
@@ -124,9 +127,8 @@ export class CommonMistakes {
   }
 
   /**
-   * Returns the number of cycles to check in the next lines. All are checked soon after time starts, soon after a key change, and if a
-   * mistake stops time; at full speed there is a maximum. Otherwise only samples are checked, because a check runs each cycle three more
-   * times.
+   * Returns the number of cycles to check in the next lines. All cycles are checked soon after time starts, soon after a key change, and if mistakes
+   * stop time, up to a maximum at full speed. Otherwise only samples are checked: a check executes each cycle three more times.
    * @param {PlannedLine[]} planned
    */
   cyclesToCheck(planned) {
@@ -140,7 +142,7 @@ export class CommonMistakes {
     return most;
   }
 
-  /** Returns the bytes of ROM and the selection by SRC; reads them if they are unknown. */
+  /** Returns the ROM contents and the selection by SRC. Reads them if they are unknown. */
   read() {
     const { engine, file, statusQueries } = this.session;
     this.codes = this.codes || romCodes(engine, file);
@@ -149,7 +151,7 @@ export class CommonMistakes {
   }
 
   /**
-   * Returns the mistakes in lines.
+   * Returns the mistakes in the given lines.
    * @param {PlannedLine[]} planned
    * @param {Uint8Array} file the session before the lines
    */
@@ -182,9 +184,9 @@ export class CommonMistakes {
   /**
    * Checks the instructions of a run.
    * @param {{ codes: Uint8Array, selected: Selected, done: number }} known the bytes of ROM, the selection, and the cycles before the run
-   * @param {Trace} changes of the places `src`, `dcl` and `ret`
-   * @param {string[]} instructions the lines of a trace of all instructions
-   * @param {CommonMistake[]} faults receives the mistakes
+   * @param {Trace} changes the trace of the places `src`, `dcl` and `ret`
+   * @param {string[]} instructions the trace lines of all instructions
+   * @param {CommonMistake[]} faults collects the mistakes
    */
   checkRun({ codes, selected, done }, changes, instructions, faults) {
     let values = valuesOf(changes.row);
@@ -207,10 +209,10 @@ export class CommonMistakes {
   }
 
   /**
-   * Adds a mistake, unless its kind was reported before.
-   * @param {CommonMistake[]} faults receives the mistake
-   * @param {number} address of the instruction
-   * @param {number} cycles before it
+   * Adds a mistake unless its kind was reported before.
+   * @param {CommonMistake[]} faults collects the mistakes
+   * @param {number} address the address of the instruction
+   * @param {number} cycles the cycles before the instruction
    * @param {{ kind: Kind, words: string } | null} fault null if the instruction is right
    */
   report(faults, address, cycles, fault) {
@@ -224,7 +226,7 @@ export class CommonMistakes {
   }
 
   /**
-   * Returns the mistake in a call, in a return, or in the address of an instruction; null if there is none.
+   * Returns the mistake of a call, a return, or an instruction address; null if there is none.
    * @param {Uint8Array} codes the bytes of ROM
    * @param {number} address
    * @param {string[]} values the values of src, dcl and ret before the instruction
@@ -242,7 +244,7 @@ export class CommonMistakes {
   }
 
   /**
-   * Returns whether no line of the program defines the byte at an address.
+   * Returns whether an address is outside the program text.
    * @param {number} address
    */
   isOutsideProgram(address) {

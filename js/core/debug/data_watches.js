@@ -1,5 +1,5 @@
-// Data watches: a change of a place stops time. The place is a register, a port, the lamps, a chain, or a RAM character that the bench
-// itself cannot watch, for example because of a condition. Changes are found ahead, by queries. The session file contains no data watch.
+// Data watches: a change of a place stops time. The place is a register, a port, the lamps, a chain, or a RAM character that the bench itself cannot
+// watch, for example because the watch has a condition. Changes are found in advance with queries. The session file contains no data watch.
 
 import { readBoard } from "../bench/answers.js";
 import { MOST_PLACES } from "../bench/inputs.js";
@@ -19,28 +19,28 @@ import { changedFrom, CHANGES_ALWAYS } from "../../words/debug.js";
  * @typedef {import("../engine/engine_host.js").EngineHost} Engine
  * @typedef {import("../engine/key_queue.js").PlannedLine} PlannedLine
  *
- * A requested watch. `name`: the name of a place. `condition`: a change counts only if this holds, "" for none. `from`: the number of the
- * first counted change that stops.
+ * A requested watch. `name`: the name of the place. `condition`: a change counts only if the condition is true, "" for none. `from`: the number of
+ * the first counted change that stops.
  * @typedef {{ id: number, name: string, condition: string, from: number }} WantedWatch
  *
  * A compiled watch. `probes`: the `trace` places that report the value. `hits`: the number of counted changes so far.
  * @typedef {{ id: number, place: Place, probes: string[], condition: Condition | null, from: number, hits: number }} DataWatch
  *
- * The first change that stops: the cycles before it (-1 if there is none), the id of the watch, and a description. `hits` are the counted
- * changes of each watch.
+ * The first change that stops: the cycles before the change (-1 for no change), the id of the watch, and a description. `hits` are the counted
+ * changes by watch.
  * @typedef {{ cycles: number, id: number, change: string, hits: Map<number, number> }} SeenChange
  */
 
-/** The place that cannot be watched: the counter changes with each instruction. */
+/** The place that cannot be watched: every instruction changes the program counter. */
 const UNWATCHABLE = "pc";
 /** The maximum number of cycles in one query. */
 const QUERY_CYCLES = 50000;
 
 /** @returns {SeenChange} an empty result */
-const nothingSeen = () => ({ cycles: -1, id: 0, change: "", hits: new Map() });
+const noChange = () => ({ cycles: -1, id: 0, change: "", hits: new Map() });
 
 /**
- * Compiles requested watches. `faults` has an error message for each that is not possible, by its id.
+ * Compiles requested watches. `faults` holds an error message for each impossible watch, by watch id.
  * @param {WantedWatch[]} wanted
  * @param {Names} names
  * @returns {{ watches: DataWatch[], faults: Map<number, string> }}
@@ -67,11 +67,11 @@ export function readWatches(wanted, names) {
 
 /** Finds changes of watched places. */
 export class DataWatches {
-  /** @param {DataWatch[]} watches that together have at most as many places as `trace` accepts */
+  /** @param {DataWatch[]} watches the watches; together they use at most MOST_PLACES places */
   constructor(watches) {
     this.watches = watches;
     this.places = [...new Set(watches.flatMap(({ probes, condition }) => [...probes, ...(condition ? condition.places : [])]))];
-    /** The indexes of each watch's values in a row of the trace: those of its place, and those of its condition. */
+    /** The column indexes of each watch in a trace row: for its place, and for its condition. */
     this.columns = new Map(watches.map(({ id, probes, condition }) => (
       [id, [probes, condition ? condition.places : []].map((places) => places.map((place) => this.places.indexOf(place)))])));
   }
@@ -81,15 +81,15 @@ export class DataWatches {
   }
 
   /**
-   * Searches the next lines for changes, up to the first that stops.
+   * Searches the next lines for changes, up to the first change that stops.
    * @param {Engine} engine
-   * @param {Uint8Array} file is not changed
+   * @param {Uint8Array} file the session file; not changed
    * @param {PlannedLine[]} planned
    * @param {() => Uint8Array} codes returns the contents of ROM
    * @returns {SeenChange}
    */
   look(engine, file, planned, codes) {
-    const seen = nothingSeen();
+    const seen = noChange();
     if (this.isEmpty) return seen;
     const copy = file.slice();
     let done = 0;
@@ -98,23 +98,23 @@ export class DataWatches {
       const answers = new Answers(engine.serve(copy, `${ask}${line}\n`, copy).answers);
       if (change) continue;
       const trace = answers.takeTrace();
-      const ran = answers.takeRun();
+      const run = answers.takeRun();
       const stop = this.stopIn(trace.row, trace.lines, seen);
       if (stop) {
-        seen.cycles = done + Math.min(ran.cycles, stop.cycles + cyclesOf(codes()[stop.address]));
+        seen.cycles = done + Math.min(run.cycles, stop.cycles + cyclesOf(codes()[stop.address]));
         return seen;
       }
-      if (ran.end !== "end") return seen;
-      done += ran.cycles;
+      if (run.end !== "end") return seen;
+      done += run.cycles;
     }
     return seen;
   }
 
   /**
-   * Returns the instruction that makes the first change that stops; null if there is none.
+   * Returns the instruction with the first change that stops; null if there is none.
    * @param {string} row the values before the run
-   * @param {string[]} lines of the trace
-   * @param {SeenChange} seen receives the counts, and the change that stops
+   * @param {string[]} lines the trace lines
+   * @param {SeenChange} seen collects the counts, and the change that stops
    */
   stopIn(row, lines, seen) {
     let before = valuesOf(row);
@@ -134,7 +134,7 @@ export class DataWatches {
   }
 
   /**
-   * Counts a change of a watch; returns whether it stops.
+   * Counts a change of a watch. Returns whether the change stops time.
    * @param {DataWatch} watch
    * @param {string[]} before the values of all places
    * @param {string[]} after
@@ -148,29 +148,29 @@ export class DataWatches {
   }
 
   /**
-   * Returns whether a place changes and the condition holds after the change.
+   * Returns whether a place changes and the condition is true after the change.
    * @param {DataWatch} watch
    * @param {string[]} before the values of all places
    * @param {string[]} after
    */
   changes({ id, condition }, before, after) {
-    const [own, ofCondition] = this.columns.get(id) || [[], []];
-    if (own.every((at) => before[at] === after[at])) return false;
-    return condition === null || condition.holds(ofCondition.map((at) => after[at]));
+    const [placeColumns, conditionColumns] = this.columns.get(id) || [[], []];
+    if (placeColumns.every((at) => before[at] === after[at])) return false;
+    return condition === null || condition.holds(conditionColumns.map((at) => after[at]));
   }
 
   /**
-   * Returns the value of a watch's place, as text.
+   * Returns the value of a watched place as text.
    * @param {DataWatch} watch
-   * @param {string[]} values of all places
+   * @param {string[]} values the values of all places
    */
   valueOf({ id, place }, values) {
-    const [own] = this.columns.get(id) || [[]];
-    return place.value(own.map((at) => values[at]));
+    const [placeColumns] = this.columns.get(id) || [[]];
+    return place.value(placeColumns.map((at) => values[at]));
   }
 
   /**
-   * Adds counted changes, after the session has done the lines.
+   * Adds counted changes after the session has run the lines.
    * @param {Map<number, number>} hits
    */
   count(hits) {
@@ -178,7 +178,7 @@ export class DataWatches {
   }
 
   /**
-   * Returns a finder for each watch, which finds its last change in the past. Hit counts are ignored.
+   * Returns one finder per watch. A finder finds the last change of its watch in the past; it ignores hit counts.
    * @param {Engine} engine
    */
   finders(engine) {
@@ -200,7 +200,7 @@ class LastWatched extends LastChange {
   }
 
   /**
-   * Returns the change between two rows of the trace; null if nothing changes or the condition does not hold.
+   * Returns the change between two trace rows; null if nothing changes or the condition is false.
    * @param {string} before
    * @param {string} after
    */
@@ -213,7 +213,7 @@ class LastWatched extends LastChange {
 }
 
 /**
- * Splits a line into parts that one query can cover.
+ * Splits a line into parts that are short enough for one query.
  * @param {PlannedLine} planned
  */
 function partsOf(planned) {
@@ -228,8 +228,8 @@ function partsOf(planned) {
 }
 
 /**
- * All stops that are found ahead: soft breakpoints (arrivals.js) and data watches. The earliest one stops time. This class has the
- * interface of `Arrivals`.
+ * All stops that are found in advance: soft breakpoints (arrivals.js) and data watches. The earliest stop ends the run. This class has the same
+ * interface as `Arrivals`.
  */
 export class SoftStops {
   /**
@@ -250,7 +250,7 @@ export class SoftStops {
   /**
    * Searches the next lines, up to the first stop.
    * @param {Engine} engine
-   * @param {Uint8Array} file is not changed
+   * @param {Uint8Array} file the session file; not changed
    * @param {PlannedLine[]} planned
    * @returns {import("./arrivals.js").Seen}
    */
@@ -264,21 +264,21 @@ export class SoftStops {
   }
 
   /**
-   * Adds hits and counted changes, after the session has done the lines.
-   * @param {import("./arrivals.js").Seen} seen the result for these lines
+   * Adds hits and counted changes after the session has run the lines.
+   * @param {import("./arrivals.js").Seen} seen the result of `look` for these lines
    */
   count(seen) {
     this.arrivals.count(seen);
     this.changes.count(seen.changes);
   }
 
-  /** The hit counts of the breakpoints, then of the watches, in their order. */
+  /** The hit counts of the breakpoints, followed by those of the watches. */
   get hits() {
     return [...this.arrivals.hits, ...this.changes.watches.map(({ hits }) => hits)];
   }
 
   /**
-   * Restores earlier hit counts, because the counted hits did not happen.
+   * Restores earlier hit counts after lines failed: the counted hits did not happen.
    * @param {number[]} hits
    */
   restoreHits(hits) {
@@ -291,7 +291,7 @@ export class SoftStops {
 }
 
 /**
- * Returns a place by its name if it can be watched on a board, otherwise null. All places of `trace` can be, except the counter.
+ * Returns a place if it can be watched on a board, otherwise null. All `trace` places except the program counter can be watched.
  * @param {string} name
  * @param {string[]} board the answer to `board`
  */

@@ -1,4 +1,4 @@
-// A session in memory, with its debugger, the lines of its program, and breakpoints on these lines: for an editor, the prompt, or a test.
+// A session in memory with its debugger, the program's source lines, and breakpoints on these lines. Used by an editor, the prompt and tests.
 //
 //     const engine = await Engine.load(bytes of the module);         (engine/engine.js)
 //     const session = new DebugSession(engine, { board, program });  both are texts; `file` instead of them: the bytes of a session file
@@ -9,8 +9,8 @@
 //     await session.into(); await session.back({ kind: "instruction" }); session.forward();
 //     await session.setProgram(text);                                assembles another text; breakpoints move with their lines
 //
-// Nothing here follows real time. `go` runs as fast as possible, in pieces, and calls `shouldContinue` between them. Nothing is written to
-// disk: `session.file` has the bytes of the session file.
+// Nothing here follows real time. `go` runs as fast as possible, in pieces, and calls `shouldContinue` between pieces. Nothing is written to disk:
+// `session.file` holds the bytes of the session file.
 
 import { readBoard, readRegisters, readRun, refusalOf } from "../bench/answers.js";
 import { Face } from "../board/face.js";
@@ -38,9 +38,9 @@ import * as say from "../../words/debug.js";
  *   `shouldContinue` ended it, and "lacks" if the board lacks a place
  */
 
-/** The cycles of the first piece of a run. */
+/** The length of the first piece of a run, in cycles. */
 const FIRST_PIECE = 50000;
-/** The maximum number of cycles in a piece: a step back replays at most one piece (engine/timeline.js). */
+/** The maximum length of a piece in cycles: a step back replays at most one piece (engine/timeline.js). */
 export const LARGEST_PIECE = 500000;
 
 /** @type {GoesOn} */
@@ -54,11 +54,11 @@ export class DebugSession {
    */
   constructor(engine, { file, board = "", program = "" }) {
     const bytes = file ? file.slice() : engine.begin();
-    /** @type {{ word: "wire" | "asm", refusal: Refusal }[]} the texts that the bench rejected, each with its refusal */
+    /** @type {{ word: "wire" | "asm", refusal: Refusal }[]} the texts that the bench rejected, with their refusals */
     this.refused = [];
     this.boardText = board;
     this.program = program;
-    /** The maximum number of cycles in a piece of a run. */
+    /** The maximum length of a piece of a run, in cycles. */
     this.largestPiece = LARGEST_PIECE;
     if (!file) {
       this.sendText(engine, bytes, "wire", sentText(board, "#"));
@@ -72,9 +72,9 @@ export class DebugSession {
   }
 
   /**
-   * Sends a text to a session, unless it is empty.
+   * Sends a text to the bench, unless the text is empty.
    * @param {Engine} engine
-   * @param {Uint8Array} file of the session, which is changed
+   * @param {Uint8Array} file the session file; changed
    * @param {"wire" | "asm"} word
    * @param {string} text
    */
@@ -88,7 +88,7 @@ export class DebugSession {
     return this.debugger.session.file;
   }
 
-  /** Returns the map of the program's lines to addresses. */
+  /** Returns the source map of the program. */
   readMap() {
     const sent = sentText(this.program, ";");
     return new SourceMap(readProgram(this.debugger.session.engine, sent).map, sent);
@@ -102,7 +102,7 @@ export class DebugSession {
   }
 
   /**
-   * Assembles another text into ROM; the rest of the machine is unchanged. Resolves to the refusal if the bench rejects the text, otherwise
+   * Assembles another text into ROM; the rest of the machine does not change. Resolves to the refusal if the bench rejects the text, otherwise to
    * null.
    * @param {string} program
    * @returns {Promise<Refusal | null>}
@@ -118,8 +118,8 @@ export class DebugSession {
   }
 
   /**
-   * Sets the breakpoints of the list in the debugger. Resolves to `moved`, a message about each breakpoint that moved to an instruction,
-   * and to `faults`, the id and the error message of each breakpoint that cannot be compiled.
+   * Sets the breakpoints of the list in the debugger. Resolves to `moved`, messages about the breakpoints that moved to another instruction, and to
+   * `faults`, the ids and error messages of breakpoints that cannot be compiled.
    */
   async applyBreakpoints() {
     const { session } = this.debugger;
@@ -133,7 +133,7 @@ export class DebugSession {
   // --- Moves ---
 
   /**
-   * Runs up to a goal or an earlier stop; without a goal, up to a stop.
+   * Runs to a goal or an earlier stop. Without a goal, runs to a stop.
    * @param {Goal | null} [goal]
    * @param {GoesOn} [shouldContinue]
    * @returns {Promise<Stopped>}
@@ -153,7 +153,7 @@ export class DebugSession {
   }
 
   /**
-   * Runs for a number of cycles, or up to an earlier stop. `why` is "passed" if no stop was earlier.
+   * Runs for a number of cycles, or to an earlier stop. `why` is "passed" if all cycles have run.
    * @param {number} cycles
    * @param {GoesOn} [shouldContinue]
    * @returns {Promise<Stopped>}
@@ -164,10 +164,10 @@ export class DebugSession {
   }
 
   /**
-   * Runs in pieces up to a stop, or up to a maximum number of cycles.
+   * Runs in pieces to a stop, or for a maximum number of cycles.
    * @param {Goal | null} goal
    * @param {GoesOn} shouldContinue
-   * @param {number} [most] the maximum
+   * @param {number} [most] the maximum number of cycles
    * @returns {Promise<Stopped>}
    */
   async runOn(goal, shouldContinue, most = Infinity) {
@@ -190,7 +190,7 @@ export class DebugSession {
   }
 
   /**
-   * Returns a stop with its description.
+   * Returns a stop together with its description.
    * @param {Goal | null} goal
    * @param {Stop} stop
    * @param {Tally} tally
@@ -202,7 +202,7 @@ export class DebugSession {
   }
 
   /**
-   * Returns a text about the condition of the breakpoint that stopped time.
+   * Describes the condition of the breakpoint that stopped time.
    * @param {number} id
    */
   wordsOfBreakpoint(id) {
@@ -210,7 +210,7 @@ export class DebugSession {
   }
 
   /**
-   * Steps one instruction, into a subroutine if it is a call.
+   * Steps one instruction. A step at a call enters the subroutine.
    * @returns {Promise<Stopped>}
    */
   async into() {
@@ -228,22 +228,21 @@ export class DebugSession {
    */
   async back(goal, shouldContinue = always) {
     this.debugger.names = this.names;
-    const went = await this.debugger.goBack(goal, (done = 0) => shouldContinue(done));
-    return { ...went, words: wordsOfGone(goal, went, this.counterWords, this.breakpoints.get(went.id)) };
+    const result = await this.debugger.goBack(goal, (done = 0) => shouldContinue(done));
+    return { ...result, words: wordsOfGone(goal, result, this.counterWords, this.breakpoints.get(result.id)) };
   }
 
-  /** Returns to the moment at which the last move back began. */
+  /** Returns to the moment before the last move back. */
   forward() {
-    const went = this.debugger.goForward();
-    return { ...went, words: wordsOfGone({ kind: "forward" }, went, this.counterWords) };
+    const result = this.debugger.goForward();
+    return { ...result, words: wordsOfGone({ kind: "forward" }, result, this.counterWords) };
   }
 
   /**
-   * Serves typed lines. A run among them ends at the first breakpoint that it reaches. `words` is a message if a breakpoint ended the last
-   * line, otherwise "".
+   * Serves typed lines. A run in them ends at its first breakpoint. `words` is a message if a breakpoint ended the last line, otherwise "".
    * @param {string} lines
-   * @param {(done: number) => Promise<boolean>} [shouldContinue] called with the number of characters done; returns whether to continue.
-   *   Otherwise no line takes effect
+   * @param {(done: number) => Promise<boolean>} [shouldContinue] called with the number of processed characters. If it returns false, no line takes
+   *   effect
    */
   async serve(lines, shouldContinue = always) {
     const { result, typed: { id, why, change, cut, cycles, tally } } = await this.debugger.serveTyped(lines, shouldContinue);
@@ -264,23 +263,23 @@ export class DebugSession {
     return parseInt(this.registers.counter, 16);
   }
 
-  /** The program's line with the next instruction; 0 if there is none. */
+  /** The source line of the next instruction; 0 if it has none. */
   get line() {
     return this.map.lineOf(this.address);
   }
 
-  /** The text of the next instruction's address. */
+  /** The address of the next instruction as text. */
   get counterWords() {
     return wordsOfAddress(this.registers.counter, this.map);
   }
 
-  /** The return addresses, the newest first. */
+  /** The return addresses, newest first. */
   get returns() {
     return this.registers.returns.map((address) => parseInt(address, 16));
   }
 
   /**
-   * Returns the values of places, as texts. The names are those of conditions/places.js.
+   * Returns the values of places as text. conditions/places.js defines the place names.
    * @param {string[]} names
    */
   values(names) {

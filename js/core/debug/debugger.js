@@ -1,16 +1,16 @@
-// The debugger of a session: breakpoints, moves to a goal, reasons for stops, values, and going back. The debugger runs in the page's
-// worker and in Node. All its reports are from answers of the bench. The only lines that it adds to the session are runs and breakpoints.
+// The debugger of a session: breakpoints, moves to a goal, stop reasons, values, and moves back in time. It runs in the page's worker and in Node.
+// All its reports come from answers of the bench. It adds only runs and breakpoints to the session.
 //
-//     const session = new WorkerSession(engine, file);               (debug_session.js does this, and keeps the program's lines, too)
+//     const session = new WorkerSession(engine, file);               (debug_session.js does this, and also stores the source)
 //     const debug = new Debugger(session);
 //     debug.setBreakpoints([{ id: 1, address: 0x14, condition: "r9 = 9", from: 1, note: "", hits: 0 }], names);
 //     const { found } = await debug.goOn({ kind: "over" }, NEAR_CYCLES, shouldContinue);
 //     while (debug.isMoving) { const { stop } = debug.advance(FRAME_CYCLES); if (stop) .. }    for a goal that is not near
 //     debug.values(["r4", "lamps"]); await debug.goBack({ kind: "instruction" }, shouldContinue); debug.goForward();
 //
-// A move has a goal (goals.js). A near goal is reached at once. For any other goal, `isMoving` is true until `advance` reports a stop or
-// `drop` is called. A breakpoint that always stops is set in the bench (`break`). A breakpoint with a condition, a hit count or a note is
-// found ahead (arrivals.js); the session file does not contain it.
+// A move has a goal (goals.js). The debugger reaches a near goal at once. For any other goal, `isMoving` is true until `advance` reports a stop or
+// the caller calls `drop`. A breakpoint that always stops is set in the bench (`break`). Breakpoints with a condition, a hit count or a note are
+// found in advance (arrivals.js); the session file does not contain them.
 
 import { readBoard, readRun } from "../bench/answers.js";
 import { hex } from "../bench/numbers.js";
@@ -49,20 +49,20 @@ import { CommonMistakes } from "./common_mistakes.js";
  * @typedef {import("../engine/worker_session.js").LinesResult} LinesResult
  * @typedef {import("../engine/worker_session.js").WorkerSession} WorkerSession
  *
- * A callback after each piece of work; returns whether to continue. `done` is the number of cycles searched or run so far. `tally` is the
- * tally of the last piece of a run.
+ * A callback after each piece of work. It returns true to continue. `done` is the number of cycles searched or run so far. `tally` is the tally of
+ * the last piece of a run.
  * @typedef {(done: number, tally?: Tally) => Promise<boolean>} GoesOn
  *
- * A stop. `why`: "goal", or the word for why the run ended ("break", "watch", "code"), or a refusal, or "usual" for a common mistake, or
- * "recorded" for the end of a recording. `id`: the breakpoint or data watch, 0 for none. `change`: a description of the watched change.
- * `cycles`: the cycles since the move or the run began. `returns`: the goal was reached by a return.
+ * A stop. `why`: "goal", the word that ended the run ("break", "watch", "code"), a refusal, "usual" for a common mistake, or "recorded" for the end
+ * of a recording. `id`: the breakpoint or data watch, 0 for none. `change`: a description of the watched change. `cycles`: the cycles since the start
+ * of the move or run. `returns`: true if a return reached the goal.
  * @typedef {{ why: string, id: number, cycles: number, returns: boolean, change?: string }} Stop
  *
- * The events since the last report. `hits`: the ids of breakpoints, each with its number of hits. `notes`: the logged notes, and `noted`
- * their number, including those beyond the limit. `usual`: the common mistakes (common_mistakes.js).
+ * The events since the last report. `hits`: pairs of a breakpoint id and its number of hits. `notes`: the logged notes. `noted`: the number of all
+ * notes, including those beyond the limit. `usual`: the common mistakes (common_mistakes.js).
  * @typedef {{ hits: [number, number][], notes: Logged[], noted: number, usual: CommonMistake[] }} Tally
  *
- * The result of typed lines. If a breakpoint ended the last line, `id` is its id and `cut` is that line; otherwise they are 0 and "".
+ * The result of typed lines. If a breakpoint ended the last line, `id` is its id and `cut` is the line; otherwise they are 0 and "".
  * @typedef {{ id: number, why: string, change: string, cut: string, cycles: number, tally: Tally }} Typed
  * @typedef {Frame & { stop: Stop | null, tally: Tally }} DebugFrame
  * @typedef {{ found: Found & { id: number, returns: boolean, change?: string }, result: (LinesResult & { snapshot: string[] }) | null,
@@ -71,9 +71,9 @@ import { CommonMistakes } from "./common_mistakes.js";
  * @typedef {Omit<Aim, "moment" | "present"> & { isFound: boolean, cycles: number, address: number }} LastChange
  */
 
-/** The maximum distance of a goal that is reached at once, in cycles: a second of a real 4004. */
+/** The maximum distance of a near goal in cycles: one second of a real 4004. */
 export const NEAR_CYCLES = CYCLES_PER_SECOND;
-/** The same for a search for a change or a condition, and for a count of instructions. */
+/** The maximum distances for a change or condition, and for a number of instructions, in cycles. */
 const NEAR_CHANGE = 10000000;
 const NEAR_COUNT = 100000000;
 
@@ -81,7 +81,7 @@ const NEAR_COUNT = 100000000;
 export const NO_TALLY = { hits: [], notes: [], noted: 0, usual: [] };
 
 /**
- * Returns two tallies as one.
+ * Joins two tallies.
  * @param {Tally} one
  * @param {Tally} other the later tally
  * @returns {Tally}
@@ -96,7 +96,7 @@ export function addTallies(one, other) {
 }
 
 /**
- * Returns the maximum distance at which a goal is reached at once, in cycles.
+ * Returns the maximum distance of a near goal, in cycles.
  * @param {Goal} goal
  */
 export function nearOf({ kind }) {
@@ -112,21 +112,21 @@ export class Debugger {
     this.watches = new DataWatches([]);
     this.arrivals = this.softStops([]);
     this.usual = new CommonMistakes(session);
-    /** @type {import("../engine/key_queue.js").PlannedLine[] | null} lines that are done but not yet checked for mistakes */
+    /** @type {import("../engine/key_queue.js").PlannedLine[] | null} lines that have run but are not yet checked for mistakes */
     this.unlooked = null;
-    /** @type {CommonMistake[]} mistakes found after their lines were done, not yet reported */
+    /** @type {CommonMistake[]} mistakes that were found after their lines had run and are not reported yet */
     this.late = [];
-    /** @type {Map<number, number> | null} the ids of the breakpoints that always stop, by address; null before breakpoints are set */
+    /** @type {Map<number, number> | null} the ids of breakpoints that always stop, by address; null before breakpoints are set */
     this.hard = null;
     /** @type {import("../conditions/condition_language.js").Names | null} the names for conditions; null before they are set */
     this.names = null;
     /** @type {Watcher | null} the watcher of the current move */
     this.watcher = null;
-    /** The cycle count at the beginning of the move or the run. */
+    /** The cycle count at the start of the move or run. */
     this.begun = session.count.total;
   }
 
-  /** True during a move whose goal is not reached yet. */
+  /** True during a move that has not reached its goal. */
   get isMoving() {
     return this.watcher !== null;
   }
@@ -134,8 +134,8 @@ export class Debugger {
   // --- Breakpoints ---
 
   /**
-   * Sets the breakpoints, which are at different addresses. Returns the lines that set the always-stopping ones in the bench; the caller
-   * sends these lines. Also returns the ids of breakpoints that cannot be compiled and therefore always stop, each with an error message.
+   * Sets the breakpoints, at most one per address. Returns the lines that set the always-stopping ones in the bench; the caller sends these lines.
+   * Also returns the ids and error messages of breakpoints that cannot be compiled; these always stop.
    * @param {Placed[]} placed the enabled breakpoints
    * @param {Names} names
    * @returns {{ lines: string, faults: [number, string][] }}
@@ -155,7 +155,7 @@ export class Debugger {
   }
 
   /**
-   * Returns the finder for soft breakpoints and data watches.
+   * Returns the finder of soft breakpoints and data watches.
    * @param {SoftBreakpoint[]} breakpoints
    */
   softStops(breakpoints) {
@@ -163,8 +163,7 @@ export class Debugger {
   }
 
   /**
-   * Sets the data watches, in addition to the RAM characters that the bench watches. Returns an error message for each that is not
-   * possible, by its id.
+   * Sets the data watches. The RAM characters that the bench watches stay watched. Returns error messages for impossible watches, by watch id.
    * @param {WantedWatch[]} wanted
    * @param {Names} names
    */
@@ -176,7 +175,7 @@ export class Debugger {
     return faults;
   }
 
-  /** Returns the lines that change the bench's breakpoints to exactly those that always stop. */
+  /** Returns the lines that leave exactly the always-stopping breakpoints in the bench. */
   breakLines() {
     const { hard } = this;
     if (!hard) return "";
@@ -188,7 +187,7 @@ export class Debugger {
 
   // --- Running time ---
 
-  /** Starts a move or a run: counts cycles from now on. */
+  /** Starts a move or run: resets the cycle count of the move. */
   begin() {
     this.watcher = null;
     this.begun = this.session.count.total;
@@ -196,15 +195,15 @@ export class Debugger {
     this.usual.begin();
   }
 
-  /** Drops the goal of the move. */
+  /** Drops the goal of the current move. */
   drop() {
     this.watcher = null;
   }
 
   /**
-   * Runs for a number of cycles, with the queued key changes, up to the goal of the move or an earlier stop.
+   * Runs for a number of cycles, including the queued key changes, up to the goal of the move or an earlier stop.
    * @param {number} cycles
-   * @param {boolean} [isHurried] true if the lamps must be shown soon: then `lookBack` finds the mistakes, if none stops time
+   * @param {boolean} [isHurried] true if the lamps must be shown soon; `lookBack` then finds mistakes, unless mistakes stop time
    * @returns {DebugFrame}
    */
   advance(cycles, isHurried = false) {
@@ -227,20 +226,20 @@ export class Debugger {
     return { ...frame, stop, tally: { ...this.tallyOf(seen, stop, before), usual: [...this.takeLate(), ...usual.faults] } };
   }
 
-  /** Checks the last lines for mistakes, if `advance` has not. The session's other file (`next`) still has the state before these lines. */
+  /** Checks the last lines for mistakes if `advance` has not done so. The session's second file (`next`) still has the state before these lines. */
   lookBack() {
     const { unlooked } = this;
     this.unlooked = null;
     if (unlooked) this.late.push(...this.usual.look(unlooked, this.session.next).faults);
   }
 
-  /** Removes the mistakes that `lookBack` found, and returns them. */
+  /** Removes and returns the mistakes that `lookBack` found. */
   takeLate() {
     return this.late.splice(0);
   }
 
   /**
-   * Returns the stop by a mistake or by the end of a recording; null if there is none.
+   * Returns the stop for a mistake or for the end of a recording; null if there is none.
    * @param {Frame} frame
    * @param {number} usual the cycles before the mistake, -1 for none
    */
@@ -262,9 +261,9 @@ export class Debugger {
   }
 
   /**
-   * Returns the stop at the goal, by a breakpoint or by an answer; null if there is none.
+   * Returns the stop at the goal, at a breakpoint or by a bench answer; null if there is none.
    * @param {Frame} frame
-   * @param {Seen} seen the result of looking ahead for breakpoints
+   * @param {Seen} seen the breakpoint events found in advance
    * @param {number} toGoal the cycles before the goal, -1 if it was not found
    * @returns {Stop | null}
    */
@@ -281,8 +280,8 @@ export class Debugger {
   }
 
   /**
-   * Returns the id of the breakpoint that ended a run at the current address; 0 for none.
-   * @param {string} why the word for why the run ended
+   * Returns the id of the breakpoint that ended a run at the current address, 0 for none.
+   * @param {string} why the word that ended the run
    */
   idOfStop(why) {
     if (why !== "break" || !this.hard) return 0;
@@ -294,7 +293,7 @@ export class Debugger {
     return parseCounter(this.session.ask("regs\n")[0]).counter;
   }
 
-  /** Ends a move or a run. */
+  /** Ends a move or run. */
   stopped() {
     this.lookBack();
     this.watcher = null;
@@ -302,8 +301,8 @@ export class Debugger {
   }
 
   /**
-   * Returns the tally of lines that were done.
-   * @param {Seen} seen the result of looking ahead for breakpoints
+   * Returns the tally of lines that have run.
+   * @param {Seen} seen the breakpoint events found in advance
    * @param {{ why: string, id: number } | null} stop
    * @param {number} before the cycle count before the lines
    * @returns {Tally}
@@ -318,9 +317,9 @@ export class Debugger {
   // --- Moves ---
 
   /**
-   * Moves to a goal, or to an earlier stop, if it is near. Otherwise only starts the move, which `advance` continues.
+   * Moves to a near goal or an earlier stop. If the goal is not near, only starts the move; `advance` continues it.
    * @param {Goal} wanted
-   * @param {number} near the maximum distance in cycles
+   * @param {number} near the maximum distance of a near goal, in cycles
    * @param {GoesOn} shouldContinue
    * @returns {Promise<Travelled>}
    */
@@ -347,7 +346,7 @@ export class Debugger {
   }
 
   /**
-   * Resolves to the hits, notes and first stop of breakpoints in the next cycles. The keys stay in their current states.
+   * Resolves to the hits, notes and first stop of breakpoints in the next cycles. The keys do not move.
    * @param {number} cycles
    * @param {GoesOn} shouldContinue
    */
@@ -373,9 +372,9 @@ export class Debugger {
   }
 
   /**
-   * Serves typed lines, all of them or none. A run among them ends at the first breakpoint that it reaches.
+   * Serves typed lines, either all or none. A run in them ends at its first breakpoint.
    * @param {string} lines
-   * @param {(done: number) => Promise<boolean>} shouldContinue called with the number of characters done; returns whether to continue
+   * @param {(done: number) => Promise<boolean>} shouldContinue called with the number of processed characters; returns true to continue
    * @returns {Promise<{ result: LinesResult & { snapshot: string[] }, typed: Typed }>}
    */
   async serveTyped(lines, shouldContinue) {
@@ -395,7 +394,7 @@ export class Debugger {
   }
 
   /**
-   * Returns a goal with its condition compiled. Throws for an error in the condition; the caller has checked it.
+   * Compiles the condition of a goal. Throws if the condition has an error; the caller has checked it before.
    * @template {Goal | BackGoal} Wanted
    * @param {Wanted} goal
    * @returns {Wanted}
@@ -410,7 +409,7 @@ export class Debugger {
   // --- The past ---
 
   /**
-   * Goes back to a goal in the past. The current breakpoints stay: they are not part of the past.
+   * Goes back to a goal in the past. The current breakpoints remain because they are not part of the past.
    * @param {BackGoal} goal
    * @param {(done?: number) => Promise<boolean>} shouldContinue
    * @returns {Promise<WentBack>}
@@ -439,7 +438,7 @@ export class Debugger {
   }
 
   /**
-   * Returns the breakpoints that stop time, all in the form of soft breakpoints. Before breakpoints are set, these are the bench's own.
+   * Returns the breakpoints that stop time, all as soft breakpoints. Before breakpoints are set, these are the bench's own breakpoints.
    * @returns {SoftBreakpoint[]}
    */
   stopping() {
@@ -450,8 +449,8 @@ export class Debugger {
   }
 
   /**
-   * Finds the last change of a place and does not go there. Resolves to the number of cycles since then, and to the address of the
-   * instruction that made the change (-1 if a typed line made it).
+   * Finds the last change of a place without going there. Resolves to the number of cycles since the change, and the address of the instruction that
+   * made the change (-1 if a typed line made it).
    * @param {string} place
    * @param {(done?: number) => Promise<boolean>} shouldContinue
    * @returns {Promise<LastChange>}
@@ -466,7 +465,7 @@ export class Debugger {
   }
 
   /**
-   * Returns to the moment at which the last move back began.
+   * Returns to the moment before the last move back.
    * @returns {WentBack}
    */
   goForward() {
@@ -476,7 +475,7 @@ export class Debugger {
   }
 
   /**
-   * Makes a moment of the past the present, with the current breakpoints.
+   * Makes a past moment the present and keeps the current breakpoints.
    * @param {Present} present
    */
   become(present) {
@@ -493,7 +492,7 @@ export class Debugger {
   // --- Values ---
 
   /**
-   * Returns the current value of each place, as text; "" if the board lacks it. The names are those of conditions/places.js.
+   * Returns the current values of places as text; "" for a place that the board does not have. conditions/places.js defines the names.
    * @param {string[]} names
    * @returns {string[]}
    */
@@ -510,7 +509,7 @@ export class Debugger {
   }
 
   /**
-   * Returns the current values of `trace` places and of places that `state` reports.
+   * Returns the current values of `trace` places and `state` places.
    * @param {string[]} places
    */
   readPlaces(places) {

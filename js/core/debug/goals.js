@@ -1,5 +1,5 @@
-// The goals of moves, and a watcher for each goal. A watcher decides whether a run reaches the goal; most of them query before the run what
-// it would do.
+// The goals of moves, and a watcher for each goal. A watcher detects that a run reaches the goal. Most watchers ask the bench before a run what the
+// run will do.
 
 import { readBoard, readCounter, readRegisters } from "../bench/answers.js";
 import { placeOf } from "../conditions/places.js";
@@ -15,28 +15,27 @@ import { becomesTrue } from "./becoming.js";
  * @typedef {import("../engine/tracing.js").Traced} Traced
  * @typedef {import("./becoming.js").Asked} Asked
  *
- * A goal. `over`: after one instruction, or after the return from the subroutine that it calls. `out`: after the return from the current
- * subroutine. `here`: at an address. `count`: after a number of instructions. `change`: when the value of a place changes. `when`: when a
- * condition becomes true; `asked` is the compiled condition.
+ * A goal. `over`: the next instruction, or the return from the subroutine that it calls. `out`: the return from the current subroutine. `here`: an
+ * address. `count`: a number of instructions. `change`: a change of a place. `when`: a condition becomes true; `asked` is the compiled condition.
  * @typedef {{ kind: "over" } | { kind: "out" } | { kind: "here", address: number } | { kind: "count", count: number } | { kind: "change",
  * place: string } | { kind: "when", condition: string, asked?: Asked }} Goal
  *
- * The result of a search. `cycles`: the cycles up to the goal or an earlier stop. `end`: the word for why the run stopped earlier; "bound"
- * if the search found neither; "lacks" if the board lacks the place; "outside" if no subroutine is open.
+ * The result of a search. `cycles`: the cycles up to the goal or an earlier stop. `end`: the word that ended the run early; "bound" if the search
+ * found nothing; "lacks" if the place is not on the board; "outside" if no subroutine is open.
  * @typedef {{ cycles: number, isReached: boolean, end: string }} Found
  *
- * The watcher of a goal. `first`: a line to send once before all runs, or "". `most`: returns the maximum number of cycles in the next run.
- * `before`: returns the queries before a run. `after`: the queries after it. `take`: reads the answers to these and to the run, and returns
- * the result of the run. `returns`: a return reaches the goal.
+ * The watcher of a goal. `first`: a line to send once before all runs, or "". `most`: returns the maximum length of the next run in cycles. `before`:
+ * returns the queries before a run. `after`: the queries after a run. `take`: reads the answers to the queries and the run, and returns the result.
+ * `returns`: true if a return reaches the goal.
  * @typedef {{ first: string, most: () => number, before: (cycles: number) => string, after: string,
  *   take: (answers: Answers) => Found, returns: boolean }} Watcher
  */
 
-/** The maximum number of cycles in a piece of a search. */
+/** The maximum length of a piece of a search, in cycles. */
 export const LARGEST_PIECE = 4 * LONGEST_RUN;
 
 /**
- * Parses the counter and the pending second cycle from an answer to `regs`.
+ * Parses the program counter and the pending second cycle in an answer to `regs`.
  * @param {string} regs
  */
 export function parseCounter(regs) {
@@ -46,8 +45,8 @@ export function parseCounter(regs) {
 
 /**
  * Returns a watcher that examines the lines of a trace.
- * @param {string} places the places of the trace, each after a blank
- * @param {(traced: Traced) => number} goal returns the cycles up to the goal for the instruction that reaches it, otherwise -1
+ * @param {string} places the trace places, each preceded by a blank
+ * @param {(traced: Traced) => number} goal returns the cycles up to the goal if an instruction reaches it, otherwise -1
  * @returns {Watcher}
  */
 function traceWatcher(places, goal) {
@@ -58,44 +57,44 @@ function traceWatcher(places, goal) {
     after: "",
     take: (answers) => {
       const { lines } = answers.takeTrace();
-      const ran = answers.takeRun();
+      const run = answers.takeRun();
       for (const line of lines) {
         const cycles = goal(readTraced(line));
         if (cycles >= 0) return { cycles, isReached: true, end: "" };
       }
-      return { ...ran, isReached: false };
+      return { ...run, isReached: false };
     },
     returns: false,
   };
 }
 
 /**
- * Returns a watcher for a condition that becomes true. If a key change made it true before a run, the run is one cycle long.
- * @param {Asked} asked
+ * Returns a watcher for a condition. If a key change made the condition true before a run, the run has one cycle.
+ * @param {Asked} condition
  * @returns {Watcher}
  */
-function becoming(asked) {
+function conditionWatcher(condition) {
   let before = "";
-  const watcher = traceWatcher(` ${asked.places.join(" ")}`, () => -1);
+  const watcher = traceWatcher(` ${condition.places.join(" ")}`, () => -1);
   return {
     ...watcher,
     take: (answers) => {
       const { row, lines } = answers.takeTrace();
-      const ran = answers.takeRun();
-      if (before !== "" && becomesTrue(asked, before, row)) return { cycles: 1, isReached: true, end: "" };
+      const run = answers.takeRun();
+      if (before !== "" && becomesTrue(condition, before, row)) return { cycles: 1, isReached: true, end: "" };
       before = row;
       for (const line of lines) {
         const { cycles, row: after } = readTraced(line);
-        if (becomesTrue(asked, before, after)) return { cycles: cycles + 1, isReached: true, end: "" };
+        if (becomesTrue(condition, before, after)) return { cycles: cycles + 1, isReached: true, end: "" };
         before = after;
       }
-      return { ...ran, isReached: false };
+      return { ...run, isReached: false };
     },
   };
 }
 
 /**
- * Returns a watcher for a return to a call depth. The current depth is 0; each JMS adds 1, and each BBL subtracts 1.
+ * Returns a watcher for a return to a call depth. The depth starts at 0. Each JMS adds 1, and each BBL subtracts 1.
  * @param {Uint8Array} codes the bytes of ROM
  * @param {number} level the depth: 0 for the return from the next call, -1 for the return from the current subroutine
  * @returns {Watcher}
@@ -112,8 +111,8 @@ function returnWatcher(codes, level) {
 }
 
 /**
- * Returns a watcher for a number of instructions. A cycle completes at most one instruction.
- * @param {number} count the number
+ * Returns a watcher for a number of instructions. Each cycle completes at most one instruction.
+ * @param {number} count the number of instructions
  * @param {boolean} isOwed true if the second cycle of an instruction is pending
  * @returns {Watcher}
  */
@@ -126,20 +125,20 @@ function countWatcher(count, isOwed) {
     before: (cycles) => `count ${cycles}\n`,
     after: "regs\n",
     take: (answers) => {
-      const begun = answers.takeCounts().reduce((sum, each) => sum + each.begun, 0);
-      const ran = answers.takeRun();
+      const startedCount = answers.takeCounts().reduce((sum, each) => sum + each.begun, 0);
+      const run = answers.takeRun();
       const isNowOwed = parseCounter(answers.take()).isOwed;
-      left -= begun + Number(wasOwed) - Number(isNowOwed);
+      left -= startedCount + Number(wasOwed) - Number(isNowOwed);
       wasOwed = isNowOwed;
-      return left === 0 ? { cycles: ran.cycles, isReached: true, end: "" } : { ...ran, isReached: false };
+      return left === 0 ? { cycles: run.cycles, isReached: true, end: "" } : { ...run, isReached: false };
     },
     returns: false,
   };
 }
 
 /**
- * Returns a watcher for an address, which sets a breakpoint in the copy that is searched. If the bench has no room for another breakpoint,
- * returns a watcher that examines all instructions.
+ * Returns a watcher that sets a breakpoint at an address in the searched copy. If the bench has no room for another breakpoint, returns a watcher
+ * that examines all instructions.
  * @param {Engine} engine
  * @param {Uint8Array} file
  * @param {number} address
@@ -155,16 +154,16 @@ function addressWatcher(engine, file, address) {
     before: () => "",
     after: "regs\n",
     take: (answers) => {
-      const ran = answers.takeRun();
+      const run = answers.takeRun();
       const { counter, isOwed } = parseCounter(answers.take());
-      return !isOwed && counter === address ? { cycles: ran.cycles, isReached: true, end: "" } : { ...ran, isReached: false };
+      return !isOwed && counter === address ? { cycles: run.cycles, isReached: true, end: "" } : { ...run, isReached: false };
     },
     returns: false,
   };
 }
 
 /**
- * Returns a watcher for an address that examines all instructions. The first instruction does not count: it is the current position.
+ * Returns a watcher that examines all instructions for an address. The first instruction is the current position and does not count.
  * @param {number} address
  */
 function instructionWatcher(address) {
@@ -177,7 +176,7 @@ function instructionWatcher(address) {
 }
 
 /**
- * Returns whether a subroutine is open: the newest return address follows a JMS.
+ * Returns whether a subroutine is open: true if the newest return address follows a JMS.
  * @param {string} regs the answer to `regs`
  * @param {Uint8Array} codes the bytes of ROM
  */
@@ -186,7 +185,7 @@ function isInSubroutine(regs, codes) {
 }
 
 /**
- * Returns the member `end` of `Found` for a goal that does not exist.
+ * Returns `end` of `Found` for a goal that does not exist.
  * @param {Goal} goal
  */
 export function endWithout(goal) {
@@ -196,7 +195,7 @@ export function endWithout(goal) {
 /**
  * Returns the watcher of a goal.
  * @param {Engine} engine
- * @param {Uint8Array} file the session, which is not changed
+ * @param {Uint8Array} file the session file; not changed
  * @param {Goal} goal
  * @param {() => Uint8Array} [codes] returns the contents of ROM
  * @returns {Watcher | null} null if the goal does not exist
@@ -208,7 +207,7 @@ export function watcherOf(engine, file, goal, codes = () => romCodes(engine, fil
     const probes = place ? place.probesOn(readBoard(engine.ask(file, "board\n").answers)) : [];
     return probes.length > 0 ? traceWatcher(` ${probes.join(" ")}`, ({ cycles }) => cycles + 1) : null;
   }
-  if (goal.kind === "when") return goal.asked ? becoming(goal.asked) : null;
+  if (goal.kind === "when") return goal.asked ? conditionWatcher(goal.asked) : null;
   const [regs] = engine.ask(file, "regs\n").answers;
   const { counter, isOwed } = parseCounter(regs);
   if (goal.kind === "count") return countWatcher(goal.count, isOwed);

@@ -1,6 +1,5 @@
-// Finds the last arrival at a breakpoint before the present, or the last change of a watched place. Also finds the last call of an open
-// subroutine. The past is replayed, block by block, on a copy that has the current breakpoints. Breakpoints with a note do not stop, and
-// hit counts are ignored.
+// Finds the last arrival at a breakpoint before the present, the last change of a watched place, or the last call of an open subroutine. The past is
+// replayed in blocks on a copy that has the current breakpoints. Breakpoints with a note do not stop. Hit counts are ignored.
 
 import { readMarks, watchedPlaces } from "../bench/answers.js";
 import { aim, changeFinder, lastInPast } from "../engine/going_back.js";
@@ -18,12 +17,12 @@ import { parseCounter } from "./goals.js";
  * @typedef {import("./arrivals.js").SoftBreakpoint} SoftBreakpoint
  */
 
-/** The lines that set or delete breakpoints and watches. */
+/** Matches lines that set or delete breakpoints or watches. */
 const MARK_LINE = /^(un)?(break|watch) /;
-/** The cycles of a JMS. */
+/** The length of a JMS in cycles. */
 const JMS_CYCLES = 2;
 
-/** Finds the last arrival at a breakpoint whose condition holds. */
+/** Finds the last arrival at a breakpoint whose condition is true. */
 class LastArrival {
   /**
    * @param {WorkerSession} session
@@ -32,29 +31,29 @@ class LastArrival {
   constructor(session, breakpoints) {
     this.engine = session.engine;
     this.arrivals = new Arrivals(breakpoints);
-    /** The present: an arrival at this moment does not count. */
+    /** The present moment. An arrival at the present does not count. */
     this.now = { total: session.count.total, counter: parseCounter(session.ask("regs\n")[0]).counter };
     this.copy = new Uint8Array(0);
     this.total = 0;
-    /** The cycle count at the arrival that was found. */
+    /** The cycle count at the last arrival found. */
     this.foundAt = 0;
   }
 
   /**
-   * Starts at a moment of the past: makes a copy with the current breakpoints.
+   * Starts at a past moment with a copy that has the current breakpoints.
    * @param {Present} present
    */
   begin({ file, count }) {
     const { engine, arrivals } = this;
     const [breaks, watches] = engine.ask(file, "breaks\nwatches\n").answers.map(readMarks);
-    const gone = [...breaks.map((each) => `unbreak 0x${each}\n`), ...watches.map((each) => `unwatch ${each.replace(".", " 0x")}\n`)];
+    const removalLines = [...breaks.map((each) => `unbreak 0x${each}\n`), ...watches.map((each) => `unwatch ${each.replace(".", " 0x")}\n`)];
     this.copy = file.slice();
-    engine.serve(this.copy, gone.join("") + arrivals.first, this.copy);
+    engine.serve(this.copy, removalLines.join("") + arrivals.first, this.copy);
     this.total = count.total;
   }
 
   /**
-   * Replays units of the past; returns the last arrival among them, or null.
+   * Replays units of the past. Returns the last arrival in them, or null.
    * @param {Unit[]} units
    * @returns {Aim | null}
    */
@@ -65,18 +64,18 @@ class LastArrival {
     let [lines, count] = ["", 0];
     for (const { line, cycles, moment } of units) {
       if (cycles === 0) {
-        // Lines that changed breakpoints in the past are skipped, and so are runs of no cycle.
+        // Lines that changed breakpoints in the past are skipped, as are runs without a cycle.
         if (MARK_LINE.test(line) || /^(run|step)\b/.test(line)) continue;
         [lines, count] = [`${lines}${line}\n`, count + 1];
         continue;
       }
       const before = this.total;
-      arrivals.run(engine, copy, { lines, count, cycles }, (_, row, ran) => {
-        const held = arrivals.breakpointAt(row);
-        const isNow = before + ran === now.total && held !== null && held.address === now.counter;
-        if (held && !isNow) {
-          found = aim({ moment: { ...moment, cycles: moment.cycles + ran }, end: "break", id: held.id });
-          this.foundAt = before + ran;
+      arrivals.run(engine, copy, { lines, count, cycles }, (_, row, cyclesRun) => {
+        const breakpoint = arrivals.breakpointAt(row);
+        const isNow = before + cyclesRun === now.total && breakpoint !== null && breakpoint.address === now.counter;
+        if (breakpoint && !isNow) {
+          found = aim({ moment: { ...moment, cycles: moment.cycles + cyclesRun }, end: "break", id: breakpoint.id });
+          this.foundAt = before + cyclesRun;
         }
         return false;
       });
@@ -101,7 +100,7 @@ function laterOf(one, other) {
 }
 
 /**
- * Returns a finder for the latest aim of several finders.
+ * Combines several finders into one that returns the latest aim.
  * @param {Finder[]} finders
  * @returns {Finder}
  */
@@ -113,14 +112,14 @@ function lastOf(finders) {
 }
 
 /**
- * The places that are watched in addition to those of the bench: one place ("" for none), and the data watches.
+ * The watched places in addition to those of the bench: one place ("" for none), and the data watches.
  * @typedef {{ place: string, watches?: import("./data_watches.js").DataWatches }} Beside
  */
 
 /**
- * Finds the last arrival or change before the present. Resolves to the beginning of the recorded past if there is none.
+ * Finds the last arrival or change before the present. If there is none, resolves to the start of the recorded past.
  * @param {WorkerSession} session
- * @param {SoftBreakpoint[]} breakpoints that stop
+ * @param {SoftBreakpoint[]} breakpoints the breakpoints that stop
  * @param {Beside} beside
  * @param {GoesOn} shouldContinue
  * @returns {Promise<Aim>}
@@ -140,10 +139,10 @@ export async function lastArrival(session, breakpoints, { place, watches }, shou
 }
 
 /**
- * Finds the moment after the JMS that called an open subroutine, before the subroutine's first instruction.
+ * Finds the moment after the JMS that called an open subroutine and before the first instruction of the subroutine.
  * @param {WorkerSession} session
  * @param {number} call the address of the JMS
- * @param {string[]} returns the return addresses before the JMS, the newest first
+ * @param {string[]} returns the return addresses before the JMS, newest first
  * @param {GoesOn} shouldContinue
  * @returns {Promise<Aim>}
  */

@@ -1,8 +1,8 @@
-// Collects, at each pause, the changes that the last line of the program made in one step: an instruction, or a call that was stepped over.
+// At each pause, collects the changes that the last source line made in one step. A step is one instruction, or a call that was stepped over.
 //
 //     const changes = new LineChanges();
 //     changes.addPause(standing, cycles, map);   at a pause; `cycles` is the cycle count
-//     changes.lines                              Map { 12 => "acc 5 cy 1" }, the newest line last
+//     changes.lines                              Map { 12 => "acc 5 cy 1" }, newest line last
 
 import { partsOf } from "../text/assembly.js";
 import * as say from "../../words/debug.js";
@@ -12,12 +12,12 @@ import * as say from "../../words/debug.js";
  * @typedef {import("./standing.js").MachineState} MachineState
  */
 
-/** The maximum number of lines that are reported, and of changes for each line. */
+/** The maximum number of reported lines, and of reported changes per line. */
 const MAX_LINES = 8;
 const MAX_CHANGES = 6;
 
 /**
- * Returns the text of the values that changed between two pauses.
+ * Describes the values that changed between two pauses.
  * @param {MachineState} before
  * @param {MachineState} after
  */
@@ -29,10 +29,10 @@ export function wordsOfChanges(before, after) {
 }
 
 /**
- * Returns the line whose instruction was the only step between two pauses; 0 if there is none. A call counts with its whole subroutine.
+ * Returns the source line that was the only step between two pauses; 0 if there is none. A call includes the whole subroutine.
  * @param {MachineState} before
  * @param {MachineState} after
- * @param {number} cycles between the pauses
+ * @param {number} cycles the cycles between the pauses
  * @param {SourceMap} map
  */
 function steppedLine({ registers: before }, { registers: after }, cycles, map) {
@@ -43,18 +43,18 @@ function steppedLine({ registers: before }, { registers: after }, cycles, map) {
   const name = head ? head.text.toUpperCase() : "";
   const size = map.sizes[line];
   if (cycles === (name === "FIN" ? 2 : size)) return line;
-  // Only the newest return address is compared: the subroutine and its calls can have overwritten older entries of the stack.
+  // Only the newest return address is compared because nested calls can have overwritten older stack entries.
   const isBack = parseInt(after.counter, 16) === address + size && before.returns[0] === after.returns[0];
   return name === "JMS" && isBack ? line : 0;
 }
 
-/** The changes by the last lines. */
+/** The changes that the last lines made. */
 export class LineChanges {
   constructor() {
-    /** @type {MachineState | null} the state at the last pause; `cycles` is the cycle count then */
+    /** @type {MachineState | null} the state at the last pause; `cycles` is the cycle count at that pause */
     this.before = null;
     this.cycles = 0;
-    /** @type {Map<number, string>} the text of each line's changes, by line number */
+    /** @type {Map<number, string>} the descriptions of changes, by line number */
     this.lines = new Map();
   }
 
@@ -68,15 +68,15 @@ export class LineChanges {
    * Adds a pause.
    * @param {MachineState} standing the state
    * @param {number} cycles the cycle count
-   * @param {SourceMap | null} map the map of the program in ROM, null if its text is unknown
+   * @param {SourceMap | null} map the source map of the program in ROM; null if the source is unknown
    */
   addPause(standing, cycles, map) {
     const { before } = this;
-    const done = cycles - this.cycles;
+    const elapsed = cycles - this.cycles;
     this.before = standing;
     this.cycles = cycles;
-    if (before && map && done === 0) return;
-    const line = before && map && done > 0 ? steppedLine(before, standing, done, map) : 0;
+    if (before && map && elapsed === 0) return;
+    const line = before && map && elapsed > 0 ? steppedLine(before, standing, elapsed, map) : 0;
     if (!before || line === 0) {
       this.lines = new Map();
       return;

@@ -1,5 +1,5 @@
-// Follows the selection by SRC, and finds mistakes of the instructions that use it: the selected port or chip is missing, or the last SRC
-// was meant for another instruction.
+// Tracks the selection by SRC, and finds mistakes in instructions that use it: the selected port or chip is missing, or the last SRC was sent for
+// another instruction.
 
 import { hex, numberOf } from "../bench/numbers.js";
 import { itemsOf, valueIn } from "../bench/state_line.js";
@@ -12,7 +12,7 @@ import * as say from "../../words/debug.js";
  * @typedef {{ kind: Kind, words: string }} Fault
  */
 
-/** The codes of the instructions that write to a RAM bank, with their names; and of those that read from one. */
+/** The opcodes of instructions that write to a RAM bank, with their names, and the opcodes of instructions that read from one. */
 const WRITES = new Map([[0xE0, "WRM"], [0xE1, "WMP"], [0xE4, "WR0"], [0xE5, "WR1"], [0xE6, "WR2"], [0xE7, "WR3"]]);
 const READS = new Set([0xE8, 0xE9, 0xEB, 0xEC, 0xED, 0xEE, 0xEF]);
 
@@ -32,26 +32,26 @@ export function usesSelected(code) {
   return code >> 4 === 0xE || isSrc(code);
 }
 
-/** The selection by SRC, and the instructions that have used it. */
+/** The selection by SRC, and the instructions that have used the selection. */
 export class Selected {
   /** @param {Board} board */
   constructor(board) {
-    /** @type {Map<number, string>} the port mask of each ROM, by chip */
+    /** @type {Map<number, string>} the port masks of the ROMs, by chip number */
     this.ports = new Map(board.roms.map(({ chip, port }) => [Number(chip), port]));
-    /** @type {Map<number, number>} the number of chips in each bank */
+    /** @type {Map<number, number>} the number of chips, by bank */
     this.chips = new Map(board.banks.map(({ bank, chips }) => [Number(bank), Number(chips)]));
-    /** @type {Map<number, number>} the SRC byte that each bank has latched */
+    /** @type {Map<number, number>} the latched SRC bytes, by bank */
     this.latched = new Map();
-    /** The address of the last SRC, -1 if there was none yet. */
+    /** The address of the last SRC, -1 before the first SRC. */
     this.source = -1;
-    /** @type {Set<string>} the users of the last SRC: "WRR", "RDR", and "RAM" for instructions that use RAM */
+    /** @type {Set<string>} the kinds of instructions that used the last SRC: "WRR", "RDR", or "RAM" */
     this.users = new Set();
-    /** @type {Map<number, number>} the ROM chip that each WRR and RDR used last, by the instruction's address */
+    /** @type {Map<number, number>} the ROM chip that each WRR and RDR last used, by instruction address */
     this.used = new Map();
   }
 
   /**
-   * Reads the SRC byte of each bank.
+   * Reads the latched SRC bytes of the banks.
    * @param {string} state the answer to `state`
    */
   begin(state) {
@@ -80,7 +80,7 @@ export class Selected {
   }
 
   /**
-   * Returns the mistake of the next instruction; null if there is none.
+   * Returns the mistake in the next instruction; null if there is none.
    * @param {number} code
    * @param {number} address
    * @param {string[]} values the values of src, dcl and ret before the instruction
@@ -93,8 +93,8 @@ export class Selected {
   }
 
   /**
-   * Returns the mistake of a WRR or RDR; null if there is none.
-   * @param {string} name of the instruction
+   * Returns the mistake in a WRR or RDR; null if there is none.
+   * @param {string} name the mnemonic of the instruction
    * @param {number} address
    * @param {number} chip the selected ROM
    * @returns {Fault | null}
@@ -109,18 +109,18 @@ export class Selected {
     const before = this.used.get(address);
     const user = [...this.users].find((each) => each !== name);
     if (user === undefined || before === undefined || before === chip) return null;
-    const words = say.usedBefore(what, before, this.source < 0 ? "" : say.atAddress(hex(this.source, 3)));
-    return { kind: "source", words: say.sourceWasFor(words, user) };
+    const message = say.usedBefore(what, before, this.source < 0 ? "" : say.atAddress(hex(this.source, 3)));
+    return { kind: "source", words: say.sourceWasFor(message, user) };
   }
 
-  /** The text about the last SRC; "" if there was none yet. */
+  /** The message about the last SRC; "" before the first SRC. */
   get description() {
     return this.source < 0 ? "" : say.lastSource(hex(this.source, 3));
   }
 
   /**
    * Returns the mistake of an instruction that writes to RAM; null if there is none.
-   * @param {string} name of the instruction
+   * @param {string} name the mnemonic of the instruction
    * @param {number} bank the selected bank
    * @returns {Fault | null}
    */
@@ -128,7 +128,7 @@ export class Selected {
     const chips = this.chips.get(bank) || 0;
     const chip = (this.latched.get(bank) || 0) >> 6;
     if (chip < chips) return null;
-    const words = chips === 0 ? say.bankWithoutRam(bank) : say.chipOf(chip, bank, chips);
-    return { kind: "chip", words: say.writesTo(name, words, this.description) };
+    const chipText = chips === 0 ? say.bankWithoutRam(bank) : say.chipOf(chip, bank, chips);
+    return { kind: "chip", words: say.writesTo(name, chipText, this.description) };
   }
 }

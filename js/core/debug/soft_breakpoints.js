@@ -1,4 +1,4 @@
-// Compiles the condition and the note of a breakpoint, for a board and a program, once before time runs.
+// Compiles the condition and the note of a breakpoint for a board and a program. This happens once, before time runs.
 
 import { conditionOf, expressionOf } from "../conditions/condition_language.js";
 import { placeOf } from "../conditions/places.js";
@@ -9,15 +9,15 @@ import * as say from "../../words/debug.js";
  * @typedef {import("./arrivals.js").SoftBreakpoint} SoftBreakpoint
  * @typedef {import("../conditions/condition_language.js").Names} Names
  *
- * A breakpoint at an address. `condition`: the text of a condition, "" for none. `from`: the number of the first hit that stops, 1 for all.
+ * A breakpoint at an address. `condition`: the text of the condition, "" for none. `from`: the number of the first hit that stops; 1 means every hit.
  * `note`: a text that is logged instead of a stop, with values in braces, "" for none. `hits`: the hit count.
  * @typedef {{ id: number, address: number, condition: string, from: number, note: string, hits: number }} Placed
- * @typedef {{ places: string[], words: (values: string[]) => string }} Note a compiled note: `words` returns its text from the values of
+ * @typedef {{ places: string[], words: (values: string[]) => string }} Note a compiled note: `words` returns the text for the values of
  *   `places`
  */
 
 /**
- * Returns whether a breakpoint has a condition, a note or a hit count, and so does not stop at every arrival.
+ * Returns whether a breakpoint has a condition, a note or a hit count. Such a breakpoint does not stop at every arrival.
  * @param {Placed} placed
  */
 export function isSoft({ condition, from, note }) {
@@ -25,7 +25,7 @@ export function isSoft({ condition, from, note }) {
 }
 
 /**
- * Compiles the contents of braces: a place, shown in the spelling of `trace`, another value, or a condition.
+ * Compiles the contents of braces: a place (shown as `trace` spells it), any other value, or a condition.
  * @param {string} text
  * @param {Names} names
  * @returns {{ note: Note, fault: "", column: -1 } | { note: null, fault: string, column: number }}
@@ -42,8 +42,8 @@ function compileBraces(text, names) {
 }
 
 /**
- * Compiles a note, such as `digit {r4}, lamps {lamps}, next {r4 + 1}`. Values replace the braces. `fault` is an error message with its
- * column in the note, or "".
+ * Compiles a note such as `digit {r4}, lamps {lamps}, next {r4 + 1}`. Values replace the braces. `fault` is an error message with its column in the
+ * note, or "".
  * @param {string} text
  * @param {Names} names
  * @returns {{ note: Note, fault: string }}
@@ -71,7 +71,7 @@ export function noteOf(text, names) {
 }
 
 /**
- * Compiles a breakpoint. A breakpoint with an error always stops; `fault` is the error message, or "".
+ * Compiles a breakpoint. A breakpoint with an error always stops. `fault` is the error message, or "".
  * @param {Placed} placed
  * @param {Names} names
  * @returns {{ soft: SoftBreakpoint, fault: string }}

@@ -1,5 +1,5 @@
-// The state of the machine in a snapshot: registers, RAM, ports, and the selection by SRC. The snapshot consists of the answers to `state`
-// and to `ram B` for each bank; RAM is parsed on first use.
+// The machine state in a snapshot: registers, RAM, ports, and the selection by SRC. The snapshot holds the answers to `state` and to `ram B` for each
+// bank. RAM is parsed on first use.
 
 import { readRam } from "../bench/answers.js";
 import { hex } from "../bench/numbers.js";
@@ -13,16 +13,16 @@ import * as say from "../../words/debug.js";
  */
 
 /**
- * Returns the text that names a RAM character: its chip, register and number.
- * @param {number} byte that SRC sends to select the character
+ * Describes a RAM character: its chip, register and number.
+ * @param {number} byte the SRC byte that selects the character
  */
 export function wordsOfCharacter(byte) {
   return say.characterAt(byte >> 6, byte >> 4 & 3, byte & 15);
 }
 
-/** The state of the machine in a snapshot. */
+/** The machine state in a snapshot. */
 export class MachineState {
-  /** @param {string[]} look the answers to `state`, and to `ram B` for each bank that has chips, each as one text */
+  /** @param {string[]} look the answers to `state` and to `ram B` for each bank with chips; each answer is one text */
   constructor([state, ...banks]) {
     const parts = partsOfState(state);
     /** @type {Registers} */
@@ -30,11 +30,11 @@ export class MachineState {
     this.parts = parts;
     this.ports = portsOf(parts.ports);
     this.banks = banks;
-    /** @type {Map<number, Ram> | null} the contents of RAM, null before they are parsed */
+    /** @type {Map<number, Ram> | null} the parsed RAM contents; null until they are parsed */
     this.read = null;
   }
 
-  /** @returns {Map<number, Ram>} the contents of each bank, by its number */
+  /** @returns {Map<number, Ram>} the contents of the banks, by bank number */
   get ram() {
     if (!this.read) {
       const numbers = this.ports.sources.slice(1).map((item) => Number(item.split(".")[0]));
@@ -43,18 +43,18 @@ export class MachineState {
     return this.read;
   }
 
-  /** The bank that DCL has selected. */
+  /** The bank selected by DCL. */
   get bank() {
     return parseInt(this.registers.bank, 16);
   }
 
-  /** The SRC byte that the ROMs have latched. */
+  /** The SRC byte latched in the ROMs. */
   get source() {
     return parseInt(this.ports.sources[0], 16);
   }
 
   /**
-   * Returns the SRC byte that a bank has latched; undefined if the board lacks the bank.
+   * Returns the SRC byte latched in a bank; undefined if the board does not have the bank.
    * @param {number} [bank]
    */
   sourceOf(bank = this.bank) {
@@ -64,7 +64,7 @@ export class MachineState {
 
   /**
    * Returns the value of a register.
-   * @param {number} number of the register
+   * @param {number} number the register number
    */
   register(number) {
     return this.registers.registers[number];
@@ -72,16 +72,16 @@ export class MachineState {
 
   /**
    * Returns the value of a register pair.
-   * @param {number} number of the pair
+   * @param {number} number the number of the register pair
    */
   pair(number) {
     return this.register(2 * number) + this.register(2 * number + 1);
   }
 
   /**
-   * Returns the contents of a RAM register; undefined if the board lacks it.
+   * Returns the contents of a RAM register; undefined if the board does not have it.
    * @param {number} bank
-   * @param {number} register 0 to 15, through all chips of the bank
+   * @param {number} register 0 to 15, numbered through all chips of the bank
    */
   ramRegister(bank, register) {
     const ram = this.ram.get(bank);
@@ -89,9 +89,9 @@ export class MachineState {
   }
 
   /**
-   * Returns the value of a RAM character; "" if the board lacks it.
+   * Returns the value of a RAM character; "" if the board does not have it.
    * @param {number} bank
-   * @param {number} byte that SRC sends to select the character
+   * @param {number} byte the SRC byte that selects the character
    */
   character(bank, byte) {
     const found = this.ramRegister(bank, byte >> 4);
@@ -99,10 +99,10 @@ export class MachineState {
   }
 
   /**
-   * Returns the value of a status character; "" if the board lacks it.
+   * Returns the value of a status character; "" if the board does not have it.
    * @param {number} bank
-   * @param {number} register 0 to 15, through all chips of the bank
-   * @param {number} number of the status character, 0 to 3
+   * @param {number} register 0 to 15, numbered through all chips of the bank
+   * @param {number} number the number of the status character, 0 to 3
    */
   status(bank, register, number) {
     const found = this.ramRegister(bank, register);
@@ -110,7 +110,7 @@ export class MachineState {
   }
 
   /**
-   * Returns the port of a ROM; undefined if the board lacks the ROM.
+   * Returns the port of a ROM; undefined if the board does not have the ROM.
    * @param {number} chip
    * @returns {RomPort | undefined}
    */
@@ -119,7 +119,7 @@ export class MachineState {
   }
 
   /**
-   * Returns the output of a RAM chip's port; "" if the board lacks it.
+   * Returns the output of a RAM port; "" if the board does not have the chip.
    * @param {number} bank
    * @param {number} chip
    */
@@ -129,7 +129,7 @@ export class MachineState {
   }
 
   /**
-   * Returns all values that an instruction can change, by name, in the order of reports.
+   * Returns all values that an instruction can change, by name, in report order.
    * @returns {Map<string, string>}
    */
   all() {

@@ -1,5 +1,4 @@
-// Computes the values of places from a snapshot, in the spelling of `trace` and `state`. An expression can then be evaluated without a
-// query to the bench.
+// Computes the values of places from a snapshot, as `trace` and `state` spell them. Expressions can then be evaluated without a query to the bench.
 
 import { itemsOf } from "../bench/state_line.js";
 import { hex, numberOf, upTo } from "../bench/numbers.js";
@@ -13,7 +12,7 @@ import { hex, numberOf, upTo } from "../bench/numbers.js";
 const bitOf = (bits, line) => String((bits >> line) & 1);
 
 /**
- * Returns the levels of the lines of a ROM's port as a number: for an output line its latch, for an input line the level that RDR reads.
+ * Returns the line levels of a ROM port as a number. An output line has its latched level; an input line has the level that RDR reads.
  * @param {number} chip
  * @param {MachineState} standing
  * @param {Board} board
@@ -27,7 +26,7 @@ function romLevels(chip, standing, { roms }) {
 }
 
 /**
- * Returns the value of a place without a number in its name, or of a register; undefined for any other place.
+ * Returns the value of a register or of a place without a number in its name; undefined for any other place.
  * @param {string} place
  * @param {MachineState} standing
  * @returns {string | undefined}
@@ -52,8 +51,8 @@ function registerAnswer(place, standing) {
 }
 
 /**
- * Returns the value of a place; "0" for a place that the board lacks, as in `trace`.
- * @param {string} place that `trace` or `state` reports
+ * Returns the value of a place. Like `trace`, returns "0" if the board does not have it.
+ * @param {string} place a place that `trace` or `state` reports
  * @param {MachineState} standing
  * @param {Board} board
  */

@@ -1,5 +1,5 @@
-// Plans typed lines before they are served, so that a `run` among them ends at soft breakpoints, too. The lines are first served on a copy
-// of the session. A run that reaches a soft breakpoint is replaced by a run with the cycles up to that breakpoint.
+// Plans typed lines before they are served, so that a `run` in them also ends at soft breakpoints. A copy of the session serves the lines first. If a
+// run reaches a soft breakpoint, the plan shortens the run to the cycles up to that breakpoint.
 
 import { readRun } from "../bench/answers.js";
 import { Cancelled } from "../bench/faults.js";
@@ -13,13 +13,13 @@ import { LONGEST_RUN } from "../engine/key_queue.js";
  * @typedef {import("./data_watches.js").SoftStops} SoftStops
  * @typedef {import("./arrivals.js").Seen} Seen
  *
- * The plan. `lines`: the lines to serve. `runs`: the breakpoint events in each run, and the cycles before the run. If a breakpoint ends the
- * last line, `id` is its id, `cut` is the typed line, and `why` and `change` are those of `Seen`; otherwise they are 0 and "".
+ * The plan. `lines`: the lines to serve. `runs`: the breakpoint events of each run, and the cycles before the run. If a breakpoint ends the last
+ * line, `id` is its id, `cut` is the typed line, and `why` and `change` are those of `Seen`; otherwise `id` is 0 and the texts are "".
  * @typedef {{ lines: string, runs: { seen: Seen, done: number }[], id: number, cut: string, why: string, change: string }} Planned
  */
 
 /**
- * Returns the cycles of a `run` line; 0 for any other line and for one that the bench rejects.
+ * Returns the number of cycles in a `run` line; 0 for any other line, and for a run that the bench rejects.
  * @param {Input | undefined} input
  */
 function cyclesOf(input) {
@@ -30,10 +30,10 @@ function cyclesOf(input) {
 /**
  * Plans typed lines. Throws `Cancelled` if `shouldContinue` returns false.
  * @param {Engine} engine
- * @param {Uint8Array} file is not changed
- * @param {SoftStops} arrivals receives the hits
+ * @param {Uint8Array} file the session file; not changed
+ * @param {SoftStops} arrivals the soft stops; they collect the hits
  * @param {string} lines
- * @param {(done: number) => Promise<boolean>} shouldContinue called with the number of characters planned; returns whether to continue
+ * @param {(done: number) => Promise<boolean>} shouldContinue called with the number of planned characters; returns true to continue
  * @returns {Promise<Planned>}
  */
 export async function planTyped(engine, file, arrivals, lines, shouldContinue) {

@@ -1,5 +1,5 @@
-// Describes the current value of a word in a program's text: a register, a register pair, the RAM character that an instruction uses, a
-// number or a label. The description is a list of pieces: texts, and values that the user can edit.
+// Describes the current value of a word in the source: a register, a register pair, the RAM character that an instruction uses, a number or a label.
+// A description is a list of pieces: texts, and values that the user can edit.
 //
 //     pieces(valuesAt("        SRC P2", 13, standing, names))     "P2 = 60: R4 6, R5 0; selects ROM 6, and of bank 0 chip 1, .."
 
@@ -12,25 +12,25 @@ import * as say from "../../words/debug.js";
  * @typedef {import("./standing.js").MachineState} MachineState
  * @typedef {import("../text/assembly.js").Parts} Parts
  *
- * A value that can be edited: its place for `poke`, its title, and its text.
+ * An editable value: its `poke` place, its title, and its text.
  * @typedef {{ place: string, name: string, value: string }} Value
  * @typedef {string | Value} Piece
  *
- * The program in ROM. `nameOf` returns the value of a name, with a description. `doesOf` returns a description of an instruction; "" for
- * any other word.
+ * The program in ROM. `nameOf` returns the value and description of a name. `doesOf` returns the description of an instruction; "" for any other
+ * word.
  * @typedef {{ value: number, isLabel: boolean, words: string }} Named
  * @typedef {{ nameOf: (name: string) => Named | undefined, doesOf: (word: string) => string }} Program
  */
 
-/** The instructions that use a status character, with its number. */
+/** Matches the instructions that use a status character, and captures its number. */
 const STATUS_INSTRUCTION = /^(?:RD|WR)([0-3])$/;
-/** The words in an instruction's description that show that it uses the accumulator or the carry. */
+/** Matches words in an instruction description that show that the instruction uses the accumulator or the carry. */
 const ACCUMULATOR_WORD = /\b(ACC|CY|carry|borrow)\b/;
 /** The instructions that use a RAM character. */
 const CHARACTER_INSTRUCTIONS = new Set(["WRM", "RDM", "ADM", "SBM"]);
 
 /**
- * Joins pieces to one text.
+ * Joins pieces into one text.
  * @param {Piece[]} pieces
  */
 export function textOf(pieces) {
@@ -39,7 +39,7 @@ export function textOf(pieces) {
 
 /**
  * Returns the value of a register.
- * @param {number} number of the register
+ * @param {number} number the register number
  * @param {MachineState} standing
  * @returns {Value}
  */
@@ -59,21 +59,21 @@ function machineValue(place, name, { registers }) {
 }
 
 /**
- * Describes the RAM character that a byte selects in a bank, with its value.
+ * Describes the RAM character at a byte in a bank, with its value.
  * @param {number} bank
  * @param {number} byte
  * @param {MachineState} standing
  * @returns {Piece[]}
  */
 function characterPieces(bank, byte, standing) {
-  const words = say.inBank(bank, wordsOfCharacter(byte));
+  const description = say.inBank(bank, wordsOfCharacter(byte));
   const value = standing.character(bank, byte);
-  if (value === "") return [say.boardLacks(words)];
-  return [`${words} = `, { place: `ram.${bank}.0x${hex(byte, 2)}`, name: words, value }];
+  if (value === "") return [say.boardLacks(description)];
+  return [`${description} = `, { place: `ram.${bank}.0x${hex(byte, 2)}`, name: description, value }];
 }
 
 /**
- * Describes the selection by a byte that SRC sends: a ROM's port, and a RAM character of the current bank.
+ * Describes what a byte sent by SRC selects: a ROM port, and a RAM character in the current bank.
  * @param {number} byte
  * @param {MachineState} standing
  * @returns {Piece[]}
@@ -87,9 +87,9 @@ function selectionPieces(byte, standing) {
 }
 
 /**
- * Describes a register or a register pair; for the operand of SRC, also the selection.
+ * Describes a register or register pair. For the operand of SRC, also describes the selection.
  * @param {string} word
- * @param {Parts} parts of its line
+ * @param {Parts} parts the parts of the line
  * @param {MachineState} standing
  * @returns {Piece[]}
  */
@@ -105,8 +105,8 @@ function registerPieces(word, { head }, standing) {
 }
 
 /**
- * Describes the value that an instruction reads or writes through the selection by SRC; returns no pieces if it uses none.
- * @param {string} name in upper case
+ * Describes the value that an instruction accesses through the selection by SRC. Returns no pieces if there is no such value.
+ * @param {string} name the upper-case mnemonic
  * @param {MachineState} standing
  * @returns {Piece[]}
  */
@@ -127,15 +127,15 @@ function portPieces(name, standing) {
   }
   const status = STATUS_INSTRUCTION.exec(name);
   if (!status) return [];
-  const words = say.statusAt(bank, byte >> 6, byte >> 4 & 3, status[1]);
+  const description = say.statusAt(bank, byte >> 6, byte >> 4 & 3, status[1]);
   const value = standing.status(bank, byte >> 4, Number(status[1]));
-  if (value === "") return [say.boardLacks(words)];
-  return [`${words} = `, { place: `st.${bank}.${byte >> 4}.${status[1]}`, name: words, value }];
+  if (value === "") return [say.boardLacks(description)];
+  return [`${description} = `, { place: `st.${bank}.${byte >> 4}.${status[1]}`, name: description, value }];
 }
 
 /**
  * Describes the values that an instruction uses in addition to its operands.
- * @param {string} name in upper case
+ * @param {string} name the upper-case mnemonic
  * @param {string} description the description of the instruction
  * @param {Parts} parts
  * @param {MachineState} standing
@@ -152,7 +152,7 @@ function instructionPieces(name, description, parts, standing) {
 }
 
 /**
- * Describes a number, also in binary; for the operand of FIM, also the selection if SRC sends it.
+ * Describes a number, also in binary. For the operand of FIM, also describes what SRC would select with it.
  * @param {string} written the number in decimal and hexadecimal
  * @param {number} value
  * @param {Parts} parts
@@ -167,7 +167,7 @@ function numberPieces(written, value, { head }, standing) {
 }
 
 /**
- * Describes the current value of the word at an index in a line; returns no pieces if the word has no value.
+ * Describes the current value of the word at an index in a line. Returns no pieces if the word has no value.
  * @param {string} text the line
  * @param {number} at the index
  * @param {MachineState} standing

@@ -1,7 +1,7 @@
-// The expressions in *Watch*, with optional names from the user: `count = R5`, `digit = ram 0 0x12`, `r5 + 1 > limit`.
+// The watch expressions, with optional names chosen by the user: `count = R5`, `digit = ram 0 0x12`, `r5 + 1 > limit`.
 //
 //     const { watched, fault } = readWatched("digit = ram 0 0x12", names);
-//     watched.pieces(standing, names)    its current value, in pieces (value_words.js)
+//     watched.pieces(standing, names)    the current value as pieces (value_words.js)
 
 import { expressionOf } from "../conditions/condition_language.js";
 import { WORDS, parse } from "../conditions/parser.js";
@@ -17,20 +17,20 @@ import * as say from "../../words/debug.js";
  * @typedef {import("./value_words.js").Piece} Piece
  * @typedef {import("../conditions/condition_language.js").Names} Names
  *
- * A watched expression. `text` is its saved form. `value` is the expression without the name. `place` is the place of a RAM character or a
- * status character, "" for any other expression. `pieces` returns the current value.
+ * A watch expression. `text` is its saved text. `value` is the expression without the name. `place` is the place of a RAM or status character, "" for
+ * any other expression. `pieces` returns the current value.
  * @typedef {{ name: string, text: string, place: string, value: string, pieces: Reader }} Watched
  * @typedef {(standing: MachineState, names: Names) => Piece[]} Reader
  */
 
-/** The maximum number of watched expressions, and the maximum length of one. */
+/** The maximum number of watch expressions, and the maximum length of one in characters. */
 export const MAX_WATCHED = 40;
 const MAX_LENGTH = 200;
-/** The largest number that is shown without its hexadecimal form. */
+/** The largest number that is shown without a hexadecimal form. */
 const MAX_PLAIN = 9;
 
 /**
- * Returns the reader of a place that `poke` can set.
+ * Returns the reader of an editable place.
  * @param {string} place
  * @param {(standing: MachineState) => string} value
  * @returns {Reader}
@@ -48,7 +48,7 @@ const REGISTERS = {
 };
 
 /**
- * Returns the reader of a register or a register pair; null for any other place.
+ * Returns the reader of a register or register pair; null for any other place.
  * @param {string} place
  * @returns {Reader | null}
  */
@@ -63,7 +63,7 @@ function machineReader(place) {
 }
 
 /**
- * Returns the reader of a RAM character or a status character; null for any other place.
+ * Returns the reader of a RAM or status character; null for any other place.
  * @param {string} place
  * @returns {Reader | null}
  */
@@ -95,7 +95,7 @@ function portReader(place) {
 }
 
 /**
- * Returns the reader of a place that cannot be edited.
+ * Returns the reader of a place that is not editable.
  * @param {import("../conditions/places.js").Place} place
  * @returns {Reader}
  */
@@ -107,7 +107,7 @@ function placeReader(place) {
 }
 
 /**
- * Returns the reader of any other expression: a sum, a comparison or a name.
+ * Returns the reader of any other expression, such as a sum, a comparison or a name.
  * @param {string} text
  * @returns {Reader}
  */
@@ -123,12 +123,12 @@ function expressionReader(text) {
 }
 
 /**
- * Splits a text into its name and its expression. `count = R5` has the name `count`; `r5 = 10` is a comparison, without a name.
+ * Splits a text into a name and an expression. `count = R5` has the name `count`. `r5 = 10` is a comparison and has no name.
  * @param {string} text
  */
 function partsOfWatched(text) {
   const [, name, value] = /^\s*([^\s=<>!&+()-]*)\s*=(?!=)\s*(.*?)\s*$/.exec(text) || [];
-  // `x = 5` is a comparison: a name for a number would be useless.
+  // `x = 5` is a comparison because a name for a number would be useless.
   const isCompared = name === undefined || WORDS.has(name.toLowerCase()) || /^(test|owed)$/i.test(name) || placeOf(name) !== null
     || !Number.isNaN(numeralOf(value));
   if (isCompared) return { name: "", value: text.trim(), column: text.length - text.trimStart().length };
@@ -136,9 +136,9 @@ function partsOfWatched(text) {
 }
 
 /**
- * Returns the error message for an expression, with its column; "" if there is none. If `names` is null, only the syntax is checked.
+ * Returns the error message for an expression, with a column; "" if there is no error. If `names` is null, only the syntax is checked.
  * @param {string} value
- * @param {number} begin its column in the text
+ * @param {number} begin the column at which the expression starts
  * @param {Names | null} names
  */
 function faultOf(value, begin, names) {
@@ -156,9 +156,9 @@ function faultOf(value, begin, names) {
 }
 
 /**
- * Parses a watched expression; `fault` is an error message, or "".
+ * Parses a watch expression. `fault` is an error message, or "".
  * @param {string} text
- * @param {Names | null} [names] of the board and the program, if they are known
+ * @param {Names | null} [names] the names of the board and the program, if known
  * @returns {{ watched: Watched | null, fault: string }}
  */
 export function readWatched(text, names = null) {
@@ -169,15 +169,15 @@ export function readWatched(text, names = null) {
   const place = placeOf(value);
   const fault = place ? "" : faultOf(value, column, names);
   if (fault) return { watched: null, fault };
-  const spelled = place ? place.name : "";
-  const pieces = machineReader(spelled) || portReader(spelled) || memoryReader(spelled)
+  const placeName = place ? place.name : "";
+  const pieces = machineReader(placeName) || portReader(placeName) || memoryReader(placeName)
     || (place ? placeReader(place) : expressionReader(value));
-  const character = /^(ram|st)\./.test(spelled) ? spelled : "";
+  const character = /^(ram|st)\./.test(placeName) ? placeName : "";
   return { watched: { name: name || value, text: name ? `${name} = ${value}` : value, place: character, value, pieces }, fault: "" };
 }
 
 /**
- * Parses the saved texts, which can be invalid data. `fault` is the first error message, or "".
+ * Parses saved watch expressions. The data can be invalid. `fault` is the first error message, or "".
  * @param {unknown} texts
  * @returns {{ all: Watched[], fault: string }}
  */
@@ -189,7 +189,7 @@ export function readAllWatched(texts) {
 }
 
 /**
- * Returns the names that the user has given, which conditions can contain, with their expressions.
+ * Returns the names that the user has given to watch expressions, with the expressions. Conditions can use these names.
  * @param {unknown} texts
  * @returns {Map<string, string>}
  */

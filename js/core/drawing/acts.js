@@ -1,5 +1,5 @@
-// Translates an action in the drawing of a board to edits of the board's text, or to a message if the action is not possible. Only the
-// bench decides whether the resulting text is valid.
+// Translates an action in the board drawing to edits of the board text, or to a message if the action is impossible. Only the bench decides whether
+// the resulting text is valid.
 
 import { boardLines } from "../bench/board_form.js";
 import { counted } from "../bench/numbers.js";
@@ -19,14 +19,14 @@ import * as say from "../../words/drawing.js";
  * @typedef {import("./text_edits.js").TextEdit} TextEdit
  *
  * The actions:
- * - `add`: adds a part from the shelf; `line` is an optional line for a lamp or a buzzer, `digits` the number of digits of a display
- * - `wire`: connects a line to an input
- * - `port`: makes a line of a ROM an input (`i`), or an output that reads as `0` or `1`
- * - `chips`, `rows`: sets the number of chips in a chain, or of rows of keys
- * - `column`: adds a column of keys
- * - `delete`, `copy`: deletes a part, or adds another one like it
- * - `name`: names a part, a key (`key ROW COLUMN`), the board (`title`) or the button at the TEST pin (`test`); "" removes the name
- * - `colour`: sets the colour of a lamp; "" for the default
+ * - `add`: adds a part from the shelf; `line` is an optional signal line for a lamp or buzzer; `digits` is the number of display digits
+ * - `wire`: connects a signal line to an input
+ * - `port`: makes a ROM line an input (`i`), or an output that reads as `0` or `1`
+ * - `chips`, `rows`: sets the number of chips in a chain, or the number of key rows
+ * - `column`: adds a key column
+ * - `delete`, `copy`: deletes a part, or adds a copy of it
+ * - `name`: names a part, a key (`key ROW COLUMN`), the board (`title`) or the button or switch at the TEST pin (`test`); "" removes the name
+ * - `colour`: sets the lamp colour; "" for the default colour
  * @typedef {{ kind: "add", part: Shelved, line?: string, digits?: number } | { kind: "wire", line: string, target: string }
  *   | { kind: "port", line: string, as: string } | { kind: "chips", chain: number, chips: number } | { kind: "rows", rows: number }
  *   | { kind: "column" } | { kind: "delete", part: string } | { kind: "copy", part: string }
@@ -35,8 +35,8 @@ import * as say from "../../words/drawing.js";
  *   | "buzzer"} Shelved a part on the shelf: `rom` has outputs, `inputs` is a ROM with inputs, `digit` and `segments` are displays with
  *   BCD digits or seven segments, and `scanned` is a multiplexed display
  *
- * The result of an action: the successive edits, the text after them, the affected part, a message (`words`), and the numbers of deleted
- * chains. If the action is not possible, `refusal` is a message and there are no edits; otherwise it is "".
+ * The result of an action: the successive edits, the text after all edits, the affected part, a message (`words`), and the numbers of deleted chains.
+ * If the action is impossible, `refusal` is a message and there are no edits; otherwise it is "".
  * @typedef {{ edits: TextEdit[], text: string, part: string, words: string, goneChains: number[], refusal: string }} Result
  */
 
@@ -67,7 +67,7 @@ function addFromShelf(sketch, { part, line, digits = 1 }) {
 }
 
 /**
- * Adds a button or a switch at the TEST pin; returns the part's name.
+ * Adds a button or switch at the TEST pin; returns the part name.
  * @param {Sketch} sketch
  * @param {"button" | "switch"} kind
  */
@@ -79,9 +79,9 @@ function addTest(sketch, kind) {
 }
 
 /**
- * Connects a line to an input; throws `ActRefusal` if that is not allowed.
+ * Connects a signal line to an input; throws `ActRefusal` if the connection is not allowed.
  * @param {Sketch} sketch
- * @param {string} name of the line
+ * @param {string} name the name of the line
  * @param {string} target the input
  */
 function wire(sketch, name, target) {
@@ -105,7 +105,7 @@ function wire(sketch, name, target) {
 }
 
 /**
- * Returns the message for a line that cannot be connected to an input.
+ * Returns the message for a signal line that cannot be connected to an input.
  * @param {import("../bench/board_form.js").BoardLine} line
  * @param {string} target
  */
@@ -118,7 +118,7 @@ function wireRefusal({ name, kind, isInput }, target) {
 }
 
 /**
- * Makes a line of a ROM an input or an output; throws `ActRefusal` if parts at the line need the other direction.
+ * Makes a ROM line an input or an output; throws `ActRefusal` if connected parts need the other direction.
  * @param {Sketch} sketch
  * @param {string} line
  * @param {string} as `i`, `0` or `1`
@@ -138,11 +138,11 @@ function setPort(sketch, line, as) {
 }
 
 /**
- * Adds a part like an existing one; returns its name.
+ * Adds a copy of an existing part; returns its name.
  * @param {Sketch} sketch
  * @param {string} part
  */
-function copy(sketch, part) {
+function copyPart(sketch, part) {
   const { board, text } = sketch;
   const [kind, number] = splitTarget(part);
   const face = new Face(text);
@@ -157,7 +157,7 @@ function copy(sketch, part) {
 }
 
 /**
- * Names a lamp; throws `ActRefusal` if the name would change the lamps on the grid.
+ * Names a lamp; throws `ActRefusal` if the new name would change the lamps on the grid.
  * @param {Sketch} sketch
  * @param {number} lamp
  * @param {string} name
@@ -171,7 +171,7 @@ function renameLamp(sketch, lamp, name) {
 }
 
 /**
- * Names a part; throws `ActRefusal` if it cannot have the name.
+ * Names a part; throws `ActRefusal` if the name is not allowed.
  * @param {Sketch} sketch
  * @param {string} part
  * @param {string} name
@@ -194,7 +194,7 @@ function renamePart(sketch, part, name) {
 }
 
 /**
- * Sets the colour of a lamp; throws `ActRefusal` for an unknown colour.
+ * Sets the lamp colour; throws `ActRefusal` for an unknown colour.
  * @param {Sketch} sketch
  * @param {number} lamp
  * @param {string} colour "" for the default
@@ -205,7 +205,7 @@ function setColour(sketch, lamp, colour) {
 }
 
 /**
- * Returns a message about an action on a part.
+ * Returns a message about a completed action on a part.
  * @param {string} part
  * @param {string} what the participle of the action
  */
@@ -222,7 +222,7 @@ function capitalized(words) {
 }
 
 /**
- * Performs an action; returns the name of the affected part, and a message.
+ * Performs an action; returns the name of the affected part and a message.
  * @param {Sketch} sketch
  * @param {Act} act
  * @returns {[string, string]}
@@ -237,7 +237,7 @@ function perform(sketch, act) {
       return [part, isDisplay ? say.displayAdded(counted(digits, "digit")) : messageAbout(part, "added")];
     }
     case "copy": {
-      const part = copy(sketch, act.part);
+      const part = copyPart(sketch, act.part);
       return [part, say.copyAdded(capitalized(nameOfPart(part)), nameOfPart(act.part))];
     }
     case "wire":
@@ -267,9 +267,9 @@ function perform(sketch, act) {
 }
 
 /**
- * Returns the message for an error in the front panel that an action has caused; "" if there is none.
+ * Returns the message for a front-panel error that an action caused; "" if there is none.
  * @param {string} before the text before the action
- * @param {string} after the text after it
+ * @param {string} after the text after the action
  */
 function newFault(before, after) {
   const old = new Face(before).faults.map(({ words }) => words.replace(/\d+/g, ""));
@@ -280,7 +280,7 @@ function newFault(before, after) {
 }
 
 /**
- * Returns the result of an action on a board's text.
+ * Returns the result of an action on a board text.
  * @param {string} text
  * @param {Act} act
  * @returns {Result}
@@ -302,7 +302,7 @@ export function actOn(text, act) {
 }
 
 /**
- * Returns the message if a part from the shelf cannot be added; "" if it can.
+ * Returns the message if a part from the shelf cannot be added; "" if it can be added.
  * @param {string} text
  * @param {Shelved} part
  */
@@ -311,9 +311,9 @@ export function addRefusal(text, part) {
 }
 
 /**
- * Returns whether the page and the bench read the same board from a text. Only then can the text be edited.
+ * Returns whether the page and the bench read the same board from a text. Otherwise the drawing cannot edit the text.
  * @param {string} text
- * @param {string[]} answers to `board` after the bench has wired the text
+ * @param {string[]} answers the answer to `board` after the bench has wired the text
  */
 export function matchesBench(text, answers) {
   return new Sketch(text).draft.isAsBench(answers);

@@ -1,4 +1,4 @@
-// Adds parts to a board, each at free lines. If there are too few free lines, also adds chips that have them.
+// Adds parts to a board at free lines. If there are too few free lines, also adds chips with free lines.
 
 import { counted, upTo } from "../bench/numbers.js";
 import { Face } from "../board/face.js";
@@ -16,15 +16,15 @@ import * as say from "../../words/drawing.js";
  * @typedef {import("./board_lines.js").Board} Board
  */
 
-/** The masks of a ROM's port with four outputs, and with four inputs. */
+/** The port masks of a ROM with four outputs, and of a ROM with four inputs. */
 export const OUTPUTS = "0000";
 export const INPUTS = "iiii";
 const LINES_PER_DIGIT = { digit: 4, segments: 7 };
 
 /**
- * Returns the lowest unused number; undefined if all are used.
+ * Returns the lowest unused number; undefined if all numbers are used.
  * @param {number[]} used the used numbers
- * @param {number} count the count of numbers
+ * @param {number} count the numbers are 0 to `count` - 1
  */
 function freeNumber(used, count) {
   return upTo(count).find((number) => !used.includes(number));
@@ -33,7 +33,7 @@ function freeNumber(used, count) {
 /**
  * Adds a ROM; returns its name.
  * @param {Sketch} sketch
- * @param {string} port the mask of its port
+ * @param {string} port the port mask
  */
 export function addRom(sketch, port) {
   const chip = freeNumber(sketch.board.roms.map((rom) => Number(rom.chip)), MAX_PARTS.rom);
@@ -61,18 +61,18 @@ export function addRam(sketch) {
 }
 
 /**
- * Adds a part because another one needs it; returns its name.
+ * Adds a part that another part needs; returns its name.
  * @param {Sketch} sketch
  * @param {() => string} add adds the part and returns its name
  */
-function alsoAdd(sketch, add) {
+function addRequired(sketch, add) {
   const part = add();
   sketch.added.push(nameOfPart(part));
   return part;
 }
 
 /**
- * Returns the name of a part for messages: `ROM 0`, `RAM 0.1`, `chain 0`, `lamp 3` or `the keys`.
+ * Returns the part name for messages: `ROM 0`, `RAM 0.1`, `chain 0`, `lamp 3` or `the keys`.
  * @param {string} part
  */
 export function nameOfPart(part) {
@@ -84,27 +84,27 @@ export function nameOfPart(part) {
 }
 
 /**
- * Adds a ROM for the program, if the board has none.
+ * Adds a ROM for the program if the board has none.
  * @param {Sketch} sketch
  */
 export function needRom(sketch) {
-  if (sketch.board.roms.length === 0) alsoAdd(sketch, () => addRom(sketch, OUTPUTS));
+  if (sketch.board.roms.length === 0) addRequired(sketch, () => addRom(sketch, OUTPUTS));
 }
 
 /**
- * Returns free lines; adds parts until there are enough.
+ * Returns free lines; first adds parts until there are enough.
  * @param {Sketch} sketch
- * @param {number} count of lines
+ * @param {number} count the number of lines
  * @param {(board: Board) => string[]} find returns the suitable free lines
- * @param {() => string} add adds a part with such lines
+ * @param {() => string} add adds a part with suitable lines
  */
 function needLines(sketch, count, find, add) {
-  while (find(sketch.board).length < count) alsoAdd(sketch, add);
+  while (find(sketch.board).length < count) addRequired(sketch, add);
   return find(sketch.board).slice(0, count);
 }
 
 /**
- * Returns the free output lines of ports, ROMs first.
+ * Returns the free output lines of ports.
  * @param {Board} board
  */
 function freeOutputs(board) {
@@ -120,7 +120,7 @@ function freeInputs(board) {
 }
 
 /**
- * Returns the free lines for lamps: ports of RAM chips, then of ROMs, then bits of chains.
+ * Returns the free lines for lamps: first RAM port lines, then ROM port lines, then chain bits.
  * @param {Board} board
  */
 function freeForLamps(board) {
@@ -142,7 +142,7 @@ export function addChain(sketch, chips = 1) {
 }
 
 /**
- * Returns the first `count` consecutive free bits of a chain; null if no chain has them.
+ * Returns the first `count` consecutive free bits of a chain; null if no chain has that many.
  * @param {Board} board
  * @param {number} count
  */
@@ -157,31 +157,31 @@ function freeBits(board, count) {
 }
 
 /**
- * Returns `count` consecutive free bits of a chain; adds a chain if none has them.
+ * Returns `count` consecutive free bits of a chain; adds a chain if necessary.
  * @param {Sketch} sketch
  * @param {number} count
  */
 function needBits(sketch, count) {
-  if (!freeBits(sketch.board, count)) alsoAdd(sketch, () => addChain(sketch, Math.ceil(count / BITS_PER_CHIP)));
+  if (!freeBits(sketch.board, count)) addRequired(sketch, () => addChain(sketch, Math.ceil(count / BITS_PER_CHIP)));
   return /** @type {{ chain: number, first: number }} */ (freeBits(sketch.board, count));
 }
 
 /**
- * Adds a key matrix with one row of four keys, or of fewer if fewer input lines are free; returns its name.
+ * Adds a key matrix with one row and one column per free input line, at most four; returns its name.
  * @param {Sketch} sketch
  */
 export function addKeys(sketch) {
   if (sketch.board.matrix) throw new ActRefusal(say.ONE_MATRIX);
   needRom(sketch);
   const { chain, first } = needBits(sketch, 1);
-  if (freeInputs(sketch.board).length === 0) alsoAdd(sketch, () => addRom(sketch, INPUTS));
+  if (freeInputs(sketch.board).length === 0) addRequired(sketch, () => addRom(sketch, INPUTS));
   const columns = freeInputs(sketch.board).slice(0, 4);
   sketch.edit(addPart(sketch.draft, "keys", { chain, first, rows: 1, columns }));
   return "keys";
 }
 
 /**
- * Sets the number of rows of keys; returns the name of the part.
+ * Sets the number of key rows; returns the name of the part.
  * @param {Sketch} sketch
  * @param {number} rows
  */
@@ -199,7 +199,7 @@ export function setRows(sketch, rows) {
 }
 
 /**
- * Adds a column of keys; returns the name of the part.
+ * Adds a key column; returns the name of the part.
  * @param {Sketch} sketch
  */
 export function addColumn(sketch) {
@@ -213,7 +213,7 @@ export function addColumn(sketch) {
 }
 
 /**
- * Throws `ActRefusal` if the board has no room for `count` more lamps.
+ * Throws `ActRefusal` if `count` more lamps exceed the maximum.
  * @param {Sketch} sketch
  * @param {number} count
  */
@@ -222,7 +222,7 @@ function needRoom({ board }, count) {
 }
 
 /**
- * Adds a lamp at each line.
+ * Adds one lamp at each line.
  * @param {Sketch} sketch
  * @param {string[]} lines
  */
@@ -233,16 +233,16 @@ function putLamps(sketch, lines) {
 /**
  * Adds a lamp; returns its name.
  * @param {Sketch} sketch
- * @param {string} [line] "" for the next free one
- * @param {string} [colour] "" for the default
+ * @param {string} [line] "" for the next free line
+ * @param {string} [colour] "" for the default colour
  */
 export function addLamp(sketch, line = "", colour = "") {
   needRoom(sketch, 1);
   needRom(sketch);
   const at = sketch.board.lamps.length;
   const hasRam = sketch.board.banks.length > 0;
-  // The first lamp of a board without RAM gets a RAM chip, so that all lamps can be at one port.
-  if (!line && !hasRam && at === 0) alsoAdd(sketch, () => addRam(sketch));
+  // The first lamp of a board without RAM gets a RAM chip, so that later lamps can be at the same port.
+  if (!line && !hasRam && at === 0) addRequired(sketch, () => addRam(sketch));
   putLamps(sketch, [line || needLines(sketch, 1, freeForLamps, () => addRam(sketch))[0]]);
   if (colour) sketch.edit(colourLamp(sketch.draft, at, colour));
   return `lamp ${at}`;
@@ -251,7 +251,7 @@ export function addLamp(sketch, line = "", colour = "") {
 /**
  * Adds a buzzer; returns its name.
  * @param {Sketch} sketch
- * @param {string} [line] "" for the next free line of a port
+ * @param {string} [line] "" for the next free port line
  */
 export function addBuzzer(sketch, line = "") {
   if (new Face(sketch.text).buzzer) throw new ActRefusal(say.ONE_BUZZER);
@@ -262,7 +262,7 @@ export function addBuzzer(sketch, line = "") {
 }
 
 /**
- * Adds a display; returns the name of its first lamp. Each BCD digit is at the port of a RAM chip; seven segments are at bits of a chain.
+ * Adds a display; returns the name of its first lamp. Each BCD digit uses a RAM port; seven-segment digits use chain bits.
  * @param {Sketch} sketch
  * @param {"digit" | "segments"} kind
  * @param {number} digits
@@ -274,7 +274,7 @@ export function addDisplay(sketch, kind, digits) {
   const at = sketch.board.lamps.length;
   if (kind === "digit") for (let digit = 0; digit < digits; digit++) putLamps(sketch, portOfDigit(sketch));
   else putLamps(sketch, bitsOfSegments(sketch, digits * LINES_PER_DIGIT.segments));
-  // (These words are a comment in a board's text, in the syntax of tools/lib/face.txt.)
+  // (The next literal is a comment in the board text, in the syntax of tools/lib/face.txt.)
   // eslint-disable-next-line no-restricted-syntax
   const words = `${counted(digits, "digit")}${kind === "segments" ? " of 7 segments" : ""}`;
   sketch.edit(addGroup(sketch.draft, "display", at, words));
@@ -282,8 +282,7 @@ export function addDisplay(sketch, kind, digits) {
 }
 
 /**
- * Adds a multiplexed display, with seven lines for the segments of all digits and a line for each digit. Returns the name of its first
- * lamp.
+ * Adds a multiplexed display with seven segment lines, shared by all digits, and one line per digit. Returns the name of its first lamp.
  * @param {Sketch} sketch
  * @param {number} digits
  */
@@ -297,7 +296,7 @@ export function addScanned(sketch, digits) {
   /** @type {(board: Board) => string[]} */
   const find = (board) => freeForLamps(board).filter((line) => line.startsWith("ram"));
   putLamps(sketch, needLines(sketch, count, find, () => addRam(sketch)));
-  // (These words are a comment in a board's text, in the syntax of tools/lib/face.txt.)
+  // (The next literal is a comment in the board text, in the syntax of tools/lib/face.txt.)
   // eslint-disable-next-line no-restricted-syntax
   const words = `${counted(digits, "digit")} of 7 segments scanned by ${at + LINES_PER_DIGIT.segments}`;
   sketch.edit(addGroup(sketch.draft, "display", at, words));
@@ -305,7 +304,7 @@ export function addScanned(sketch, digits) {
 }
 
 /**
- * Returns the lines of a RAM chip's port that is free, line 3 first; adds a chip if there is none.
+ * Returns the lines of a free RAM port, line 3 first; adds a RAM chip if necessary.
  * @param {Sketch} sketch
  */
 function portOfDigit(sketch) {
@@ -316,12 +315,12 @@ function portOfDigit(sketch) {
       if (lines.every((line) => free.has(line))) return lines;
     }
   }
-  const added = alsoAdd(sketch, () => addRam(sketch)).replace(" ", "");
+  const added = addRequired(sketch, () => addRam(sketch)).replace(" ", "");
   return [3, 2, 1, 0].map((line) => `${added}.${line}`);
 }
 
 /**
- * Returns consecutive free bits of a chain for segments.
+ * Returns consecutive free chain bits for segments.
  * @param {Sketch} sketch
  * @param {number} count
  */
@@ -331,9 +330,9 @@ function bitsOfSegments(sketch, count) {
 }
 
 /**
- * Throws `ActRefusal` if an action would take away an output line of the buzzer or the printer.
+ * Throws `ActRefusal` if an action removes an output line of the buzzer or the printer.
  * @param {Sketch} sketch
- * @param {(line: string) => boolean} isLost returns whether a line is not an output after the action
+ * @param {(line: string) => boolean} isLost returns true if a line is no longer an output after the action
  */
 export function requireOutputs({ text }, isLost) {
   const { buzzer, printer } = new Face(text);
@@ -343,7 +342,7 @@ export function requireOutputs({ text }, isLost) {
 }
 
 /**
- * Sets the number of chips in a chain; returns the name of the chain.
+ * Sets the number of chips in a chain; returns the chain name.
  * @param {Sketch} sketch
  * @param {number} chain
  * @param {number} chips

@@ -1,6 +1,5 @@
-// Parses a board's text in the editor: its parts, their positions in the text, and the board that the text describes. Only the bench
-// decides whether a text is valid. The page compares the bench's answer to `board` with `boardAnswers`, and edits the text only if both are
-// equal.
+// Parses the board text in the editor: its parts, their positions in the text, and the board that it describes. Only the bench decides whether a text
+// is valid. The page compares the bench's answer to `board` with `boardAnswers`. The page edits the text only if both are equal.
 
 import { readBoard } from "../bench/answers.js";
 import { KEYS, KINDS } from "../bench/board_form.js";
@@ -16,7 +15,7 @@ import { readBoardText } from "../text/board_reader.js";
  */
 
 /**
- * Returns a value in the bench's spelling.
+ * Returns a value as the bench spells it.
  * @param {Value} value
  * @returns {string}
  */
@@ -25,24 +24,24 @@ function writtenValue({ inner }) {
   return JSON.stringify(typeof inner === "object" ? null : inner);
 }
 
-/** A parsed text of a board. */
+/** A parsed board text. */
 export class BoardDraft {
   /** @param {string} text */
   constructor(text) {
     this.text = text;
     this.lines = text.split("\n");
-    /** The offset of each line in the text. */
+    /** The offsets of the lines in the text. */
     this.starts = [0];
     for (const line of this.lines) this.starts.push(this.starts[this.starts.length - 1] + line.length + 1);
     const { entries, keys, faults } = readBoardText(text);
-    /** The keys outside tables; their values can be arrays of parts. */
+    /** The keys outside tables. Their values can be arrays of parts. */
     this.keys = keys;
     this.entries = entries;
     this.isToml = faults.length === 0;
   }
 
   /**
-   * Returns the parts of a kind, in the order of the text.
+   * Returns the parts of a kind, in text order.
    * @param {Kind} kind
    */
   of(kind) {
@@ -50,7 +49,7 @@ export class BoardDraft {
   }
 
   /**
-   * Returns a part by its index among those of its kind.
+   * Returns a part by its index among the parts of its kind.
    * @param {Kind} kind
    * @param {number} at
    */
@@ -61,7 +60,7 @@ export class BoardDraft {
   }
 
   /**
-   * Returns a key of a part, by its name.
+   * Returns a key of a part by name.
    * @param {Entry} entry
    * @param {string} name
    */
@@ -82,16 +81,16 @@ export class BoardDraft {
   }
 
   /**
-   * Returns the offset of a character.
-   * @param {number} line from 1
-   * @param {number} column from 0
+   * Returns the offset of a position in the text.
+   * @param {number} line the line number from 1
+   * @param {number} column the column from 0
    */
   offset(line, column) {
     return this.starts[line - 1] + column;
   }
 
   /**
-   * Returns the offset of the first character of a value, a key or a part.
+   * Returns the offset at which a value, key or part starts.
    * @param {Value | Key | Entry} from
    */
   startOf({ line, from }) {
@@ -99,7 +98,7 @@ export class BoardDraft {
   }
 
   /**
-   * Returns the offset after a value.
+   * Returns the offset at which a value ends.
    * @param {{ end?: End, line: number, to: number }} value
    */
   endOf({ end, line, to }) {
@@ -107,14 +106,14 @@ export class BoardDraft {
   }
 
   /**
-   * Returns the number of a part's last line.
+   * Returns the last line number of a part.
    * @param {Entry} entry
    */
   lastLine({ line, keys, end }) {
     return end ? end.line : Math.max(line, ...keys.map(({ value }) => value.end.line));
   }
 
-  /** The board that the text describes, in the form of the bench's answer to `board`; null if a part lacks a key. */
+  /** The board that the text describes, in the format of the bench's answer to `board`; null if a part has a missing key. */
   get boardAnswers() {
     /** @type {string[]} */
     const lines = ["board"];
@@ -144,7 +143,7 @@ export class BoardDraft {
 
   /**
    * Returns whether the page and the bench read the same board from the text.
-   * @param {string[]} answers to `board` after the bench has wired the text
+   * @param {string[]} answers the answer to `board` after the bench has wired the text
    */
   isAsBench(answers) {
     return this.isToml && this.boardAnswers !== null && this.boardAnswers.join("\n") === answers.join("\n");

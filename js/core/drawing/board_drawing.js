@@ -1,5 +1,5 @@
-// The state of the board editor, without the DOM: the selection, an unfinished wire, and the actions. The bench checks the result of each
-// action before the board's text is edited. The drawing shows the bench's answer.
+// The state of the board editor, without the DOM: the selection, an unfinished wire, and the actions. Before the board text is edited, the bench
+// checks the result of the action. The drawing shows the bench's answer.
 
 import { readBoard, refusalOf } from "../bench/answers.js";
 import { boardLines } from "../bench/board_form.js";
@@ -18,10 +18,10 @@ import * as say from "../../words/drawing.js";
  * @typedef {import("./acts.js").Shelved} Shelved
  * @typedef {import("./text_edits.js").TextEdit} TextEdit
  *
- * The state for the view. `board` and `face`: the board of the text and its front panel. `isWired`: the session's board is the same.
- * `fault`: the message if the board cannot be drawn, or "". `shelf`: the parts on the shelf, each with a message if it cannot be added now,
- * or "". `chosen` and `fields`: the selection and its fields. `begun`: the pin where an unfinished wire begins, or "". `ends`: the pins
- * where the wire can end. `said`: the last message.
+ * The state for the view. `board` and `face`: the board of the text and its front panel. `isWired`: true if the session has the same board. `fault`:
+ * the message if the board cannot be drawn, or "". `shelf`: the parts on the shelf; each has a message if it cannot be added now, or "". `chosen` and
+ * `fields`: the selection and its fields. `begun`: the start pin of an unfinished wire, or "". `ends`: the possible end pins of the wire. `said`: the
+ * last message.
  * @typedef {{ board: Board, face: Face, isWired: boolean, fault: string, shelf: Map<Shelved, string>, chosen: string,
  *   fields: import("./fields.js").Fields, begun: string, ends: Set<string>, said: string }} Shown
  */
@@ -29,11 +29,11 @@ import * as say from "../../words/drawing.js";
 /**
  * The callbacks of a drawing, to the text editor and to the bench.
  * @typedef {object} DrawingCalls
- * @property {() => string} text Returns the board's text in the editor.
- * @property {(lines: string) => Promise<string[]>} ask Resolves to the bench's answers to lines, which do not change the session.
- * @property {(edits: TextEdit[]) => void} edit Edits the text; one undo reverts all the edits.
+ * @property {() => string} text Returns the board text in the editor.
+ * @property {(lines: string) => Promise<string[]>} ask Resolves to the bench's answers to lines. The session does not change.
+ * @property {(edits: TextEdit[]) => void} edit Edits the text. One undo reverts all these edits.
  * @property {() => boolean} undo Undoes the last step; returns false if there is none.
- * @property {() => boolean} redo Repeats the step that was undone last; returns false if there is none.
+ * @property {() => boolean} redo Repeats the last undone step; returns false if there is none.
  * @property {(number: number) => string} wordsOfRefusal Returns the message of a refusal.
  */
 
@@ -46,7 +46,7 @@ export class Drawing {
   constructor(calls, show) {
     this.calls = calls;
     this.show = show;
-    /** The bench's answers to `board`: for the session (joined), and for the text. */
+    /** The bench's answers to `board`: for the session (joined into one text), and for the text in the editor. */
     this.wired = "";
     this.answers = ["board"];
     /** @type {Board} */
@@ -55,20 +55,20 @@ export class Drawing {
     this.fault = "";
     /** @type {Map<Shelved, string>} */
     this.shelf = new Map();
-    /** The text that was read last; null if none was read yet. */
+    /** The last text read; null before the first reading. */
     this.text = /** @type {string | null} */ (null);
     this.chosen = "";
     this.begun = "";
     this.said = "";
     /** The positions of dragged parts. */
     this.movedParts = new MovedParts();
-    /** @type {Promise<void>} resolves when all actions so far are done */
+    /** @type {Promise<void>} resolves when all earlier actions are done */
     this.turn = Promise.resolve();
   }
 
   /**
-   * Sets the session's board.
-   * @param {string[]} answers to `board`
+   * Sets the board of the session.
+   * @param {string[]} answers the answer to `board`
    */
   takeWired(answers) {
     this.wired = answers.join("\n");
@@ -83,16 +83,16 @@ export class Drawing {
   }
 
   /**
-   * Runs an action after those that were started before it.
+   * Runs an action after all earlier actions.
    * @param {() => Promise<void>} act
    */
   inTurn(act) {
-    const done = this.turn.then(act);
-    this.turn = done.catch(() => {});
-    return done;
+    const result = this.turn.then(act);
+    this.turn = result.catch(() => {});
+    return result;
   }
 
-  /** Reads the text if it has changed, and shows the board. */
+  /** After all earlier actions, reads the text if it has changed, and shows the board. */
   look() {
     return this.inTurn(() => this.readText());
   }
@@ -111,7 +111,7 @@ export class Drawing {
   /**
    * Sets the board of a text.
    * @param {string} text
-   * @param {string[]} answers to `board`
+   * @param {string[]} answers the answer to `board`
    * @param {string} fault the message if the board cannot be drawn, or ""
    */
   take(text, answers, fault) {
@@ -127,14 +127,14 @@ export class Drawing {
   }
 
   /**
-   * Asks the bench about a text. Resolves to the answers to `board`, and to a message if the bench rejects the text.
+   * Asks the bench about a text. Resolves to the answer to `board`, and to a message if the bench rejects the text.
    * @param {string} text
    */
   async ask(text) {
     const [first, ...answers] = await this.calls.ask(`wire\n${sentText(text, "#")}.\nboard\n`);
     const refusal = refusalOf(first);
-    const words = refusal ? say.benchRefuses(this.calls.wordsOfRefusal(refusal.number)) : "";
-    return { refused: words, answers };
+    const message = refusal ? say.benchRefuses(this.calls.wordsOfRefusal(refusal.number)) : "";
+    return { refused: message, answers };
   }
 
   /**
@@ -154,7 +154,7 @@ export class Drawing {
     return wiringOf(board).has(name) || boardLines(board).some((line) => line.name === name);
   }
 
-  /** The pins where the unfinished wire can end. */
+  /** The pins at which the unfinished wire can end. */
   get ends() {
     const { board, begun } = this;
     if (begun === "" || this.fault) return new Set(/** @type {string[]} */ ([]));
@@ -179,8 +179,8 @@ export class Drawing {
   }
 
   /**
-   * Handles a click, a tap or Enter on a part or a pin. An unfinished wire ends at the pin if that is possible. Otherwise the part or pin
-   * is selected, and a wire begins at the pin.
+   * Handles a click, tap or Enter on a part or pin. If an unfinished wire can end at the pin, the wire ends there. Otherwise the part or pin is
+   * selected, and a wire begins at the pin.
    * @param {string} name
    */
   pressed(name) {
@@ -196,7 +196,7 @@ export class Drawing {
 
   /**
    * Ends the unfinished wire at a pin.
-   * @param {string} name of the pin
+   * @param {string} name the name of the pin
    */
   endWire(name) {
     const { begun, board } = this;
@@ -204,16 +204,16 @@ export class Drawing {
     return this.act({ kind: "wire", line, target });
   }
 
-  /** Drops the unfinished wire; if there is none, clears the selection. */
+  /** Drops the unfinished wire. Without an unfinished wire, clears the selection. */
   leave() {
-    const said = this.begun ? say.NO_WIRE : "";
+    const message = this.begun ? say.NO_WIRE : "";
     if (!this.begun) this.chosen = "";
     this.begun = "";
-    this.say(said);
+    this.say(message);
   }
 
   /**
-   * Performs an action after those before it.
+   * Performs an action after all earlier actions.
    * @param {Act} act
    */
   act(act) {
@@ -221,28 +221,28 @@ export class Drawing {
   }
 
   /**
-   * Performs an action if the bench accepts its result.
+   * Performs an action if the bench accepts the result.
    * @param {Act} act
    * @returns {Promise<void>}
    */
   async perform(act) {
     const text = this.calls.text();
-    const done = actOn(text, act);
-    if (done.refusal) return this.say(done.refusal);
-    if (done.edits.length === 0) return this.say(say.NO_CHANGE);
-    const { refused, answers } = await this.ask(done.text);
-    if (refused || !matchesBench(done.text, answers)) return this.say(say.notDone(refused || say.CANNOT_READ));
-    // If the text was edited while the bench was checking, start again.
+    const result = actOn(text, act);
+    if (result.refusal) return this.say(result.refusal);
+    if (result.edits.length === 0) return this.say(say.NO_CHANGE);
+    const { refused, answers } = await this.ask(result.text);
+    if (refused || !matchesBench(result.text, answers)) return this.say(say.notDone(refused || say.CANNOT_READ));
+    // If the user edited the text during the check, start again.
     if (this.calls.text() !== text) return this.perform(act);
-    this.calls.edit(done.edits);
-    this.movedParts.note(text, done.text, done.goneChains);
-    this.take(done.text, answers, "");
-    this.chosen = this.isThere(done.part) ? done.part : "";
-    return this.say(done.words);
+    this.calls.edit(result.edits);
+    this.movedParts.note(text, result.text, result.goneChains);
+    this.take(result.text, answers, "");
+    this.chosen = this.isThere(result.part) ? result.part : "";
+    return this.say(result.words);
   }
 
   /**
-   * Undoes or redoes the last step of the text.
+   * Undoes or redoes the last edit of the text.
    * @param {"undo" | "redo"} which
    */
   undoOrRedo(which) {

@@ -1,5 +1,5 @@
-// The lines of a board, the inputs that use them, and the allowed wires between the two. The bench decides what is allowed; a unit test
-// compares each pair of a line and an input with the bench. A buzzer is part of the front panel only; it uses a line like a lamp.
+// The signal lines of a board, the inputs that use them, and the allowed wires between lines and inputs. The bench decides what is allowed; a unit
+// test compares each pair of a line and an input with the bench. A buzzer exists only on the front panel; it uses a line in the same way as a lamp.
 
 import { BITS_PER_CHIP, boardLines } from "../bench/board_form.js";
 import { upTo } from "../bench/numbers.js";
@@ -10,14 +10,14 @@ import * as say from "../../words/drawing.js";
  * @typedef {import("../bench/answers.js").Board & { buzzer?: string }} Board a board with the line of its buzzer, "" for none
  * @typedef {import("../bench/board_form.js").BoardLine} BoardLine
  *
- * An input that uses a line: `clock 0` and `data 0` of a chain, `row 1` and `column 2` of the keys, `lamp 3`, or `buzzer 0`.
+ * An input that uses a signal line: `clock 0` or `data 0` of a chain, `row 1` or `column 2` of the keys, `lamp 3`, or `buzzer 0`.
  * @typedef {string} Target
  */
 
 export const BUZZER = "buzzer 0";
 
 /**
- * Returns a board with the buzzer of its front panel.
+ * Adds the buzzer of the front panel to a board.
  * @param {import("../bench/answers.js").Board} board
  * @param {import("../board/face.js").Face} face
  * @returns {Board}
@@ -28,7 +28,7 @@ export function withBuzzer(board, face) {
 }
 
 /**
- * Returns all inputs, each with its line.
+ * Returns all inputs with their lines.
  * @param {Board} board
  * @returns {Map<Target, string>}
  */
@@ -46,7 +46,7 @@ export function wiringOf({ chains, matrix, lamps, buzzer }) {
 }
 
 /**
- * Splits the name of an input into its kind and its number.
+ * Splits an input name into its kind and number.
  * @param {Target} target
  * @returns {[string, number]}
  */
@@ -56,7 +56,7 @@ export function splitTarget(target) {
 }
 
 /**
- * Returns the name of an input for messages.
+ * Returns the input name for messages.
  * @param {Target} target
  */
 export function nameOfTarget(target) {
@@ -93,9 +93,9 @@ export function canWire({ chains, matrix }, { name, kind, isInput }, target) {
 }
 
 /**
- * Returns the inputs that a line can be connected to and is not connected to now.
+ * Returns the inputs that a line can be connected to, without the inputs that it is already connected to.
  * @param {Board} board
- * @param {string} name of the line
+ * @param {string} name the name of the line
  * @returns {Target[]}
  */
 export function targetsOf(board, name) {
@@ -114,7 +114,7 @@ export function sourcesOf(board, target) {
 }
 
 /**
- * Returns the lines that no input uses.
+ * Returns the unused lines.
  * @param {Board} board
  */
 export function freeLines(board) {

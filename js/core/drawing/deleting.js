@@ -1,5 +1,4 @@
-// Deletes parts from a board, together with the parts that depend on them, such as the lamps at the lines of a deleted chip. All other
-// parts keep their wires.
+// Deletes parts from a board. Parts that depend on them are also deleted, such as the lamps of a deleted chain. All other parts keep their wires.
 
 import { counted } from "../bench/numbers.js";
 import { Face } from "../board/face.js";
@@ -16,7 +15,7 @@ import * as say from "../../words/drawing.js";
  * @typedef {import("./sketch.js").Sketch} Sketch
  * @typedef {import("../text/board_reader.js").Value} Value
  *
- * The deleted parts: ROMs by number, RAM chips as `bank.chip`, chains, columns and lamps.
+ * The parts to delete: ROMs by number, RAM chips as `bank.chip`, chains, columns and lamps.
  * @typedef {{ roms: Set<number>, rams: Set<string>, chains: Set<number>, keys: boolean, columns: Set<number>, lamps: Set<number> }} Gone
  */
 
@@ -26,18 +25,18 @@ function noParts() {
 }
 
 /**
- * Returns whether a line is on a deleted part.
+ * Returns whether a line belongs to a deleted part.
  * @param {Gone} gone
  * @param {string} line
  */
-function isLineGone({ roms, rams, chains }, line) {
+function isLineDeleted({ roms, rams, chains }, line) {
   const [, kind, first, second] = /** @type {RegExpExecArray} */ (/^(rom|ram|chain)(\d+)\.(\d+)/.exec(line));
   if (kind === "rom") return roms.has(Number(first));
   return kind === "chain" ? chains.has(Number(first)) : rams.has(`${first}.${second}`);
 }
 
 /**
- * Returns the lamps of the group that a lamp belongs to; the lamp alone if it belongs to none.
+ * Returns the lamps of the group that contains a lamp. A lamp without a group is returned alone.
  * @param {Face} face
  * @param {number} lamp
  */
@@ -47,7 +46,7 @@ export function groupLampsOf(face, lamp) {
 }
 
 /**
- * Returns the display that begins with a lamp, if another display like it can be added; otherwise undefined.
+ * Returns the display that begins at a lamp if the editor can add a copy of it; otherwise undefined.
  * @param {Face} face
  * @param {number} lamp
  */
@@ -57,46 +56,46 @@ export function displayAt(face, lamp) {
 }
 
 /**
- * Adds the parts that depend on deleted parts to the deleted parts.
+ * Extends the parts to delete by the parts that depend on them.
  * @param {Board} board
  * @param {Face} face
- * @param {Gone} gone
+ * @param {Gone} deletedParts
  */
-function addDependents(board, face, gone) {
+function addDependents(board, face, deletedParts) {
   board.chains.forEach(({ clock, data }, at) => {
-    if (isLineGone(gone, clock) || isLineGone(gone, data)) gone.chains.add(at);
+    if (isLineDeleted(deletedParts, clock) || isLineDeleted(deletedParts, data)) deletedParts.chains.add(at);
   });
   const { matrix } = board;
   if (matrix) {
-    matrix.columns.forEach((line, at) => isLineGone(gone, line) && gone.columns.add(at));
-    gone.keys = gone.keys || gone.chains.has(matrix.chain) || gone.columns.size === matrix.columns.length;
+    matrix.columns.forEach((line, at) => isLineDeleted(deletedParts, line) && deletedParts.columns.add(at));
+    deletedParts.keys = deletedParts.keys || deletedParts.chains.has(matrix.chain) || deletedParts.columns.size === matrix.columns.length;
   }
-  board.lamps.forEach((line, at) => isLineGone(gone, line) && gone.lamps.add(at));
-  // A lamp is deleted together with its group. (The loop also visits lamps that it adds.)
-  for (const at of gone.lamps) {
+  board.lamps.forEach((line, at) => isLineDeleted(deletedParts, line) && deletedParts.lamps.add(at));
+  // The whole group of a deleted lamp is deleted. (The loop also visits the lamps that it adds.)
+  for (const at of deletedParts.lamps) {
     const groups = face.groups.map(lampsOfGroup).filter((lamps) => lamps.includes(at));
-    for (const lamp of groups.flat()) if (lamp < board.lamps.length) gone.lamps.add(lamp);
+    for (const lamp of groups.flat()) if (lamp < board.lamps.length) deletedParts.lamps.add(lamp);
   }
 }
 
 /**
- * Removes the deleted parts from the text.
+ * Removes the parts to delete from the text.
  * @param {Sketch} sketch
- * @param {Gone} gone
+ * @param {Gone} deletedParts
  */
-function removeAll(sketch, gone) {
+function removeAll(sketch, deletedParts) {
   const { matrix } = sketch.board;
-  if (gone.lamps.size > 0) removeLamps(sketch, gone.lamps);
-  if (gone.keys && matrix) removeKeys(sketch);
-  else if (gone.columns.size > 0) removeKeyColumns(sketch, gone.columns);
-  for (const chain of descending(gone.chains)) removeChain(sketch, chain);
-  sketch.goneChains.push(...gone.chains);
-  for (const rom of gone.roms) removeRom(sketch, rom);
-  for (const ram of gone.rams) removeRam(sketch, ram);
+  if (deletedParts.lamps.size > 0) removeLamps(sketch, deletedParts.lamps);
+  if (deletedParts.keys && matrix) removeKeys(sketch);
+  else if (deletedParts.columns.size > 0) removeKeyColumns(sketch, deletedParts.columns);
+  for (const chain of descending(deletedParts.chains)) removeChain(sketch, chain);
+  sketch.goneChains.push(...deletedParts.chains);
+  for (const rom of deletedParts.roms) removeRom(sketch, rom);
+  for (const ram of deletedParts.rams) removeRam(sketch, ram);
 }
 
 /**
- * Returns numbers in descending order, so that removing one does not renumber those that follow.
+ * Returns numbers in descending order: removals in this order do not renumber the parts that follow.
  * @param {Set<number>} numbers
  */
 function descending(numbers) {
@@ -104,7 +103,7 @@ function descending(numbers) {
 }
 
 /**
- * Removes lamps, and renumbers the others in the front panel.
+ * Removes lamps, and renumbers the other lamps in the front panel.
  * @param {Sketch} sketch
  * @param {Set<number>} lamps
  */
@@ -114,7 +113,7 @@ function removeLamps(sketch, lamps) {
 }
 
 /**
- * Removes the keys with their names.
+ * Removes the keys and their names.
  * @param {Sketch} sketch
  */
 function removeKeys(sketch) {
@@ -123,7 +122,7 @@ function removeKeys(sketch) {
 }
 
 /**
- * Removes columns of keys with their names.
+ * Removes key columns and their names.
  * @param {Sketch} sketch
  * @param {Set<number>} columns
  */
@@ -136,7 +135,7 @@ function removeKeyColumns(sketch, columns) {
 }
 
 /**
- * Removes a chain, and renumbers the chains after it and their bits.
+ * Removes a chain, and renumbers the later chains and their bits.
  * @param {Sketch} sketch
  * @param {number} chain
  */
@@ -167,7 +166,7 @@ function removeRom(sketch, rom) {
 }
 
 /**
- * Removes a RAM chip, which is the last one of its bank.
+ * Removes a RAM chip. The chip must be the last one of its bank.
  * @param {Sketch} sketch
  * @param {string} ram `bank.chip`
  */
@@ -180,20 +179,20 @@ function removeRam(sketch, ram) {
 }
 
 /**
- * Adds a part to the deleted parts; throws `ActRefusal` if it cannot be deleted alone.
+ * Adds a part to the parts to delete; throws `ActRefusal` if the part cannot be deleted alone.
  * @param {Board} board
- * @param {Gone} gone
+ * @param {Gone} deletedParts
  * @param {string} part
  */
-function addDeleted(board, gone, part) {
+function addDeleted(board, deletedParts, part) {
   const [kind, number] = splitTarget(part);
-  if (kind === "rom") gone.roms.add(number);
-  else if (kind === "chain") gone.chains.add(number);
-  else if (kind === "lamp") gone.lamps.add(number);
-  else if (kind === "column") gone.columns.add(number);
-  else if (kind === "keys") gone.keys = true;
-  else if (kind === "lamps") board.lamps.forEach((_, at) => gone.lamps.add(at));
-  else if (kind === "ram") addDeletedRam(board, gone, part.slice(4));
+  if (kind === "rom") deletedParts.roms.add(number);
+  else if (kind === "chain") deletedParts.chains.add(number);
+  else if (kind === "lamp") deletedParts.lamps.add(number);
+  else if (kind === "column") deletedParts.columns.add(number);
+  else if (kind === "keys") deletedParts.keys = true;
+  else if (kind === "lamps") board.lamps.forEach((_, at) => deletedParts.lamps.add(at));
+  else if (kind === "ram") addDeletedRam(board, deletedParts, part.slice(4));
   else throw new ActRefusal(deletionRefusal(part));
 }
 
@@ -208,21 +207,21 @@ function deletionRefusal(part) {
 }
 
 /**
- * Adds a RAM chip to the deleted parts; throws `ActRefusal` if it is not the last one of its bank.
+ * Adds a RAM chip to the parts to delete; throws `ActRefusal` if it is not the last chip of its bank.
  * @param {Board} board
- * @param {Gone} gone
+ * @param {Gone} deletedParts
  * @param {string} ram `bank.chip`
  */
-function addDeletedRam({ banks }, gone, ram) {
+function addDeletedRam({ banks }, deletedParts, ram) {
   const [bank, chip] = ram.split(".").map(Number);
   const { chips } = banks.find((each) => each.bank === bank) || { chips: 0 };
   if (chip !== chips - 1) throw new ActRefusal(say.deleteChipFirst(bank, chips - 1));
-  gone.rams.add(ram);
+  deletedParts.rams.add(ram);
 }
 
 /**
- * Deletes a part: `rom 1`, `ram 0.1`, `chain 0`, `keys`, `row 1` (the last one), `column 2`, `lamp 3`, `lamps`, `test` or `buzzer`. Returns
- * a text about the parts that were deleted with it, "" if there are none.
+ * Deletes a part: `rom 1`, `ram 0.1`, `chain 0`, `keys`, `row 1` (the last row), `column 2`, `lamp 3`, `lamps`, `test` or `buzzer`. Returns a
+ * description of the dependent parts that were also deleted, "" if there are none.
  * @param {Sketch} sketch
  * @param {string} part
  */
@@ -237,18 +236,18 @@ export function deletePart(sketch, part) {
     return "";
   }
   if (part.startsWith("row ")) return deleteRow(sketch, Number(part.slice(4)));
-  const gone = noParts();
-  addDeleted(board, gone, part);
-  // Chains depend on ROMs and RAM; keys and lamps depend on chains. Two passes are enough.
+  const deletedParts = noParts();
+  addDeleted(board, deletedParts, part);
+  // Chains depend on ROMs and RAM chips. Keys and lamps depend on chains. Two passes are therefore enough.
   const face = new Face(sketch.text);
-  for (let times = 0; times < 2; times++) addDependents(board, face, gone);
-  const words = wordsOfGone(board, gone, part);
-  removeAll(sketch, gone);
+  for (let times = 0; times < 2; times++) addDependents(board, face, deletedParts);
+  const words = dependentsText(board, deletedParts, part);
+  removeAll(sketch, deletedParts);
   return words;
 }
 
 /**
- * Deletes the last row of keys; throws `ActRefusal` for any other row. Returns "", as no other part is deleted.
+ * Deletes the last key row; throws `ActRefusal` for any other row. Returns "" because no other part is deleted.
  * @param {Sketch} sketch
  * @param {number} row
  */
@@ -261,18 +260,18 @@ function deleteRow(sketch, row) {
 }
 
 /**
- * Returns a text about the parts that are deleted together with a part.
+ * Describes the parts that are deleted together with a part.
  * @param {Board} board
- * @param {Gone} gone
+ * @param {Gone} deletedParts
  * @param {string} part
  */
-function wordsOfGone({ buzzer }, gone, part) {
-  const { chains, keys, columns, lamps } = gone;
+function dependentsText({ buzzer }, deletedParts, part) {
+  const { chains, keys, columns, lamps } = deletedParts;
   const others = [...chains].map((chain) => `chain ${chain}`).filter((name) => name !== part);
   const further = part === "lamps" || (part.startsWith("lamp ") && lamps.size === 1) ? 0 : lamps.size;
   if (keys && part !== "keys") others.push(nameOfPart("keys"));
   else if (!keys && columns.size > 0 && !part.startsWith("column")) others.push(say.ofKeys(counted(columns.size, "column")));
   if (further > 0) others.push(part.startsWith("lamp ") ? say.allLampsOf(further) : counted(further, "lamp"));
-  if (buzzer && isLineGone(gone, buzzer)) others.push(say.THE_BUZZER);
+  if (buzzer && isLineDeleted(deletedParts, buzzer)) others.push(say.THE_BUZZER);
   return say.listOf(others);
 }

@@ -1,10 +1,10 @@
-// Finds the lines of a board's text that define the parts in its drawing.
+// Finds the lines of a board text that define the drawn parts.
 
 import { partLines } from "../bench/part_lines.js";
 import { Face } from "../board/face.js";
 
 /**
- * Returns the range of lines of each part. A button at the TEST pin and a buzzer are defined by a comment.
+ * Returns the line range of each part. A comment defines a buzzer, or a button or switch at the TEST pin.
  * @param {string} text
  */
 export function linesOfParts(text) {

@@ -1,5 +1,4 @@
-// Edits the front panel in a board's text: changes names and colours of parts, and updates the front panel when lamps, keys or chains are
-// deleted.
+// Edits the front panel in a board text: changes names and colours, and updates the front panel after lamps, keys or chains are deleted.
 
 import { COLOURS, KINDS } from "../board/face_words.js";
 import { addFaceLine, faceLines, headNumber, removeFaceLine, removeWords, setWord } from "./face_lines.js";
@@ -11,19 +10,19 @@ import { addFaceLine, faceLines, headNumber, removeFaceLine, removeWords, setWor
  */
 
 export { COLOURS };
-/** The kinds of lines that begin with the number of a row. */
+/** The kinds of lines that start with a row number. */
 const ROW_KINDS = ["row", "grid"];
-/** The kinds of lines that begin with the number of a lamp. */
+/** The kinds of lines that start with a lamp number. */
 const LAMP_KINDS = new Set(
   [...KINDS].filter(([name, { head }]) => head.startsWith("N") && !ROW_KINDS.includes(name)).map(([name]) => name),
 );
-/** The kinds of lines that begin with a port or a line of a port. */
+/** The kinds of lines that start with a port or a port line. */
 const PORT_KINDS = ["port", "buzzer", "printer"];
-/** The word in a list for a part without a name or colour. */
+/** The list entry of a part without a name or colour. */
 const NO_WORD = "_";
 
 /**
- * Returns a name as one word, with underscores for blanks.
+ * Converts a name to one word, with underscores instead of blanks.
  * @param {string} name
  */
 export function wordOf(name) {
@@ -31,8 +30,7 @@ export function wordOf(name) {
 }
 
 /**
- * Sets the name or colour of a lamp: in the list that contains the lamp, otherwise at the end of the list before it, otherwise in a new
- * line.
+ * Sets the name or colour of a lamp. The edit changes the list that contains the lamp, extends the list that ends before the lamp, or adds a line.
  * @param {BoardDraft} draft
  * @param {"lamp" | "colour"} kind
  * @param {number} lamp
@@ -54,7 +52,7 @@ function setInList(draft, kind, lamp, text) {
 }
 
 /**
- * Sets the name of a lamp, also on the grid.
+ * Sets the name of a lamp and updates the grid.
  * @param {BoardDraft} draft
  * @param {number} lamp
  * @param {string} name "" for none
@@ -73,7 +71,7 @@ export function nameLamp(draft, lamp, name) {
  * Sets the colour of a lamp.
  * @param {BoardDraft} draft
  * @param {number} lamp
- * @param {string} colour "" for the default
+ * @param {string} colour "" for the default colour
  * @returns {TextEdit[]}
  */
 export function colourLamp(draft, lamp, colour) {
@@ -90,7 +88,7 @@ export function colourLamp(draft, lamp, colour) {
 }
 
 /**
- * Sets the name of a key. Keys before it in the row that are not in the list get their default names, such as `0.1`.
+ * Sets the name of a key. If the list of the row is too short, the keys before it get their default names, such as `0.1`.
  * @param {BoardDraft} draft
  * @param {{ row: number, column: number }} key
  * @param {string} name "" for a position without a key
@@ -107,10 +105,10 @@ export function nameKey(draft, { row, column }, name) {
 }
 
 /**
- * Sets the text of a line such as `# port rom0: keys` or `# title: Lock`: adds, changes or removes the line.
+ * Sets the text of a line such as `# port rom0: keys` or `# title: Lock`. Adds, changes or removes the line.
  * @param {BoardDraft} draft
  * @param {"title" | "test" | "port" | "buzzer"} kind
- * @param {string} head the port or line before the colon, "" for none
+ * @param {string} head the port or port line before the colon, "" for none
  * @param {string} words "" removes the line
  * @returns {TextEdit[]}
  */
@@ -124,7 +122,7 @@ export function setLineText(draft, kind, head, words) {
 }
 
 /**
- * Moves the buzzer to another line of the board.
+ * Moves the buzzer to another signal line.
  * @param {BoardDraft} draft
  * @param {string} line
  */
@@ -138,26 +136,26 @@ export function moveBuzzer(draft, line) {
  * @param {BoardDraft} draft
  * @param {string} kind
  * @param {number} first the number of the first lamp
- * @param {string} words after the colon
+ * @param {string} words the text after the colon
  */
 export function addGroup(draft, kind, first, words) {
   return addFaceLine(draft, kind, `# ${kind} ${first}: ${words}`);
 }
 
 /**
- * Renumbers the lamps after some were deleted.
+ * Renumbers the lamps after a deletion.
  * @param {BoardDraft} draft
- * @param {Set<number>} gone the deleted lamps
+ * @param {Set<number>} deleted the deleted lamps
  * @returns {TextEdit[]}
  */
-export function renumberLamps(draft, gone) {
+export function renumberLamps(draft, deleted) {
   /** @type {(lamp: number) => number} */
-  const numberOf = (lamp) => lamp - [...gone].filter((each) => each < lamp).length;
+  const numberOf = (lamp) => lamp - [...deleted].filter((each) => each < lamp).length;
   return faceLines(draft).flatMap((line) => {
-    if (line.kind === "grid") return renumberGrid(draft, line, gone, numberOf);
+    if (line.kind === "grid") return renumberGrid(draft, line, deleted, numberOf);
     if (!LAMP_KINDS.has(line.kind) || !line.first || Number.isNaN(headNumber(line))) return [];
-    if (line.last) return renumberRange(draft, line, gone, numberOf);
-    return renumberList(draft, line, gone, numberOf);
+    if (line.last) return renumberRange(draft, line, deleted, numberOf);
+    return renumberList(draft, line, deleted, numberOf);
   });
 }
 
@@ -165,70 +163,70 @@ export function renumberLamps(draft, gone) {
  * Renumbers the lamps in a list of names or colours, or in a group.
  * @param {BoardDraft} draft
  * @param {FaceLine} line
- * @param {Set<number>} gone the deleted lamps
+ * @param {Set<number>} deleted the deleted lamps
  * @param {(lamp: number) => number} numberOf returns the new number of a lamp
  * @returns {TextEdit[]}
  */
-function renumberList(draft, line, gone, numberOf) {
+function renumberList(draft, line, deleted, numberOf) {
   const first = headNumber(line);
   const isGroup = line.kind !== "lamp" && line.kind !== "colour";
-  const kept = isGroup ? [...(gone.has(first) ? [] : [first])] : line.words.map((_, at) => first + at).filter((lamp) => !gone.has(lamp));
-  if (kept.length === 0) return [removeFaceLine(draft, line)];
-  const head = setWord(/** @type {import("./face_lines.js").FaceWord} */ (line.first), String(numberOf(kept[0])));
-  if (!isGroup) return [...head, ...removeWords(line, (at) => gone.has(first + at))];
-  // The number in `scanned by N` is a lamp, too.
+  const remaining = isGroup ? [...(deleted.has(first) ? [] : [first])] : line.words.map((_, at) => first + at).filter((lamp) => !deleted.has(lamp));
+  if (remaining.length === 0) return [removeFaceLine(draft, line)];
+  const head = setWord(/** @type {import("./face_lines.js").FaceWord} */ (line.first), String(numberOf(remaining[0])));
+  if (!isGroup) return [...head, ...removeWords(line, (at) => deleted.has(first + at))];
+  // The number in `scanned by N` is also a lamp number.
   const by = line.words[line.words.findIndex(({ text }) => text === "scanned") + 2];
   return line.words.some(({ text }) => text === "scanned") && by ? [...head, ...setWord(by, String(numberOf(Number(by.text))))] : head;
 }
 
 /**
- * Renumbers the lamps in the range of a colour.
+ * Renumbers the lamps in a colour range.
  * @param {BoardDraft} draft
  * @param {FaceLine} line
- * @param {Set<number>} gone the deleted lamps
+ * @param {Set<number>} deleted the deleted lamps
  * @param {(lamp: number) => number} numberOf returns the new number of a lamp
  * @returns {TextEdit[]}
  */
-function renumberRange(draft, line, gone, numberOf) {
+function renumberRange(draft, line, deleted, numberOf) {
   const { first, last } = line;
   if (!first || !last) return [];
   const lamps = Array.from({ length: Math.max(0, Number(last.text) - headNumber(line) + 1) }, (_, at) => headNumber(line) + at);
-  const kept = lamps.filter((lamp) => !gone.has(lamp));
-  if (kept.length === 0) return [removeFaceLine(draft, line)];
-  return [...setWord(first, String(numberOf(kept[0]))), ...setWord(last, String(numberOf(kept[kept.length - 1])))];
+  const remaining = lamps.filter((lamp) => !deleted.has(lamp));
+  if (remaining.length === 0) return [removeFaceLine(draft, line)];
+  return [...setWord(first, String(numberOf(remaining[0]))), ...setWord(last, String(numberOf(remaining[remaining.length - 1])))];
 }
 
 /**
- * Renumbers the lamps in a row of the grid.
+ * Renumbers the lamps in a grid row.
  * @param {BoardDraft} draft
  * @param {FaceLine} line
- * @param {Set<number>} gone the deleted lamps
+ * @param {Set<number>} deleted the deleted lamps
  * @param {(lamp: number) => number} numberOf returns the new number of a lamp
  * @returns {TextEdit[]}
  */
-function renumberGrid(draft, line, gone, numberOf) {
+function renumberGrid(draft, line, deleted, numberOf) {
   const names = new Map(faceLines(draft).filter(({ kind, first, last }) => kind === "lamp" && first && !last)
     .flatMap((list) => list.words.map(({ text }, at) => /** @type {[string, number]} */ ([text, headNumber(list) + at]))));
   const texts = line.words.map(({ text }) => {
     const named = names.get(text);
-    if (named !== undefined) return gone.has(named) ? NO_WORD : text;
+    if (named !== undefined) return deleted.has(named) ? NO_WORD : text;
     if (!/^\d+$/.test(text)) return text;
-    return gone.has(Number(text)) ? NO_WORD : String(numberOf(Number(text)));
+    return deleted.has(Number(text)) ? NO_WORD : String(numberOf(Number(text)));
   });
   if (texts.every((text) => text === NO_WORD)) return [removeFaceLine(draft, line)];
   return line.words.flatMap((word, at) => setWord(word, texts[at]));
 }
 
 /**
- * Renames ports and chains in the front panel after some were deleted.
+ * Renames ports and chains in the front panel after a deletion.
  * @param {BoardDraft} draft
- * @param {(port: string) => string} newPortOf returns the new name of a port, "" for a deleted one
+ * @param {(port: string) => string} newPortOf returns the new name of a port, "" for a deleted port
  * @returns {TextEdit[]}
  */
 export function renamePorts(draft, newPortOf) {
   return faceLines(draft).flatMap((line) => {
     if (!line.first || !PORT_KINDS.includes(line.kind)) return [];
-    // A printer line has two: the line of its strobe, and the port of its code.
+    // A printer line has two: the strobe line, and the code port.
     const words = [line.first, ...(line.kind === "printer" ? line.words.slice(0, 1) : [])];
     const renamed = words.map(({ text }, at) => renamedPort(text, line.kind !== "port" && at === 0, newPortOf));
     if (renamed.includes("")) return [removeFaceLine(draft, line)];
@@ -237,9 +235,9 @@ export function renamePorts(draft, newPortOf) {
 }
 
 /**
- * Returns the new name of a port or of a line; "" for a deleted one.
+ * Returns the new name of a port or port line; "" if it was deleted.
  * @param {string} text the name
- * @param {boolean} isLine true for a line of a port
+ * @param {boolean} isLine true for a port line
  * @param {(port: string) => string} newPortOf
  */
 function renamedPort(text, isLine, newPortOf) {
@@ -249,7 +247,7 @@ function renamedPort(text, isLine, newPortOf) {
 }
 
 /**
- * Removes the names of deleted rows of keys.
+ * Removes the names of deleted key rows.
  * @param {BoardDraft} draft
  * @param {number} remaining the number of remaining rows
  */
@@ -258,13 +256,13 @@ export function removeRows(draft, remaining) {
 }
 
 /**
- * Removes the names of deleted columns of keys.
+ * Removes the names of deleted key columns.
  * @param {BoardDraft} draft
- * @param {Set<number>} gone the deleted columns
+ * @param {Set<number>} deleted the deleted columns
  */
-export function removeColumns(draft, gone) {
+export function removeColumns(draft, deleted) {
   return faceLines(draft).filter(({ kind }) => kind === "row").flatMap((line) => {
-    const isEmpty = line.words.length > 0 && line.words.every((_, at) => gone.has(at));
-    return isEmpty ? [removeFaceLine(draft, line)] : removeWords(line, (at) => gone.has(at));
+    const isEmpty = line.words.length > 0 && line.words.every((_, at) => deleted.has(at));
+    return isEmpty ? [removeFaceLine(draft, line)] : removeWords(line, (at) => deleted.has(at));
   });
 }

@@ -1,4 +1,4 @@
-// Finds the lines of a front panel in a board's text, with the offsets of their words, and edits such lines.
+// Finds front-panel lines and the offsets of their words in a board text, and edits such lines.
 
 import { headOf } from "../board/face_words.js";
 import { removeLines } from "./part_edits.js";
@@ -8,18 +8,18 @@ import { removeLines } from "./part_edits.js";
  * @typedef {import("./text_edits.js").TextEdit} TextEdit
  * @typedef {{ text: string, from: number, to: number }} FaceWord
  *
- * A line of a front panel. `line`: its number in the text. `kind`: the word that begins it. `first` and `last`: the words before the colon,
- * `N` or `N to N`, null for none. `words`: the words after the colon. All offsets count from the beginning of the text.
+ * A front-panel line. `line`: the line number in the text. `kind`: the first word. `first` and `last`: the words before the colon, `N` or `N to N`,
+ * null for none. `words`: the words after the colon. `end`: the offset at which the line ends. All offsets count from the start of the text.
  * @typedef {{ line: number, kind: string, first: FaceWord | null, last: FaceWord | null, words: FaceWord[], end: number }} FaceLine
  */
 
-/** The comment sign and the word that begins a line. */
+/** Matches the comment sign and the first word of a line. */
 const HEAD = /^[ \t]*#[ \t]*[A-Za-z]+[ \t]*/;
 
 /**
- * Returns the words of a text, with their offsets.
+ * Returns the words of a text with their offsets.
  * @param {string} text
- * @param {number} from the offset of the text
+ * @param {number} from the offset at which the text starts
  * @returns {FaceWord[]}
  */
 function wordsFrom(text, from) {
@@ -30,7 +30,7 @@ function wordsFrom(text, from) {
 }
 
 /**
- * Returns the lines of the front panel.
+ * Returns the front-panel lines.
  * @param {BoardDraft} draft
  * @returns {FaceLine[]}
  */
@@ -48,7 +48,7 @@ export function faceLines(draft) {
 }
 
 /**
- * Returns the number before the colon of a line; NaN if it has none.
+ * Returns the number before the colon; NaN if the line has none.
  * @param {FaceLine} line
  */
 export function headNumber({ first }) {
@@ -56,8 +56,8 @@ export function headNumber({ first }) {
 }
 
 /**
- * Adds a line: after the last one of its kind, otherwise after the last line of the front panel, otherwise after the comment at the top of
- * the text.
+ * Adds a line after the last line of its kind. If there is none, adds it after the last front-panel line; without a front panel, after the comment at
+ * the top of the text.
  * @param {BoardDraft} draft
  * @param {string} kind
  * @param {string} text
@@ -74,7 +74,7 @@ export function addFaceLine(draft, kind, text) {
 }
 
 /**
- * Deletes a line of the front panel.
+ * Deletes a front-panel line.
  * @param {BoardDraft} draft
  * @param {FaceLine} line
  */
@@ -93,9 +93,9 @@ export function setWord(word, text) {
 }
 
 /**
- * Deletes words of a line, each with the blanks before it.
+ * Deletes words of a line and the blanks before them.
  * @param {FaceLine} line
- * @param {(at: number) => boolean} isDeleted returns whether to delete the word with an index
+ * @param {(at: number) => boolean} isDeleted returns whether to delete the word at an index
  * @returns {TextEdit[]}
  */
 export function removeWords({ words, first, last }, isDeleted) {
@@ -103,7 +103,7 @@ export function removeWords({ words, first, last }, isDeleted) {
   return words.flatMap(({ from, to }, at) => {
     if (!isDeleted(at)) return [];
     const before = words[at - 1] ? words[at - 1].to : from;
-    // For words at the beginning, the blanks after them are deleted instead: the blank after the colon stays.
+    // For the first words, the blanks after them are deleted instead, so that the blank after the colon stays.
     const next = words[at + 1];
     if (at === 0 || words.slice(0, at).every((_, each) => isDeleted(each))) return [{ from, to: next ? next.from : to, insert: "" }];
     return head ? [{ from: before, to, insert: "" }] : [];

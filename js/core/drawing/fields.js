@@ -1,5 +1,4 @@
-// The form fields for a selected part or pin: its name, its colour, its wires, its number of chips. Each field returns the action for a new
-// value.
+// The form fields for the selected part or pin, such as its name, colour, wires, and number of chips. Each field returns the action for a new value.
 
 import { upTo } from "../bench/numbers.js";
 import { COLOURS } from "../board/face_words.js";
@@ -13,19 +12,18 @@ import * as say from "../../words/drawing.js";
  * @typedef {import("../board/face.js").Face} Face
  * @typedef {import("./acts.js").Act} Act
  *
- * A field: its label, its value, its options with their titles (null for free text), and a function that returns the action for a new
- * value.
+ * A field: its label, its value, its options with titles (null for free text), and a function that returns the action for a new value.
  * @typedef {{ label: string, value: string, options: { value: string, words: string }[] | null, act: (value: string) => Act }} Field
  *
- * A button: its label, and its action.
+ * A button: its label and its action.
  * @typedef {{ word: string, act: Act }} Button
  *
- * The form for the selection: its title, the name of the part in the board's text ("" for none), its fields and its buttons.
+ * The form for the selection: its title, the name of the part in the board text ("" for none), its fields and its buttons.
  * @typedef {{ title: string, part: string, fields: Field[], buttons: Button[] }} Fields
  */
 
 /**
- * Returns a field with free text.
+ * Creates a field with free text.
  * @param {string} label
  * @param {string} value
  * @param {(value: string) => Act} act
@@ -36,7 +34,7 @@ function text(label, value, act) {
 }
 
 /**
- * Returns a field with options.
+ * Creates a field with options.
  * @param {string} label
  * @param {string} value
  * @param {string[] | { value: string, words: string }[]} options
@@ -48,7 +46,7 @@ function choiceField(label, value, options, act) {
 }
 
 /**
- * Returns the numbers of a range, as texts.
+ * Returns the numbers of a range as text.
  * @param {{ from: number, to: number }} range
  */
 function numbers({ from, to }) {
@@ -56,7 +54,7 @@ function numbers({ from, to }) {
 }
 
 /**
- * Returns the field for the line of an input.
+ * Returns the field for the signal line of an input.
  * @param {Board} board
  * @param {string} target
  * @param {string} [label]
@@ -67,7 +65,7 @@ function lineField(board, target, label = nameOfTarget(target)) {
 }
 
 /**
- * Returns the field for the name of a port or a chain.
+ * Returns the field for the name of a port or chain.
  * @param {Face} face
  * @param {string} part
  */
@@ -77,9 +75,9 @@ function portField(face, part) {
 }
 
 /**
- * Returns the field for the direction of a ROM's line.
+ * Returns the field for the direction of a ROM line.
  * @param {string} line
- * @param {string} port the mask of the ROM's port
+ * @param {string} port the port mask of the ROM
  * @returns {Field}
  */
 function directionField(line, port) {
@@ -154,7 +152,7 @@ function lampFields(board, face, lamp) {
   const part = `lamp ${lamp}`;
   const all = groupLampsOf(face, lamp);
   const isOne = all.length === 1;
-  // All lamps of a display have the colour of its first lamp.
+  // All lamps of a group have the colour of its first lamp.
   const [name, colour] = [face.lamps.get(lamp), face.colours.get(all[0])];
   const fields = [
     text("name", name ? name.text : "", (value) => ({ kind: "name", part, name: value })),
@@ -190,7 +188,7 @@ function ramFields(face, part) {
 }
 
 /**
- * Returns the form for a line of a port or a bit of a chain.
+ * Returns the form for a port line or a chain bit.
  * @param {Board} board
  * @param {string} name
  * @returns {Fields}
@@ -208,7 +206,7 @@ function lineFields(board, name) {
 }
 
 /**
- * Returns the form for an input of a chain or of the keys.
+ * Returns the form for an input of a chain or the keys.
  * @param {Board} board
  * @param {string} target
  * @returns {Fields}
@@ -223,10 +221,10 @@ function targetFields(board, target) {
 }
 
 /**
- * Returns the form for the selection, or for the whole board if nothing is selected.
+ * Returns the form for the selection. If nothing is selected, returns the form for the whole board.
  * @param {Board} board
  * @param {Face} face
- * @param {string} chosen a part or a pin
+ * @param {string} chosen the selected part or pin
  * @returns {Fields}
  */
 export function fieldsOf(board, face, chosen) {

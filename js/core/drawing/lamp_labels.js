@@ -1,4 +1,4 @@
-// The labels of lamps in the drawing: a lamp's name or, for a lamp of a display without a name, its digit and segment.
+// The labels of lamps in the drawing: the lamp name, or for an unnamed display lamp, its digit and segment.
 
 import { isScanned, lampNames, lampsOfGroup } from "../board/face_board.js";
 import { upTo } from "../bench/numbers.js";
@@ -6,15 +6,15 @@ import * as say from "../../words/drawing.js";
 
 /** @typedef {import("../board/face.js").Face} Face */
 
-/** The labels of a BCD digit's lamps, and of seven segments. */
+/** The lamp labels of a BCD digit, and of a seven-segment digit. */
 const BCD_LABELS = ["8", "4", "2", "1"];
 const SEGMENT_LABELS = ["a", "b", "c", "d", "e", "f", "g"];
 const POINT_LABEL = "point";
 
 /**
- * Returns the label of each lamp; "" for a lamp without a label.
+ * Returns the lamp labels by lamp number; "" for a lamp without a label.
  * @param {Face} face
- * @param {number} count of the board's lamps
+ * @param {number} count the number of lamps on the board
  */
 export function lampLabels(face, count) {
   const labels = lampNames(face, count);
@@ -29,7 +29,7 @@ export function lampLabels(face, count) {
 }
 
 /**
- * Returns the labels of a display's lamps.
+ * Returns the labels of the lamps in a display.
  * @param {import("../board/face.js").Group} group
  */
 function labelsOf(group) {

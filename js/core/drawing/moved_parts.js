@@ -1,11 +1,11 @@
-// The positions of parts that the user dragged in the drawing. When a chain is deleted, the chains after it are renumbered, and their
-// positions with them. Undo restores the positions together with the text.
+// The positions of parts that the user dragged in the drawing. When a chain is deleted, later chains get new numbers; their positions move to the new
+// numbers. Undo restores the positions together with the text.
 
 /**
  * @typedef {import("../board/wiring.js").Moved} Moved
  * @typedef {import("../board/wiring.js").Point} Point
  *
- * An edit of the text that deleted chains: the text before and after it, the chains' former numbers, and their positions.
+ * A text edit that deletes chains: the text before and after the edit, the former numbers of the chains, and their positions.
  * @typedef {{ before: string, after: string, gone: number[], points: Moved }} Deletion
  */
 
@@ -23,7 +23,7 @@ export class MovedParts {
   }
 
   /**
-   * Sets the positions of another session.
+   * Switches to the positions of another session.
    * @param {[string, Point][]} points
    */
   begin(points) {
@@ -33,17 +33,17 @@ export class MovedParts {
   }
 
   /**
-   * Adds an edit of the text that deletes chains.
+   * Records a text edit that deletes chains.
    * @param {string} before the text before the edit
-   * @param {string} after the text after it
-   * @param {number[]} gone the numbers of the deleted chains
+   * @param {string} after the text after the edit
+   * @param {number[]} numbers the numbers of the deleted chains
    */
-  note(before, after, gone) {
-    if (gone.length > 0) this.deletions.push({ before, after, gone: [...gone].sort((one, other) => one - other), points: new Map() });
+  note(before, after, numbers) {
+    if (numbers.length > 0) this.deletions.push({ before, after, gone: [...numbers].sort((one, other) => one - other), points: new Map() });
   }
 
   /**
-   * Updates the positions after a change of the text, if the change deletes or restores chains.
+   * Updates the positions after a text change that deletes or restores chains.
    * @param {string | null} from
    * @param {string} to
    */
@@ -54,7 +54,7 @@ export class MovedParts {
     else if (undone) this.restoreChains(undone);
   }
 
-  /** Returns whether positions have changed since the last call. */
+  /** Returns whether positions have changed since the previous call. */
   takeNews() {
     const { hasNews } = this;
     this.hasNews = false;
@@ -62,7 +62,7 @@ export class MovedParts {
   }
 
   /**
-   * Removes the positions of deleted chains, and renumbers the others.
+   * Removes the positions of deleted chains, and renumbers the other chains.
    * @param {Deletion} deletion
    */
   removeChains({ gone, points }) {
@@ -73,7 +73,7 @@ export class MovedParts {
   }
 
   /**
-   * Restores the positions of deleted chains, and renumbers the others.
+   * Restores the positions of deleted chains, and renumbers the other chains.
    * @param {Deletion} deletion
    */
   restoreChains({ gone, points }) {
@@ -84,7 +84,7 @@ export class MovedParts {
     for (const [part, point] of points) this.moved.set(part, point);
   }
 
-  /** Removes the positions of all chains, and returns them by number. */
+  /** Removes the positions of all chains, and returns them by chain number. */
   takeChains() {
     /** @type {[number, Point][]} */
     const chains = [];

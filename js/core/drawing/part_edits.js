@@ -1,5 +1,4 @@
-// Adds parts to a board's text, removes them, and changes their values. Comments stay, and new parts are written in the style of the
-// existing ones.
+// Adds parts to a board text, removes them, and changes their values. Comments stay. New parts follow the style of the existing parts.
 
 import { tomlWords } from "../text/toml_words.js";
 import { KEYS } from "../bench/board_form.js";
@@ -11,10 +10,10 @@ import { KEYS } from "../bench/board_form.js";
  * @typedef {import("../text/board_reader.js").Entry} Entry
  * @typedef {import("../text/board_reader.js").Value} Value
  * @typedef {import("../text/toml_words.js").TomlWord} TomlWord
- * @typedef {Record<string, string | number | string[]>} PartValues the values of a part by their keys
+ * @typedef {Record<string, string | number | string[]>} PartValues the values of a part, by key
  */
 
-/** The maximum length of an array's line after an element is added; a longer array continues on the next line. */
+/** The maximum length of an array line after an element is added. A longer array continues on the next line. */
 const MAX_LINE_LENGTH = 100;
 const INDENT = "    ";
 
@@ -28,7 +27,7 @@ export function written(value) {
 }
 
 /**
- * Returns the lines `key = value` of a part.
+ * Returns the `key = value` lines of a part.
  * @param {Kind} kind
  * @param {PartValues} values
  */
@@ -37,7 +36,7 @@ function linesOf(kind, values) {
 }
 
 /**
- * Returns whether there is a line and it is blank.
+ * Returns whether a line exists and is blank.
  * @param {string | undefined} line
  */
 function isBlank(line) {
@@ -45,7 +44,7 @@ function isBlank(line) {
 }
 
 /**
- * Returns whether the tables in the text follow each other without blank lines.
+ * Returns whether the tables in the text are written without blank lines between them.
  * @param {BoardDraft} draft
  */
 function isCompact({ entries, lines }) {
@@ -54,7 +53,7 @@ function isCompact({ entries, lines }) {
 }
 
 /**
- * Adds a part, after the last one of its kind.
+ * Adds a part after the last part of its kind.
  * @param {BoardDraft} draft
  * @param {Kind} kind
  * @param {PartValues} values
@@ -75,8 +74,8 @@ export function addPart(draft, kind, values) {
 /**
  * Adds a table at the end of the text.
  * @param {BoardDraft} draft
- * @param {string} gap the line feeds before a table
- * @param {string} block the table
+ * @param {string} gap the line feeds before the table
+ * @param {string} block the lines of the table
  * @returns {TextEdit}
  */
 function atEnd({ text, lines }, gap, block) {
@@ -88,7 +87,7 @@ function atEnd({ text, lines }, gap, block) {
 }
 
 /**
- * Returns the TOML tokens before and after a range, with their offsets; null for none. Ends of lines do not count as tokens.
+ * Returns the TOML tokens before and after a range, with their offsets; null for none. Line ends do not count as tokens.
  * @param {BoardDraft} draft
  * @param {number} from
  * @param {number} to
@@ -104,8 +103,7 @@ function tokensAround(draft, from, to) {
 }
 
 /**
- * Adds an element at the end of an array. The element gets a new line if the elements before it are on separate lines, or if the last line
- * is full.
+ * Adds an element at the end of an array. The element gets a new line if the earlier elements are on separate lines, or if the last line is full.
  * @param {BoardDraft} draft
  * @param {Value} array
  * @param {string} element
@@ -124,14 +122,14 @@ export function appendElement(draft, array, element) {
   const { next } = tokensAround(draft, at, at);
   const hasComma = next !== null && next.text === ",";
   const indent = last.line > array.line ? (/^[ \t]*/.exec(line) || [""])[0] : INDENT;
-  // The end of the array continues after the new element.
+  // The rest of the array follows the new element.
   const end = next && next.text === "]" && array.end.line === last.end.line ? at : draft.offset(last.end.line, line.length);
   const comma = { from: at, to: at, insert: "," };
   return [{ from: end, to: end, insert: `\n${indent}${element}${hasComma ? "," : ""}` }, ...(hasComma ? [] : [comma])];
 }
 
 /**
- * Deletes whole lines. If blank lines would then be adjacent, also deletes one of them.
+ * Deletes whole lines. If the deletion leaves adjacent blank lines, also deletes one of them.
  * @param {BoardDraft} draft
  * @param {number} first
  * @param {number} last
@@ -148,7 +146,7 @@ export function removeLines({ lines, starts, text }, first, last) {
 }
 
 /**
- * Deletes a range within a line, and the whole line if only blanks remain.
+ * Deletes a range within a line. Deletes the whole line if only blanks remain.
  * @param {BoardDraft} draft
  * @param {number} from
  * @param {number} to
@@ -164,7 +162,7 @@ function removeRange({ text }, from, to) {
 }
 
 /**
- * Deletes an element of an array, and its comma.
+ * Deletes an array element and its comma.
  * @param {BoardDraft} draft
  * @param {Value} array
  * @param {number} at
@@ -184,7 +182,7 @@ export function removeElement(draft, array, at) {
  * Deletes a part.
  * @param {BoardDraft} draft
  * @param {Kind} kind
- * @param {number} at its index among those of its kind
+ * @param {number} at the index among the parts of its kind
  * @returns {TextEdit[]}
  */
 export function removePart(draft, kind, at) {
@@ -197,10 +195,10 @@ export function removePart(draft, kind, at) {
 }
 
 /**
- * Sets a value of a part.
+ * Sets a value in a part.
  * @param {BoardDraft} draft
  * @param {Entry} entry
- * @param {string} name of its key
+ * @param {string} name the key of the value
  * @param {string | number} value
  * @returns {TextEdit}
  */

@@ -1,4 +1,4 @@
-// Generates the source of a routine that scans the key matrix of the session's board.
+// Generates the source of a routine that scans the key matrix on the session's board.
 
 import { upTo } from "../bench/numbers.js";
 import * as say from "../../words/key_scan.js";
@@ -7,21 +7,21 @@ import * as say from "../../words/key_scan.js";
  * @typedef {import("../bench/answers.js").Board} Board
  * @typedef {import("../bench/answers.js").Matrix} Matrix
  *
- * A line of a port. `bank`: the bank to select with DCL, -1 for a ROM. `source`: the SRC byte that selects the port. `write`: the
- * instruction that writes the port. `title`: the name of the port. `bit`: the value of the line's bit.
+ * The port of a signal line. `bank`: the bank that DCL selects, -1 for a ROM. `source`: the SRC byte that selects the port. `write`: the instruction
+ * that writes to the port. `title`: the name of the port. `bit`: the bit value of the line.
  * @typedef {{ bank: number, source: number, write: string, title: string, bit: number }} Port
  *
- * A line of source: its label ("" for none), its instruction with operands, and its comment.
+ * A source line: its label ("" for none), its instruction with operands, and its comment.
  * @typedef {[label: string, instruction: string[], comment?: string]} Line
  */
 
 const LABEL_WIDTH = 12;
 const COMMENT_COLUMN = 32;
-/** The number of values of a register, and the maximum number of rounds in an ISZ loop. */
+/** The number of register values, which is also the maximum number of rounds in an ISZ loop. */
 const REGISTER_VALUES = 16;
 
 /**
- * Returns the port of a line.
+ * Returns the port of a signal line.
  * @param {string} line such as `rom0.2` or `ram1.3.0`
  * @returns {Port}
  */
@@ -32,25 +32,25 @@ function portOf(line) {
   return { bank: numbers[0], source: numbers[1] * 64, write: "WMP", title: say.ramPort(numbers[0], numbers[1]), bit };
 }
 
-/** @type {(one: Port, other: Port) => boolean} returns whether two lines are at the same port */
+/** @type {(one: Port, other: Port) => boolean} returns whether two ports are the same */
 const isSame = (one, other) => one.title === other.title;
 
-/** @param {number} byte returns its hexadecimal numeral */
+/** @param {number} byte the byte; returns it as a hexadecimal numeral */
 const hexByte = (byte) => `0x${byte.toString(16).toUpperCase().padStart(2, "0")}`;
 
 /**
- * Returns the lines that select a port.
+ * Returns the source lines that select a port.
  * @param {Port} port
  * @returns {Line[]}
  */
-function selected({ bank, source, title }) {
+function selectionLines({ bank, source, title }) {
   /** @type {Line[]} */
   const designated = bank < 0 ? [] : [["", ["LDM", String(bank)]], ["", ["DCL"]]];
   return [...designated, ["", ["FIM", "P0,", hexByte(source)], title], ["", ["SRC", "P0"]]];
 }
 
 /**
- * Returns the text of a line.
+ * Formats a source line.
  * @param {Line} line
  */
 function textOf([label, instruction, comment = ""]) {
@@ -58,7 +58,7 @@ function textOf([label, instruction, comment = ""]) {
   return comment === "" ? code : `${code.padEnd(COMMENT_COLUMN)}; ${comment}`;
 }
 
-/** The labels of a routine, which do not occur in the text yet. */
+/** The labels of the routine. They must not occur in the text. */
 class Labels {
   /** @param {string} text */
   constructor(text) {
@@ -73,8 +73,8 @@ class Labels {
 }
 
 /**
- * Returns the lines that shift the 1 in the chain to the bit of row 0.
- * @param {number} first the number of that bit
+ * Returns the source lines that shift the 1 in the chain to the bit of row 0.
+ * @param {number} first the number of the bit for row 0
  * @param {Labels} labels
  * @returns {Line[]}
  */
@@ -93,7 +93,7 @@ function shiftToFirstRow(first, labels) {
 }
 
 /**
- * Returns the lines that read the columns and jump at the first one that is 1.
+ * Returns the source lines that read the columns and jump at the first column that is 1.
  * @param {string[]} columns
  * @param {Labels} labels
  * @returns {Line[]}
@@ -103,10 +103,10 @@ function readColumns(columns, labels) {
   const chips = ports.filter((port, at) => ports.findIndex((each) => isSame(each, port)) === at);
   return chips.flatMap((chip) => {
     /** @type {Line[]} */
-    const lines = [...selected(chip), ["", ["RDR"]]];
+    const lines = [...selectionLines(chip), ["", ["RDR"]]];
     let bit = 1 / 2;
-    const own = ports.map((port, column) => ({ ...port, column })).filter((port) => isSame(port, chip));
-    for (const { bit: wanted, column } of own.sort((one, other) => one.bit - other.bit)) {
+    const chipColumns = ports.map((port, column) => ({ ...port, column })).filter((port) => isSame(port, chip));
+    for (const { bit: wanted, column } of chipColumns.sort((one, other) => one.bit - other.bit)) {
       if (wanted === bit) continue;
       for (; bit < wanted; bit *= 2) lines.push(["", ["RAR"]]);
       lines.push(["", ["JCN", "2,", labels.of(String(column))], say.columnInCarry(column)]);
@@ -116,7 +116,7 @@ function readColumns(columns, labels) {
 }
 
 /**
- * Returns the subroutine that shifts a bit into the chain. It expects the value for the data port in the accumulator.
+ * Returns the subroutine that shifts one bit into the chain. It expects the value for the data port in the accumulator.
  * @param {Port} clock
  * @param {Port} data
  * @param {Labels} labels
@@ -125,24 +125,24 @@ function readColumns(columns, labels) {
 function shiftLines(clock, data, labels) {
   const isOne = isSame(clock, data);
   /** @type {Line[]} */
-  const other = isOne ? [] : [...selected(clock), ["", ["LDM", "0"]], ["", [clock.write]]];
+  const other = isOne ? [] : [...selectionLines(clock), ["", ["LDM", "0"]], ["", [clock.write]]];
   /** @type {Line[]} */
   const both = isOne ? [["", ["CLC"]], ["", ["ADD", "R6"]]] : [];
   return [
-    [labels.of("shift"), ["XCH", "R6"], say.BIT_ENTERS], ...selected(data), ["", ["LD", "R6"]],
+    [labels.of("shift"), ["XCH", "R6"], say.BIT_ENTERS], ...selectionLines(data), ["", ["LD", "R6"]],
     ["", [data.write], isOne ? say.CLOCK_LOW : say.DATA], ...other,
     ["", ["LDM", String(clock.bit)]], ...both, ["", [clock.write], say.CLOCK_RISES], ["", ["BBL", "0"]],
   ];
 }
 
 /**
- * Returns the comment lines before the routine.
+ * Returns the comment lines above the routine.
  * @param {Matrix} matrix
  * @param {Port} clock
  * @param {Port} data
  * @param {Labels} labels
  */
-function headOf({ chain, first, rows, columns }, clock, data, labels) {
+function headerLines({ chain, first, rows, columns }, clock, data, labels) {
   const read = [...new Set(columns.map((line) => portOf(line).title))];
   const written = [...new Set([data.title, clock.title])];
   const banks = [...new Set([data.bank, clock.bank])].filter((bank) => bank >= 0);
@@ -153,9 +153,10 @@ function headOf({ chain, first, rows, columns }, clock, data, labels) {
 }
 
 /**
- * Returns the source of the routine; for a text without instructions, after a program that calls it. Returns "" for a board without keys.
+ * Returns the source of the routine. If the text has no instructions, a program that calls the routine precedes it. Returns "" for a board without
+ * keys.
  * @param {Board} board
- * @param {string} text of the source into which the routine is inserted
+ * @param {string} text the source that will contain the routine
  */
 export function keyScanOf({ matrix, chains }, text) {
   if (!matrix) return "";
@@ -177,18 +178,18 @@ export function keyScanOf({ matrix, chains }, text) {
     [labels.of("down"), ["XCH", "R5"]], [out, ["LDM", "0"]], ["", ["JMS", shift], say.LEAVES_ROWS], ["", ["ISZ", "R7,", out]],
     ["", ["BBL", "1"], say.KEY_IS_DOWN], ...shiftLines(clock, data, labels),
   ];
-  const head = headOf(matrix, clock, data, labels);
+  const head = headerLines(matrix, clock, data, labels);
   return [...start.map(textOf), ...(start.length > 0 ? [""] : []), ...head, ...lines.map(textOf), ""].join("\n");
 }
 
 /**
- * Returns the edit that inserts a routine into a text, with blank lines around it: after the line of the caret, or at the end without a
- * caret.
+ * Returns the edit that inserts a routine into a text, with blank lines around it. The routine goes after the caret line, or to the end if there is
+ * no caret.
  * @param {string} text
- * @param {number} line the line of the caret, 0 for none
+ * @param {number} line the caret line, 0 for none
  * @param {string} code the routine
- * @returns {{ edit: import("./text_edits.js").TextEdit, first: number, isEnd: boolean }} `first`: the line number of the routine's first
- *   line; `isEnd`: no text follows the routine
+ * @returns {{ edit: import("./text_edits.js").TextEdit, first: number, isEnd: boolean }} `first`: the number of the first routine
+ *   line; `isEnd`: true if no text follows the routine
  */
 export function placeOfRoutine(text, line, code) {
   const lines = text.split("\n");

@@ -1,4 +1,4 @@
-// A board's text during an action: the edits so far, and the board that the edited text describes.
+// The board text during an action: the edits so far, and the board that the edited text describes.
 
 import { Face } from "../board/face.js";
 import { BoardDraft } from "./board_draft.js";
@@ -9,24 +9,24 @@ import { edited, toSuccessive } from "./text_edits.js";
  * @typedef {import("./text_edits.js").TextEdit} TextEdit
  */
 
-/** The error for an action that is not possible. Its message gives the reason and, if there is one, a remedy. */
+/** The error for an impossible action. The message gives the reason and, if possible, a remedy. */
 export class ActRefusal extends Error {}
 
-/** A board's text during an action. */
+/** The board text during an action. */
 export class Sketch {
   /** @param {string} text */
   constructor(text) {
     this.draft = new BoardDraft(text);
     /** @type {TextEdit[]} */
     this.edits = [];
-    /** @type {string[]} the names of parts that were added because other parts need them */
+    /** @type {string[]} the names of parts that other parts need and that the action also added */
     this.added = [];
     /** @type {number[]} the deleted chains, by their original numbers */
     this.goneChains = [];
   }
 
   /**
-   * Applies edits, whose offsets are those of the current text.
+   * Applies edits. Their offsets refer to the current text.
    * @param {TextEdit[]} edits
    */
   edit(edits) {

@@ -1,13 +1,13 @@
-// Edits of a text: each replaces a range of characters. The edits of a list are applied in order, each to the text that the earlier edits
-// have produced.
+// Text edits. Each edit replaces a range of characters. A list of edits is applied in order: each edit applies to the text that the earlier edits
+// produced.
 
 /**
- * An edit: `insert` replaces the characters from the offset `from` up to the offset `to`.
+ * An edit: `insert` replaces the characters from offset `from` up to offset `to`.
  * @typedef {{ from: number, to: number, insert: string }} TextEdit
  */
 
 /**
- * Returns the text after the edits.
+ * Applies edits to a text.
  * @param {string} text
  * @param {TextEdit[]} edits
  */
@@ -16,8 +16,8 @@ export function edited(text, edits) {
 }
 
 /**
- * Returns the edits that undo these edits.
- * @param {string} text before the edits
+ * Returns the edits that undo a list of edits.
+ * @param {string} text the text before the edits
  * @param {TextEdit[]} edits
  * @returns {TextEdit[]}
  */
@@ -34,8 +34,8 @@ export function inverseEdits(text, edits) {
 }
 
 /**
- * Converts edits whose offsets are all those of one text into successive edits: the last offset first, so that the other offsets stay
- * valid. If ranges overlap, each character is deleted once.
+ * Converts edits whose offsets all refer to the same text into successive edits. The edit with the last offset comes first, so that the other offsets
+ * stay valid. If ranges overlap, each character is deleted once.
  * @param {TextEdit[]} edits
  * @returns {TextEdit[]}
  */

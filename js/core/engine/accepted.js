@@ -1,11 +1,11 @@
-// The commands that the bench accepted, with the cycles of each. The session counts cycles from them, and repeats its past from them.
+// The commands that the bench has accepted, with their cycles. The session counts its cycles with them, and replays its past from them.
 
 import { readRun } from "../bench/answers.js";
 
 /**
  * @typedef {import("../bench/inputs.js").Input} Input
  *
- * An accepted command: its text, the cycles that it ran, and whether it reset the machine to its state after power-on.
+ * An accepted command: its text, the number of cycles it ran, and whether it reset the machine.
  * @typedef {{ line: string, cycles: number, resets: boolean }} Accepted
  */
 
@@ -13,7 +13,7 @@ import { readRun } from "../bench/answers.js";
 const RESETS = { reset: true, wire: true };
 
 /**
- * Returns the text that sends a command again.
+ * Returns the lines that send a command again.
  * @param {Input} input
  */
 function sentLines({ line, text, kind }) {
@@ -21,9 +21,9 @@ function sentLines({ line, text, kind }) {
 }
 
 /**
- * Returns the accepted commands among some inputs.
+ * Returns the accepted commands among inputs.
  * @param {Input[]} inputs
- * @param {string[][]} answers for each input, the answers to it
+ * @param {string[][]} answers the answer lines of each input
  * @returns {Accepted[]}
  */
 export function acceptedOf(inputs, answers) {
@@ -38,7 +38,7 @@ export function acceptedOf(inputs, answers) {
   return accepted;
 }
 
-/** Counts the cycles of the session, and those up to the last reset. */
+/** Counts all cycles of the session, and the cycles up to the last reset. */
 export class CycleCount {
   /**
    * @param {number} total

@@ -1,4 +1,4 @@
-// Queries before each planned run, in the same call: the bench forecasts the run.
+// Sends queries in the same call before each planned run. Through these queries the bench forecasts the run.
 
 import { cyclesOfLine } from "../debug/ahead.js";
 import { Answers } from "./tracing.js";
@@ -9,13 +9,13 @@ import { Answers } from "./tracing.js";
  * A line to send. `change` is null for a run; for any other line it is the change that the line makes.
  * @typedef {{ line: string, change: object | null }} SentLine
  *
- * An asker has queries before each run. `queries` returns the query lines for a run of that many cycles; `count` is the number of
- * queries, and each is answered like `trace`. `seesChanges` is true if the asker also needs the state after each change of a key.
+ * An asker sends queries before each run. `queries` returns the query lines for a run of `cycles` cycles. `count` is the number of queries; each
+ * query has an answer like that of `trace`. `seesChanges` is true if the asker also needs the state after each key change.
  * @typedef {{ queries: (cycles: number) => string, count: number, seesChanges: boolean }} Asker
  */
 
 /**
- * Returns the planned lines, with the queries of all askers before each run.
+ * Returns the planned lines with the queries of all askers before each run.
  * @param {SentLine[]} planned
  * @param {Asker[]} askers
  */
@@ -28,8 +28,8 @@ export function linesWithQueries(planned, askers) {
 }
 
 /**
- * Splits the answers of a call. `answers` are those to the planned lines and to all later lines. `askerAnswers` are the answers to each
- * asker's queries, one list for each planned line.
+ * Splits the answers of a call. `answers` are the answers to the planned lines and to all later lines. `askerAnswers` has one list for each asker;
+ * the list contains the answers to the asker's queries for each planned line.
  * @param {SentLine[]} planned
  * @param {Asker[]} askers
  * @param {string[]} allAnswers
@@ -59,11 +59,11 @@ export function splitAnswers(planned, askers, allAnswers) {
   return { answers: [...lineAnswers, ...allAnswers.slice(answers.at)], askerAnswers };
 }
 
-/** Marks a line that changes something other than a key. */
+/** Marks a line that is neither a run nor a key change. */
 const OTHER_CHANGE = {};
 
 /**
- * Returns the line that repeats an accepted command.
+ * Returns the line that repeats an accepted command: a run, or the command itself.
  * @param {Accepted} accepted
  * @returns {SentLine}
  */

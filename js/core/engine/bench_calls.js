@@ -1,4 +1,4 @@
-// The requests that the page sends to the worker, by name. A request succeeds completely, or it throws and changes nothing.
+// The requests that the page sends to the worker, by name. A request either succeeds completely, or throws and changes nothing.
 
 import { BreakpointRequests } from "./breakpoint_requests.js";
 import { FileRequests } from "./file_requests.js";
@@ -13,7 +13,7 @@ import { TrialRequests } from "./trial_requests.js";
 import { OpenBench } from "./open_bench.js";
 
 /**
- * All requests, by their names.
+ * All requests, by name.
  * @typedef {Omit<FileRequests
  *   & TrialRequests
  *   & ProofRequests
@@ -48,7 +48,7 @@ export class BenchCalls {
 }
 
 /**
- * Returns the methods of a part as functions that are bound to it.
+ * Returns the methods of a part as functions bound to the part.
  * @param {object} part
  */
 function requestsOf(part) {

@@ -1,4 +1,4 @@
-// Requests that set where time stops: breakpoints and common mistakes.
+// Requests that define where time stops: at breakpoints and at common mistakes.
 
 import { readBoard } from "../bench/answers.js";
 import { Face } from "../board/face.js";
@@ -19,9 +19,9 @@ export class BreakpointRequests {
   }
 
   /**
-   * Sets the breakpoints. A breakpoint that always stops is set in the bench itself, by a served line.
+   * Sets the breakpoints. Breakpoints that always stop are set in the bench itself by a served line.
    * @param {Placed[]} placed
-   * @param {{ board: string, program: string, watched?: string[] }} texts the texts that define the names in conditions
+   * @param {{ board: string, program: string, watched?: string[] }} texts the texts whose names conditions can use
    * @returns {Promise<BrokenLines>}
    */
   async setBreakpoints(placed, texts) {

@@ -1,4 +1,4 @@
-// Measures the duty cycle of each lamp, the patterns of each digit and the times of their changes, while time is running. It reads the
+// Measures the duty cycle of each lamp, the patterns of each digit, and the times of their changes while time runs. The measurement comes from the
 // answers to a `trace` before each run.
 
 import { patternsAt, NOT_LIT, isLit } from "../board/digit_patterns.js";
@@ -9,28 +9,29 @@ import { Answers, readTraced } from "./tracing.js";
  * @typedef {import("../board/face.js").Face} Face
  * @typedef {import("../board/face.js").Group} Group
  *
- * The changes within a number of cycles: the cycles before the first change, the longest time between two changes, and the time since the
- * last one. Null if nothing changed.
+ * The changes within an interval: the cycles before the first change, the longest time between two changes, and the time since the last change. Null
+ * if nothing changed.
  * @typedef {{ first: number, longest: number, rest: number } | null} Moved
  *
- * The content of a display: its patterns at the end. If they changed, `shown` has for each digit its patterns, each with its duration.
+ * The contents of a display. `patterns` are those at the end of the interval. If they changed, `shown` lists the patterns of each digit with their
+ * durations in cycles.
  * @typedef {{ patterns: number[], moved: Moved, shown: [number, number][][] }} ShownDisplay
  *
- * The light in a number of cycles. `marks`: the lamps that are on at the end. `lamps`: the cycles that each lamp was on. `moved`: the
- * changes of each lamp. `scanned`: for each scanned group other than a display, the cycles of its lamps, row by row. `face`: the number
- * that the page gave to the front panel.
+ * The light during an interval. `face`: the page's number of the front panel. `marks`: the lamps that are on at the end. `lamps`: the number of
+ * cycles for which each lamp was on. `moved`: the changes of each lamp. `scanned`: for each multiplexed group except displays, the cycles of its
+ * lamps, row by row.
  * @typedef {{ face: number, cycles: number, marks: string, lamps: number[], moved: Moved[], displays: ShownDisplay[],
  *   scanned: number[][] }} LitShares
  */
 
-/** The maximum length of lines that are measured, in cycles. At full speed `measureAhead` measures instead. */
+/** The maximum number of cycles that are measured during a run. At full speed, `measureAhead` measures instead. */
 export const MAX_MEASURED_CYCLES = 20000;
 
 /**
- * Returns whether one of `count` lamps has changed.
+ * Returns whether any of `count` lamps has changed.
  * @param {string} marks
  * @param {string} before the marks before the change
- * @param {number} first the first lamp
+ * @param {number} first the number of the first lamp
  * @param {number} count
  */
 function lampsDiffer(marks, before, first, count) {
@@ -38,7 +39,7 @@ function lampsDiffer(marks, before, first, count) {
   return false;
 }
 
-/** Records the times of changes. */
+/** Records when changes happen. */
 class ChangeTimes {
   constructor() {
     this.first = -1;
@@ -54,7 +55,7 @@ class ChangeTimes {
   }
 
   /**
-   * Returns the changes so far, and begins a new interval.
+   * Returns the changes of the current interval, and starts a new interval.
    * @param {number} cycles the length of the interval
    * @returns {Moved}
    */
@@ -67,26 +68,26 @@ class ChangeTimes {
   }
 }
 
-/** Measures how long each pattern of a digit is shown. */
+/** Measures how long each digit of a display shows each pattern. */
 class PatternTimes {
   /** @param {Group} group a display */
   constructor(group) {
     this.group = group;
     this.changeTimes = new ChangeTimes();
-    /** @type {number[]} the present patterns; `since` is when they began */
+    /** @type {number[]} the current patterns; `since` is the time in cycles at which they started */
     this.patterns = [];
     this.since = 0;
-    /** @type {Map<number, number>[]} for each digit, the cycles of each pattern */
+    /** @type {Map<number, number>[]} the cycles by pattern, one map per digit */
     this.shown = Array.from({ length: group.rows }, () => new Map());
   }
 
-  /** @param {string} marks the lamps at the beginning */
+  /** @param {string} marks the lamp marks at the start */
   begin(marks) {
     this.patterns = patternsAt(this.group, marks);
   }
 
   /**
-   * Records a change of lamps, if it changes this display.
+   * Records a lamp change if it changes this display.
    * @param {string} marks
    * @param {string} before the marks before the change
    * @param {number} at the cycles before the change
@@ -101,7 +102,7 @@ class PatternTimes {
     this.patterns = patternsAt(this.group, marks);
   }
 
-  /** @param {number} at the cycles up to now */
+  /** @param {number} at the current time in cycles */
   addUpTo(at) {
     const cycles = at - this.since;
     this.since = at;
@@ -112,7 +113,7 @@ class PatternTimes {
   }
 
   /**
-   * Returns the content of the display, and begins a new interval.
+   * Returns the contents of the display, and starts a new interval.
    * @param {number} cycles the length of the interval
    * @returns {ShownDisplay}
    */
@@ -128,7 +129,7 @@ class PatternTimes {
   }
 }
 
-/** Measures how long the lamps of a scanned group are on. */
+/** Measures how long the lamps of a multiplexed group are on. */
 class ScannedLampTimes {
   /** @param {Group} group */
   constructor(group) {
@@ -138,8 +139,8 @@ class ScannedLampTimes {
   }
 
   /**
-   * @param {string} marks the lamps up to now
-   * @param {number} at the cycles up to now
+   * @param {string} marks the lamp marks until now
+   * @param {number} at the current time in cycles
    */
   addUpTo(marks, at) {
     const cycles = at - this.since;
@@ -153,7 +154,7 @@ class ScannedLampTimes {
   }
 
   /**
-   * Returns the cycles that each lamp was on, and begins a new interval.
+   * Returns the cycles for which each lamp was on, and starts a new interval.
    * @param {string} marks
    * @param {number} cycles the length of the interval
    */
@@ -170,7 +171,7 @@ export class BrightnessMeter {
   /**
    * @param {Face} face
    * @param {number} count the number of lamps on the board
-   * @param {number} number the page's number of the front panel
+   * @param {number} number the number that the page gave to the front panel
    */
   constructor(face, count, number) {
     this.number = number;
@@ -178,9 +179,9 @@ export class BrightnessMeter {
     this.displays = groups.filter(({ kind }) => kind === "display").map((group) => new PatternTimes(group));
     this.scanned = groups.filter((group) => isScanned(group) && group.kind !== "display").map((group) => new ScannedLampTimes(group));
     this.cycles = 0;
-    /** The lamps that are on; "" before the first report. */
+    /** The current lamp marks; "" before the first report. */
     this.marks = "";
-    /** @type {number[]} the cycles that each lamp was on, up to `since` */
+    /** @type {number[]} the cycles for which each lamp was on, up to `since` */
     this.lit = new Array(count).fill(0);
     this.since = new Array(count).fill(0);
     this.changeTimes = this.lit.map(() => new ChangeTimes());
@@ -202,8 +203,8 @@ export class BrightnessMeter {
   }
 
   /**
-   * Returns the light since the last call, from the answers to the queries before runs.
-   * @param {string[][]} answerLists one list for each line
+   * Returns the light since the previous call, from the answers to the queries before runs.
+   * @param {string[][]} answerLists one list per line
    * @returns {LitShares}
    */
   take(answerLists) {
@@ -222,21 +223,21 @@ export class BrightnessMeter {
     return litShares;
   }
 
-  /** @param {string[]} answers to one query. An instruction takes effect after its first cycle. */
+  /** @param {string[]} answers the answer to one query. An instruction takes effect after its first cycle. */
   add(answers) {
     const { row, lines, cycles } = new Answers(answers).takeTrace();
-    const begun = this.cycles;
-    this.change(row.slice(1), begun);
+    const startCycles = this.cycles;
+    this.change(row.slice(1), startCycles);
     for (const line of lines) {
       const traced = readTraced(line);
-      this.change(traced.row.slice(1), begun + traced.cycles + 1);
+      this.change(traced.row.slice(1), startCycles + traced.cycles + 1);
     }
-    // A query of no cycles counts as one cycle, so that its lamps are on.
-    this.cycles = begun + Math.max(1, cycles);
+    // A query of no cycles counts as one cycle, so that the current lamps are on for at least one cycle.
+    this.cycles = startCycles + Math.max(1, cycles);
   }
 
   /**
-   * @param {string} marks the new lamps
+   * @param {string} marks the new lamp marks
    * @param {number} cycles the cycles before the change
    */
   change(marks, cycles) {

@@ -1,4 +1,4 @@
-// A dry run of texts on an empty session. It returns the board, and the refusals of the texts.
+// Tries texts on an empty session. Returns the resulting board and the refusals of the texts.
 
 import { faultsOfLines, sentText } from "../text/text_fault.js";
 import { wordsOfLine } from "../../words/stops.js";
@@ -7,10 +7,10 @@ import { wordsOfLine } from "../../words/stops.js";
  * @typedef {import("./engine_host.js").EngineHost} Engine
  * @typedef {{ boardText: string, programText: string }} Texts
  *
- * A rejected text: the command that sends it, and the answer.
+ * A rejected text: the command that sent it, and the answer.
  * @typedef {{ word: "wire" | "asm", answer: string }} Refused
  *
- * The session with the accepted texts, the answer to `board`, and the rejected texts.
+ * The session file with the accepted texts, the answer to `board`, and the rejected texts.
  * @typedef {{ file: Uint8Array, board: string[], refused: Refused[] }} Tried
  */
 
@@ -27,7 +27,7 @@ export function dryRun(engine, { boardText, programText }) {
   /** @type {(word: "wire" | "asm", text: string, mark: "#" | ";") => void} */
   const tryOne = (word, text, mark) => {
     if (text === "") return;
-    // A line in the text that ends it would make commands of the lines after it.
+    // A line of only a dot would end the text; the bench would execute the following lines as commands.
     const [fault] = faultsOfLines(text, mark);
     const lines = `${word}\n${sentText(text, mark)}.\n`;
     const answer = fault ? `${wordsOfLine(fault.line)}: ${fault.words}` : engine.serve(file, lines, file).answers[0];

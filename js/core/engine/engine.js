@@ -1,13 +1,13 @@
-// The proved module and its calls: they take bytes of a session file and lines, and return answers and bytes. The module stores no session:
-// the caller owns the bytes of the file.
+// The proved WebAssembly module and its calls. A call takes the bytes of a session file and lines, and returns answers and new bytes. The module
+// stores no session: the caller owns the file bytes.
 
 import { BenchRefusal, BenchTrap, NO_MEMORY } from "../bench/faults.js";
 
 /**
- * The result of serving lines: the shell's status, its first answer `session N`, and the later answers.
+ * The result of served lines: the shell's status, the first answer `session N`, and the other answers.
  * @typedef {{ status: number, opened: string, answers: string[] }} Served
  *
- * A buffer in the module's memory.
+ * A buffer in the memory of the module.
  * @typedef {{ offset: bigint, room: number }} ModuleBuffer
  *
  * @typedef {"bench_serve_and_settle" | "bench_ask"} ServingCall
@@ -20,13 +20,13 @@ import { BenchRefusal, BenchTrap, NO_MEMORY } from "../bench/faults.js";
  * bench_prove: (question: bigint, size: bigint, answers: bigint, room: bigint, report: bigint) => number }} Calls
  */
 
-/** The first size of the buffers for input and answers, in bytes. */
+/** The initial size of the input and answer buffers, in bytes. */
 const FIRST_CAPACITY = 1 << 20;
-/** The size of a call's report: a number of 32 bits, and from its eighth byte a count of 64 bits. */
+/** The size of a call report in bytes: a 32-bit number, and a 64-bit count at COUNT_OFFSET. */
 const REPORT_SIZE = 16;
 const COUNT_OFFSET = 8;
 
-/** A running module, with the buffers for its calls. */
+/** A running module with the buffers for its calls. */
 class Instance {
   /** @param {WebAssembly.Module} module */
   constructor(module) {
@@ -34,7 +34,7 @@ class Instance {
     /** The size of a session file in bytes. */
     this.size = Number(this.calls.bench_file_size());
     this.bytes = new Uint8Array(this.calls.memory.buffer);
-    // With one more byte, the module can detect that a file is too long.
+    // The additional byte lets the module detect a file that is too long.
     this.file = this.allocate(this.size + 1);
     this.input = this.allocate(FIRST_CAPACITY);
     this.answers = this.allocate(FIRST_CAPACITY);
@@ -43,7 +43,7 @@ class Instance {
 
   /**
    * Allocates a buffer. Throws a BenchRefusal if the allocation fails.
-   * @param {number} room in bytes
+   * @param {number} room the size of the buffer in bytes
    * @returns {ModuleBuffer}
    */
   allocate(room) {
@@ -53,7 +53,7 @@ class Instance {
   }
 
   /**
-   * Returns a buffer of at least `room` bytes: the given buffer, or a larger one that replaces it.
+   * Returns a buffer of at least `room` bytes: the given buffer, or a larger replacement.
    * @param {ModuleBuffer} buffer
    * @param {number} room
    */
@@ -65,7 +65,7 @@ class Instance {
   }
 
   /**
-   * Returns the first bytes of a buffer. When the module's memory grows, its old array is detached.
+   * Returns the first bytes of a buffer. Growth of the module's memory detaches the old array.
    * @param {ModuleBuffer} buffer
    * @param {number} count
    */
@@ -76,12 +76,12 @@ class Instance {
   }
 
   /**
-   * Copies lines into the input buffer, and returns their length in bytes.
+   * Copies lines into the input buffer; returns their length in bytes.
    * @param {string} lines
    * @param {TextEncoder} encoder
    */
   takeLines(lines, encoder) {
-    // A UTF-16 unit needs at most three bytes of UTF-8.
+    // A UTF-16 code unit needs at most three bytes in UTF-8.
     if (lines.length * 3 <= this.input.room) {
       return encoder.encodeInto(lines, this.view(this.input, this.input.room)).written || 0;
     }
@@ -105,7 +105,7 @@ class Instance {
 }
 
 /**
- * Starts an instance of the module, and returns its exports. Throws a BenchRefusal if there is not enough memory.
+ * Starts an instance of the module; returns its exports. Throws a BenchRefusal if there is too little memory.
  * @param {WebAssembly.Module} module
  * @returns {Calls}
  */
@@ -128,7 +128,7 @@ export class Engine {
     this.module = module;
     this.encoder = new TextEncoder();
     this.decoder = new TextDecoder();
-    /** @type {Instance | null} null if a restart failed for lack of memory: the next call tries again */
+    /** @type {Instance | null} null if a restart failed for lack of memory; the next call then tries again */
     this.started = new Instance(module);
     /** The size of a session file in bytes. */
     this.size = this.started.size;
@@ -140,8 +140,7 @@ export class Engine {
   }
 
   /**
-   * Calls the module, and returns whether the call succeeded. After a trap the memory of the instance is unreliable, so a new one replaces
-   * it.
+   * Calls the module; returns whether the call succeeded. After a trap, the memory of the instance is unreliable, so a new instance replaces it.
    * @param {(calls: Calls) => number} act
    */
   call(act) {
@@ -156,7 +155,7 @@ export class Engine {
 
   /**
    * Returns the file of a new session.
-   * @param {Uint8Array} [into] the array for it
+   * @param {Uint8Array} [into] the array to write the file to
    */
   begin(into = new Uint8Array(this.size)) {
     const { instance } = this;
@@ -166,10 +165,10 @@ export class Engine {
   }
 
   /**
-   * Serves lines on the session in a file, and replaces its log with a snapshot.
+   * Serves lines on the session in a file. The new file has a snapshot instead of a log.
    * @param {Uint8Array} file
    * @param {string} lines
-   * @param {Uint8Array} into receives the new file; can be `file`
+   * @param {Uint8Array} into the array for the new file; can be `file`
    * @returns {Served}
    */
   serve(file, lines, into) {
@@ -179,7 +178,7 @@ export class Engine {
   }
 
   /**
-   * Returns the answers of `serve`, without changing the session.
+   * Returns the answers that `serve` would return. The session does not change.
    * @param {Uint8Array} file
    * @param {string} lines
    * @returns {Served}
@@ -189,7 +188,7 @@ export class Engine {
   }
 
   /**
-   * Asks the prover, and returns the line that the program mcs4-prove would print. This can take hours.
+   * Asks the prover; returns the line that the program mcs4-prove would print. The call can take hours.
    * @param {string} question
    */
   prove(question) {
@@ -204,8 +203,8 @@ export class Engine {
   }
 
   /**
-   * Calls the prover once. If the answer does not fit into the buffer, `number` is 0 and `count` is the number of bytes it needs.
-   * @param {number} size the bytes of the question
+   * Calls the prover once. If the answer does not fit into the buffer, `number` is 0 and `count` is the required size in bytes.
+   * @param {number} size the length of the question in bytes
    */
   tryToProve(size) {
     const { instance } = this;
@@ -214,13 +213,13 @@ export class Engine {
     return { isDone, ...instance.readReport() };
   }
 
-  /** Does nothing: every state is equally fast here. */
+  /** Does nothing because calls are equally fast for every state. */
   keep() {
-    // A state is its bytes.
+    // A state consists only of its bytes.
   }
 
   /**
-   * Returns a copy of the state: it consists of the bytes of the session's file.
+   * Returns a copy of a state, which is also a session file.
    * @param {Uint8Array} file
    */
   bytesOf(file) {
@@ -228,7 +227,7 @@ export class Engine {
   }
 
   /**
-   * Returns the state in a session file. (A slice of a Buffer of Node would share its memory.)
+   * Returns the state in a session file. (Unlike `slice`, the constructor also copies the memory of a Node Buffer.)
    * @param {Uint8Array} bytes
    */
   stateOf(bytes) {
@@ -236,7 +235,7 @@ export class Engine {
   }
 
   /**
-   * Serves lines, and repeats the call with a larger buffer if the answers do not fit.
+   * Serves lines. Repeats the call with a larger buffer if the answers do not fit.
    * @param {ServingCall} name
    * @param {Uint8Array} file
    * @param {string} lines
@@ -257,10 +256,10 @@ export class Engine {
   }
 
   /**
-   * Makes one call. If the answers do not fit into the buffer, nothing is done, and `answersNeed` is the number of bytes they need.
+   * Makes one call. If the answers do not fit into the buffer, the call has no effect and `answersNeed` is the required size in bytes.
    * @param {ServingCall} name
    * @param {Uint8Array} file
-   * @param {number} inputSize in bytes
+   * @param {number} inputSize the length of the lines in bytes
    */
   tryToServe(name, file, inputSize) {
     const { instance } = this;

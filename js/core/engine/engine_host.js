@@ -1,8 +1,8 @@
-// The interface of a host that runs sessions for the bench. A host takes a state and lines, and returns answers and the next state. There
-// are two hosts: the module (engine.js) and the native program (js/node/native_engine.mjs). js/test/engine_hosts.test.js tests both.
+// The interface of a host that runs sessions for the bench. A host takes a state and lines, and returns answers and the next state. There are two
+// hosts: the module (engine.js) and the native program (js/node/native_engine.mjs). js/test/engine_hosts.test.js tests both hosts.
 
 /**
- * The state of a session. Only the host that made a state can read its bytes. A copy of the bytes is the same state. All states of a host
+ * The state of a session. Only the host that created a state can interpret its bytes. A copy of the bytes is the same state. All states of a host
  * have the same length.
  * @typedef {Uint8Array} State
  *
@@ -13,9 +13,9 @@
  * @property {(into?: State) => State} begin returns the state of a new session
  * @property {(state: State, lines: string, into: State) => Served} serve serves lines on a state, and writes the next state into `into`,
  *   which can be the same array
- * @property {(state: State, lines: string) => Served} ask returns the answers of `serve`, without changing the state
- * @property {(state: State) => void} keep announces that many runs will begin at this state, so that the host can optimise for it
- * @property {(state: State) => Uint8Array} bytesOf returns the bytes of the session's file
+ * @property {(state: State, lines: string) => Served} ask returns the answers of `serve`; the state does not change
+ * @property {(state: State) => void} keep tells the host that many runs will start from this state, so that the host can optimise
+ * @property {(state: State) => Uint8Array} bytesOf returns the bytes of the session file
  * @property {(bytes: Uint8Array) => State} stateOf returns the state in a session file; if the bytes are not a session, the next call that
  *   serves lines on it rejects them
  * @property {(question: string) => string} [prove] asks the prover, and returns the line that the program mcs4-prove would print; only the

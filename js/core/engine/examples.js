@@ -3,15 +3,14 @@
 import { sentText } from "../text/text_fault.js";
 
 /**
- * An example. `lines` are for the user to send; if there are none, time runs at once. `tests` and `properties` belong to the program.
- * `project` is the text of a project file, or "". The session of such an example is the one in the file, and starts paused. `story` is read
- * by help/story.js.
+ * An example. `lines` are for the user to send; without lines, time runs at once. `tests` and `properties` belong to the program. `project` is the
+ * text of a project file, or "". If an example has a project file, its session comes from that file and starts paused. help/story.js reads `story`.
  * @typedef {{ name: string, title: string, board: string, program: string, tests: string, properties: string, lines: string,
  *   project: string, story?: string }} Example
  */
 
 /**
- * Returns the lines that load an example's board and program into a session.
+ * Returns the lines that load the board and program of an example into a session.
  * @param {Example} example
  */
 export function linesOfExample({ board, program }) {
@@ -19,7 +18,7 @@ export function linesOfExample({ board, program }) {
 }
 
 /**
- * Returns whether time runs at once in a new session of an example.
+ * Returns whether time runs at once in a new session with an example.
  * @param {Example} example
  */
 export function runsAtOnce({ program, lines }) {

@@ -1,4 +1,4 @@
-// Requests about the module, and about files and texts that do not belong to the open session.
+// Requests about the module, and about files and texts outside the open session.
 
 import { readErrors, readWiring } from "../bench/text_judgement.js";
 import { Engine } from "./engine.js";
@@ -18,7 +18,7 @@ export class FileRequests {
   }
 
   /**
-   * Loads the module, and resolves to the size of a session file in bytes.
+   * Loads the module; resolves to the size of a session file in bytes.
    * @param {ArrayBuffer} module
    * @param {Example[]} examples
    */
@@ -29,7 +29,7 @@ export class FileRequests {
   }
 
   /**
-   * Returns the same session with a snapshot in place of its log. Throws if the bytes are not a session.
+   * Returns the same session with a snapshot instead of its log. Throws if the bytes are not a session.
    * @param {Uint8Array} file
    */
   settled(file) {
@@ -39,7 +39,7 @@ export class FileRequests {
   }
 
   /**
-   * Returns the file of a new session with an example's board and program.
+   * Returns a new session file with the board and program of an example.
    * @param {Example} example
    */
   make(example) {
@@ -49,7 +49,7 @@ export class FileRequests {
   }
 
   /**
-   * Returns source texts for a session file that has none.
+   * Returns source texts for a session file without source texts.
    * @param {Uint8Array} file
    */
   texts(file) {
@@ -57,7 +57,7 @@ export class FileRequests {
   }
 
   /**
-   * Returns the file of a new session with imported texts, and the refusals of those texts.
+   * Returns a new session file with imported texts, and the refusals of these texts.
    * @param {import("./dry_run.js").Texts} texts
    */
   dryRun(texts) {
@@ -65,7 +65,7 @@ export class FileRequests {
   }
 
   /**
-   * Returns the error in a board's text, or null if there is none.
+   * Returns the error in a board text, or null if there is none.
    * @param {string} sent
    */
   wiring(sent) {

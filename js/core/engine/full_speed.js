@@ -1,4 +1,4 @@
-// Full speed, in the worker: runs batches of cycles one after the other, and decides when to report them.
+// Full speed in the worker: runs one batch of cycles after another, and decides when to report.
 
 import { RunLog } from "../bench/run_log.js";
 import { NO_TALLY, addTallies } from "../debug/debugger.js";
@@ -10,15 +10,15 @@ import { NO_TALLY, addTallies } from "../debug/debugger.js";
 
 /** The target duration of a batch, in milliseconds. */
 const BATCH_TIME = 50;
-/** The minimum and the maximum of cycles in a batch. */
+/** The minimum and maximum number of cycles in a batch. */
 const MIN_BATCH = 50000;
 const MAX_BATCH = 8000000;
-/** The milliseconds between reports to a hidden page. It saves the session at each report. */
-const HIDDEN_TIME = 1000;
+/** The interval between reports to a hidden page, in milliseconds. The page saves the session at each report. */
+const HIDDEN_REPORT_INTERVAL = 1000;
 
 /**
- * Returns the empty report. `end` is the answer that ended the run early, `stop` why time stopped, `tally` the work of breakpoints. Light,
- * sound and changes of RAM are not measured at full speed.
+ * Returns an empty report. `end` is the answer that ended the run early, `stop` the reason why time stopped, and `tally` the breakpoint events.
+ * Light, sound and RAM changes are not measured at full speed.
  * @returns {Omit<DebugFrame, "ran">}
  */
 function emptyFrame() {
@@ -35,7 +35,7 @@ export class FullSpeed {
     this.unreported = emptyFrame();
   }
 
-  /** @param {boolean} isHidden whether the page is hidden, and gets fewer reports */
+  /** @param {boolean} isHidden true if the page is hidden; it then gets fewer reports */
   start(isHidden) {
     this.isOn = true;
     this.isHidden = isHidden;
@@ -66,14 +66,14 @@ export class FullSpeed {
     this.size = Math.round(Math.min(MAX_BATCH, Math.max(MIN_BATCH, wanted)));
   }
 
-  /** @param {boolean} isPageReady whether the page is ready for another report */
+  /** @param {boolean} isPageReady true if the page is ready for another report */
   isReportDue(isPageReady) {
     if (!this.isOn) return true;
-    return isPageReady && (!this.isHidden || this.unreported.changesKeys || performance.now() - this.lastReport >= HIDDEN_TIME);
+    return isPageReady && (!this.isHidden || this.unreported.changesKeys || performance.now() - this.lastReport >= HIDDEN_REPORT_INTERVAL);
   }
 
   /**
-   * Returns the report since the last one, and begins a new one.
+   * Returns the report since the previous one, and starts a new report.
    * @returns {DebugFrame}
    */
   take() {

@@ -1,5 +1,5 @@
-// The targets of going back: the last stop, the beginning of the last instruction, the moment before the last change of a place, and the
-// last arrival at a breakpoint (last_arrival.js).
+// The targets of a move back: the last stop, the start of the last instruction, the moment before the last change of a place, and the last arrival at
+// a breakpoint (last_arrival.js).
 
 import { readBoard, readCounter } from "../bench/answers.js";
 import { Cancelled } from "../bench/faults.js";
@@ -18,34 +18,33 @@ import { cyclesOf, piecesOf, unitsBetween } from "./units.js";
  * @typedef {import("./timeline.js").Timeline} Timeline
  * @typedef {import("./units.js").Unit} Unit
  *
- * The target of going back. "arrival": a breakpoint, or the moment before a change of a watched value or of `place` ("" for none). "when":
- * the moment before a condition becomes true; `asked` is the parsed condition. "call": the call of an open subroutine, by the address of
- * its JMS and the return addresses before it.
+ * The target of a move back. "arrival": a breakpoint, or the moment before a change of a watched value or of `place` ("" for none). "when": the
+ * moment before a condition becomes true; `asked` is the compiled condition. "call": the call of an open subroutine, identified by the address of its
+ * JMS and the return addresses before it.
  * @typedef {{ kind: "stop" } | { kind: "instruction" } | { kind: "change", place: string } | { kind: "arrival", place: string } | { kind:
  * "when", condition: string, asked?: import("../debug/becoming.js").Asked } | { kind: "call", call: number, returns: string[] }} BackGoal
  *
- * The result of a search of the past. `moment` is null if nothing was found; then `why` says why: the past is too short, or the board lacks
- * the place. For a change: its place, its old and its new value, and the command that made it ("" for an instruction). For an arrival,
- * `end` is its kind: a breakpoint (with its `id`), a change, or the beginning of the stored past. `present` is the session at that moment,
- * if it is known.
+ * The result of a search of the past. `moment` is null if nothing was found; `why` then gives the reason: the past is too short, or the board does
+ * not have the place. For a change: its place, the old and the new value, and the command that made it ("" for an instruction). For an arrival, `end`
+ * is its kind: a breakpoint (with its `id`), a change, or the start of the stored past. `present` is the session at that moment, if known.
  * @typedef {{ moment: Moment | null, why: "" | "short" | "lacks", place: string, from: string, to: string, line: string, end: "" | "break"
  * | "change" | "beginning", id: number, present: import("./timeline.js").Present | null }} Aim
  *
- * A search of the past. `begin` sets the session where it begins. `among` repeats consecutive units on that session's file, and returns the
- * last match in them.
+ * A search of the past. `begin` sets the start session. `among` replays consecutive units on the file of that session, and returns the last match in
+ * the units.
  * @typedef {{ begin: (present: import("./timeline.js").Present) => void, among: (units: Unit[]) => Aim | null }} Finder
  */
 
-/** The first block to search: the last cycles before the present. Each further block is longer by a factor. */
+/** The first block of a search, in cycles before the present. Each further block is longer by BLOCK_GROWTH. */
 const FIRST_BLOCK = 500;
 const BLOCK_GROWTH = 8;
 const MAX_BLOCK = 4000000;
 
-/** @type {Omit<Aim, "moment" | "present">} the result if nothing was searched for */
+/** @type {Omit<Aim, "moment" | "present">} the result without a search */
 export const EMPTY_REPORT = { why: "", place: "", from: "", to: "", line: "", end: "", id: 0 };
 
 /**
- * Returns a search result with some members set.
+ * Returns a search result with the given fields; the other fields are null or empty.
  * @param {Partial<Aim>} some
  * @returns {Aim}
  */
@@ -54,7 +53,7 @@ export function aim(some) {
 }
 
 /**
- * Resolves to the beginning of the last instruction. It is one cycle back, or two if a second cycle is pending there.
+ * Resolves to the start of the last instruction. It is one cycle back, or two cycles back if a second cycle is pending there.
  * @param {Engine} engine
  * @param {Timeline} timeline
  * @param {GoesOn} goesOn
@@ -102,8 +101,8 @@ export class LastChange {
   }
 
   /**
-   * Returns the members that describe a change, or null if it does not match.
-   * @param {string} before the row of values before the change
+   * Returns the fields that describe a change; null if the change does not match.
+   * @param {string} before the trace row before the change
    * @param {string} after
    * @returns {Partial<Aim> | null}
    */
@@ -115,7 +114,7 @@ export class LastChange {
   }
 }
 
-/** Finds the last time that a condition became true. */
+/** Finds the last moment at which a condition became true. */
 class LastTimeTrue extends LastChange {
   /**
    * @param {Engine} engine
@@ -136,17 +135,17 @@ class LastTimeTrue extends LastChange {
 }
 
 /**
- * Resolves to the last match in the past, searched block by block from the present.
+ * Resolves to the last match in the past. The search goes back from the present, block by block.
  * @param {Engine} engine
  * @param {Timeline} timeline
  * @param {Finder} finder
  * @param {GoesOn} goesOn
- * @returns {Promise<{ found: Aim | null, beginning: Moment }>} `beginning` is where the stored past begins, if nothing was found
+ * @returns {Promise<{ found: Aim | null, beginning: Moment }>} `beginning` is the start of the stored past
  */
 export async function lastInPast(engine, timeline, finder, goesOn) {
   let to = timeline.end;
   for (let size = FIRST_BLOCK; ; size = Math.min(MAX_BLOCK, size * BLOCK_GROWTH)) {
-    // From the beginning of a segment, the search continues at the end of the previous one.
+    // At the start of a segment, the search continues at the end of the previous segment.
     if (to.entry === 0 && to.cycles === 0) {
       if (!timeline.segments[to.segment].follows) return { found: null, beginning: to };
       const { entries } = timeline.segments[to.segment - 1];
@@ -167,7 +166,7 @@ export async function lastInPast(engine, timeline, finder, goesOn) {
 }
 
 /**
- * Returns a finder for the last change of a place, or null if the board lacks the place.
+ * Returns a finder for the last change of a place; null if the board does not have the place.
  * @param {Engine} engine
  * @param {Uint8Array} file
  * @param {string} name
@@ -179,7 +178,7 @@ export function changeFinder(engine, file, name) {
 }
 
 /**
- * Resolves to the target of going back.
+ * Resolves to the target moment of a move back.
  * @param {Engine} engine
  * @param {{ timeline: Timeline, file: Uint8Array }} session
  * @param {Exclude<BackGoal, { kind: "arrival" | "call" }>} goal

@@ -1,5 +1,5 @@
-// The heat map: the number of recent changes of each RAM nibble, and the time and the cause of the last one. The past is repeated on a
-// copy, and the bench forecasts the changes of each unit. Writing the same value is not a change.
+// The heat map: the number of recent changes of each RAM nibble, and the time and cause of the last change. A copy replays the past, and the bench
+// forecasts the changes of each unit. A write of the same value is not a change.
 
 import { Cancelled } from "../bench/faults.js";
 import { hex, upTo } from "../bench/numbers.js";
@@ -18,22 +18,20 @@ import { cyclesOf, piecesOf, splitUnits, unitsBetween } from "./units.js";
  * @typedef {import("./timeline.js").Timeline} Timeline
  * @typedef {import("./units.js").Unit} Unit
  *
- * A changed place, by its name for `poke`, with its number of changes. Of the last change: the cycles since then, and the address of the
- * instruction that made it, or -1 and the command.
+ * A changed place, by its `poke` name, with its number of changes. For the last change: the cycles since then, and the address of the instruction
+ * that made it; or -1 and the command.
  * @typedef {{ place: string, count: number, ago: number, address: number, line: string }} Heated
  *
- * The changes in a number of cycles, which is smaller than requested if the past is shorter.
+ * The changes in the last cycles. `cycles` is less than requested if the past is shorter.
  * @typedef {{ cycles: number, cells: Heated[] }} Heat
  */
 
 const REGISTERS = 4;
-/**
- * The groups of places for one RAM chip. A group is what one `trace` accepts: the nibbles of a register, or the status of all registers.
- */
+/** The number of place groups per RAM chip. A group fits into one `trace`: the nibbles of a register, or the status characters of all registers. */
 export const GROUPS_OF_CHIP = REGISTERS + 1;
 
 /**
- * Returns the places of all nibbles in a board's RAM, in groups for `trace`.
+ * Returns the places of all RAM nibbles on a board, in groups for `trace`.
  * @param {Board} board
  */
 export function nibbleGroups({ banks }) {
@@ -45,7 +43,7 @@ export function nibbleGroups({ banks }) {
 }
 
 /**
- * Returns the moment `cycles` cycles ago, or the beginning of the past if it is shorter.
+ * Returns the moment `cycles` cycles ago; if the past is shorter, its start.
  * @param {Timeline} timeline
  * @param {number} cycles
  * @returns {Moment}
@@ -63,7 +61,7 @@ export class ChangeCounter {
   /** @param {string[][]} groups */
   constructor(groups) {
     this.groups = groups;
-    /** The cycles so far. */
+    /** The number of cycles so far. */
     this.cycles = 0;
     /** @type {Map<string, Heated & { at: number }>} */
     this.cells = new Map();
@@ -71,32 +69,32 @@ export class ChangeCounter {
 
   /**
    * @param {Omit<PastChange, "unit">} change
-   * @param {number} begun the cycles before its unit
+   * @param {number} unitStart the cycles before the unit of the change
    */
-  add({ group, before, after, cycles, address, line }, begun) {
+  add({ group, before, after, cycles, address, line }, unitStart) {
     const oldValues = valuesOf(before);
     valuesOf(after).forEach((value, number) => {
       if (value === oldValues[number]) return;
       const place = this.groups[group][number];
       const { count } = this.cells.get(place) || { count: 0 };
-      this.cells.set(place, { place, count: count + 1, ago: 0, at: begun + cycles, address, line });
+      this.cells.set(place, { place, count: count + 1, ago: 0, at: unitStart + cycles, address, line });
     });
   }
 
   /**
-   * Repeats units on a file, and counts their changes.
+   * Replays units on a file, and counts their changes.
    * @param {Engine} engine
    * @param {Uint8Array} file
    * @param {Unit[]} units
    */
   follow(engine, file, units) {
     /** @type {Map<Unit, number>} the cycles before each unit */
-    const begun = new Map();
+    const unitStarts = new Map();
     for (const unit of units) {
-      begun.set(unit, this.cycles);
+      unitStarts.set(unit, this.cycles);
       this.cycles += unit.cycles;
     }
-    changesIn(engine, file, units, this.groups, (change) => this.add(change, begun.get(change.unit) || 0));
+    changesIn(engine, file, units, this.groups, (change) => this.add(change, unitStarts.get(change.unit) || 0));
   }
 
   /** @returns {Heat} */
@@ -106,7 +104,7 @@ export class ChangeCounter {
 }
 
 /**
- * Resolves to the heat map of the last cycles.
+ * Resolves to the heat map for the last cycles.
  * @param {Engine} engine
  * @param {Timeline} timeline
  * @param {Board} board

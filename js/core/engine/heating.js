@@ -1,5 +1,5 @@
-// The RAM nibbles that change while time is running, from the answers to a `trace` before each run. It watches one chip at a time, so that
-// a frame takes the same time on a board with many chips.
+// Reports the RAM nibbles that change while time runs, from the answers to a `trace` before each run. It watches one chip at a time, so that the work
+// per frame does not grow with the number of chips.
 
 import { ChangeCounter, GROUPS_OF_CHIP, nibbleGroups } from "./heat.js";
 import { Answers, readTraced } from "./tracing.js";
@@ -8,7 +8,7 @@ import { Answers, readTraced } from "./tracing.js";
  * @typedef {import("../bench/answers.js").Board} Board
  * @typedef {import("./heat.js").Heat} Heat
  *
- * The changes in one of the board's `chips` RAM chips.
+ * The changes in one of the `chips` RAM chips on the board.
  * @typedef {Heat & { chips: number }} PassedHeat
  */
 
@@ -18,7 +18,7 @@ export class Heating {
     const groups = nibbleGroups(board);
     this.chips = groups.length / GROUPS_OF_CHIP;
     this.allGroups = groups;
-    /** The chip that is watched now. */
+    /** The index of the chip that is currently watched. */
     this.chip = 0;
   }
 
@@ -42,8 +42,8 @@ export class Heating {
   }
 
   /**
-   * Returns the changes, from the answers to the queries before runs. The next call watches the next chip.
-   * @param {string[][]} answerLists one list for each line
+   * Returns the changes of the watched chip, from the answers to the queries before runs. The next call watches the next chip.
+   * @param {string[][]} answerLists one list per line
    * @returns {PassedHeat}
    */
   take(answerLists) {
@@ -55,19 +55,19 @@ export class Heating {
 
   /**
    * @param {ChangeCounter} counting
-   * @param {Answers} answers to the queries before one run
+   * @param {Answers} answers the answers to the queries before one run
    */
   add(counting, answers) {
-    const begun = counting.cycles;
+    const startCycles = counting.cycles;
     for (let group = 0; group < GROUPS_OF_CHIP; group++) {
       const { row, lines, cycles } = answers.takeTrace();
       let before = row;
       for (const line of lines) {
         const traced = readTraced(line);
-        counting.add({ group, before, after: traced.row, cycles: traced.cycles, address: traced.address, line: "" }, begun);
+        counting.add({ group, before, after: traced.row, cycles: traced.cycles, address: traced.address, line: "" }, startCycles);
         before = traced.row;
       }
-      counting.cycles = begun + cycles;
+      counting.cycles = startCycles + cycles;
     }
   }
 }

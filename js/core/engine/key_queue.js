@@ -1,14 +1,14 @@
-// Changes of keys that wait for their time. A program polls the keys only now and then. So a key stays down, and then up, long enough for
-// the program to see it, however short the press was.
+// Key changes that wait for their time. A program polls the keys only from time to time. Therefore each key stays down, and then up, long enough for
+// the program to notice even a short press.
 
 import { isSameKey, lineOfKey } from "../board/key_place.js";
 import { KEY_DOWN_CYCLES, KEY_UP_CYCLES } from "../time/mcs4_time.js";
 
-/** The longest run of one line, in cycles. */
+/** The maximum length of one run line, in cycles. */
 export const LONGEST_RUN = 100000;
 
 /**
- * Returns lines of runs that the bench accepts, for a run of any length.
+ * Returns the run lines for any number of cycles.
  * @param {number} cycles
  */
 export function runLines(cycles) {
@@ -21,12 +21,12 @@ export function runLines(cycles) {
  * @typedef {import("../board/key_place.js").Key} Key
  * @typedef {{ key: Key, word: "press" | "release" }} Change
  *
- * A line to send: a change of a key, or a run.
+ * A line to send: a key change or a run.
  * @typedef {{ line: string, change: Change | null }} PlannedLine
  */
 
 /**
- * Returns the cycles that must pass after a change.
+ * Returns the minimum number of cycles after a change.
  * @param {Change} change
  */
 function cyclesAfter(change) {
@@ -37,7 +37,7 @@ export class KeyQueue {
   constructor() {
     /** @type {Change[]} */
     this.changes = [];
-    /** The cycles that must pass before the next change. */
+    /** The number of cycles that must pass before the next change. */
     this.wait = 0;
   }
 
@@ -65,7 +65,7 @@ export class KeyQueue {
   }
 
   /**
-   * Returns the lines for the next cycles: runs, and between them the changes of keys that are due.
+   * Returns the lines for the next cycles: runs, and the key changes that become due between them.
    * @param {number} cycles
    * @returns {PlannedLine[]}
    */
@@ -92,9 +92,9 @@ export class KeyQueue {
   }
 
   /**
-   * Updates the queue after lines were done. The last run can have ended early.
+   * Updates the queue after lines have run. The last run can have ended early.
    * @param {PlannedLine[]} planned
-   * @param {(at: number) => number} cyclesOf returns the cycles that a line ran, by its index
+   * @param {(at: number) => number} cyclesOf returns the number of cycles that the line at an index ran
    */
   done(planned, cyclesOf) {
     planned.forEach(({ change }, at) => {

@@ -1,5 +1,5 @@
-// Records the lines of a board while time is running. Before each run it asks the bench for a forecast, in the same call. It affects time
-// only to stop it at the end of a recording with a trigger. The page fetches the recording part by part.
+// Records the signal lines of a board while time runs. Before each run, the recorder asks the bench for a forecast in the same call. It changes the
+// course of time only to stop it at the end of a triggered recording. The page fetches the recording in parts.
 
 import { readBoard, readRun } from "../bench/answers.js";
 import { ADDRESSES } from "../bench/rom_bytes.js";
@@ -19,21 +19,21 @@ import { RECORDED_CYCLES, RECORDED_UNITS } from "./pieces.js";
  * @typedef {import("./wave_recorder.js").Texts} Texts
  * @typedef {import("../waves/trigger.js").Trigger} Trigger
  *
- * The settings: the cycles to record after the trigger, and whether time stops at the end.
+ * Settings: the number of cycles to record after the trigger, and whether time stops at the end.
  * @typedef {{ behind: number, stopsTime: boolean }} LiveWanted
  *
- * A part of a recording. `triggered`: the moment of the trigger, -1 before it. `over`: why recording ended, "" while it continues:
- * "hand", "trigger", "board", "program", "back", "lines", "long".
+ * A part of a recording. `triggered`: the moment of the trigger, -1 before the trigger. `over`: the reason why the recording ended, "" while it
+ * continues: "hand", "trigger", "board", "program", "back", "lines", "long".
  * @typedef {RecordedPart & { triggered: number, over: string }} LivePart
  */
 
-/** The maximum length of a recording in cycles: a moment has 32 bits. */
+/** The maximum length of a recording in cycles; a moment has 32 bits. */
 const MAX_MOMENT = 4000000000;
 
 export class LiveRecorder {
   /**
    * @param {Engine} engine
-   * @param {Uint8Array} file the present session
+   * @param {Uint8Array} file the current session file
    * @param {Texts} texts
    */
   constructor(engine, file, texts) {
@@ -70,13 +70,13 @@ export class LiveRecorder {
     return this.over === "";
   }
 
-  /** The moment where recording ends, Infinity before the trigger. */
+  /** The moment at which the recording ends; Infinity before the trigger. */
   get end() {
     return this.triggered < 0 ? Infinity : this.triggered + this.wanted.behind;
   }
 
   /**
-   * Returns the content as a recording in progress.
+   * Returns everything recorded so far, as a recording in progress.
    * @param {Uint8Array} file
    * @returns {Recorded}
    */
@@ -85,18 +85,18 @@ export class LiveRecorder {
   }
 
   /**
-   * Returns the part since the last call.
+   * Returns the part since the previous call.
    * @param {Uint8Array} file
    * @returns {LivePart}
    */
   part(file) {
-    const taken = this.taking.take();
-    const newAddresses = [...new Set(taken.counters)].filter((address) => this.listed[address] === 0);
+    const part = this.taking.take();
+    const newAddresses = [...new Set(part.counters)].filter((address) => this.listed[address] === 0);
     for (const address of newAddresses) this.listed[address] = 1;
-    return { ...taken, listing: listedAt(this.engine, file, newAddresses), triggered: this.triggered, over: this.over };
+    return { ...part, listing: listedAt(this.engine, file, newAddresses), triggered: this.triggered, over: this.over };
   }
 
-  /** @param {string} why the reason for `over` */
+  /** @param {string} why the reason, as in `over` */
   stop(why) {
     if (this.isOn) this.over = why;
   }
@@ -120,14 +120,14 @@ export class LiveRecorder {
   }
 
   /**
-   * Records the effect of lines. Returns after how many of their cycles time must stop, or -1 if it continues.
+   * Records the effect of lines. Returns the cycle at which time must stop, counted from the first line; -1 if time continues.
    * @param {SentLine[]} planned
    * @param {string[][]} traced the answers to the queries before each line
-   * @param {string[]} answers to the lines, and then to `state`
+   * @param {string[]} answers the answers to the lines, followed by the answer to `state`
    */
   take(planned, traced, answers) {
     const { taking, trigger } = this;
-    const begun = taking.elapsed;
+    const startMoment = taking.elapsed;
     const instructionCount = taking.moments.count;
     const counts = trigger ? trigger.members.map((member) => taking.tracks[member].moments.count) : [];
     planned.forEach(({ change }, at) => {
@@ -144,11 +144,11 @@ export class LiveRecorder {
     taking.takeState(answers[planned.length]);
     if (trigger && trigger.edge) this.takeEdges(trigger, counts);
     else if (trigger && trigger.address >= 0) this.takeArrival(trigger.address, instructionCount);
-    return this.endIfComplete(begun, instructionCount);
+    return this.endIfComplete(startMoment, instructionCount);
   }
 
   /**
-   * Sets the trigger at the first moment when its condition becomes true in a run.
+   * Triggers at the first moment at which the condition becomes true in a run.
    * @param {Answers} answers
    * @param {number} from the moment before the run
    */
@@ -162,7 +162,7 @@ export class LiveRecorder {
   }
 
   /**
-   * Checks the trigger's condition at a moment.
+   * Checks the trigger condition at a moment.
    * @param {string[]} values
    * @param {number} moment
    */
@@ -173,9 +173,9 @@ export class LiveRecorder {
   }
 
   /**
-   * Sets the trigger at the first matching edge of its lines.
+   * Triggers at the first matching edge of the trigger's signal lines.
    * @param {Trigger} trigger
-   * @param {number[]} counts for each line, the number of its earlier changes
+   * @param {number[]} counts the number of earlier changes of each line
    */
   takeEdges({ members, edge }, counts) {
     if (this.triggered >= 0) return;
@@ -189,7 +189,7 @@ export class LiveRecorder {
   }
 
   /**
-   * Sets the trigger at the next instruction at an address. The instruction at which recording began does not count.
+   * Triggers at the next instruction at an address. The instruction at the start of the recording does not count.
    * @param {number} address
    * @param {number} counted the number of earlier instructions
    */
@@ -201,12 +201,12 @@ export class LiveRecorder {
   }
 
   /**
-   * Ends the recording if it is complete. Returns after how many cycles since `begun` time must stop, or -1 if it continues. Time stops at
-   * the next instruction.
-   * @param {number} begun
-   * @param {number} counted the number of instructions before `begun`
+   * Ends the recording if it is complete. Returns the number of cycles after `startMoment` at which time must stop, or -1 if time continues.
+   * Time stops at the next instruction.
+   * @param {number} startMoment
+   * @param {number} counted the number of instructions before `startMoment`
    */
-  endIfComplete(begun, counted) {
+  endIfComplete(startMoment, counted) {
     const { taking, end, wanted } = this;
     if (taking.elapsed >= MAX_MOMENT) this.stop("long");
     if (this.triggered >= 0) this.places = "";
@@ -215,14 +215,14 @@ export class LiveRecorder {
     if (!wanted.stopsTime) return -1;
     this.stops = true;
     const next = taking.moments.all.subarray(counted).find((moment) => moment >= end);
-    return (next === undefined ? taking.elapsed : next) - begun;
+    return (next === undefined ? taking.elapsed : next) - startMoment;
   }
 
   // --- while time is paused ---
 
   /**
-   * Records lines that were served, by repeating them on a copy.
-   * @param {Uint8Array} file the state before them; it is changed
+   * Records served lines. For this, the lines run again on a copy.
+   * @param {Uint8Array} file the session file before the lines; changed
    * @param {Accepted[]} accepted
    */
   follow(file, accepted) {
@@ -230,10 +230,10 @@ export class LiveRecorder {
     if (accepted.some(({ line }) => /^\s*wire/.test(line))) this.stop("board");
     else if (accepted.some(({ line }) => /^\s*(asm|poke\s+rom)/.test(line))) this.stop("program");
     for (let at = 0; at < accepted.length && this.isOn;) {
-      const begun = at;
-      const end = Math.min(accepted.length, begun + RECORDED_UNITS);
+      const startIndex = at;
+      const end = Math.min(accepted.length, startIndex + RECORDED_UNITS);
       for (let cycles = 0; at < end && cycles < RECORDED_CYCLES; at++) cycles += accepted[at].cycles;
-      const planned = accepted.slice(begun, at).map(repeatedLine);
+      const planned = accepted.slice(startIndex, at).map(repeatedLine);
       const served = engine.serve(file, `${linesWithQueries(planned, [this])}state\n`, file);
       const { askerAnswers: [traced], answers } = splitAnswers(planned, [this], served.answers);
       this.take(planned, traced, answers);

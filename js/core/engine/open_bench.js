@@ -21,11 +21,11 @@ import { differenceOf, readProgram } from "./program_check.js";
  * @typedef {import("../debug/debugger.js").Debugger} Debugger
  * @typedef {import("./engine.js").Engine} Engine
  *
- * The texts for the names of a recording's lines; `values` are the names of values to record in addition to the lines of the board, and
- * `watched` the watched values.
+ * The texts that name the lines of a recording. `values` are the names of values to record in addition to the board lines. `watched` are the watch
+ * expressions.
  * @typedef {{ board: string, program: string, values?: string[], watched?: string[] }} WaveTexts
  *
- * A callback of long work. It receives the progress, and resolves to whether to continue.
+ * A callback of long work. It receives the progress and resolves to true if the work continues.
  * @typedef {(done: number, total: number) => Promise<boolean>} GoesOn
  */
 
@@ -33,7 +33,7 @@ export class OpenBench {
   /** @param {GoesOn} goesOn */
   constructor(goesOn) {
     this.goesOn = goesOn;
-    /** @type {ArrayBuffer[]} the buffers for sending a file to the page; the page returns each one */
+    /** @type {ArrayBuffer[]} the buffers in which files are sent to the page; the page returns them */
     this.spareBuffers = [];
     this.fullSpeed = new FullSpeed();
     /** @type {Engine | null} */
@@ -44,7 +44,7 @@ export class OpenBench {
     this.examples = [];
     /** @type {Kind[]} */
     this.stopKinds = [];
-    /** @type {Program | null} the program that was checked last */
+    /** @type {Program | null} the last checked program */
     this.program = null;
   }
 
@@ -63,7 +63,7 @@ export class OpenBench {
   }
 
   /**
-   * Returns the present state of the session for the page, with its file in a buffer to transfer.
+   * Returns the current state of the session for the page, with the session file in a transferable buffer.
    * @param {string[]} snapshot
    * @param {boolean} showsBoard
    * @returns {Shown}
@@ -80,7 +80,7 @@ export class OpenBench {
     return { snapshot, file: buffer, board, total, reset, future: timeline.future.length, past, waves, printed, waiting: queue.changes };
   }
 
-  /** Returns the part of the recording since the last report, or null if nothing is being recorded. */
+  /** Returns the part of the recording since the last report; null without a recording. */
   recordedPart() {
     const { session } = this;
     const { recorder, file } = session;
@@ -90,7 +90,7 @@ export class OpenBench {
   }
 
   /**
-   * Serves lines, all of them or none.
+   * Serves lines, either all or none.
    * @param {string} lines
    * @returns {Promise<ServedLines>}
    */
@@ -99,7 +99,7 @@ export class OpenBench {
   }
 
   /**
-   * Serves lines by a callback, and resolves to their result and the state to show.
+   * Serves lines with a callback; resolves to the result and the state for the page.
    * @param {() => Promise<import("./worker_session.js").ResultAndSnapshot>} serve
    * @returns {Promise<ServedLines>}
    */
@@ -113,7 +113,7 @@ export class OpenBench {
   }
 
   /**
-   * Returns the state to show without serving lines.
+   * Returns the state for the page without serving lines.
    * @returns {ServedLines}
    */
   nothingServed() {
@@ -121,7 +121,7 @@ export class OpenBench {
   }
 
   /**
-   * Returns the map of a program, and the first difference between the program and ROM.
+   * Returns the `map` answer for a program, and the first difference between the program and ROM.
    * @param {string} text the text as sent to the bench
    * @returns {Checked}
    */
@@ -147,7 +147,7 @@ export class OpenBench {
   }
 
   /**
-   * Returns the names and labels for a recording's lines.
+   * Returns the names and labels for the lines of a recording.
    * @param {WaveTexts} texts
    */
   recordingTexts({ board, program, values = [] }) {
@@ -155,7 +155,7 @@ export class OpenBench {
   }
 
   /**
-   * Returns the report of full speed since the last one.
+   * Returns the full-speed report since the previous report.
    * @returns {Frame}
    */
   takeUnreported() {
@@ -164,14 +164,14 @@ export class OpenBench {
     return { ...result, tally: addTallies(late, tally), ...this.shown(this.session.takeSnapshot(), false) };
   }
 
-  /** Does the debugger's work that was postponed until after the report. */
+  /** Runs the debugger work that was postponed until after the report. */
   lookBack() {
     if (this.opened) this.opened.lookBack();
   }
 
   /**
-   * Runs a batch at full speed. Returns the report, or null if none is due. A report needs a buffer that the page has returned, so the page
-   * is never flooded.
+   * Runs a batch at full speed. Returns the report, or null if no report is due. A report needs a buffer that the page has returned; this limits the
+   * number of unprocessed reports.
    * @returns {Frame | null}
    */
   batch() {

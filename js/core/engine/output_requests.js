@@ -1,4 +1,4 @@
-// Requests that start reports on lamps, RAM, the buzzer and the printer. The reports are in the frames.
+// Requests that start reports on lamps, RAM, the buzzer and the printer. Frames carry these reports.
 
 import { readBoard } from "../bench/answers.js";
 import { Face } from "../board/face.js";
@@ -18,9 +18,9 @@ export class OutputRequests {
   }
 
   /**
-   * Starts the reports on how long lamps are on while time is running, if the board has lamps.
-   * @param {string} boardText the text with the front panel
-   * @param {number} number the page's number of the front panel, which the reports repeat
+   * Starts reports on lamp brightness while time runs, if the board has lamps.
+   * @param {string} boardText the board text with the front panel
+   * @param {number} number the page's number of the front panel; repeated in the reports
    */
   watchLamps(boardText, number) {
     if (!this.bench.opened) return;
@@ -29,7 +29,7 @@ export class OutputRequests {
   }
 
   /**
-   * Starts or ends the reports on RAM nibbles that change while time is running, if the board has RAM.
+   * Starts or ends reports on RAM nibbles that change while time runs, if the board has RAM.
    * @param {boolean} isOn
    */
   watchRam(isOn) {
@@ -39,16 +39,16 @@ export class OutputRequests {
   }
 
   /**
-   * Starts the reports on the edges of a line while time is running.
-   * @param {string} line "" ends them
+   * Starts reports on the edges of a signal line while time runs.
+   * @param {string} line the signal line; "" ends the reports
    */
   listenTo(line) {
     if (this.bench.opened) this.bench.session.sounding = line === "" ? null : new Sounding(line);
   }
 
   /**
-   * Starts the reports on what is sent to a printer. A different printer begins a new printout.
-   * @param {{ strobe: string, port: string } | null} printer null ends them
+   * Starts reports on the codes that are sent to a printer. Another printer starts a new printout.
+   * @param {{ strobe: string, port: string } | null} printer null ends the reports
    */
   printOn(printer) {
     if (!this.bench.opened) return;

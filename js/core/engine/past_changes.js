@@ -1,4 +1,4 @@
-// The changes in a part of the past. Its units are repeated on a copy of the session, and the bench forecasts the changes of each.
+// Finds the changes in a part of the past. A copy of the session replays the units, and the bench forecasts the changes of each unit.
 
 import { Answers, readTraced } from "./tracing.js";
 
@@ -7,15 +7,15 @@ import { Answers, readTraced } from "./tracing.js";
  * @typedef {import("./tracing.js").Trace} Trace
  * @typedef {import("./units.js").Unit} Unit
  *
- * A change of a group's values: the rows of values before and after it, its unit, and the cycles of the unit before it. `address` is that
- * of the instruction that made the change, or -1 if the command `line` made it.
+ * A change in a group of values: the rows before and after the change, the unit, and the cycles of the unit before the change. `address` is the
+ * address of the instruction that made the change; it is -1 if the command `line` made it.
  * @typedef {{ group: number, before: string, after: string, unit: Unit, cycles: number, address: number, line: string }} PastChange
  */
 
 /**
- * Returns the traces of each unit, by group, and last the traces after all units.
+ * Returns the traces of each unit by group, followed by the traces after all units.
  * @param {Engine} engine
- * @param {Uint8Array} file is moved to the state after the units
+ * @param {Uint8Array} file the session file; changed to the state after the units
  * @param {Unit[]} units
  * @param {string[][]} groups
  * @returns {Trace[][]}
@@ -33,12 +33,12 @@ function tracesOf(engine, file, units, groups) {
 }
 
 /**
- * Repeats units of the past on a file, and reports each change of the watched values.
+ * Replays units of the past on a file, and reports each change of the watched values.
  * @param {Engine} engine
  * @param {Uint8Array} file
  * @param {Unit[]} units
  * @param {string[][]} groups the places to watch, in groups that fit into one `trace`
- * @param {(change: PastChange) => void} see receives the changes of the first group in order, then those of the next group
+ * @param {(change: PastChange) => void} see called for each change: first for all changes of the first group in order, then for the next group
  */
 export function changesIn(engine, file, units, groups, see) {
   const traces = tracesOf(engine, file, units, groups);

@@ -1,13 +1,13 @@
-// Long work in pieces, so that it can report progress and be cancelled.
+// Divides long work into pieces, so that it can report progress and be cancelled.
 
 /** The target duration of a piece, in milliseconds. */
 const PIECE_TIME = 40;
-/** The first piece of a search cycle by cycle. */
+/** The length of the first piece of a search cycle by cycle, in cycles. */
 export const FIRST_CYCLES = 1000;
-/** The cycles and the units of a piece in a search of the past or the future. */
+/** The maximum number of cycles and units in a piece of a search. */
 export const SEARCHED_CYCLES = 400000;
 export const SEARCHED_UNITS = 500;
-/** The cycles and the units of a piece in a recording. */
+/** The maximum number of cycles and units in a piece of a recording. */
 export const RECORDED_CYCLES = 50000;
 export const RECORDED_UNITS = 50;
 
@@ -24,7 +24,7 @@ export class PieceSize {
   }
 
   /**
-   * Runs a piece, and computes the size of the next one from its duration.
+   * Runs a piece; computes the size of the next piece from the duration.
    * @template Result
    * @param {() => Result} act
    * @returns {Result}

@@ -1,5 +1,5 @@
-// The codes that a program sends to the board's printer, from the answers to a `trace` before each run. Each code is stored with its cycle.
-// So the printout depends only on the session, and going back removes the later codes.
+// Collects the codes that a program sends to the printer, from the answers to a `trace` before each run. Each code is stored with its cycle. The
+// printout therefore depends only on the session, and a move back in time removes the later codes.
 
 import { linesWithQueries, splitAnswers, repeatedLine } from "./asking.js";
 import { RECORDED_CYCLES, RECORDED_UNITS } from "./pieces.js";
@@ -9,11 +9,11 @@ import { Answers, readTraced, valuesOf } from "./tracing.js";
  * @typedef {import("./accepted.js").Accepted} Accepted
  * @typedef {import("./engine_host.js").EngineHost} Engine
  *
- * A printer's strobe and code port, and the codes it received, each with the cycle count at its strobe.
+ * The strobe line and code port of a printer, and the received codes as pairs of the cycle count and the code.
  * @typedef {{ strobe: string, port: string, codes: [number, number][] }} Printed
  */
 
-/** The maximum of stored codes: some hundred lines of print. */
+/** The maximum number of stored codes: several hundred printed lines. */
 const MAX_CODES = 4000;
 
 export class Printing {
@@ -22,7 +22,7 @@ export class Printing {
     this.strobe = strobe;
     this.port = port;
     this.codes = [...codes];
-    /** The last report: the number of codes, and the time of the last one. */
+    /** The last report: the number of codes and the cycle count of the last code. */
     this.lastNews = "";
   }
 
@@ -41,8 +41,8 @@ export class Printing {
   }
 
   /**
-   * Returns the printout if it has changed since the last report, otherwise null.
-   * @param {number} total the present cycle count
+   * Returns the printout if it has changed since the previous report, otherwise null.
+   * @param {number} total the current cycle count
    * @returns {Printed | null}
    */
   takeNews(total) {
@@ -53,7 +53,7 @@ export class Printing {
     return { strobe: this.strobe, port: this.port, codes: this.codes.slice(0, count) };
   }
 
-  /** @param {number} total the cycle count up to which codes count */
+  /** @param {number} total the cycle count; later codes do not count */
   countAt(total) {
     let count = this.codes.length;
     while (count > 0 && this.codes[count - 1][0] > total) count -= 1;
@@ -77,7 +77,7 @@ export class Printing {
 
   /**
    * Reads the codes from the answers to the queries before runs. An instruction takes effect after its first cycle.
-   * @param {string[][]} answerLists one list for each line
+   * @param {string[][]} answerLists one list per line
    * @param {number} total the cycle count before the first line
    */
   take(answerLists, total) {
@@ -99,20 +99,20 @@ export class Printing {
   }
 
   /**
-   * Reads the codes of lines that were served, by repeating them on a copy.
+   * Reads the codes of served lines. For this, the lines run again on a copy.
    * @param {Engine} engine
-   * @param {Uint8Array} file the state before them; it is changed
+   * @param {Uint8Array} file the session file before the lines; changed
    * @param {Accepted[]} accepted
-   * @param {number} total the cycle count before them
+   * @param {number} total the cycle count before the lines
    */
   follow(engine, file, accepted, total) {
     let before = total;
     for (let at = 0; at < accepted.length;) {
-      const begun = at;
-      const end = Math.min(accepted.length, begun + RECORDED_UNITS);
+      const startIndex = at;
+      const end = Math.min(accepted.length, startIndex + RECORDED_UNITS);
       let cycles = 0;
       for (; at < end && cycles < RECORDED_CYCLES; at++) cycles += accepted[at].cycles;
-      const planned = accepted.slice(begun, at).map(repeatedLine);
+      const planned = accepted.slice(startIndex, at).map(repeatedLine);
       const { answers } = engine.serve(file, linesWithQueries(planned, [this]), file);
       const { askerAnswers: [answerLists] } = splitAnswers(planned, [this], answers);
       this.take(answerLists, before);

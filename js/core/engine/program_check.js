@@ -1,4 +1,4 @@
-// Compares a program's text with ROM. The text is assembled in a separate session whose board has all ROMs, and the bytes are compared.
+// Compares a program text with ROM. A separate session with all ROMs assembles the text; then the bytes are compared.
 
 import { readBoard, readMap, refusalOf } from "../bench/answers.js";
 import { matchAnswers, readInputs } from "../bench/inputs.js";
@@ -10,7 +10,7 @@ import { LONGEST_TEXT, TEXT_TOO_LONG } from "../text/text_fault.js";
  * @typedef {import("../bench/answers.js").Refusal} Refusal
  * @typedef {import("./engine_host.js").EngineHost} Engine
  *
- * An assembled program: the answers to `map`, or why the text is rejected, and its byte at each address, -1 if it has none.
+ * An assembled program: the answers to `map`, the refusal of the text if it was rejected, and the bytes by address, -1 for no byte.
  * @typedef {{ text: string, map: string[], refusal: Refusal | null, bytes: Int16Array }} Program
  *
  * The first address at which ROM differs from the program; `hasRom` is false if the board has no ROM at that address.
@@ -22,8 +22,8 @@ import { LONGEST_TEXT, TEXT_TOO_LONG } from "../text/text_fault.js";
 export const ALL_ROMS = `wire\n${PAGES.map((chip) => `[[rom]]\nchip = ${chip}\nport = "0000"\n`).join("")}.\n`;
 
 /**
- * Returns why a text cannot be sent to the bench, or null. Either it is too long, or one of its lines is only a dot, which would end the
- * text. The latter has no refusal number, so `number` is 0.
+ * Returns the reason why a text cannot be sent to the bench, or null. Either the text is too long, or one of its lines is only a dot and would end
+ * the text. The second reason has no refusal number, so `number` is 0.
  * @param {string} text
  * @returns {Refusal | null}
  */
@@ -34,7 +34,7 @@ export function faultOfText(text) {
 }
 
 /**
- * Assembles a program's text.
+ * Assembles a program text.
  * @param {Engine} engine
  * @param {string} text
  * @returns {Program}
@@ -52,7 +52,7 @@ export function readProgram(engine, text) {
 }
 
 /**
- * Returns 1 for each address at which a program has a byte, from the answers to `map`.
+ * Returns 1 for each address at which a program has a byte; uses the answers to `map`.
  * @param {string[]} map
  */
 function filledAddresses(map) {
@@ -62,7 +62,7 @@ function filledAddresses(map) {
 }
 
 /**
- * Returns the size of a program in bytes, and the addresses outside the program at which ROM is not 0.
+ * Returns the program size in bytes, and the addresses outside the program at which ROM is not 0.
  * @param {Engine} engine
  * @param {Uint8Array} file
  * @param {Program} program
@@ -75,10 +75,10 @@ export function leftoversOf(engine, file, program) {
 }
 
 /**
- * Returns the first difference between ROM and a program, or null if ROM has all bytes of the program.
+ * Returns the first difference between ROM and a program; null if ROM contains all bytes of the program.
  * @param {Engine} engine
  * @param {Uint8Array} file
- * @param {string[]} board the answers to `board`
+ * @param {string[]} board the answer to `board`
  * @param {Program} program
  * @returns {Difference | null}
  */

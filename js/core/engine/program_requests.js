@@ -14,7 +14,7 @@ export class ProgramRequests {
   }
 
   /**
-   * Returns the map of a program, and its first difference from ROM.
+   * Returns the `map` answer for a program, and its first difference from ROM.
    * @param {string} text the text as sent to the bench
    */
   checkProgram(text) {
@@ -22,7 +22,7 @@ export class ProgramRequests {
   }
 
   /**
-   * Returns the bytes in ROM that do not belong to a program.
+   * Returns the ROM bytes that do not belong to a program.
    * @param {string} text the text as sent to the bench
    */
   leftovers(text) {
@@ -30,7 +30,7 @@ export class ProgramRequests {
     return leftoversOf(this.bench.engine, this.bench.session.file, this.bench.program);
   }
 
-  /** Returns a source text for the bytes in ROM. */
+  /** Returns a source text that assembles to the bytes in ROM. */
   source() {
     return sourceOfRom(this.bench.engine, this.bench.session.file);
   }

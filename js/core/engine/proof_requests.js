@@ -1,4 +1,4 @@
-// Requests that prove properties with the module's prover.
+// Requests that prove properties with the prover in the module.
 
 import { beginProving, judgedLine } from "../prove/bounded_proof.js";
 
@@ -15,9 +15,9 @@ export class ProofRequests {
   }
 
   /**
-   * Begins to prove properties. Returns the errors of the texts, and the number of judgements to make.
+   * Starts to prove properties. Returns the errors in the texts, and the number of properties to judge.
    * @param {import("../explore/exploring.js").ExploredTexts} texts
-   * @param {number} most the maximum of states that one question searches
+   * @param {number} most the maximum number of states per prover question
    */
   prove(texts, most) {
     const { bench } = this;
@@ -33,7 +33,7 @@ export class ProofRequests {
     return { faults, count: proving ? proving.total : 0 };
   }
 
-  /** Resolves to the line for the next judged property, or to null if all are judged. */
+  /** Resolves to the line for the next judged property; null if all properties are judged. */
   async proveNext() {
     if (!this.proving) throw new Error("nothing is proved");
     const judged = await this.proving.next();

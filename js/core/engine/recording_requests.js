@@ -1,4 +1,4 @@
-// Requests that record the lines of the board.
+// Requests that record the signal lines of the board.
 
 import { readTrigger } from "../waves/trigger.js";
 import { LiveRecorder } from "./live_recorder.js";
@@ -18,9 +18,9 @@ export class RecordingRequests {
   }
 
   /**
-   * Records the lines of the board for the next cycles, or for the last ones. The session is unchanged.
+   * Records the signal lines of the board for the next or the last cycles. The session does not change.
    * @param {number} cycles
-   * @param {boolean} isBefore whether to record the past
+   * @param {boolean} isBefore true for the last cycles, false for the next cycles
    * @param {WaveTexts} texts
    */
   record(cycles, isBefore, texts) {
@@ -33,8 +33,8 @@ export class RecordingRequests {
   }
 
   /**
-   * Starts a recording that continues until it is ended. The later parts are in `waves` of the states to show. If the trigger has an error,
-   * nothing is recorded, and `fault` is the message.
+   * Starts a recording that continues until it is ended. Later parts arrive in `waves` of the shown states. If the trigger has an error, nothing is
+   * recorded and `fault` is the message.
    * @param {WaveTexts} texts
    * @param {{ trigger: string } & LiveWanted} wanted
    * @returns {{ recorded: Recorded | null, fault: string }}
@@ -50,7 +50,7 @@ export class RecordingRequests {
     return { recorded: recorder.recorded(session.file), fault: "" };
   }
 
-  /** Ends the recording, and returns its last part. */
+  /** Ends the recording; returns its last part. */
   endRecording() {
     if (this.bench.session.recorder) this.bench.session.recorder.stop("hand");
     return this.bench.recordedPart();

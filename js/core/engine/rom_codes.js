@@ -1,15 +1,15 @@
-// The bytes in ROM, and the properties of instruction codes.
+// Reads the bytes in ROM, and classifies opcodes.
 
 import { ADDRESSES, PAGES, PAGE_BYTES, bytesOf, listQueries } from "../bench/rom_bytes.js";
 
-/** The codes of the instructions that use the port of a ROM: WRR writes to it, RDR reads it. */
+/** The opcodes of the instructions that use a ROM port: WRR writes to it, RDR reads it. */
 export const WRR = 0xE2;
 export const RDR = 0xEA;
 
 /** @typedef {import("./engine_host.js").EngineHost} Engine */
 
 /**
- * Returns the bytes at the addresses 000 to FFF, with 0 where the board has no ROM.
+ * Returns the bytes at addresses 000 to FFF; 0 at addresses without a ROM.
  * @param {Engine} engine
  * @param {Uint8Array} file
  */
@@ -18,7 +18,7 @@ export function romCodes(engine, file) {
 }
 
 /**
- * Returns the same bytes from the answers to `list` for all pages.
+ * Returns the same bytes, from the answers to `list` for all pages.
  * @param {string[]} answers
  */
 export function codesOf(answers) {
@@ -41,7 +41,7 @@ export function isJin(code) {
 }
 
 /**
- * Returns the target of the JMS or JUN at an address.
+ * Returns the target address of the JMS or JUN at an address.
  * @param {Uint8Array} codes
  * @param {number} address
  */
@@ -50,7 +50,7 @@ export function targetOf(codes, address) {
 }
 
 /**
- * Returns whether an instruction has two successors: JCN and ISZ do.
+ * Returns whether an instruction has two successors, which is true for JCN and ISZ.
  * @param {number} code
  */
 export function hasWays(code) {
@@ -58,7 +58,7 @@ export function hasWays(code) {
 }
 
 /**
- * Returns whether an instruction never continues at the next address: JUN, BBL and JIN do not.
+ * Returns whether an instruction never continues at the next address, which is true for JUN, BBL and JIN.
  * @param {number} code
  */
 export function neverContinues(code) {
@@ -66,7 +66,7 @@ export function neverContinues(code) {
 }
 
 /**
- * Returns the length of an instruction in words: JUN, JMS, JCN, ISZ and FIM have two.
+ * Returns the length of an instruction in words. JUN, JMS, JCN, ISZ and FIM have two words.
  * @param {number} code
  */
 export function wordsOf(code) {
@@ -75,7 +75,7 @@ export function wordsOf(code) {
 }
 
 /**
- * Returns the duration of an instruction in cycles: instructions of two words and FIN take two.
+ * Returns the duration of an instruction in cycles. Instructions with two words, and FIN, take two cycles.
  * @param {number} code
  */
 export function cyclesOf(code) {

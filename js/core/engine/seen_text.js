@@ -1,4 +1,4 @@
-// The board as perceived in the next 30 ms if no key changes: the brightness of its lamps, and the text of its displays.
+// The board as perceived in the next 30 ms with the keys unchanged: the lamp brightness, and the text of the displays.
 
 import { Brightness } from "../board/brightness.js";
 import { DisplayText } from "../board/display_text.js";
@@ -10,11 +10,11 @@ import { BrightnessMeter } from "./brightness_meter.js";
  * @typedef {import("../board/face.js").Face} Face
  */
 
-/** The query for these 30 ms. */
+/** The query for the lamps of the next 30 ms. */
 export const SEEN_QUERY = `trace ${EYE_CYCLES} lamps\n`;
 
 /**
- * Returns whether a front panel has a multiplexed display. At no single instant such a display shows the whole number.
+ * Returns whether a front panel has a multiplexed display. Such a display never shows the whole number at one instant.
  * @param {Face} face
  */
 export function hasScannedDisplay(face) {
@@ -22,10 +22,10 @@ export function hasScannedDisplay(face) {
 }
 
 /**
- * Returns the brightness of lamps in the time of the query, with no history.
+ * Returns the lamp brightness in the time of the query, without earlier light.
  * @param {Face} face
  * @param {number} count the number of lamps on the board
- * @param {string[]} answers to the query
+ * @param {string[]} answers the answer to SEEN_QUERY
  */
 export function seenBrightness(face, count, answers) {
   const brightness = new Brightness(face, count);
@@ -45,7 +45,7 @@ export class SeenText {
     this.text = new DisplayText(displays, [...face.lamps].map(([at, { text }]) => ({ at, text })));
   }
 
-  /** @param {string[]} answers to the query */
+  /** @param {string[]} answers the answer to SEEN_QUERY */
   read(answers) {
     return this.ofBrightness(seenBrightness(this.face, this.count, answers));
   }

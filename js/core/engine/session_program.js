@@ -1,4 +1,4 @@
-// The source text of a session's program: its names and lines, if the text assembles to the bytes in ROM.
+// The source text of a session's program. Its names and lines are valid if the text assembles to the bytes in ROM.
 
 import { hex } from "../bench/numbers.js";
 import { SourceMap } from "../machine/source_map.js";
@@ -10,35 +10,36 @@ import { readProgram } from "./program_check.js";
  * @typedef {import("./engine_host.js").EngineHost} EngineHost
  * @typedef {import("../testing/prepared.js").TextFault} TextFault
  *
- * The first difference between ROM and the program: the address, the byte in ROM, the source line, and the byte of that line.
+ * The first difference between ROM and the program: the address, the byte in ROM, the source line, and the byte that the line produces.
  * @typedef {{ address: string, is: string, line: number, makes: string }} OtherByte
  *
- * The program of a session by its text. The text has errors (`faults`), or ROM differs (`other`); otherwise `map` is the program's map.
+ * The program of a session, as described by its text. `faults` are the errors in the text, `other` is a difference from ROM, and `map` is the source
+ * map.
  * @typedef {{ faults: TextFault[], other: OtherByte | null, map: SourceMap }} SessionProgram
  */
 
 /**
- * Returns the first byte in ROM that differs from the program, or null.
+ * Returns the first byte in ROM that differs from the program; null if there is none.
  * @param {Uint8Array} codes the bytes in ROM
- * @param {Int16Array} bytes the program's bytes, negative where it has none
+ * @param {Int16Array} bytes the program bytes by address; negative for no byte
  * @param {SourceMap} map
  * @returns {OtherByte | null}
  */
-function otherByte(codes, bytes, map) {
+function firstDifference(codes, bytes, map) {
   const at = bytes.findIndex((byte, address) => byte >= 0 && byte !== codes[address]);
   return at < 0 ? null : { address: hex(at, 3), is: hex(codes[at], 2), line: map.lineOf(at), makes: hex(bytes[at], 2) };
 }
 
 /**
- * Assembles a program's text. Returns its map and its byte at each address, or the errors.
+ * Assembles a program text. Returns its source map and its bytes by address, or the errors.
  * @param {EngineHost} engine
  * @param {string} text
  * @returns {{ faults: TextFault[], map: SourceMap, bytes: Int16Array }}
  */
 export function readSource(engine, text) {
   const rejected = (/** @type {TextFault[]} */ faults) => ({ faults, map: new SourceMap([], ""), bytes: new Int16Array() });
-  const unsent = faultsOfText("program", text);
-  if (unsent.length > 0) return rejected(unsent);
+  const textFaults = faultsOfText("program", text);
+  if (textFaults.length > 0) return rejected(textFaults);
   const sent = sentText(text, ";");
   const { map, refusal, bytes } = readProgram(engine, sent);
   if (refusal) return rejected([{ text: "program", ...refusal, words: "" }]);
@@ -46,7 +47,7 @@ export function readSource(engine, text) {
 }
 
 /**
- * Assembles a program's text, and compares it with ROM.
+ * Assembles a program text and compares it with ROM.
  * @param {EngineHost} engine
  * @param {Uint8Array} codes the bytes in ROM
  * @param {string} text
@@ -54,5 +55,5 @@ export function readSource(engine, text) {
  */
 export function sessionProgram(engine, codes, text) {
   const { faults, map, bytes } = readSource(engine, text);
-  return { faults, other: faults.length > 0 ? null : otherByte(codes, bytes, map), map };
+  return { faults, other: faults.length > 0 ? null : firstDifference(codes, bytes, map), map };
 }

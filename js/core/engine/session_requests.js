@@ -19,7 +19,7 @@ export class SessionRequests {
   }
 
   /**
-   * Opens a session in place of the present one.
+   * Opens a session, which replaces the current one.
    * @param {Uint8Array} file
    * @param {number} [total] the cycle count
    * @param {number} [reset] the cycle count at the last reset
@@ -36,22 +36,22 @@ export class SessionRequests {
   }
 
   /**
-   * Restores the past that the page has stored before the session was opened. Returns how many entries of the last segment are used, or -1
-   * if it is not the past of this session.
+   * Restores the past that the page stored before it opened the session. Returns the number of used entries in the last segment; -1 if the past does
+   * not belong to this session.
    * @param {import("./timeline.js").Recalled[]} segments
    */
   recall(segments) {
     try {
       return this.bench.session.timeline.recall(this.bench.engine, segments);
     } catch (fault) {
-      // The stored bytes are not a session.
+      // The stored bytes are no valid session file.
       if (fault instanceof BenchRefusal) return -1;
       throw fault;
     }
   }
 
   /**
-   * Serves lines, all of them or none.
+   * Serves lines, either all or none.
    * @param {string} lines
    * @returns {Promise<ServedLines>}
    */
@@ -60,7 +60,7 @@ export class SessionRequests {
   }
 
   /**
-   * Serves typed lines, all of them or none. Their runs end at each breakpoint.
+   * Serves typed lines, either all or none. A run in them ends at its first breakpoint.
    * @param {string} lines
    * @returns {Promise<TypedLines>}
    */

@@ -1,9 +1,9 @@
-// The edges of a line while time is running, from the answers to a `trace` before each run. The buzzer plays them.
+// Reports the edges of a signal line while time runs, from the answers to a `trace` before each run. The buzzer plays these edges.
 
 import { Answers, readTraced } from "./tracing.js";
 
 /**
- * The levels of a line in a number of cycles: the first level, and the cycles before each edge.
+ * The levels of a signal line during an interval: the first level, and the cycles before each edge.
  * @typedef {{ cycles: number, level: number, edges: number[] }} Heard
  */
 
@@ -29,8 +29,8 @@ export class Sounding {
   }
 
   /**
-   * Returns the levels of the line, from the answers to the queries before runs. A change happens after the first cycle of its instruction.
-   * @param {string[][]} answerLists one list for each line
+   * Returns the levels of the line, from the answers to the queries before runs. A line changes after the first cycle of an instruction.
+   * @param {string[][]} answerLists one list per line
    * @returns {Heard}
    */
   take(answerLists) {

@@ -1,5 +1,5 @@
-// Source texts for a session file, which stores neither comments nor names. If an example matches, its texts are used. Otherwise the board
-// text is made from the bench's answers, and the program is disassembled from ROM.
+// Creates source texts for a session file, which stores neither comments nor names. If an example has the same board or program, its texts are used.
+// Otherwise the board text comes from the bench's answers, and the program is disassembled from ROM.
 
 import { readListing } from "../bench/answers.js";
 import { linesOfExample } from "./examples.js";
@@ -48,13 +48,13 @@ function textsOfExample({ board, program, tests = "", properties = "" }) {
   return { boardText: board, programText: program, testText: tests, propertiesText: properties };
 }
 
-/** @param {string} line of a listing */
+/** @param {string} line a listing line */
 function hasTwoBytes(line) {
   return line.slice(7, 9).trim() !== "";
 }
 
 /**
- * Returns the listing of all ROMs, from 000 to FFF.
+ * Returns the listing of all ROMs, from address 000 to FFF.
  * @param {Engine} engine
  * @param {Uint8Array} file
  */
@@ -71,11 +71,11 @@ function listAll(engine, file) {
   return lines;
 }
 
-/** The number of NOPs from which a part of ROM counts as empty. */
+/** The minimum number of consecutive NOPs that count as an empty part of ROM. */
 const MIN_EMPTY_NOPS = 4;
 
 /**
- * Returns a source text that assembles to the bytes in ROM. It leaves out empty parts.
+ * Returns a source text that assembles to the bytes in ROM. Empty parts of ROM are left out.
  * @param {Engine} engine
  * @param {Uint8Array} file
  */

@@ -1,4 +1,4 @@
-// Requests while time is running: cycles and keys in real time, and full speed.
+// Requests while time runs: cycles and keys in real time, and full speed.
 
 /**
  * @typedef {import("./open_bench.js").OpenBench} OpenBench
@@ -15,7 +15,7 @@ export class TimeRequests {
   /**
    * Runs the next cycles.
    * @param {number} cycles
-   * @param {Key | null} [key] a key to press, first or after the waiting changes
+   * @param {Key | null} [key] a key to press; the press waits for earlier changes
    * @returns {Frame}
    */
   advance(cycles, key = null) {
@@ -25,7 +25,7 @@ export class TimeRequests {
   }
 
   /**
-   * Presses a key while time is running. Returns the waiting changes of keys.
+   * Presses a key while time runs. Returns the waiting key changes.
    * @param {Key} key
    */
   press(key) {
@@ -34,7 +34,7 @@ export class TimeRequests {
   }
 
   /**
-   * Releases a key while time is running. Returns the waiting changes of keys.
+   * Releases a key while time runs. Returns the waiting key changes.
    * @param {Key} key
    */
   release(key) {
@@ -43,7 +43,7 @@ export class TimeRequests {
   }
 
   /**
-   * Removes the waiting changes of a key. Returns the other waiting changes.
+   * Removes the waiting changes of a key. Returns the remaining changes.
    * @param {Key} key
    */
   forget(key) {
@@ -53,7 +53,7 @@ export class TimeRequests {
 
   /**
    * Starts full speed.
-   * @param {boolean} isHidden whether the page is hidden
+   * @param {boolean} isHidden true if the page is hidden
    */
   run(isHidden) {
     if (this.bench.spareBuffers.length === 0) this.bench.spareBuffers.push(new ArrayBuffer(this.bench.session.file.length));
@@ -61,7 +61,7 @@ export class TimeRequests {
   }
 
   /**
-   * Sets whether the page is hidden: at full speed a hidden page gets fewer reports.
+   * Sets whether the page is hidden. At full speed, a hidden page gets fewer reports.
    * @param {boolean} isHidden
    */
   pace(isHidden) {
@@ -69,7 +69,7 @@ export class TimeRequests {
   }
 
   /**
-   * Ends full speed, and returns its last report.
+   * Ends full speed; returns the last report.
    * @returns {Frame}
    */
   halt() {

@@ -1,6 +1,6 @@
-// The past of a session, for going back: its file at some moments, and the accepted commands after each of them. A past state is the result
-// of repeating commands on a copy of such a file. When the past is long, segments with stops are stored longest. The past is in the memory
-// of this worker. The page receives the additions (session/kept_past.js), and restores the past after a reload.
+// The past of a session, for moves back in time: the session file at some moments, and the accepted commands after each of these moments. To compute
+// a past state, a copy of such a file runs the commands again. When the past becomes long, segments with stops are stored longest. The past is in the
+// memory of this worker. The page receives the additions (session/kept_past.js), and restores the past after a reload.
 
 import { Cancelled } from "../bench/faults.js";
 import { withoutSeq } from "../bench/state_line.js";
@@ -10,46 +10,46 @@ import { CycleCount } from "./accepted.js";
  * @typedef {import("./accepted.js").Accepted} Accepted
  * @typedef {import("./engine_host.js").EngineHost} Engine
  *
- * A command. `isStop`: time was paused before it.
+ * A command. `isStop` is true if time was paused before the command.
  * @typedef {{ line: string, cycles: number, resets: boolean, isStop: boolean }} Entry
  *
- * A part of the past: the file and the cycle count at its beginning, and the commands after it. `letters` is the total length of their
- * lines. `follows`: it begins where the previous segment ends.
+ * A part of the past: the file and the cycle count at its start, and the commands after that. `letters` is the total length of the command lines in
+ * characters. `follows` is true if the segment starts where the previous segment ends.
  * @typedef {{ file: Uint8Array, count: CycleCount, entries: Entry[], cycles: number, letters: number, follows: boolean, marks: Mark[] }}
  * Segment
  *
- * A stored state within a segment: the session after `entry` entries, which ran `cycles` cycles.
+ * A stored state in a segment: the session after `entry` entries, which ran `cycles` cycles.
  * @typedef {{ entry: number, file: Uint8Array, count: CycleCount, cycles: number }} Mark
  *
- * A moment: after `entry` entries of a segment, and after `cycles` cycles of the next entry.
+ * A moment: after `entry` entries of a segment, and `cycles` cycles into the next entry.
  * @typedef {{ segment: number, entry: number, cycles: number }} Moment
  * @typedef {{ file: Uint8Array, count: CycleCount }} Present
  *
- * The entries since the last report. If `isNewPast` is true, they begin a new past.
+ * The entries since the last report. If `isNewPast` is true, they start a new past.
  * @typedef {{ isNewPast: boolean, entries: Entry[] }} News
  *
- * A segment that the page restores: the file and the cycle counts at its beginning, and its entries.
+ * A segment that the page restores: the file and the cycle counts at its start, and its entries.
  * @typedef {{ file: Uint8Array, total: number, reset: number, entries: Entry[] }} Recalled
  *
- * A callback that receives how many cycles were searched, and resolves to whether to continue.
+ * A callback that receives the number of cycles searched, and resolves to true to continue.
  * @typedef {(done?: number) => Promise<boolean>} GoesOn
  */
 
-/** The limits of a segment: its cycles, its entries, and the letters in their lines. A segment can be repeated quickly. */
+/** The limits of a segment: cycles, entries, and characters in the lines. Within these limits, a segment can be replayed quickly. */
 const SEGMENT_CYCLES = 4000000;
 export const SEGMENT_ENTRIES = 4000;
 const SEGMENT_LETTERS = 200000;
-/** The maximum of segments. Each has a file of 164 KB. */
+/** The maximum number of segments. Each segment contains a file of 164 KB. */
 const MAX_SEGMENTS = 48;
-/** The distance of marks in the last two segments, in cycles. A step back repeats at most that many. */
+/** The distance between marks in the last two segments, in cycles. A step back replays at most that many cycles. */
 const MARK_CYCLES = 250000;
-/** The maximum of steps forward after going back. */
+/** The maximum number of steps forward after moves back. */
 export const MAX_FORWARD = 64;
-/** The longest command that is repeated, in letters. After a longer one a new segment begins. */
+/** The maximum length of a replayed command, in characters. After a longer command, a new segment starts. */
 const MAX_LINE_LENGTH = 20000;
-/** The maximum of ends that `recall` tries: several commands without cycles can be at the same cycle count. */
+/** The maximum number of end points that `recall` tries. Several end points can have the same cycle count, because some commands take no cycles. */
 const MAX_TRIES = 8;
-/** The limits of a piece that is repeated at once. */
+/** The limits of a piece that is replayed in one call. */
 const PIECE_CYCLES = 1000000;
 const PIECE_LINES = 500;
 
@@ -58,15 +58,15 @@ export class Timeline {
   constructor(present) {
     /** @type {Segment[]} */
     this.segments = [segmentAt(present, false)];
-    /** True if time is paused: then the next entry begins at a stop. */
+    /** True if time is paused; the next entry then starts at a stop. */
     this.isStopped = true;
-    /** @type {({ segments: Segment[] } & Present)[]} the targets of going forward; the next one is last */
+    /** @type {({ segments: Segment[] } & Present)[]} the targets of moves forward; the last one is used next */
     this.future = [];
     /** @type {News} */
     this.news = { isNewPast: true, entries: [] };
   }
 
-  /** Returns the entries since the last call. */
+  /** Returns the entries since the previous call. */
   takeNews() {
     const { news } = this;
     this.news = { isNewPast: false, entries: [] };
@@ -74,8 +74,8 @@ export class Timeline {
   }
 
   /**
-   * Restores the past before the first segment, as the page has stored it. If the stored past is newer than the session, its later entries
-   * are dropped. Returns how many entries of the last segment are used, or -1 if this past does not lead to the first segment.
+   * Restores the past before the first segment, as stored by the page. If the stored past is newer than the session, its later entries are dropped.
+   * Returns the number of entries used from the last segment, or -1 if this past does not lead to the first segment.
    * @param {Engine} engine
    * @param {Recalled[]} recalled consecutive segments
    */
@@ -118,15 +118,15 @@ export class Timeline {
     return this.segments.reduce((sum, { cycles }) => sum + cycles, 0);
   }
 
-  /** Notes that time is paused now. */
+  /** Records that time is paused. */
   stop() {
     this.isStopped = true;
   }
 
   /**
-   * Appends commands to the past. Objects that were stored are never changed.
+   * Appends commands to the past. Stored objects are never changed.
    * @param {Accepted[]} accepted
-   * @param {Present} present the session after them
+   * @param {Present} present the session after the commands
    */
   record(accepted, present) {
     if (accepted.length === 0) return;
@@ -154,7 +154,7 @@ export class Timeline {
   }
 
   /**
-   * Stores a mark if the last one is far away.
+   * Stores a mark if the previous mark is at least MARK_CYCLES away.
    * @param {Present} present
    */
   mark({ file, count }) {
@@ -163,7 +163,7 @@ export class Timeline {
     if (cycles - before >= MARK_CYCLES) marks.push({ entry: entries.length, file: file.slice(), count: count.copy(), cycles });
   }
 
-  /** Removes the oldest segment that has no stop, or else the oldest segment. */
+  /** Removes the oldest segment without a stop; if all segments have stops, removes the oldest segment. */
   dropSegment() {
     const found = this.segments.findIndex(({ entries }, at) => at < this.segments.length - 1 && !entries.some(({ isStop }) => isStop));
     const at = Math.max(0, found);
@@ -177,7 +177,7 @@ export class Timeline {
   }
 
   /**
-   * Returns the last stop before the present, or null.
+   * Returns the last stop before the present; null if there is none.
    * @returns {Moment | null}
    */
   lastStop() {
@@ -191,8 +191,8 @@ export class Timeline {
   }
 
   /**
-   * Returns the moment `back` cycles before another one. Commands without cycles at that moment are already done. Returns null if the past
-   * is too short.
+   * Returns the moment `back` cycles before another moment. Commands without cycles at that moment are already done. Returns null if the past is too
+   * short.
    * @param {number} back 1 or more
    * @param {Moment} [from]
    * @returns {Moment | null}
@@ -215,7 +215,7 @@ export class Timeline {
   }
 
   /**
-   * Resolves to the session at a moment, by repeating commands on a copy.
+   * Resolves to the session at a moment. For this, a copy runs the commands again.
    * @param {Engine} engine
    * @param {Moment} moment
    * @param {GoesOn} goesOn
@@ -237,7 +237,7 @@ export class Timeline {
   }
 
   /**
-   * Makes a moment the present. Going forward leads to the former present.
+   * Makes a moment the present. A move forward returns to the former present.
    * @param {Moment} moment
    * @param {Present} present the session at that moment
    */
@@ -255,7 +255,7 @@ export class Timeline {
   }
 
   /**
-   * Returns to the moment before the last move back. Returns null if there was none.
+   * Returns to the moment before the last move back. Returns null if there was no move back.
    * @returns {Present | null}
    */
   goForward() {
@@ -270,7 +270,7 @@ export class Timeline {
 
 /**
  * @param {Recalled} recalled
- * @param {number} at its index
+ * @param {number} at the index of the segment
  * @returns {Segment}
  */
 function segmentOf({ file, total, reset, entries }, at) {
@@ -284,7 +284,7 @@ function sumOf(numbers) {
 }
 
 /**
- * Returns the answer to `state` without the count of commands.
+ * Returns the answer to `state` without the command count.
  * @param {Engine} engine
  * @param {Uint8Array} file
  */
@@ -293,7 +293,7 @@ function stateOf(engine, file) {
 }
 
 /**
- * Returns the next piece of entries to repeat at once.
+ * Returns the next piece of entries to replay in one call.
  * @param {Entry[]} entries
  * @param {number} from an index
  */
@@ -317,7 +317,7 @@ function segmentAt({ file, count }, follows) {
 }
 
 /**
- * Returns the first cycles of an entry as a separate entry, or no entry for 0 cycles.
+ * Returns the first cycles of an entry as a separate entry; no entry for 0 cycles.
  * @param {Entry | undefined} entry
  * @param {number} cycles
  * @returns {Entry[]}

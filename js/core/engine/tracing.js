@@ -1,25 +1,25 @@
-// Reads the bench's forecasts of runs: the answers to `trace` and `count`, within a list of consecutive answers.
+// Reads the bench's forecasts of runs: the answers to `trace` and `count` in a list of consecutive answers.
 
 import { readRun } from "../bench/answers.js";
 
 /**
- * A traced instruction: the cycles before it, its address, and the row of watched values after it. A blank is before each value.
+ * A traced instruction: the cycles before it, its address, and the row of watched values after it. Each value in a row is preceded by a blank.
  * @typedef {{ cycles: number, address: number, row: string }} Traced
  *
- * The counts of the instruction at an address: how often it began, and how often it jumped, -1 if it is not a jump.
+ * The counts of an instruction: how often it started, and how often it jumped (-1 if it cannot jump).
  * @typedef {{ address: number, begun: number, jumped: number }} Counted
  *
- * A trace: the row before the run, the lines of the instructions, and the cycles of the run.
+ * A trace: the row before the run, the instruction lines, and the cycles of the run.
  * @typedef {{ row: string, lines: string[], cycles: number }} Trace
  *
- * The result of a run: its cycles, and why it stopped, "end" if nothing stopped it.
+ * The result of a run: its cycles, and the reason for its end ("end" if nothing stopped it).
  * @typedef {{ cycles: number, end: string }} Ran
  */
 
 const ANSWER_HEAD = /^(?:trace|count) ran (\d+) \w+ lines (\d+)(.*)$/;
 
 /**
- * Parses a line of a trace, as `5 00A 1 0`.
+ * Parses a trace line, such as `5 00A 1 0`.
  * @param {string} line
  * @returns {Traced}
  */
@@ -29,7 +29,7 @@ export function readTraced(line) {
 }
 
 /**
- * Parses a line of a count: `00A 12`, or `00A 12 3` for an instruction that can jump.
+ * Parses a count line: `00A 12`, or `00A 12 3` for an instruction that can jump.
  * @param {string} line
  * @returns {Counted}
  */
@@ -47,7 +47,7 @@ export function valuesOf(row) {
   return row.slice(1).split(" ");
 }
 
-/** A reader of consecutive answers. */
+/** Reads consecutive answers. */
 export class Answers {
   /** @param {string[]} answers */
   constructor(answers) {
@@ -59,7 +59,7 @@ export class Answers {
     return this.at === this.answers.length;
   }
 
-  /** Returns the next answer, and moves on. */
+  /** Consumes and returns the next answer. */
   take() {
     this.at += 1;
     return this.answers[this.at - 1];
@@ -71,7 +71,7 @@ export class Answers {
   }
 
   /**
-   * Parses the next trace, and moves on. Throws if the bench has answered otherwise.
+   * Consumes and parses the next trace. Throws if the answer is not a trace.
    * @returns {Trace}
    */
   takeTrace() {
@@ -83,13 +83,13 @@ export class Answers {
     return { row: head[3], lines: this.answers.slice(from, this.at), cycles: Number(head[1]) };
   }
 
-  /** Parses the next answer to `count`: the instructions that begin in a run. */
+  /** Consumes and parses the next answer to `count`: the instructions that start in a run. */
   takeCounts() {
     return this.takeTrace().lines.map(readCounted);
   }
 
   /**
-   * Parses the next answer to a run. If it is a refusal, `end` is that answer.
+   * Consumes and parses the next answer to a run. For a refusal, `end` is the answer.
    * @returns {Ran}
    */
   takeRun() {

@@ -1,4 +1,4 @@
-// Requests that move the session to a goal, back and forward, and requests that search its past.
+// Requests that move the session to a goal, back and forward, and that search its past.
 
 import { readBoard } from "../bench/answers.js";
 import { nearOf } from "../debug/debugger.js";
@@ -20,7 +20,7 @@ export class TravelRequests {
   }
 
   /**
-   * Sets the names that a condition can use.
+   * Sets the names that conditions can use.
    * @param {{ board: string, program: string, watched?: string[] }} texts
    */
   takeNames(texts) {
@@ -28,7 +28,7 @@ export class TravelRequests {
   }
 
   /**
-   * Moves to a goal, or to an earlier stop. If neither is within `most` cycles, the session is unchanged, and running time continues to it.
+   * Moves to a goal or an earlier stop. If neither is within `most` cycles, the session does not change, and running time continues towards the goal.
    * @param {Goal} goal
    * @param {number} [most]
    * @returns {Promise<ReachedLines>}
@@ -40,21 +40,21 @@ export class TravelRequests {
     return { ...served, ...this.bench.shown(snapshot, false), found, tally };
   }
 
-  /** Drops the goal, because time starts to run or is paused. */
+  /** Drops the goal because the user starts or pauses time. */
   drop() {
     this.bench.debugger.begin();
   }
 
   /**
-   * Goes back. Going forward leads to the former present.
+   * Moves back. A move forward returns to the former present.
    * @param {BackGoal} goal
    * @returns {Promise<TravelResult>}
    */
   async goBack(goal) {
     const totalCycles = this.bench.session.timeline.cycles;
     let done = 0;
-    const went = await this.bench.debugger.goBack(goal, (more = 0) => this.bench.goesOn(done += more, totalCycles));
-    return travelResult(this.bench, "back", went);
+    const outcome = await this.bench.debugger.goBack(goal, (more = 0) => this.bench.goesOn(done += more, totalCycles));
+    return travelResult(this.bench, "back", outcome);
   }
 
   /**
@@ -66,7 +66,7 @@ export class TravelRequests {
   }
 
   /**
-   * Resolves to the last change of a place.
+   * Finds the last change of a place.
    * @param {string} place
    */
   async lastChange(place) {
@@ -76,7 +76,7 @@ export class TravelRequests {
   }
 
   /**
-   * Resolves to the heat map of the last cycles.
+   * Resolves to the heat map for the last cycles.
    * @param {number} cycles
    */
   heat(cycles) {
@@ -88,15 +88,15 @@ export class TravelRequests {
 }
 
 /**
- * Returns the result of a move in time, with the new present to show.
+ * Returns the result of a move in time, with the new present for the page.
  * @param {OpenBench} bench
  * @param {string} word the name of the move in the log
- * @param {WentBack} went
+ * @param {WentBack} outcome
  * @returns {TravelResult}
  */
-function travelResult(bench, word, went) {
+function travelResult(bench, word, outcome) {
   const { session } = bench;
-  const { isDone, wires } = went;
+  const { isDone, wires } = outcome;
   const entries = isDone ? [{ line: `(${word})`, textLines: 0, answers: [bench.engine.ask(session.file, "").opened] }] : [];
-  return { entries, first: "", status: 0, touchesRom: isDone, ...went, ...bench.shown(session.takeSnapshot(), wires) };
+  return { entries, first: "", status: 0, touchesRom: isDone, ...outcome, ...bench.shown(session.takeSnapshot(), wires) };
 }

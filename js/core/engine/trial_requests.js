@@ -17,7 +17,7 @@ export class TrialRequests {
   }
 
   /**
-   * Returns the errors of a text of tests, or of its board and program.
+   * Returns the errors in a test text, or in its board and program.
    * @param {import("../testing/test_suite.js").TestedTexts} texts
    */
   testFaults(texts) {
@@ -25,7 +25,7 @@ export class TrialRequests {
   }
 
   /**
-   * Returns the sample test for a board and its program.
+   * Returns a sample test for a board and its program.
    * @param {import("../testing/prepared.js").Texts} texts
    */
   sampleTest(texts) {
@@ -41,7 +41,7 @@ export class TrialRequests {
   }
 
   /**
-   * Returns the errors of a text of properties, or of its board and program.
+   * Returns the errors in a properties text, or in its board and program.
    * @param {import("../explore/exploring.js").ExploredTexts} texts
    */
   propertyFaults(texts) {
@@ -49,20 +49,20 @@ export class TrialRequests {
   }
 
   /**
-   * Begins a search for counterexamples. Resolves to the errors of the texts.
+   * Starts a search for counterexamples. Resolves to the errors in the texts.
    * @param {import("../explore/exploring.js").ExploredTexts} texts
-   * @param {import("../explore/exploring.js").Asked} asked
+   * @param {import("../explore/exploring.js").Asked} options
    */
-  async explore(texts, asked) {
+  async explore(texts, options) {
     const { readable, faults } = await readToExplore(this.bench.engine, texts);
-    this.exploring = readable && new Exploring(this.bench.engine, texts, readable, asked, async () => {
+    this.exploring = readable && new Exploring(this.bench.engine, texts, readable, options, async () => {
       await this.bench.goesOn(0, 1);
     });
     return faults;
   }
 
   /**
-   * Continues the search for a time, or until it finds something.
+   * Continues the search for a number of milliseconds, or until it finds a counterexample.
    * @param {number} milliseconds
    */
   exploreOn(milliseconds) {

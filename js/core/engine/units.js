@@ -1,10 +1,10 @@
-// The past in units: the commands between two moments, and the runs between them. A caller can repeat the units.
+// Divides the past into units: the commands between two moments, and the runs between these commands. A caller can replay the units.
 
 /**
  * @typedef {import("./timeline.js").Moment} Moment
  * @typedef {import("./timeline.js").Timeline} Timeline
  *
- * A unit: a command, its cycles, and the moment where it begins.
+ * A unit: a command, its cycles, and the moment at which it starts.
  * @typedef {{ line: string, cycles: number, moment: Moment }} Unit
  */
 
@@ -30,9 +30,9 @@ export function unitsBetween(timeline, from, to) {
 }
 
 /**
- * Returns the same units, with long ones split into parts.
+ * Returns the same units, with long units split into parts.
  * @param {Unit[]} units
- * @param {number} maxCycles the maximum of cycles in a part
+ * @param {number} maxCycles the maximum number of cycles in a part
  */
 export function splitUnits(units, maxCycles) {
   return units.flatMap((unit) => {
@@ -53,7 +53,7 @@ export function cyclesOf(units) {
 }
 
 /**
- * Yields units in pieces. A piece ends when it has at least `maxCycles` cycles, or `maxUnits` units.
+ * Yields units in pieces. A piece ends after at least `maxCycles` cycles or `maxUnits` units.
  * @param {Unit[]} units
  * @param {number} maxCycles
  * @param {number} maxUnits

@@ -1,4 +1,4 @@
-// Records a board's lines over time, in the worker. It runs a copy of a session, and asks the bench for a forecast before each run.
+// Records the signal lines of a board over time, in the worker. It runs a copy of a session, and asks the bench for a forecast before each run.
 
 import { readBoard } from "../bench/answers.js";
 import { Cancelled } from "../bench/faults.js";
@@ -18,34 +18,34 @@ import { withoutStops } from "./without_stops.js";
  * @typedef {import("./units.js").Unit} Unit
  * @typedef {import("../waves/wave_lines.js").WaveLine} WaveLine
  *
- * The program in ROM: its text, the line of each address (0 for none), and its labels by rising address.
+ * The program in ROM: its text, the source lines by address (0 for none), and its labels in ascending address order.
  * @typedef {{ text: string, lines: Uint16Array, labels: { address: number, name: string }[] }} RecordedProgram
  *
- * A recording as a message contains it, or the next part of one. A moment is a number of cycles since the beginning. The value at a moment
- * is the value after that many cycles.
- * - `from`, `cycles`: the moments where the part begins and ends;
- * - `isStuck`: the next code is not an instruction;
- * - `tracks`: each line over time;
- * - `moments`, `counters`: the beginning of each instruction and the end, and the program counter at each of them;
- * - `isOwed`: the first of these moments is the second cycle of an instruction;
- * - `listing`: the lines of the listing at new counters.
+ * A recording in a message, or the next part of one. A moment is a number of cycles since the start. The value at a moment is the value after that
+ * many cycles.
+ * - `from`, `cycles`: the moments at which the part starts and ends;
+ * - `isStuck`: true if the next opcode is not an instruction;
+ * - `tracks`: the signal lines over time;
+ * - `moments`, `counters`: the start of each instruction and the end, and the program counters at these moments;
+ * - `isOwed`: true if the first of these moments is the second cycle of an instruction;
+ * - `listing`: the listing lines at new program counters.
  * @typedef {import("./wave_taking.js").Taken & { listing: [number, string][] }} RecordedPart
  *
- * A complete recording, with its lines. `program` is null if the text is not the program in ROM.
+ * A complete recording with its signal lines. `program` is null if the text is not the program in ROM.
  * @typedef {RecordedPart & { lines: WaveLine[], program: RecordedProgram | null }} Recorded
  *
- * The texts for a recording: the board's text for names, the program in ROM, and the names of registers and RAM nibbles to record in
- * addition to the lines of the board.
+ * The texts for a recording: the board text for names, the program in ROM, and the names of registers and RAM nibbles to record in addition to the
+ * board lines.
  * @typedef {{ board: string, program: RecordedProgram | null, values: string[] }} Texts
  *
- * A callback that receives how many cycles are done, and resolves to whether to continue.
+ * A callback that receives the number of completed cycles, and resolves to true to continue.
  * @typedef {(done: number) => Promise<boolean>} GoesOn
  */
 
 class WaveRecorder {
   /**
    * @param {Engine} engine
-   * @param {Uint8Array} file the state to run; it is changed
+   * @param {Uint8Array} file the session file to run; changed
    * @param {Texts} texts
    */
   constructor(engine, file, texts) {
@@ -58,7 +58,7 @@ class WaveRecorder {
   }
 
   /**
-   * Runs units, and records them.
+   * Runs units and records them.
    * @param {Pick<Unit, "line" | "cycles">[]} units
    */
   record(units) {
@@ -79,13 +79,13 @@ class WaveRecorder {
   recorded() {
     const { engine, file, taking, program } = this;
     taking.takeState(engine.ask(file, "state\n").answers[0]);
-    const taken = taking.take();
-    return { ...taken, lines: taking.lines, listing: listedAt(engine, file, new Set(taken.counters)), program };
+    const part = taking.take();
+    return { ...part, lines: taking.lines, listing: listedAt(engine, file, new Set(part.counters)), program };
   }
 }
 
 /**
- * Returns the lines of the listing at some addresses.
+ * Returns the listing lines at some addresses.
  * @param {Engine} engine
  * @param {Uint8Array} file
  * @param {Iterable<number>} addresses
@@ -99,7 +99,7 @@ export function listedAt(engine, file, addresses) {
 }
 
 /**
- * Records the next cycles, without stopping at breakpoints and watches. The file is unchanged.
+ * Records the next cycles without a stop at breakpoints and watches. The file does not change.
  * @param {Engine} engine
  * @param {Uint8Array} file
  * @param {number} cycles
@@ -119,8 +119,8 @@ export async function recordAfter(engine, file, cycles, texts, goesOn) {
 }
 
 /**
- * Returns the moment where a recording of the past begins: `cycles` cycles ago, or the beginning of the past. If the board was changed
- * later, the recording begins after that change.
+ * Returns the start of a recording of the past: the moment `cycles` cycles ago, or the start of the past. If the board changed after that moment, the
+ * recording starts after the change.
  * @param {Timeline} timeline
  * @param {number} cycles
  * @returns {Moment}
@@ -140,7 +140,7 @@ function beginningBefore(timeline, cycles) {
 }
 
 /**
- * Returns the units from a moment up to the present.
+ * Returns the units from a moment to the present.
  * @param {Timeline} timeline
  * @param {Moment} from
  */
@@ -153,7 +153,7 @@ function unitsFrom(timeline, from) {
 }
 
 /**
- * Records the last cycles before the present, as far as the past reaches, by repeating them with all commands between them.
+ * Records the last cycles before the present, as far as the past reaches. For this, a copy runs the cycles and all commands between them again.
  * @param {Engine} engine
  * @param {Timeline} timeline
  * @param {number} cycles

@@ -1,5 +1,5 @@
-// Records the lines of a board piece by piece, for a file that is written meanwhile. Only one piece is in memory, however long the
-// recording is.
+// Records the signal lines of a board piece by piece for a file that is written at the same time. Only one piece is in memory, even for a long
+// recording.
 
 import { Waves } from "../waves/wave_recording.js";
 import { Answers } from "./tracing.js";
@@ -12,20 +12,20 @@ import { WaveTaking } from "./wave_taking.js";
  * @typedef {import("../waves/wave_lines.js").WaveLine} WaveLine
  */
 
-/** The cycles of a piece. */
+/** The length of a piece in cycles. */
 const PIECE = 20000;
 
 /**
- * Returns whether a line follows the program counter.
+ * Returns whether a signal line depends on the program counter.
  * @param {WaveLine} line
  */
 const followsCounter = ({ kind }) => kind === "pc" || kind === "label";
 
 /**
  * Returns the chosen lines of a board, and the member lines of chosen ports.
- * @param {WaveLine[]} lines the lines of the board
+ * @param {WaveLine[]} lines the signal lines of the board
  * @param {number[]} chosen the indices of the chosen lines
- * @returns {{ lines: WaveLine[], chosen: number[] }} `chosen` are the chosen lines by their new indices
+ * @returns {{ lines: WaveLine[], chosen: number[] }} `chosen` are the new indices of the chosen lines
  */
 export function neededLines(lines, chosen) {
   const needed = [...new Set(chosen.flatMap((line) => [line, ...lines[line].members]))];
@@ -38,11 +38,11 @@ export function neededLines(lines, chosen) {
 }
 
 /**
- * Records the next cycles of a state that has no breakpoints and no watches. Yields the recording at its beginning, and after each piece.
+ * Records the next cycles of a state without breakpoints and watches. Yields the recording at its start and after each piece.
  * @param {EngineHost} engine
- * @param {State} state is moved to the end of the recording
+ * @param {State} state the state; changed to the state at the end of the recording
  * @param {{ lines: WaveLine[], program: RecordedProgram | null, cycles: number }} wanted
- * @param {() => Promise<any>} yieldToMessages is called between pieces
+ * @param {() => Promise<any>} yieldToMessages called between pieces
  */
 export async function* recordPieces(engine, state, { lines, program, cycles }, yieldToMessages) {
   const taking = new WaveTaking(lines, lines.some(followsCounter));

@@ -1,4 +1,4 @@
-// Extracts a recording from the bench's answers: the moments when each line changes, and when each instruction begins.
+// Builds a recording from the bench's answers: the moments at which signal lines change, and at which instructions start.
 
 import { MOST_PLACES } from "../bench/inputs.js";
 import { valueIn } from "../bench/state_line.js";
@@ -11,13 +11,13 @@ import { readTraced, valuesOf } from "./tracing.js";
  * @typedef {import("../waves/track.js").TrackData} TrackData
  * @typedef {import("../waves/wave_lines.js").WaveLine} WaveLine
  *
- * A reader of a line: the line's index, and a function from the report of its place to its value.
+ * A reader of a line: the index of the line, and a function that converts the reported value of the place to the value of the line.
  * @typedef {{ member: number, read: (answer: string) => number }} Reader
  *
- * A place, the lines to read from it, and the position of its report in each row.
+ * A place, the lines to read from it, and the position of its value in each row.
  * @typedef {{ place: string, readers: Reader[], from: number, to: number }} Field
  *
- * Places that one query asks for, and the last row of their reports.
+ * The places of one query, and the last row of their values.
  * @typedef {{ fields: Field[], row: string }} Group
  *
  * The part of a recording since the last call of `take`.
@@ -31,7 +31,7 @@ const ZERO = 48;
 const NINE = 57;
 
 /**
- * Returns the value of a hexadecimal digit in upper case.
+ * Returns the value of an upper-case hexadecimal digit.
  * @param {string} line
  * @param {number} at
  */
@@ -41,8 +41,8 @@ function digitAt(line, at) {
 }
 
 /**
- * Returns the place of `trace` that reports a line of the board, and how to read the line. A port reports a digit whose bit k is line k. A
- * chain reports its bits.
+ * Returns the `trace` place that reports a board line, and a function that reads the line from the value. A port reports a digit whose bit k is line
+ * k. A chain reports its bits.
  * @param {string} line `rom0.3`, `ram0.1.3`, `chain0.5`
  */
 function placeOfLevel(line) {
@@ -54,7 +54,7 @@ function placeOfLevel(line) {
 }
 
 /**
- * Returns the places of lines without duplicates, and how to read the lines from them.
+ * Returns the places of lines without duplicates, and the functions that read the lines from the places.
  * @param {WaveLine[]} lines
  * @param {"level" | "value"} wanted the kind of lines
  */
@@ -71,8 +71,8 @@ function placesOf(lines, wanted) {
 }
 
 /**
- * Returns a place for each digit of a value. Reading a digit returns the value with all digits read so far.
- * @param {string[]} places the highest digit first
+ * Returns one place per digit of a value. The function that reads a digit returns the value that consists of all digits read so far.
+ * @param {string[]} places most significant digit first
  */
 function placesOfValue(places) {
   const digits = places.map(() => "0");
@@ -86,8 +86,7 @@ function placesOfValue(places) {
 }
 
 /**
- * Returns the places of lines in groups, one group for each query. Ports and values are in different groups, because values change far more
- * often.
+ * Returns the places of lines in groups, one group per query. Ports and values are in separate groups because values change far more often.
  * @param {WaveLine[]} lines
  */
 function groupsOf(lines) {
@@ -100,7 +99,7 @@ function groupsOf(lines) {
 }
 
 /**
- * Sets the position of each place in the rows of a group. The report of a place always has the same length.
+ * Sets the position of each place in the rows of a group. The length of each value is constant.
  * @param {Group} group
  * @param {string} row
  */
@@ -114,7 +113,7 @@ function setPositions({ fields }, row) {
 }
 
 /**
- * Returns whether two rows are equal between two positions.
+ * Returns whether two rows are equal in a range.
  * @param {string} left
  * @param {string} right
  * @param {number} from
@@ -125,17 +124,17 @@ function isSame(left, right, from, to) {
   return true;
 }
 
-/** Builds a recording from answers to its queries, to runs and to `state`. */
+/** Builds a recording from the answers to its queries, to runs and to `state`. */
 export class WaveTaking {
   /**
    * @param {WaveLine[]} lines
-   * @param {boolean} [hasCounter] whether to record the beginning of each instruction
+   * @param {boolean} [hasCounter] true to record the start of each instruction
    */
   constructor(lines, hasCounter = true) {
     this.lines = lines;
     this.hasCounter = hasCounter;
     this.elapsed = 0;
-    /** True if the code at the program counter is not an instruction. */
+    /** True if the opcode at the program counter is not an instruction. */
     this.isStuck = false;
     this.isOwed = false;
     this.hasBegun = false;
@@ -143,12 +142,12 @@ export class WaveTaking {
     this.tracks = lines.map(({ width }) => new Track(emptyTrack(width)));
     this.moments = new NumberQueue(new Uint32Array(0));
     this.counters = new NumberQueue(new Uint16Array(0));
-    /** The end of the last part. */
+    /** The end of the previous part. */
     this.from = 0;
   }
 
   /**
-   * Returns the queries before a run: a `trace` of each instruction, and a `trace` for each group of places.
+   * Returns the queries before a run: a `trace` of all instructions, and a `trace` for each group of places.
    * @param {number} cycles the length of the run
    */
   queries(cycles) {
@@ -180,12 +179,12 @@ export class WaveTaking {
     this.takeEnd(ran);
   }
 
-  /** @param {Answers} answers to the queries */
+  /** @param {Answers} answers the answers to the queries */
   takeForecast(answers) {
     if (this.hasCounter) for (const line of answers.takeTrace().lines) this.takeBegun(line);
     for (const group of this.groups) {
       const trace = answers.takeTrace();
-      // The command before the run can have changed the row.
+      // A command before the run can have changed the row.
       this.takeRow(group, trace.row, this.elapsed);
       for (const line of trace.lines) {
         const { cycles, row } = readTraced(line);
@@ -195,7 +194,7 @@ export class WaveTaking {
   }
 
   /**
-   * Reads the line of an instruction, as `5 00A`. A frame has more than a thousand of these lines, so this parses them by character.
+   * Reads an instruction line such as `5 00A`. A frame has more than a thousand such lines, so this method parses them character by character.
    * @param {string} line
    */
   takeBegun(line) {
@@ -226,7 +225,7 @@ export class WaveTaking {
       if (kind === "key") this.tracks[member].set(Number(keys.includes(`,${places[0]},`)), this.elapsed);
       if (kind === "test") this.tracks[member].set(test, this.elapsed);
     });
-    // During the second cycle of an instruction, the counter is that of the next one.
+    // During the second cycle of an instruction, the counter already points to the next instruction.
     if (valueIn(state, "owed") === "0" || !this.hasBegun) {
       this.takeInstruction(this.elapsed, parseInt(valueIn(state, "pc"), 16));
     }
@@ -247,9 +246,9 @@ export class WaveTaking {
   }
 
   /**
-   * Reads a row of reports, and records the values that have changed.
+   * Reads a row of values, and records the values that have changed.
    * @param {Group} group
-   * @param {string} row the reports of the places, with a blank before each
+   * @param {string} row the values of the places, each preceded by a blank
    * @param {number} moment
    */
   takeRow(group, row, moment) {
@@ -264,7 +263,7 @@ export class WaveTaking {
   }
 
   /**
-   * Returns the part of the recording since the last call.
+   * Returns the part of the recording since the previous call.
    * @returns {Taken}
    */
   take() {

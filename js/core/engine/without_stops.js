@@ -1,4 +1,4 @@
-// A copy of a state without breakpoints and watches, so that nothing stops its runs.
+// Creates a copy of a state without breakpoints and watches, so that nothing stops its runs.
 
 import { readMarks } from "../bench/answers.js";
 import { joinLines } from "../bench/inputs.js";

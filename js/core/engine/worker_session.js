@@ -1,5 +1,5 @@
-// The session in the worker: the bytes of its file, the waiting changes of keys, and the calls on them. A call succeeds completely, or it
-// throws and changes nothing.
+// The session in the worker: the bytes of its file, the waiting key changes, and the calls on them. A call either succeeds completely, or throws and
+// changes nothing.
 
 import { CycleCount, acceptedOf } from "./accepted.js";
 import { linesWithQueries, splitAnswers } from "./asking.js";
@@ -31,25 +31,24 @@ import { SEGMENT_ENTRIES, Timeline } from "./timeline.js";
  * @typedef {import("./sounding.js").Sounding} Sounding
  * @typedef {import("../bench/run_log.js").RanEntry} RanEntry
  *
- * An input, the number of lines in its text, and its answers.
+ * An input, the number of lines in its text, and its answer lines.
  * @typedef {{ line: string, textLines: number, answers: string[] }} Answered
  *
- * The result of lines: the last inputs, the first answer, the shell's final status, and whether the lines can have changed ROM or the
- * board.
+ * The result of served lines: the last inputs, the first answer, the shell's final status, and whether the lines can have changed ROM or the board.
  * @typedef {{ entries: Answered[], first: string, status: number, touchesRom: boolean, wires: boolean }} LinesResult
  * @typedef {LinesResult & { snapshot: string[] }} ResultAndSnapshot
  *
- * The result of running. `end` is the answer that ended the run early, or "". `litShares`, `heard` and `warmed` are the light, the sound
- * and the changes of RAM, null if not requested.
+ * The result of a run. `end` is the answer that ended the run early, or "". `litShares`, `heard` and `warmed` are lamp brightness, sound and RAM
+ * changes; each is null if not requested.
  * @typedef {{ ran: RanEntry[], cycles: number, end: string, changesKeys: boolean, snapshot: string[], litShares: LitShares | null, heard:
  * Heard | null, warmed: PassedHeat | null }} Frame
  */
 
-/** The maximum of served inputs in a result. */
+/** The maximum number of served inputs in a result. */
 export const MAX_ENTRIES = 400;
-/** The maximum of cycles that a recording repeats after lines were served. */
+/** The maximum number of served cycles that a recording replays. */
 const MAX_FOLLOWED_CYCLES = 2000000;
-/** The size of a piece of lines, in characters. */
+/** The size of a piece of lines in characters: initial, minimum and maximum. */
 const FIRST_PIECE = 4096;
 const MIN_PIECE = 256;
 const MAX_PIECE = 1 << 20;
@@ -59,44 +58,44 @@ const TOUCHES_ROM = { poke: true, wire: true, asm: true };
 
 export class WorkerSession {
   /**
-   * Opens a session. Throws if the bytes are not a session.
+   * Opens a session. Throws if the bytes are not a valid session.
    * @param {Engine} engine
-   * @param {Uint8Array} file now belongs to this session, which changes it
+   * @param {Uint8Array} file the session file; this session takes it over and changes it
    * @param {CycleCount} [count] the cycle count of the session
    */
   constructor(engine, file, count = new CycleCount()) {
     this.engine = engine;
     this.file = file;
     this.count = count;
-    /** The buffer for the next file: a call writes to it, and then swaps it with `file`. */
+    /** The buffer for the next file. A call writes to the buffer and then swaps it with `file`. */
     this.next = new Uint8Array(file.length);
     this.queue = new KeyQueue();
     this.statusQueries = statusQueriesOf(engine, file);
     this.timeline = new Timeline(this);
-    /** @type {Accepted[]} changes of breakpoints since the last travel in time, recorded before the next command */
+    /** @type {Accepted[]} breakpoint changes since the last move in time; recorded before the next command */
     this.unrecorded = [];
-    /** @type {Uint8Array | null} the bytes in ROM, null until they are read */
+    /** @type {Uint8Array | null} the bytes in ROM; null until they are read */
     this.readCodes = null;
-    /** @type {LiveRecorder | null} the recorder of the lines of the board */
+    /** @type {LiveRecorder | null} the recorder of the board's signal lines */
     this.recorder = null;
     /** @type {Printing | null} the printout of the board's printer */
     this.printing = null;
-    /** @type {Sounding | null} reports the edges of a line while time is running, if requested */
+    /** @type {Sounding | null} reports the edges of a signal line while time runs, if requested */
     this.sounding = null;
-    /** @type {BrightnessMeter | null} measures light while time is running, if requested */
+    /** @type {BrightnessMeter | null} measures lamp brightness while time runs, if requested */
     this.brightnessMeter = null;
-    /** @type {Heating | null} counts changes of RAM while time is running, if requested */
+    /** @type {Heating | null} counts RAM changes while time runs, if requested */
     this.heating = null;
   }
 
-  /** Ends the reports, because they belong to another board. */
+  /** Ends the reports for another board. */
   forgetMeters() {
     this.brightnessMeter = null;
     this.sounding = null;
     this.heating = null;
   }
 
-  /** The recorder, or null if it is not recording. */
+  /** The recorder if it is recording, otherwise null. */
   get recording() {
     return this.recorder && this.recorder.isOn ? this.recorder : null;
   }
@@ -108,7 +107,7 @@ export class WorkerSession {
   }
 
   /**
-   * Returns the answers to queries, without changing the session.
+   * Returns the answers to queries. The session does not change.
    * @param {string} lines
    */
   ask(lines) {
@@ -119,13 +118,13 @@ export class WorkerSession {
     return snapshotAt(this.engine, this.file, this.statusQueries);
   }
 
-  /** Makes the result of the last call the session's file. */
+  /** Makes the result of the last call the session file. */
   adopt() {
     [this.file, this.next] = [this.next, this.file];
   }
 
   /**
-   * Runs the next cycles, with the changes of keys that are due, and takes a snapshot, in one call.
+   * Runs the next cycles, including the due key changes, and takes a snapshot, all in one call.
    * @param {number} cycles
    * @returns {Frame}
    */
@@ -134,7 +133,7 @@ export class WorkerSession {
   }
 
   /**
-   * Serves lines of the queue's plan, and takes a snapshot.
+   * Serves planned lines and takes a snapshot.
    * @param {PlannedLine[]} planned
    * @returns {Frame}
    */
@@ -173,7 +172,7 @@ export class WorkerSession {
   }
 
   /**
-   * Replaces the session by its state at another moment. Returns whether the board has changed.
+   * Replaces the session with its state at another moment. Returns whether the board has changed.
    * @param {{ file: Uint8Array, count: CycleCount }} present
    */
   become({ file, count }) {
@@ -190,13 +189,14 @@ export class WorkerSession {
     return wires;
   }
 
-  /** The addresses of the breakpoints in the bench. */
+  /** The breakpoint addresses in the bench. */
   get breaks() {
     return readMarks(this.ask("breaks\n")[0]).map((address) => parseInt(address, 16));
   }
 
   /**
-   * Changes breakpoints after a travel in time. They become part of the past only with the next command, so that going forward still works.
+   * Changes breakpoints after a move in time. The changes become part of the past only with the next command, so that a move forward is still
+   * possible.
    * @param {string} lines commands that change breakpoints
    */
   changeBreaks(lines) {
@@ -206,8 +206,8 @@ export class WorkerSession {
   }
 
   /**
-   * Serves lines up to the first run that stops early, or up to a refusal. The call serves all lines. If an answer shows such an end, the
-   * result is discarded, and another call serves the lines up to that end.
+   * Serves lines up to the first run that stops early, or up to a refusal. One call serves all lines. If an answer shows such an end, the result is
+   * discarded, and another call serves only the lines up to that end.
    * @param {PlannedLine[]} planned
    */
   servePlanned(planned) {
@@ -219,9 +219,9 @@ export class WorkerSession {
       served = this.tryPlanned(done);
     }
     const { recording } = this;
-    const cut = recording ? recording.take(done, served.traced, served.answers) : -1;
-    if (cut >= 0) {
-      done = linesUpTo(done, cut);
+    const stopCycle = recording ? recording.take(done, served.traced, served.answers) : -1;
+    if (stopCycle >= 0) {
+      done = linesUpTo(done, stopCycle);
       served = this.tryPlanned(done);
     }
     const answers = served.answers.slice(0, done.length);
@@ -230,7 +230,7 @@ export class WorkerSession {
   }
 
   /**
-   * Returns the meters of lamps, of the buzzer's line and of RAM. Each is null if it is not requested, or if the lines are too long.
+   * Returns the meters of lamps, buzzer and RAM. A meter is null if it is not requested, or if the lines are too long.
    * @param {PlannedLine[]} planned
    */
   metersFor(planned) {
@@ -239,7 +239,7 @@ export class WorkerSession {
     return isShort ? { brightnessMeter, sounding, heating } : { brightnessMeter: null, sounding: null, heating: null };
   }
 
-  /** Returns the light and the changes of RAM in the next 30 ms. Each is null if it is not requested. */
+  /** Returns the lamp brightness and the RAM changes of the next 30 ms; each is null if not requested. */
   measureAhead() {
     const { brightnessMeter, heating } = this;
     return {
@@ -248,7 +248,7 @@ export class WorkerSession {
     };
   }
 
-  /** @param {PlannedLine[]} planned lines to serve in one call, with the queries of all askers; `file` is unchanged */
+  /** @param {PlannedLine[]} planned the lines to serve in one call, with the queries of all askers; `file` does not change */
   tryPlanned(planned) {
     const { recording, printing } = this;
     const { brightnessMeter, sounding, heating } = this.metersFor(planned);
@@ -270,8 +270,8 @@ export class WorkerSession {
   }
 
   /**
-   * Records lines that were served.
-   * @param {Uint8Array} before the file before them
+   * Records served lines.
+   * @param {Uint8Array} before the session file before the lines
    * @param {Accepted[]} accepted
    */
   follow(before, accepted) {
@@ -283,28 +283,27 @@ export class WorkerSession {
   }
 
   /**
-   * Serves lines piece by piece: all of them, or none if a piece fails or the work is cancelled.
+   * Serves lines piece by piece, either all or none: nothing changes if a piece fails or the work is cancelled.
    * @param {string} lines
-   * @param {(done: number) => Promise<boolean>} goesOn receives the number of characters done after each piece, and resolves to whether to
-   * continue
+   * @param {(done: number) => Promise<boolean>} goesOn called after each piece with the number of processed characters; resolves to true to continue
    * @returns {Promise<ResultAndSnapshot>}
    */
   async serve(lines, goesOn) {
     const report = new LinesReport(this.count.copy());
     const before = this.recording ? this.file.slice() : null;
     const printing = this.printing && this.printing.copy();
-    // The next piece is served on `from`. The session's own file is unchanged until all pieces are done.
+    // Each piece is served on `from`. The session file does not change until all pieces are done.
     let [from, to] = [this.file, this.next];
     const size = new PieceSize(FIRST_PIECE, MIN_PIECE, MAX_PIECE);
     for (let at = 0; at < lines.length;) {
       const end = endOfInputs(lines, at, size.size);
       const piece = lines.slice(at, end);
       const served = size.measure(() => {
-        const done = this.engine.serve(from, piece, to);
+        const result = this.engine.serve(from, piece, to);
         const { total } = report.count;
-        const accepted = report.add(piece, done);
+        const accepted = report.add(piece, result);
         if (printing) printing.follow(this.engine, from.slice(), accepted, total);
-        return done;
+        return result;
       });
       [from, to] = [to, from === this.file ? new Uint8Array(from.length) : from];
       at = end;
@@ -313,7 +312,7 @@ export class WorkerSession {
     }
     const statusQueries = report.wires ? statusQueriesOf(this.engine, from) : this.statusQueries;
     const snapshot = snapshotAt(this.engine, from, statusQueries);
-    // Nothing below can fail: the session changes now.
+    // Nothing below can fail. The session changes now.
     if (from !== this.file) [this.file, this.next] = [from, this.file];
     this.statusQueries = statusQueries;
     if (report.touchesRom) this.readCodes = null;
@@ -322,7 +321,7 @@ export class WorkerSession {
     this.printing = printing;
     if (report.accepted.length > 0) this.timeline.record([...this.unrecorded.splice(0), ...report.accepted], this);
     this.timeline.stop();
-    // The waiting changes of keys belong to the old board.
+    // The waiting key changes belong to the old board.
     if (report.wires) this.queue.clear();
     if (report.wires) this.forgetMeters();
     if (before) this.follow(before, report.accepted);
@@ -357,12 +356,12 @@ function snapshotAt(engine, file, { lines, inputs }) {
   return snapshotOf(inputs, engine.ask(file, lines).answers);
 }
 
-/** Collects the results of pieces. */
+/** Collects the results of all pieces. */
 class LinesReport {
   /** @param {CycleCount} count the cycle count before the first piece */
   constructor(count) {
     this.count = count;
-    /** @type {Accepted[]} the accepted commands; incomplete if there are too many to repeat them */
+    /** @type {Accepted[]} the accepted commands; incomplete if there are too many to replay */
     this.accepted = [];
     /** @type {Answered[]} */
     this.entries = [];
@@ -373,7 +372,7 @@ class LinesReport {
   }
 
   /**
-   * Adds the result of a piece, and returns its accepted commands.
+   * Adds the result of a piece; returns the accepted commands of the piece.
    * @param {string} lines
    * @param {Served} served
    */
@@ -386,7 +385,7 @@ class LinesReport {
     if (this.first === "" && answers.length > 0) this.first = answers[0];
     this.status = status;
     this.touchesRom = this.touchesRom || inputs.some((input) => TOUCHES_ROM[input.kind]);
-    // A rejected board leaves the present one unchanged.
+    // If the bench rejects a board, the current board stays.
     this.wires = this.wires || inputs.some((input, at) => input.kind === "wire" && !matched[at].some(isStop));
     const from = Math.max(0, inputs.length - MAX_ENTRIES);
     const entries = inputs.slice(from).map(({ line, text }, at) => ({ line, textLines: text.length, answers: matched[from + at] }));

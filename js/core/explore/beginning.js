@@ -1,5 +1,5 @@
-// The start of a search from a state of the program's tests (`from STATE`): the tests that lead to it are run once, and their lines precede
-// each counterexample.
+// The start of a search from a saved test state (`from STATE`). The tests that lead to the state run once, and their lines precede each
+// counterexample.
 
 import { partsOfState, portsOf } from "../bench/state_line.js";
 import { KeysDown } from "../board/key_place.js";
@@ -17,14 +17,14 @@ import * as say from "../../words/explore.js";
  * @typedef {{ subject: Subject, campaign: Campaign }} Readable
  */
 
-/** Counts the calls that are open after consecutive tests. */
+/** Counts the open calls over consecutive tests. */
 class OpenCalls extends Account {
   begin() {
     this.waiting.key = "";
   }
 
   end() {
-    // The calls of a test are still open when the next test continues.
+    // Calls of a test stay open when the next test continues.
   }
 }
 
@@ -33,12 +33,12 @@ class OpenCalls extends Account {
  * @param {Test} test
  * @param {string} state
  */
-function saves({ steps }, state) {
+function savesState({ steps }, state) {
   return steps.some(({ action }) => action.kind === "save" && action.state === state);
 }
 
 /**
- * Returns the tests that lead to a state, in their order, or in words why there are none.
+ * Returns the tests that lead to a state, in order; or a message if there are none.
  * @param {Prepared["names"]} names
  * @param {string} testText
  * @param {string} state
@@ -48,22 +48,22 @@ export function testsThatLead(names, testText, state) {
   const { tests, faults } = readTests(testText, names);
   if (testText.trim() === "") return { tests: [], words: say.noTests(state) };
   if (faults.length > 0) return { tests: [], words: say.testsFault(faults[0].line, faults[0].words) };
-  const last = tests.find((test) => saves(test, state));
+  const last = tests.find((test) => savesState(test, state));
   if (!last) {
-    const there = tests.flatMap(({ steps }) => steps.flatMap(({ action }) => (action.kind === "save" ? [action.state] : [])));
-    return { tests: [], words: say.noSuchState(state, there.join(" ")) };
+    const stateNames = tests.flatMap(({ steps }) => steps.flatMap(({ action }) => (action.kind === "save" ? [action.state] : [])));
+    return { tests: [], words: say.noSuchState(state, stateNames.join(" ")) };
   }
   const before = last.from === "" ? [] : testsThatLead(names, testText, last.from).tests;
   return { tests: [...before, last], words: "" };
 }
 
 /**
- * Returns the tests, each cut after the line that saves the state from which the next one continues.
+ * Returns the tests, each cut after the line that saves the state from which the next test continues.
  * @param {Test[]} tests
  * @param {string} state
  * @returns {Test[]}
  */
-function upToStates(tests, state) {
+function cutAtStates(tests, state) {
   return tests.map((test, at) => {
     const wanted = at + 1 < tests.length ? tests[at + 1].from : state;
     const end = test.steps.findIndex(({ action }) => action.kind === "save" && action.state === wanted);
@@ -72,7 +72,7 @@ function upToStates(tests, state) {
 }
 
 /**
- * Returns the lines of tests, except those that save a state or continue from one.
+ * Returns the lines of tests, except the lines that save a state or continue from one.
  * @param {Test[]} tests
  */
 function linesOf(tests) {
@@ -81,7 +81,7 @@ function linesOf(tests) {
 }
 
 /**
- * Returns how many calls are open after tests; unknown after a power cycle in one of them.
+ * Returns the range of the number of open calls after tests. The number is unknown if one of the tests resets the machine.
  * @param {Test[]} tests
  * @param {OpenCalls} account
  */
@@ -92,7 +92,7 @@ function callsOf(tests, account) {
 }
 
 /**
- * Returns an input that is down or up as in a session.
+ * Returns an input in its position in a session.
  * @param {Input} input
  * @param {string} state the answer to `state`
  * @returns {Input}
@@ -103,7 +103,7 @@ function inputIn(input, state) {
 }
 
 /**
- * Returns the campaign from its starting state, or in words why it cannot start.
+ * Returns the campaign at its start state, or a message if it cannot start.
  * @param {Readable} readable
  * @param {Prepared} prepared
  * @param {string} testText
@@ -118,7 +118,7 @@ export async function begun(readable, prepared, testText) {
   const account = new OpenCalls(prepared.codes);
   const run = new TestRun(subject.engine, prepared, account, async () => {});
   let failed = "";
-  const leading = upToStates(tests, state);
+  const leading = cutAtStates(tests, state);
   for (const test of leading) {
     const { failure } = await run.run(test, "");
     if (failure && failed === "") failed = say.testFails(failure.line, failure.text, failure.words);

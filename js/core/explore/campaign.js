@@ -1,4 +1,5 @@
-// A text of properties: the inputs, what makes a state new, and what must hold. Its lines are in the manual ("Looking for what breaks it").
+// Parses a properties text: the inputs, the definition of new states, and the properties. The manual describes its lines ("Looking for what breaks
+// it").
 
 import { LONGEST_RUN } from "../engine/key_queue.js";
 import { hasScannedDisplay } from "../engine/seen_text.js";
@@ -20,20 +21,20 @@ import { noKey } from "../../words/testing.js";
  * @typedef {import("./properties.js").Guard} Guard
  * @typedef {import("./properties.js").Property} Property
  * @typedef {import("./subject.js").Subject} Subject
- * @typedef {{ line: number, column: number, words: string }} Fault `column` counts from 0, -1 if none is known
+ * @typedef {{ line: number, column: number, words: string }} Fault `column` counts from 0; -1 if unknown
  *
  * @typedef {{ inputs: Input[], together: number, canReset: boolean, shortest: number, longest: number, held: number, apart: number, begin:
  * number, down: number, up: number, notes: string[], properties: Property[], command: string, from: From | null, before: string[], calls: {
  * least: number, most: number } }} Campaign `shortest` and `longest` are waits, `held` is the longest press, `apart` the shortest release,
- * `begin` is when the properties begin to be judged, `down` and `up` are the press and the release for a model, in cycles; `notes` are
- * places of `trace`; `before` are lines of a test that lead to the start, and `calls` how many are open there
+ * `begin` is the time at which the judging of properties starts, `down` and `up` are the press and release times for a model, all in cycles.
+ * `notes` are `trace` places. `before` are the test lines that lead to the start, and `calls` the range of the number of open calls there
  *
- * A state of tests to start from, the file that has it ("" for the tests next to the properties), and the line that names it.
+ * A test state to start from, the file that saves it ("" for the tests next to the properties), and the line that names it.
  * @typedef {{ state: string, file: string, line: number }} From
  */
 
 /**
- * Returns the column in a line for a column in the same line with single blanks.
+ * Converts a column in a line with single blanks to the column in the original line.
  * @param {string} whole
  * @param {number} column
  */
@@ -46,12 +47,12 @@ function columnIn(whole, column) {
   return place;
 }
 
-const MOST_NOTES = 16;
-/** The default number of keys that can be down together. */
-const TOGETHER = 2;
-/** The default waits, 1 and 20 ms, and the default pace of a model's keys. */
-const WAITS = { shortest: cyclesOfMs(1), longest: cyclesOfMs(20) };
-const PACE = { down: TOOL_KEY_DOWN_CYCLES, up: TOOL_KEY_UP_CYCLES };
+const MAX_NOTES = 16;
+/** The default maximum number of keys that are pressed at the same time. */
+const DEFAULT_TOGETHER = 2;
+/** The default waits (1 and 20 ms), and the default press and release times of a model's keys. */
+const DEFAULT_WAITS = { shortest: cyclesOfMs(1), longest: cyclesOfMs(20) };
+const DEFAULT_PACE = { down: TOOL_KEY_DOWN_CYCLES, up: TOOL_KEY_UP_CYCLES };
 
 class Reader {
   /** @param {Subject} subject */
@@ -64,21 +65,21 @@ class Reader {
     this.properties = [];
     /** @type {string[]} */
     this.notes = [];
-    this.together = TOGETHER;
+    this.together = DEFAULT_TOGETHER;
     this.canReset = false;
-    this.shortest = WAITS.shortest;
-    this.longest = WAITS.longest;
-    this.down = PACE.down;
-    this.up = PACE.up;
+    this.shortest = DEFAULT_WAITS.shortest;
+    this.longest = DEFAULT_WAITS.longest;
+    this.down = DEFAULT_PACE.down;
+    this.up = DEFAULT_PACE.up;
     this.held = Infinity;
     this.apart = 0;
     this.begin = 0;
     this.command = "";
     /** @type {{ state: string, file: string } | null} */
     this.from = null;
-    /** The condition that must hold while the property of this line is judged; "" for none. */
+    /** The `while` condition of the current line; "" for none. */
     this.during = "";
-    /** The current line, and the index from which a condition is searched for in it. */
+    /** The current line, and the index from which to search for a condition in it. */
     this.line = "";
     this.looked = 0;
   }
@@ -90,7 +91,7 @@ class Reader {
   }
 
   /**
-   * Returns a condition that violates a property, or reaches a goal, only while that of `while` holds.
+   * Returns a condition that violates a property, or reaches a goal, only while the `while` condition is true.
    * @param {string} text
    */
   met(text) {
@@ -99,7 +100,7 @@ class Reader {
   }
 
   /**
-   * Returns a condition that must hold only while that of `while` does.
+   * Returns a condition that is required only while the `while` condition is true.
    * @param {string} text
    */
   due(text) {
@@ -120,8 +121,8 @@ class Reader {
     const { face } = this.names;
     const found = [...keysOf(face), pinOf(face)].find((each) => each.name === name && (each.isKey || face.test));
     if (found) return found;
-    const there = namesOfInputs(face);
-    return fail(noKey(name, there.join(" ")));
+    const inputNames = namesOfInputs(face);
+    return fail(noKey(name, inputNames.join(" ")));
   }
 
   /** @param {Input} input */
@@ -140,7 +141,7 @@ class Reader {
 }
 
 /**
- * Reads two times, with or without `to` between them.
+ * Parses two times, with or without `to` between them.
  * @param {string[]} words
  * @param {string} form
  */
@@ -154,7 +155,7 @@ function twoTimes(words, form) {
 
 
 /**
- * The readers of the lines for inputs and their timing, by their first words.
+ * The readers of lines for inputs and timing, by first word.
  * @type {Record<string, (reader: Reader, words: string[]) => void>}
  */
 const SETTINGS = {
@@ -176,7 +177,7 @@ const SETTINGS = {
   },
   wait: (reader, words) => {
     [reader.shortest, reader.longest] = twoTimes(words, say.WAIT_FORM);
-    // A wait is one run.
+    // A wait must fit into one run.
     if (reader.longest > LONGEST_RUN || reader.shortest > reader.longest) fail(say.WAIT_FORM);
   },
   held: (reader, words) => {
@@ -209,18 +210,18 @@ const SETTINGS = {
   note: (reader, words) => {
     if (words.length === 0) fail(say.NOTE_FORM);
     for (const word of words) reader.notes.push(...placesOfNote(reader, word));
-    if (reader.notes.length > MOST_NOTES) fail(say.mostNoted(MOST_NOTES));
+    if (reader.notes.length > MAX_NOTES) fail(say.mostNoted(MAX_NOTES));
   },
 };
 
 /**
- * Returns whether a line of properties describes inputs rather than properties.
- * @param {string} line without blanks before it
+ * Returns whether a line of a properties text describes inputs or timing, not a property.
+ * @param {string} line without leading blanks
  */
 export const isSetting = (line) => Object.prototype.hasOwnProperty.call(SETTINGS, line.split(/\s/)[0]);
 
 /**
- * Returns the places of `trace` that a word names.
+ * Returns the `trace` places for a word.
  * @param {Reader} reader
  * @param {string} word
  * @returns {string[]}
@@ -233,16 +234,16 @@ function placesOfNote({ names }, word) {
   return fail(place ? boardLacks(place.name) : say.noTrace(word));
 }
 
-/** `lamp open on for 1.1 s`: the condition, and the time. */
-const FOR = /^(.*) for (\S+(?: \S+)?)$/;
+/** Matches `lamp open on for 1.1 s`: the condition and the time. */
+const FOR_DURATION = /^(.*) for (\S+(?: \S+)?)$/;
 
 /**
- * The readers of the lines for properties, by their first words.
+ * The readers of property lines, by first word.
  * @type {Record<string, (reader: Reader, rest: string, text: string) => Property>}
  */
 const PROPERTIES = {
   never: (reader, rest, text) => {
-    const [, condition, time] = FOR.exec(rest) || ["", rest, ""];
+    const [, condition, time] = FOR_DURATION.exec(rest) || ["", rest, ""];
     if (condition === "") fail(say.NEVER_FORM);
     return time ? neverFor(text, reader.met(condition), reader.time(time, say.FOR_FORM)) : never(text, reader.met(condition));
   },
@@ -256,8 +257,8 @@ const PROPERTIES = {
     const form = say.AFTER_FORM;
     const found = /^press (\S+) within (.*)$/.exec(rest);
     if (!found) fail(form);
-    const [, key, said] = /** @type {RegExpExecArray} */ (found);
-    const words = said.split(" ");
+    const [, key, requirement] = /** @type {RegExpExecArray} */ (found);
+    const words = requirement.split(" ");
     const { cycles, words: count } = durationOf(words, 0);
     if (cycles === 0 || words.length === count) fail(form);
     return afterPress(text, reader.input(key).name, reader.condition(words.slice(count).join(" ")), cycles);
@@ -271,9 +272,9 @@ const PROPERTIES = {
   reach: (reader, rest, text) => {
     const line = /^line (\d+)$/.exec(rest);
     if (!line && !/^@\S+$/.test(rest)) return reach(text, reader.met(rest));
-    const there = line && reader.instructions.find((each) => each.line === Number(line[1]));
-    if (line && !there) fail(say.noInstructionIn(line[1]));
-    const address = there ? there.address : reader.label(rest);
+    const instruction = line && reader.instructions.find((each) => each.line === Number(line[1]));
+    if (line && !instruction) fail(say.noInstructionIn(line[1]));
+    const address = instruction ? instruction.address : reader.label(rest);
     return reader.during === "" ? reachAt(text, address) : reach(text, reader.met(`pc = ${address}`));
   },
   model: (reader, rest, text) => {
@@ -290,11 +291,11 @@ const PROPERTIES = {
   },
 };
 
-/** `while lamp open on, never lamp alarm on`: the guard, and the property. */
+/** Matches the start of a guarded line, such as `while lamp open on, never lamp alarm on`. */
 const GUARD = /^(while|once|after press)\b/;
 
 /**
- * Splits a line after its first guard, at a comma outside of quoted texts; returns null if it has none.
+ * Splits a line after its first guard, at a comma outside quoted texts. Returns null if the line has no guard.
  * @param {string} text
  */
 function cutGuard(text) {
@@ -306,7 +307,7 @@ function cutGuard(text) {
 
 /**
  * @param {Reader} reader
- * @param {string} text `once C`, `after press K`, `after press K within TIME`
+ * @param {string} text the guard: `once C`, `after press K`, `after press K within TIME`
  * @returns {Guard}
  */
 function guardOf(reader, text) {
@@ -318,46 +319,46 @@ function guardOf(reader, text) {
 }
 
 /**
- * Returns the property of a line with guards.
+ * Returns the property of a guarded line.
  * @param {Reader} reader
  * @param {string} text
- * @param {{ guard: string, rest: string } | null} cut
+ * @param {{ guard: string, rest: string } | null} firstGuard
  * @returns {Property | null} null for a line without guards
  */
-function guardedLine(reader, text, cut) {
+function guardedLine(reader, text, firstGuard) {
   /** @type {Guard[]} */
   const guards = [];
   let rest = "";
   let count = 0;
-  for (let next = cut; next; next = cutGuard(rest)) {
+  for (let next = firstGuard; next; next = cutGuard(rest)) {
     reader.looked = text.length - (rest || text).length;
     ({ rest } = next);
     count += 1;
-    if (count > MOST_GUARDS) fail(say.mostGuards(MOST_GUARDS));
+    if (count > MAX_GUARDS) fail(say.mostGuards(MAX_GUARDS));
     const [, during] = /^while (.+)$/.exec(next.guard) || [];
     if (during === undefined) guards.push(guardOf(reader, next.guard));
     else reader.during = `${reader.during && `${reader.during} and `}(${reader.condition(during).text})`;
   }
-  if (rest === "") return cut ? fail(say.GUARD_FORM) : null;
+  if (rest === "") return firstGuard ? fail(say.GUARD_FORM) : null;
   reader.looked = text.length - rest.length;
   const property = lineWithoutGuard(reader, rest);
   if (!property || !GUARDED.has(property.form)) return fail(say.GUARD_FORM);
-  // For a press, the condition at the press counts.
+  // For a press, the `while` condition counts at the moment of the press.
   if (property.form === "after press" && reader.during !== "") {
     guards.push({ kind: "while", key: "", limit: 0, condition: reader.condition(reader.during) });
   }
   return guards.length > 0 ? guarded(text, property, guards) : { ...property, text };
 }
 
-const MOST_GUARDS = 4;
+const MAX_GUARDS = 4;
 const ONLY_AFTER = /^(.+) only after (.+)$/;
 const ONCE = /^(@\S+) at most once for each press$/;
 const WITHIN = /^(@\S+) to (@\S+) within (.+)$/;
 
 /**
  * @param {Reader} reader
- * @param {string} text of a line
- * @returns {Property | null} null for a line that is a setting
+ * @param {string} text the text of the line
+ * @returns {Property | null} null for a setting
  */
 function lineOf(reader, text) {
   reader.during = "";
@@ -390,7 +391,7 @@ function lineWithoutGuard(reader, text) {
 }
 
 /**
- * Returns true if there is no model, or there are keys to ask it about.
+ * Returns whether the properties have no model, or have keys for the model.
  * @param {Reader} reader
  */
 function hasKeysForModel({ command, inputs }) {
@@ -398,11 +399,11 @@ function hasKeysForModel({ command, inputs }) {
 }
 
 /**
- * Adds all inputs of the front panel if no line names an input, and the default note; returns whether anything may change.
+ * If no line names an input, adds all inputs of the front panel. Adds the default note. Returns whether anything can change.
  * @param {Reader} reader
  * @param {string} text
  */
-function complete(reader, text) {
+function addDefaults(reader, text) {
   const { face } = reader.names;
   if (!/^[ \t]*(press|test)\b/m.test(text)) {
     for (const input of keysOf(face)) reader.add(input);
@@ -414,10 +415,10 @@ function complete(reader, text) {
 
 
 /**
- * Reads a text of properties.
+ * Parses a properties text.
  * @param {string} text
  * @param {Subject} subject
- * @param {boolean} [needsInputs] whether it is an error if there are no inputs
+ * @param {boolean} [needsInputs] true if missing inputs are an error
  * @returns {{ campaign: Campaign, faults: Fault[] }}
  */
 export function readCampaign(text, subject, needsInputs = true) {
@@ -439,7 +440,7 @@ export function readCampaign(text, subject, needsInputs = true) {
     }
   });
   const last = Math.max(1, text.trimEnd().split("\n").length);
-  if (!complete(reader, text) && needsInputs && faults.length === 0) {
+  if (!addDefaults(reader, text) && needsInputs && faults.length === 0) {
     faults.push({ line: last, column: -1, words: say.NOTHING_CHANGES });
   }
   if (faults.length === 0 && !hasKeysForModel(reader)) {

@@ -1,4 +1,4 @@
-// A running campaign: the search, the minimising and confirmation of counterexamples, and their report.
+// Runs a campaign: the search, the minimising and confirmation of counterexamples, and the report.
 
 import { leftOutOf } from "../prove/question.js";
 import { linesOfFind, testOf } from "./find_test.js";
@@ -15,38 +15,38 @@ import { randomFrom } from "./walks.js";
  * @typedef {import("./search.js").Find} Find
  * @typedef {import("./subject.js").Subject} Subject
  *
- * Whether a test is judged as it should: it fails (of a goal: it passes).
+ * Returns whether a test has the expected result: it fails; for a goal, it passes.
  * @typedef {(test: string, isGoal: boolean) => boolean | Promise<boolean>} Confirm
  *
- * A counterexample: the number of its property, and the steps that lead to it, null if a model disagrees.
+ * A counterexample: the number of its property, and the steps that lead to it (null if a model differs).
  * @typedef {{ property: number, found: Found, find: Find | null }} Taken
  */
 
-/** The share of the time that goes to a proof first. */
-const SHARE = 10;
-/** The number of failed confirmations after which a property is no longer searched for. */
-const MOST_UNCONFIRMED = 3;
-/** The cycles for minimising a counterexample, for each second of the search, with a minimum and a maximum. */
-const PATIENCE = { second: 2e6, least: 10e6, most: 60e6 };
+/** The initial proof gets 1 / PROOF_SHARE of the search time. */
+const PROOF_SHARE = 10;
+/** The number of failed confirmations after which the search drops a property. */
+const MAX_UNCONFIRMED = 3;
+/** The number of cycles for minimising a counterexample, per second of search time, with a minimum and a maximum. */
+const MINIMISING_CYCLES = { second: 2e6, least: 10e6, most: 60e6 };
 
 /**
- * Returns the cycles for minimising a counterexample, for this many seconds in all.
+ * Returns the number of cycles for minimising a counterexample.
  * @param {number} seconds
  */
 export function patienceOf(seconds) {
-  return Math.max(PATIENCE.least, Math.min(PATIENCE.most, seconds * PATIENCE.second));
+  return Math.max(MINIMISING_CYCLES.least, Math.min(MINIMISING_CYCLES.most, seconds * MINIMISING_CYCLES.second));
 }
 
 /**
- * Returns the milliseconds for a proof first, of this many seconds in all.
+ * Returns the time for the initial proof in milliseconds, out of the total number of seconds.
  * @param {number} seconds
  */
 export function proofTimeOf(seconds) {
-  return 1000 * seconds / SHARE;
+  return 1000 * seconds / PROOF_SHARE;
 }
 
-async function noBreath() {
-  // Nothing waits for it.
+async function doNotYield() {
+  // Does not yield: no other work waits here.
 }
 
 export class CampaignRun {
@@ -55,12 +55,12 @@ export class CampaignRun {
    * @param {Campaign} campaign
    * @param {number} seed
    * @param {Confirm} confirm
-   * @param {number} patience the cycles for minimising a counterexample
-   * @param {import("./model.js").Asked | null} [asked] the command of a model
-   * @param {() => Promise<void>} [yieldToMessages] yields to others, while a counterexample is minimised
-   * @param {number} [proofTime] milliseconds that a proof may take first
+   * @param {number} patience the maximum number of cycles for minimising a counterexample
+   * @param {import("./model.js").Asked | null} [modelCommand] the command of a model
+   * @param {() => Promise<void>} [yieldToMessages] yields to other tasks while a counterexample is minimised
+   * @param {number} [proofTime] the maximum time for the initial proof, in milliseconds
    */
-  constructor(subject, campaign, seed, confirm, patience, asked = null, yieldToMessages = noBreath, proofTime = 0) {
+  constructor(subject, campaign, seed, confirm, patience, modelCommand = null, yieldToMessages = doNotYield, proofTime = 0) {
     this.subject = subject;
     this.campaign = campaign;
     this.seed = seed;
@@ -69,35 +69,35 @@ export class CampaignRun {
     this.yieldToMessages = yieldToMessages;
     this.search = new Search(subject, campaign, seed);
     this.proof = new ProofFirst(subject, campaign, proofTime);
-    /** The milliseconds spent so far by the search, the proof and the model. */
+    /** The time spent so far by the search, the proof and the model, in milliseconds. */
     this.spent = { search: 0, proof: 0, model: 0 };
-    /** The number of the property that is a model, -1 if there is none to ask. */
-    this.modelled = asked ? campaign.properties.findIndex(({ form }) => form === "model") : -1;
-    this.model = asked && this.modelled >= 0 ? new Model(subject, campaign, this.search.start, asked, randomFrom(seed)) : null;
+    /** The number of the property that is a model; -1 if there is no model to ask. */
+    this.modelled = modelCommand ? campaign.properties.findIndex(({ form }) => form === "model") : -1;
+    this.model = modelCommand && this.modelled >= 0 ? new Model(subject, campaign, this.search.start, modelCommand, randomFrom(seed)) : null;
     /** @type {(Found | null)[]} */
     this.found = campaign.properties.map(() => null);
     this.unconfirmed = campaign.properties.map(() => 0);
-    /** @type {string[]} tests that were not judged as they should */
+    /** @type {string[]} the tests without the expected result */
     this.doubts = [];
   }
 
-  /** Returns whether nothing is left to search for. */
+  /** True if nothing is left to search for. */
   get isDone() {
     return this.search.open.length === 0 && !this.asksModel;
   }
 
-  /** Returns whether the model is still asked. */
+  /** True while the model is still asked. */
   get asksModel() {
-    return this.model !== null && this.found[this.modelled] === null && this.unconfirmed[this.modelled] < MOST_UNCONFIRMED;
+    return this.model !== null && this.found[this.modelled] === null && this.unconfirmed[this.modelled] < MAX_UNCONFIRMED;
   }
 
-  /** Returns the error of the model's command. */
+  /** The error message of the model command, or "". */
   get fault() {
     return this.model ? this.model.fault : "";
   }
 
   /**
-   * Asks the model about some chains of keys.
+   * Asks the model about several key sequences.
    * @param {Model} model
    * @returns {Promise<Taken | null>}
    */
@@ -112,24 +112,24 @@ export class CampaignRun {
   }
 
   /**
-   * Searches for this many milliseconds; a counterexample takes longer.
+   * Searches for a number of milliseconds. A counterexample takes longer because it is minimised.
    * @param {number} milliseconds
-   * @returns {Promise<Taken | null>} what was found
+   * @returns {Promise<Taken | null>} the counterexample; null if none was found
    */
   async goOn(milliseconds) {
-    const begun = performance.now();
+    const startTime = performance.now();
     if (this.model && this.asksModel && (this.spent.model <= this.spent.search || this.search.open.length === 0)) {
       const found = await this.askModel(this.model);
-      this.spent.model += performance.now() - begun;
+      this.spent.model += performance.now() - startTime;
       return found;
     }
     if (this.proof.continues) {
       for (const at of this.proof.ask()) this.search.close(at);
-      this.spent.proof += performance.now() - begun;
+      this.spent.proof += performance.now() - startTime;
       return null;
     }
     const find = this.search.walkFor(milliseconds);
-    this.spent.search += performance.now() - begun;
+    this.spent.search += performance.now() - startTime;
     return find && this.take(find);
   }
 
@@ -149,7 +149,7 @@ export class CampaignRun {
   }
 
   /**
-   * Returns the session of a counterexample.
+   * Returns the session file at the end of a counterexample.
    * @param {Find} find
    */
   sessionOf(find) {
@@ -175,18 +175,18 @@ export class CampaignRun {
   doubt(property, test) {
     this.doubts.push(test);
     this.unconfirmed[property] += 1;
-    if (this.unconfirmed[property] >= MOST_UNCONFIRMED) this.search.close(property);
+    if (this.unconfirmed[property] >= MAX_UNCONFIRMED) this.search.close(property);
     return null;
   }
 
   /**
-   * @param {Pick<Report, "names" | "sums" | "seconds" | "isStopped">} given
+   * @param {Pick<Report, "names" | "sums" | "seconds" | "isStopped">} details
    * @returns {Report}
    */
-  report(given) {
+  report(details) {
     const { campaign: { properties }, search, subject: { instructions }, proof } = this;
     return {
-      form: "explore 1", ...given, seeds: [this.seed], steps: search.steps, states: search.stateCount, covered: search.coverage.text,
+      form: "explore 1", ...details, seeds: [this.seed], steps: search.steps, states: search.stateCount, covered: search.coverage.text,
       instructions,
       properties: properties.map((property, at) => ({
         text: property.text, line: property.line, isGoal: property.isGoal, isSkipped: property.form === "model" && this.model === null,

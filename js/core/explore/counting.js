@@ -1,5 +1,5 @@
-// A second pass over a walk for what its snapshots do not report: the code that it runs, and the open calls. Both are counted, which takes
-// a fraction of watching. The memory of the properties follows from that and from the snapshots, if their forms remember nothing else.
+// A second pass over a walk for data that its snapshots do not report: the executed code and the open calls. Both are counted; this takes a fraction
+// of the time of watching. The property memories follow from the counts and the snapshots, if their forms remember nothing else.
 
 import { isCall, isReturn } from "../engine/rom_codes.js";
 import { PlaceValues } from "./place_questions.js";
@@ -12,16 +12,16 @@ import { downAfter, lineOf } from "./walks.js";
  * @typedef {import("./watching.js").Start} Start
  */
 
-/** The memory of a property whose condition does not hold. */
-const HOLDS_NOT = [-1];
+/** The memory of a property whose condition is false. */
+const NOT_HOLDING = [-1];
 const FORMS = new Set(["code", "never", "always", "never for", "reach", "reach at", "model", "calls", "returns"]);
 
 /**
- * Returns whether the memory of these properties follows from snapshots and counts, given after which steps their conditions hold. Only
- * watching shows since when a condition holds.
+ * Returns whether the memories of these properties follow from snapshots and counts. `holds` tells after which steps the conditions are true. Only
+ * watching shows since when a condition has been true.
  * @param {Property[]} properties
- * @param {number[]} open the numbers of the properties that are still open
- * @param {boolean[][]} holds after each of the steps, by the numbers of properties
+ * @param {number[]} open the numbers of the open properties
+ * @param {boolean[][]} holds true if the condition is true after a step, by step and property
  */
 export function followsFromLooks(properties, open, holds) {
   return open.every((at) => {
@@ -34,11 +34,11 @@ export function followsFromLooks(properties, open, holds) {
  * @param {Property} property
  * @param {number[]} memory
  * @param {WalkStep} step
- * @param {number} deeper how many more calls than returns were made
+ * @param {number} deeper the number of calls minus the number of returns
  */
 function memoryAfter({ form }, memory, { kind }, deeper) {
   if (form === "calls" || form === "returns") return [kind === "reset" ? 0 : memory[0] + deeper];
-  return form === "never for" ? HOLDS_NOT : memory;
+  return form === "never for" ? NOT_HOLDING : memory;
 }
 
 /**

@@ -1,11 +1,11 @@
-// The inputs of a board that a search can change: keys and TEST, by their names on the front panel.
+// The inputs that a search can change: keys and TEST, by their front-panel names.
 
 import { lineOfKey, pinKey } from "../board/key_place.js";
 
 /**
  * @typedef {import("../board/key_place.js").Key} Key
  *
- * An input that is up or down: the lines that change it, its words in a test, and whether it is down at power-on.
+ * An input with two positions: the lines that change it, its words in a test, and whether it is down at power-on.
  * @typedef {{ name: string, key: Key, isKey: boolean, down: string, up: string, downWords: string, upWords: string,
  *   isDown: boolean }} Input
  *
@@ -13,10 +13,10 @@ import { lineOfKey, pinKey } from "../board/key_place.js";
  */
 
 /**
- * Returns a key that is up.
+ * Creates an input that is up.
  * @param {string} name
  * @param {Key} key
- * @param {[string, string]} words of a test: down, and up
+ * @param {[string, string]} words the words in a test for down and for up
  * @returns {Input}
  */
 export function inputOf(name, key, [downWords, upWords]) {
@@ -25,7 +25,7 @@ export function inputOf(name, key, [downWords, upWords]) {
 }
 
 /**
- * Returns the keys that have names, in the order of the front panel.
+ * Returns the named keys, in front-panel order.
  * @param {Face} face
  * @returns {Input[]}
  */
@@ -35,7 +35,7 @@ export function keysOf(face) {
 }
 
 /**
- * Returns the TEST pin. It is 1 at power-on. Without a front panel it is down at 0.
+ * Returns the TEST pin, which is 1 at power-on. Without a front panel, it is down at level 0.
  * @param {Face} face
  * @returns {Input}
  */
@@ -46,7 +46,7 @@ export function pinOf({ test }) {
 }
 
 /**
- * Returns the names of all inputs of a front panel.
+ * Returns the names of all front-panel inputs.
  * @param {Face} face
  */
 export function namesOfInputs(face) {

@@ -1,4 +1,4 @@
-// The search for counterexamples, in a worker of its own.
+// Runs the search for counterexamples in a separate worker.
 
 import { OwnWorker } from "../bench/own_worker.js";
 
@@ -10,7 +10,7 @@ import { OwnWorker } from "../bench/own_worker.js";
  * @typedef {import("./exploring.js").Progress} Progress
  */
 
-/** The milliseconds between two reports of progress. */
+/** The interval between progress reports, in milliseconds. */
 const REPORT_TIME = 200;
 
 export class Explorer extends OwnWorker {
@@ -20,17 +20,17 @@ export class Explorer extends OwnWorker {
   }
 
   /**
-   * Searches until the time is over, nothing is left to search, or it is stopped.
+   * Searches until the time is over, nothing is left to search for, or the user stops it.
    * @param {ExploredTexts} texts
-   * @param {Asked} asked
+   * @param {Asked} options
    * @param {AbortSignal} signal
    * @param {(progress: Progress) => void} report
    * @returns {Promise<Ended>}
    */
-  explore(texts, asked, signal, report) {
+  explore(texts, options, signal, report) {
     return this.during(signal, async (bench) => {
-      const faults = await bench.call("explore", [texts, asked]);
-      const end = performance.now() + 1000 * asked.seconds;
+      const faults = await bench.call("explore", [texts, options]);
+      const end = performance.now() + 1000 * options.seconds;
       for (let isDone = faults.length > 0; !isDone && performance.now() < end;) {
         const progress = await bench.call("exploreOn", [REPORT_TIME]);
         report(progress);

@@ -1,4 +1,4 @@
-// The search for counterexamples in the page's worker, piece by piece. With the same seed it finds what mcs4 explore finds.
+// Runs the search for counterexamples in the page's worker, piece by piece. The same seed gives the same results as mcs4 explore.
 //
 //     const { readable, faults } = await readToExplore(engine, texts);
 //     const exploring = new Exploring(engine, texts, readable, { seed: 1, seconds: 20 }, async () => {});
@@ -23,17 +23,17 @@ import * as say from "../../words/explore.js";
  * @typedef {{ subject: Subject, campaign: Campaign }} Readable
  * @typedef {import("../testing/prepared.js").Prepared} Prepared
  *
- * The progress: the result so far, the counterexamples since the last report, each with its session, and whether the search is over.
+ * The progress: the result so far, the counterexamples since the last report with their sessions, and whether the search is over.
  * @typedef {{ report: Report, found: { property: number, file: Uint8Array }[], isDone: boolean }} Progress
  */
 
-/** The milliseconds between two checks of the clock. */
+/** The time between two checks of the clock, in milliseconds. */
 const SLICE = 50;
 /**
- * Returns what is read from the texts, or the errors in them.
+ * Returns the parsed texts, or the errors in them.
  * @param {Engine} engine
  * @param {ExploredTexts} texts
- * @param {boolean} [needsInputs] whether it is an error if there are no inputs
+ * @param {boolean} [needsInputs] true if missing inputs are an error
  * @returns {{ read: (Readable & { prepared: Prepared }) | null, faults: TextFault[] }}
  */
 export function readExplored(engine, { boardText, programText, testText, propertiesText }, needsInputs = true) {
@@ -58,7 +58,7 @@ function ofProperties(faults) {
 }
 
 /**
- * Returns a campaign with its subject at the starting state, or the errors in the texts.
+ * Returns a campaign and its subject at the start state, or the errors in the texts.
  * @param {Engine} engine
  * @param {ExploredTexts} texts
  * @returns {Promise<{ readable: Readable | null, faults: TextFault[] }>}
@@ -77,17 +77,17 @@ export class Exploring {
    * @param {ExploredTexts} texts
    * @param {Readable} readable
    * @param {Asked} asked
-   * @param {() => Promise<void>} yieldToMessages yields to messages while a counterexample is minimised
+   * @param {() => Promise<void>} yieldToMessages yields to messages during minimising
    */
   constructor(engine, texts, { subject, campaign }, { seed, seconds }, yieldToMessages) {
-    // A counterexample counts only once its test was seen to fail (that of a goal: to pass).
+    // A counterexample counts only after its test has failed; for a goal, after its test has passed.
     const confirm = (/** @type {string} */ test, /** @type {boolean} */ isGoal) => (
       isConfirmed(engine, texts, test, isGoal, yieldToMessages));
     this.run = new CampaignRun(subject, campaign, seed, confirm, patienceOf(seconds), null, yieldToMessages, proofTimeOf(seconds));
   }
 
   /**
-   * Searches for this many milliseconds, or until something is found, which takes longer.
+   * Searches for a number of milliseconds. A counterexample ends the search early, but takes longer because it is minimised.
    * @param {number} milliseconds
    * @returns {Promise<Progress>}
    */
@@ -97,8 +97,8 @@ export class Exploring {
     /** @type {Progress["found"]} */
     const found = [];
     while (found.length === 0 && !run.isDone && performance.now() < end) {
-      const taken = await run.goOn(SLICE);
-      if (taken && taken.find) found.push({ property: taken.property, file: run.sessionOf(taken.find) });
+      const counterexample = await run.goOn(SLICE);
+      if (counterexample && counterexample.find) found.push({ property: counterexample.property, file: run.sessionOf(counterexample.find) });
     }
     return { report: this.report(), found, isDone: run.isDone };
   }

@@ -1,4 +1,4 @@
-// A counterexample as a test in the words of mcs4 test: it fails as long as the program is unchanged (that of a goal passes).
+// Writes a counterexample as a test for mcs4 test. The test fails as long as the program is unchanged; for a goal, it passes.
 
 import { readCounter } from "../bench/answers.js";
 import { hex } from "../bench/numbers.js";
@@ -15,7 +15,7 @@ import * as say from "../../words/explore.js";
  */
 
 /**
- * Returns the lines that lead to a counterexample, from the starting state.
+ * Returns the lines that lead from the start state to a counterexample.
  * @param {Campaign} campaign
  * @param {Find} find
  */
@@ -24,11 +24,11 @@ export function linesOfFind(campaign, { steps, time }) {
   return linesOf(campaign, steps) + runLines(time - changed);
 }
 
-/** Writes the test of a counterexample. */
+/** Writes the test for a counterexample. */
 class Writer {
   /**
    * @param {Subject} subject
-   * @param {Uint8Array} file the starting state
+   * @param {Uint8Array} file the session file of the start state
    * @param {Campaign} campaign
    * @param {Find} find
    */
@@ -37,19 +37,19 @@ class Writer {
     this.subject = subject;
     this.file = file;
     this.campaign = campaign;
-    /** Returns the lines that lead to the violation of the property. */
+    /** The lines that lead to the violation of the property. */
     this.linesThere = linesOfFind(campaign, find);
     this.property = campaign.properties[property];
     this.steps = steps;
     this.time = time;
-    /** The time of the last change. */
+    /** The time of the last change in cycles. */
     this.changed = steps.reduce((sum, { wait }) => sum + wait, campaign.begin);
     /** @type {string[]} */
     this.lines = [`test ${this.property.text}`, ...campaign.before];
     this.waited = campaign.begin;
   }
 
-  /** Writes the wait that is due. */
+  /** Writes the pending wait. */
   putWait() {
     if (this.waited > 0) this.lines.push(`  run ${this.waited}`);
     this.waited = 0;
@@ -66,7 +66,7 @@ class Writer {
   }
 
   /**
-   * Runs from the last change to a time.
+   * Writes the run from the last change to a time.
    * @param {number} time
    */
   putRest(time) {
@@ -74,14 +74,14 @@ class Writer {
     this.putWait();
   }
 
-  /** Returns the counter when the property is broken. */
+  /** The program counter at the violation. */
   get counterNow() {
     const { answers } = this.subject.engine.ask(this.file, `${this.linesThere}regs\n`);
     return parseInt(readCounter(answers[answers.length - 1]).counter, 16);
   }
 
   /**
-   * Returns the property's condition, or its negation.
+   * Returns the text of the property's condition, or of its negation.
    * @param {boolean} holds
    */
   words(holds) {
@@ -97,7 +97,7 @@ class Writer {
   }
 
   /**
-   * Returns the counter's address, by its label if it has one.
+   * Returns the condition for a program counter, with a label if the address has one.
    * @param {number} address
    */
   counter(address) {
@@ -106,7 +106,7 @@ class Writer {
   }
 
   /**
-   * Writes a condition that must be met within a time that began with the last change or before it.
+   * Writes an `until` line: a condition must become true within a time that started at or before the last change.
    * @param {string} words
    * @param {number} since
    */
@@ -118,10 +118,10 @@ class Writer {
 }
 
 /**
- * Writes the requirement that the test ends with, by the form of the property.
+ * The functions that write the last requirement of a test, by property form.
  * @type {Record<Property["form"], (writer: Writer) => void>}
  */
-const JUDGED = {
+const FINAL_LINES = {
   never: (writer) => writer.expect(writer.words(false)),
   always: (writer) => writer.expect(writer.words(true)),
   at: (writer) => writer.expect(writer.words(true)),
@@ -151,7 +151,7 @@ const NOTES = {
 };
 
 /**
- * Returns the test of a counterexample.
+ * Returns the test for a counterexample.
  * @param {Subject} subject
  * @param {Uint8Array} file
  * @param {Campaign} campaign
@@ -162,7 +162,7 @@ export function testOf(subject, file, campaign, find) {
   const writer = new Writer(subject, file, campaign, find);
   const note = NOTES[form];
   writer.putSteps();
-  JUDGED[form](writer);
+  FINAL_LINES[form](writer);
   if (note) writer.lines.splice(1, 0, `  # ${note}`);
   return `${writer.lines.join("\n")}\n`;
 }

@@ -1,4 +1,4 @@
-// Session files, stored as differences: for each file the 32-bit words that differ from those of a first file. Most words are the same.
+// Stores session files as differences: for each file, the 32-bit words that differ from those of the first file. Most words are the same.
 
 /** @typedef {{ indexes: Uint32Array, words: Uint32Array }} KeptFile */
 
@@ -27,7 +27,7 @@ export class KeptFiles {
   }
 
   /**
-   * Returns the bytes of a file, in an array that the next call overwrites.
+   * Returns the bytes of a stored file. The next call overwrites the array.
    * @param {KeptFile} kept
    */
   file({ indexes, words }) {

@@ -1,6 +1,6 @@
-// A model: a command that says what the display must show. It receives a line of keys for each chain, the names with blanks between them,
-// and prints a line for each, the text of the display after them; an empty line means no opinion. A chain is keyed from the starting state,
-// at the pace of the properties.
+// A model: an external command that computes the text that the display must show. It receives one line per key sequence: the key names, separated by
+// blanks. It prints one line per sequence: the display text after these keys; an empty line means no opinion. Each sequence starts from the start
+// state, with the key times of the properties.
 
 import { readMarks } from "../bench/answers.js";
 import { DisplayText } from "../board/display_text.js";
@@ -13,53 +13,53 @@ import { runLines } from "../engine/key_queue.js";
  * @typedef {import("./walks.js").Random} Random
  * @typedef {import("./watching.js").Start} Start
  *
- * The text that the display must show after each chain of keys, or the error of the command.
+ * The text that the display must show after each key sequence, or the error of the command.
  * @typedef {{ shown: string[], fault: string }} Said
  * @typedef {(chains: string[]) => Said | Promise<Said>} Asked
  *
- * A chain after which the display differs.
- * @typedef {{ keys: number[], wanted: string, lit: string[], cycles: number }} Difference `lit` are names of lamps that are on, and should
+ * A key sequence after which the display differs.
+ * @typedef {{ keys: number[], wanted: string, lit: string[], cycles: number }} Difference `lit` are the names of lamps that are on but must
  *   be off
  */
 
-const CHAINS = 40;
-const LONGEST_CHAIN = 14;
+const CHAIN_COUNT = 40;
+const MAX_CHAIN_LENGTH = 14;
 
 export class Model {
   /**
    * @param {Subject} subject
    * @param {Campaign} campaign
    * @param {Start} start
-   * @param {Asked} asked
+   * @param {Asked} modelCommand
    * @param {Random} random
    */
-  constructor(subject, campaign, start, asked, random) {
+  constructor(subject, campaign, start, modelCommand, random) {
     this.subject = subject;
     this.campaign = campaign;
     this.start = start;
-    this.asked = asked;
+    this.asked = modelCommand;
     this.random = random;
-    /** The inputs that are keys, by their numbers. */
+    /** The numbers of the inputs that are keys. */
     this.keys = campaign.inputs.flatMap(({ isKey }, at) => (isKey ? [at] : []));
     this.chains = 0;
-    /** The error of the command, after which it is not asked again. */
+    /** The error message of the command, or "". After an error, the command is not asked again. */
     this.fault = "";
   }
 
   /**
-   * Tries some chains.
+   * Tries several key sequences.
    * @returns {Promise<Difference | null>}
    */
   async tryChains() {
-    const chains = [...Array(CHAINS)].map(() => (
-      [...Array(1 + upToRandom(this.random, LONGEST_CHAIN))].map(() => this.keys[upToRandom(this.random, this.keys.length)])));
+    const chains = [...Array(CHAIN_COUNT)].map(() => (
+      [...Array(1 + upToRandom(this.random, MAX_CHAIN_LENGTH))].map(() => this.keys[upToRandom(this.random, this.keys.length)])));
     this.chains += chains.length;
     const difference = await this.differenceIn(chains);
     return difference && this.shorten(difference);
   }
 
   /**
-   * Returns the first chain after which the display differs.
+   * Returns the first key sequence after which the display differs.
    * @param {number[][]} chains
    * @returns {Promise<Difference | null>}
    */
@@ -78,7 +78,7 @@ export class Model {
   }
 
   /**
-   * Returns the display after a chain: the number, the names of the other lamps that are on, and both, as mcs4 display prints them.
+   * Returns the display after a key sequence: the number, the names of the other lamps that are on, and both joined as in mcs4 display.
    * @param {number[]} keys
    */
   shownAfter(keys) {
@@ -96,7 +96,7 @@ export class Model {
   }
 
   /**
-   * Leaves out keys, as long as there is a difference.
+   * Removes keys as long as a difference remains.
    * @param {Difference} difference
    */
   async shorten(difference) {
@@ -111,7 +111,7 @@ export class Model {
   }
 
   /**
-   * Returns the test of a difference.
+   * Returns the test for a difference.
    * @param {string} name
    * @param {Difference} difference
    */

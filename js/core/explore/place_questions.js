@@ -1,4 +1,4 @@
-// The places of `trace` in properties and notes, in queries of at most 16, and the positions of each condition's values.
+// Queries the `trace` places in properties and notes, at most 16 per query, and finds the positions of the values for each condition.
 
 import { MOST_PLACES } from "../bench/inputs.js";
 import { refusalOf } from "../bench/answers.js";
@@ -10,7 +10,7 @@ export class Places {
   /** @param {string[]} names */
   constructor(names) {
     this.names = [...new Set(names)];
-    /** The groups of places that are queried at once. */
+    /** The groups of places, one group per query. */
     this.groups = [];
     for (let from = 0; from < this.names.length; from += MOST_PLACES) this.groups.push(this.names.slice(from, from + MOST_PLACES));
   }
@@ -24,7 +24,7 @@ export class Places {
   }
 
   /**
-   * Returns the positions of some places' values among all.
+   * Returns the positions of some places among all places.
    * @param {string[]} places
    */
   indexes(places) {
@@ -33,7 +33,7 @@ export class Places {
 }
 
 /**
- * Returns the conditions that a property asks: its own, and those of its guards.
+ * Returns all conditions of a property: its own condition and those of its guards.
  * @param {Property} property
  */
 export function conditionsOf({ condition, guards }) {
@@ -43,7 +43,7 @@ export function conditionsOf({ condition, guards }) {
 /** @type {boolean[]} */
 const NONE = [];
 
-/** The conditions of a property, by the values of all places. */
+/** The conditions of a property, evaluated on the values of all places. */
 export class Conditions {
   /**
    * @param {Property} property
@@ -62,7 +62,7 @@ export class Conditions {
   }
 
   /**
-   * Returns whether the conditions of the guards hold.
+   * Returns whether the guard conditions are true.
    * @param {string[]} values
    */
   opens(values) {
@@ -78,10 +78,10 @@ function holdsBy({ condition, indexes }, values) {
   return condition !== null && condition.holds(indexes.map((at) => values[at]));
 }
 
-/** Reads consecutive answers to queries about places. */
+/** Reads consecutive answers to place queries. */
 export class PlaceValues extends Answers {
   /**
-   * Returns the values of all places now, without the lines of later changes.
+   * Returns the current values of all places; skips the lines of later changes.
    * @param {Places} places
    */
   row(places) {
@@ -91,7 +91,7 @@ export class PlaceValues extends Answers {
   }
 
   /**
-   * Returns the values of all places now, and after each instruction that changes them, with the cycles before it.
+   * Returns the current values of all places, and the values after each instruction that changes them, with the cycles before the instruction.
    * @param {Places} places
    * @returns {{ values: string[], changes: Change[] }}
    */
@@ -109,7 +109,7 @@ export class PlaceValues extends Answers {
     return { values, changes: all.length === 1 ? all[0] : all.flat().sort((one, other) => one.cycles - other.cycles) };
   }
 
-  /** Returns the answer to `count`; nothing if the bench rejects a wait. */
+  /** Returns the answer to `count`; an empty list if the bench rejects the wait. */
   counts() {
     if (!refusalOf(this.answers[this.at])) return this.takeCounts();
     this.skip(1);
@@ -118,7 +118,7 @@ export class PlaceValues extends Answers {
 }
 
 /**
- * An instruction that changes some values, given from one of them on.
+ * An instruction that changes values of a group. The values start at position `from`.
  * @typedef {{ cycles: number, address: number, from: number, values: string[] }} Change
  */
 

@@ -1,5 +1,5 @@
-// A proof before the search: a property that is proved for all inputs at all times need not be searched for. For a share of the time the
-// prover is asked about the properties that it can decide, with a bound on the states that doubles. The rest is searched for.
+// A proof before the search: a property that is proved for all inputs needs no search. For a share of the time, the prover is asked about the
+// properties that it can decide. The bound on the number of states doubles. The search continues with the remaining properties.
 
 import { allMistakes } from "../prove/mistakes.js";
 import { askedOf, boundsUpTo, isAskedAlone, jointQuestion, mistakeQuestion, questionText, readAnswer } from "../prove/question.js";
@@ -8,49 +8,49 @@ import { askedOf, boundsUpTo, isAskedAlone, jointQuestion, mistakeQuestion, ques
  * @typedef {import("./campaign.js").Campaign} Campaign
  * @typedef {import("./subject.js").Subject} Subject
  *
- * The numbers of the properties that hold if the answer is positive, and the question to the prover.
+ * The numbers of the properties that hold after a positive answer, and the question for the prover.
  * @typedef {{ properties: number[], question: import("../prove/question.js").Question }} Asked
  */
 
-/** The bound of the first question, and the most states. */
-const FIRST = 100;
-const MOST = 999999999;
-/** Keeps the first question short, also of a program that runs for long without a read. */
+/** The bounds on the number of states: for the first question, and the maximum. */
+const FIRST_BOUND = 100;
+const MAX_BOUND = 999999999;
+/** The `pause` of a question. It keeps the first question short, even for a program that runs long without reading inputs. */
 const PAUSE = 100;
 
 export class ProofFirst {
   /**
-   * @param {Subject} subject whose host may have no prover
+   * @param {Subject} subject the subject; its host can lack a prover
    * @param {Campaign} campaign
-   * @param {number} milliseconds that it may take, as far as can be foreseen
+   * @param {number} milliseconds the time limit in milliseconds, as far as the duration is predictable
    */
   constructor(subject, campaign, milliseconds) {
     this.subject = subject;
     this.left = subject.engine.prove ? milliseconds : 0;
-    /** The number of states of each property that is proved; 0 for the others. */
+    /** The number of states in the proof of each property; 0 for unproved properties. */
     this.states = campaign.properties.map(() => 0);
     const alone = this.left > 0 ? questionsOf(subject, campaign) : [];
     const joint = alone.filter(({ properties: [at], question }) => !isAskedAlone(campaign.properties[at], question));
-    /** @type {Asked[]} those that are still to be asked; the first one can combine others, which are asked if it does not hold */
-    this.questions = joint.length > 1 ? [joined(joint), ...alone] : alone;
-    this.bounds = boundsUpTo(MOST, FIRST);
-    /** The number of questions asked with this bound. */
+    /** @type {Asked[]} the remaining questions; the first one can combine others, which are asked separately if the combination does not hold */
+    this.questions = joint.length > 1 ? [joinQuestions(joint), ...alone] : alone;
+    this.bounds = boundsUpTo(MAX_BOUND, FIRST_BOUND);
+    /** The number of questions asked with the current bound. */
     this.asked = 0;
-    /** The duration of the last question. */
+    /** The duration of the last question in milliseconds. */
     this.last = 0;
   }
 
-  /** Whether there is time for another question. */
+  /** True if there is time for another question. */
   get continues() {
     return this.questions.length > 0 && this.left > this.last;
   }
 
-  /** Asks one question; returns the numbers of the properties that it proves. */
+  /** Asks one question; returns the numbers of the properties that the answer proves. */
   ask() {
     const { properties, question } = this.questions[this.asked];
-    const begun = performance.now();
+    const startTime = performance.now();
     const answer = this.answerTo(question);
-    this.last = performance.now() - begun;
+    this.last = performance.now() - startTime;
     this.left -= this.last;
     if (answer.kind !== "more") this.questions.splice(this.asked, 1);
     else this.asked += 1;
@@ -68,7 +68,7 @@ export class ProofFirst {
   }
 
   /**
-   * Removes the questions about properties that are proved.
+   * Removes the questions about proved properties.
    * @param {number[]} properties
    * @param {number} states
    */
@@ -77,7 +77,7 @@ export class ProofFirst {
     this.questions = this.questions.filter((each) => each.properties.some((at) => this.states[at] === 0));
   }
 
-  /** Doubles the bound, and so the time. */
+  /** Doubles the bound, and with it the expected duration. */
   raise() {
     this.asked = 0;
     this.bounds.shift();
@@ -87,7 +87,7 @@ export class ProofFirst {
 }
 
 /**
- * Returns the questions of the properties that the prover can decide, one for each.
+ * Returns one question for each property that the prover can decide.
  * @param {Subject} subject
  * @param {Campaign} campaign
  * @returns {Asked[]}
@@ -102,11 +102,11 @@ function questionsOf(subject, campaign) {
 }
 
 /**
- * Returns one question for several.
+ * Combines several questions into one.
  * @param {Asked[]} questions
  * @returns {Asked}
  */
-function joined(questions) {
+function joinQuestions(questions) {
   return {
     properties: questions.flatMap(({ properties }) => properties), question: jointQuestion(questions.map(({ question }) => question)),
   };

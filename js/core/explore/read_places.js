@@ -1,5 +1,5 @@
-// The current values of places, by the queries that cost the bench least: `lamps`, `regs`, `state` and `ram` report most of what `trace`
-// does, without a copy of the bench. The values are those of `trace`, to the letter.
+// Reads the current values of places with the cheapest bench queries: `lamps`, `regs`, `state` and `ram` report most of the places that `trace`
+// reports, without a copy of the bench. The values are spelled exactly as in `trace`.
 
 import { numberOf } from "../bench/numbers.js";
 import { Places } from "./place_questions.js";
@@ -8,20 +8,20 @@ import { Places } from "./place_questions.js";
  * @typedef {import("../bench/answers.js").Board} Board
  * @typedef {import("./place_questions.js").PlaceValues} PlaceValues
  *
- * The position of a value: the query, the line after its first one, the first letter and the number of letters; if the answer has words of
- * varying length, the word before it. `length` 0: up to the end.
+ * The position of a value: the query, the index of the answer line, the first character, and the number of characters. If the answer has words of
+ * varying length, `after` is the word before the value. If `length` is 0, the value extends to the end of the line.
  * @typedef {{ question: string, line: number, after: string, from: number, length: number }} Spot
  */
 
-/** `acc H cy B pc HHH owed B dcl D test B r HHHHHHHHHHHHHHHH ..` */
+/** The positions of registers in `acc H cy B pc HHH owed B dcl D test B r HHHHHHHHHHHHHHHH ..`: first character and length. */
 const REGISTERS = new Map([["acc", [4, 1]], ["cy", [9, 1]], ["pc", [14, 3]], ["dcl", [29, 1]]]);
 const FIRST_REGISTER = 40;
-/** The lines of `ram` for a chip: its registers, and its port. */
+/** The number of `ram` lines per chip: one per register, and one for the port. */
 const CHIP_LINES = 5;
 const CHIP_REGISTERS = 4;
 
 /**
- * Returns how many chips a bank of the board has.
+ * Returns the number of chips in a bank of the board.
  * @param {Board} board
  * @param {number} bank
  */
@@ -41,7 +41,7 @@ function registerSpot(name) {
 }
 
 /**
- * A character of RAM, or a status character: `ram.0.0x12`, `st.0.1.2`.
+ * Returns the position of a RAM or status character: `ram.0.0x12`, `st.0.1.2`.
  * @param {string} name
  * @param {Board} board
  * @returns {Spot | null}
@@ -59,8 +59,8 @@ function memorySpot(name, board) {
 }
 
 /**
- * The port of a RAM chip: `ram0.1`. Only its latch drives it. Like all positions it is read character by character, and not by
- * bench/state_line.js: a search has thousands of snapshots in a second.
+ * Returns the position of a RAM port, such as `ram0.1`. Only its latch drives it. This module reads characters by position, without
+ * bench/state_line.js, because a search takes thousands of snapshots per second.
  * @param {string} name
  * @param {Board} board
  * @returns {Spot | null}
@@ -93,21 +93,21 @@ export class Snapshots {
     /** The places that only `trace` reports. */
     this.rest = new Places(all.filter((_, at) => !spots[at]));
     this.spots = spots.flatMap((spot) => spot || []);
-    /** All places, in the order of their values. */
+    /** All places, in the order of the values. */
     this.names = [...all.filter((_, at) => spots[at]), ...this.rest.names];
     this.questions = [...new Set(this.spots.map(({ question }) => question))];
-    /** The queries. */
+    /** The query lines. */
     this.lines = this.questions.map((question) => `${question}\n`).join("") + this.rest.lines(1);
     const counts = this.questions.map((question) => (
       question.startsWith("ram ") ? 1 + CHIP_LINES * chipsOf(board, Number(question.slice(4))) : 1));
-    /** The line of each position in the whole answer. */
+    /** The line index of each position in the whole answer. */
     this.at = this.spots.map(({ question, line }) => (
       line + counts.slice(0, this.questions.indexOf(question)).reduce((sum, count) => sum + count, 0)));
     this.count = counts.reduce((sum, count) => sum + count, 0);
   }
 
   /**
-   * Returns the positions of some places' values among all.
+   * Returns the positions of some places among all places.
    * @param {string[]} places
    */
   indexes(places) {
@@ -115,7 +115,7 @@ export class Snapshots {
   }
 
   /**
-   * Returns the values of all places, from the answers to the lines.
+   * Returns the values of all places, from the answers to the query lines.
    * @param {PlaceValues} values
    */
   row(values) {

@@ -1,4 +1,4 @@
-// The result of a search, and its output as TAP. Reports of searches with other seeds, by other processes or machines, are joined.
+// The result of a search and its TAP output. Joins the reports of searches with other seeds, processes or machines.
 
 import { counted } from "../bench/numbers.js";
 import { TAP_HEAD, described, quoted } from "../testing/tap.js";
@@ -11,12 +11,12 @@ import { neverReached, proved } from "../../words/prove.js";
  * @typedef {import("./properties.js").Property} Property
  * @typedef {import("./subject.js").Instruction} Instruction
  *
- * A counterexample: its test, its number of steps, its cycles, and the seed that found it.
+ * A counterexample: its test, its number of steps, its cycles, and the seed of the search that found it.
  * @typedef {{ test: string, steps: number, cycles: number, seed: number }} Found
  *
- * A property in a report: `isSkipped` says that it is a model whose command was not run; `applied`, that it was checked; `states` are the
- * states of the proof that it holds for all inputs, otherwise 0, and `leftOut` the guards that a proof leaves out; `chains` are the
- * chains of keys for which a model was asked.
+ * A property in a report. `isSkipped`: it is a model whose command was not run. `applied`: it was checked. `states`: the number of states in the
+ * proof for all inputs, otherwise 0. `leftOut`: the guards that the proof leaves out. `chains`: the number of key sequences for which the model
+ * was asked.
  * @typedef {{ text: string, line: number, isGoal: boolean, isSkipped: boolean, applied: boolean, states: number, leftOut: string,
  *   chains: number, found: Found | null }} PropertyResult
  *
@@ -29,7 +29,7 @@ import { neverReached, proved } from "../../words/prove.js";
 export const grouped = (number) => Math.round(number).toLocaleString("en");
 
 /**
- * `1 step`, `1,204 steps`.
+ * Formats a step count: `1 step`, `1,204 steps`.
  * @param {number} count
  */
 export const stepsOf = (count) => counted(count, "step");
@@ -45,7 +45,7 @@ function shorterOf(one, other) {
 }
 
 /**
- * Returns the joined reports of one campaign; null if they are of different campaigns.
+ * Joins the reports of one campaign; returns null if the reports belong to different campaigns.
  * @param {Report[]} reports
  * @returns {Report | null}
  */
@@ -78,7 +78,7 @@ export function isRight({ isGoal, isSkipped, found }) {
 }
 
 /**
- * Returns the remark after the text of a property.
+ * Returns the remark after the property text.
  * @param {PropertyResult} property
  * @param {Report} report
  */
@@ -90,7 +90,7 @@ export function remarkOf({ isGoal, applied, states, leftOut, chains, found }, re
 }
 
 /**
- * Returns the line of a property, with its file.
+ * Returns the source location of a property: the file and the line.
  * @param {PropertyResult} property
  * @param {Report} report
  */
@@ -99,7 +99,7 @@ export function lineOfProperty({ line }, { names }) {
 }
 
 /**
- * Returns the lines about a property.
+ * Returns the TAP lines for a property.
  * @param {PropertyResult} property
  * @param {number} at
  * @param {Report} report
@@ -109,22 +109,22 @@ function linesOf(property, at, report) {
   const lines = [`${isRight(property) ? "" : "not "}ok ${at + 1} - ${described(text)} # ${remarkOf(property, report)}`];
   if (!found) return lines;
   const how = property.isGoal ? "reached" : "broken";
-  const words = say.foundBy(how, stepsOf(found.steps), grouped(found.cycles), found.seed);
-  lines.push("  ---", `  message: ${quoted(words)}`, `  at: ${quoted(lineOfProperty(property, report))}`, "  test: |");
+  const message = say.foundBy(how, stepsOf(found.steps), grouped(found.cycles), found.seed);
+  lines.push("  ---", `  message: ${quoted(message)}`, `  at: ${quoted(lineOfProperty(property, report))}`, "  test: |");
   return [...lines, ...found.test.trimEnd().split("\n").map((line) => `    ${line}`), "  ..."];
 }
 
-/** The most lines that are reported. */
-const MOST_LINES = 40;
+/** The maximum number of reported line numbers. */
+const MAX_LINES = 40;
 
 /** @param {number[]} lines */
 function listed(lines) {
-  const more = lines.length - MOST_LINES;
-  return `${say.linesAre(lines.length, lines.slice(0, MOST_LINES).join(" "))}${more > 0 ? andMore(more) : ""}`;
+  const more = lines.length - MAX_LINES;
+  return `${say.linesAre(lines.length, lines.slice(0, MAX_LINES).join(" "))}${more > 0 ? andMore(more) : ""}`;
 }
 
 /**
- * Returns the lines about the code that was run.
+ * Returns the report lines about executed code.
  * @param {Report} report
  */
 export function coverageLines({ covered, instructions }) {
@@ -136,7 +136,7 @@ export function coverageLines({ covered, instructions }) {
 }
 
 /**
- * Returns the report as TAP. A property that was not run is only a comment.
+ * Returns the report as TAP. A skipped property is only a comment.
  * @param {Report} report
  */
 export function tapOf(report) {
@@ -152,7 +152,7 @@ export function tapOf(report) {
 }
 
 /**
- * Returns the tests of all counterexamples, each with its origin.
+ * Returns the tests of all counterexamples with their origin.
  * @param {Report} report
  */
 export function testsOfReport(report) {

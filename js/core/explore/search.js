@@ -1,6 +1,6 @@
-// The search: walks from stored states. Of most walks only a snapshot after each change is read. A walk that shows something new is
-// counted. It is watched instruction by instruction if it runs something for the first time, if a property needs to know more than that, or
-// if one seems violated; so is a sample of the others.
+// The search: walks that start at stored states. For most walks, only a snapshot after each change is read. If a walk shows something new, its code
+// is counted. A walk is watched instruction by instruction if it executes code for the first time, if a property needs more data, or if a property
+// seems violated. A sample of the other walks is also watched.
 
 import { countWalk, followsFromLooks } from "./counting.js";
 import { Coverage } from "./search_coverage.js";
@@ -23,26 +23,26 @@ import { LONGEST_RUN, runLines } from "../engine/key_queue.js";
  *
  * A stored state: the steps from its parent, and how often the search resumed here.
  * @typedef {{ kept: KeptFile, time: number, down: number[], since: number[], memories: number[][], parent: State | null, steps: WalkStep[],
- *   depth: number, picked: number }} State `since` is how many cycles ago each input was changed
+ *   depth: number, picked: number }} State `since` are the cycles since the last change, by input
  *
- * The violation of a property (or the goal reached): its number, the steps from power-on before it, and its time.
+ * The violation of a property, or the reaching of a goal: the property number, the steps from power-on, and the time.
  * @typedef {{ property: number, steps: WalkStep[], time: number }} Find
  *
- * The snapshot of a state after a step: the values of the notes; whether conditions hold, and those of guards, in the order of properties.
+ * The snapshot of a state after a step: the values of the notes, and whether conditions and guard conditions are true, in property order.
  * @typedef {{ notes: string, holds: boolean[], opens: boolean[][] }} Snapshot
  */
 
-const LONGEST_WALK = 16;
-/** The most steps of a state from power-on. */
-const DEEPEST = 120;
-const MOST_STATES = 20000;
-const MOST_LOOKS = 200000;
-/** One of this many walks is watched instruction by instruction even if it showed nothing new. */
-const WATCHED = 32;
-/** Of this many candidate states the search resumes the one that it resumed least often. */
-const CANDIDATES = 3;
-/** Half of all walks begin at one of the states that were stored last. */
-const LAST_STATES = 6;
+const MAX_WALK_STEPS = 16;
+/** The maximum number of steps from power-on to a state. */
+const MAX_DEPTH = 120;
+const MAX_STATES = 20000;
+const MAX_SNAPSHOTS = 200000;
+/** The search watches one in WATCH_INTERVAL walks instruction by instruction, even if the walk shows nothing new. */
+const WATCH_INTERVAL = 32;
+/** The number of candidate states. Of these, the search resumes the state that it has resumed least often. */
+const CANDIDATE_COUNT = 3;
+/** The number of recently stored states. Half of all walks start at one of them. */
+const RECENT_STATES = 6;
 
 export class Search {
   /**
@@ -56,17 +56,17 @@ export class Search {
     this.random = randomFrom(seed);
     this.coverage = new Coverage();
     this.watcher = new Watcher(subject, campaign, this.coverage);
-    const looked = campaign.properties.flatMap(conditionsOf).flatMap((condition) => (condition ? condition.places : []));
-    this.places = new Snapshots([...campaign.notes, ...looked], subject.names.board);
+    const conditionPlaces = campaign.properties.flatMap(conditionsOf).flatMap((condition) => (condition ? condition.places : []));
+    this.places = new Snapshots([...campaign.notes, ...conditionPlaces], subject.names.board);
     this.notes = this.places.indexes(campaign.notes);
     this.conditions = campaign.properties.map((property) => new Conditions(property, this.places));
-    /** @type {number[]} the properties that are not broken so far */
+    /** @type {number[]} the properties that are not violated so far */
     this.open = campaign.properties.flatMap(({ form }, at) => (form === "model" ? [] : [at]));
-    /** @type {Set<number>} those that applied to something */
+    /** @type {Set<number>} the properties that applied to at least one state */
     this.applied = new Set();
     this.steps = 0;
     this.walks = 0;
-    /** @type {Map<string, Snapshot>} what rows of values say */
+    /** @type {Map<string, Snapshot>} the snapshots, by row of values */
     this.snapshots = new Map();
     /** @type {Set<string>} */
     this.seen = new Set();
@@ -79,7 +79,7 @@ export class Search {
       picked: 0 }];
   }
 
-  /** Returns how many states were distinguished. */
+  /** Returns the number of distinguished states. */
   get stateCount() {
     return this.seen.size;
   }
@@ -100,7 +100,7 @@ export class Search {
   }
 
   /**
-   * Counts the calls that are open at the start state.
+   * Counts the open calls at the start state.
    * @param {number[][]} memories
    */
   countCalls(memories) {
@@ -108,15 +108,15 @@ export class Search {
     /** @type {WalkStep[]} */
     const steps = [];
     for (let left = begin; left > 0; left -= LONGEST_RUN) steps.push({ wait: Math.min(left, LONGEST_RUN), kind: "none", input: -1 });
-    const begun = memories.map((memory, at) => (watcher.calls.includes(at) ? memory : memory.map(() => 0)));
-    const start = { file, time: 0, down: [], memories: begun };
+    const startMemories = memories.map((memory, at) => (watcher.calls.includes(at) ? memory : memory.map(() => 0)));
+    const start = { file, time: 0, down: [], memories: startMemories };
     const { after } = watcher.watch(start, steps, []);
     const last = after[after.length - 1];
     for (const at of watcher.calls) memories[at] = last ? last.memories[at] : [0];
   }
 
   /**
-   * Walks for this many milliseconds, or until something is found.
+   * Walks for a number of milliseconds, or until a walk finds a violation.
    * @param {number} milliseconds
    * @returns {Find | null}
    */
@@ -136,36 +136,36 @@ export class Search {
     this.walks += 1;
     this.steps += steps.length;
     const file = this.fileOf(state);
-    const { fresh, isSuspect, snapshots } = this.examine(file, state, steps);
-    const isWhole = isSuspect || this.walks % WATCHED === 1;
-    if (fresh.length === 0 && !isWhole) return null;
+    const { fresh: newSteps, isSuspect, snapshots } = this.examine(file, state, steps);
+    const isWhole = isSuspect || this.walks % WATCH_INTERVAL === 1;
+    if (newSteps.length === 0 && !isWhole) return null;
     const start = { ...state, file };
-    const { broken, after } = isWhole ? this.watcher.watch(start, steps, this.open) : this.repeat(start, steps, fresh, snapshots);
+    const { broken, after } = isWhole ? this.watcher.watch(start, steps, this.open) : this.repeat(start, steps, newSteps, snapshots);
     if (after.length > 0) this.note(after[after.length - 1].memories);
     after.forEach(({ isNew }, at) => {
-      if (isNew && !fresh.includes(at)) fresh.push(at);
+      if (isNew && !newSteps.includes(at)) newSteps.push(at);
     });
-    this.keep(state, file, steps, after, fresh.filter((at) => at < after.length).sort((one, other) => one - other));
+    this.keep(state, file, steps, after, newSteps.filter((at) => at < after.length).sort((one, other) => one - other));
     if (!broken) return null;
     return { property: broken.property, steps: [...pathOf(state), ...steps.slice(0, broken.step)], time: broken.time };
   }
 
   /**
-   * Repeats a walk up to its last new state, because the rest was examined already. The walk is counted, if that is enough. It is watched
-   * if it runs something for the first time.
+   * Repeats a walk up to its last new state; the rest has already been examined. If counting is sufficient, the walk is only counted. If it executes
+   * code for the first time, it is watched.
    * @param {import("./watching.js").Start} start
    * @param {WalkStep[]} steps
-   * @param {number[]} fresh the steps after which something is new, including those that run something for the first time
+   * @param {number[]} newSteps the steps that show something new; the steps that execute code for the first time are added
    * @param {Snapshot[]} snapshots
    */
-  repeat(start, steps, fresh, snapshots) {
+  repeat(start, steps, newSteps, snapshots) {
     const { campaign: { properties }, open, watcher } = this;
-    const part = steps.slice(0, Math.max(...fresh) + 1);
-    if (followsFromLooks(properties, open, fresh.map((at) => snapshots[at].holds))) {
+    const part = steps.slice(0, Math.max(...newSteps) + 1);
+    if (followsFromLooks(properties, open, newSteps.map((at) => snapshots[at].holds))) {
       const after = countWalk(this, start, part);
-      const ran = [...after.keys()].filter((at) => after[at].isNew);
-      if (ran.length === 0) return { broken: null, after };
-      for (const at of ran) if (!fresh.includes(at)) fresh.push(at);
+      const newCodeSteps = [...after.keys()].filter((at) => after[at].isNew);
+      if (newCodeSteps.length === 0) return { broken: null, after };
+      for (const at of newCodeSteps) if (!newSteps.includes(at)) newSteps.push(at);
     }
     return watcher.watch(start, part, open);
   }
@@ -186,8 +186,8 @@ export class Search {
     const { states, random } = this;
     const isLast = random() < 0.5;
     let found = null;
-    for (let tries = 0; tries < CANDIDATES; tries++) {
-      const back = Math.floor(-Math.log(1 - random()) * LAST_STATES);
+    for (let tries = 0; tries < CANDIDATE_COUNT; tries++) {
+      const back = Math.floor(-Math.log(1 - random()) * RECENT_STATES);
       const state = states[isLast ? Math.max(0, states.length - 1 - back) : upToRandom(random, states.length)];
       if (!found || state.picked < found.picked) found = state;
     }
@@ -201,7 +201,7 @@ export class Search {
     const steps = [];
     let now = state.down;
     let { since } = state;
-    for (let left = 1 + upToRandom(this.random, LONGEST_WALK); left > 0; left--) {
+    for (let left = 1 + upToRandom(this.random, MAX_WALK_STEPS); left > 0; left--) {
       const step = chooseStep(this.campaign, now, since, this.random);
       since = sinceAfter(since, step);
       now = downAfter(now, step);
@@ -210,13 +210,14 @@ export class Search {
     return steps;
   }
 
-  /** The numbers of the open properties that are about labels. */
+  /** The numbers of the open properties with a label. */
   get ofLabels() {
     return this.open.filter((at) => this.campaign.properties[at].address >= 0);
   }
 
   /**
-   * Returns the labels at which a property may be violated, whatever came before: a run stops there. At most 32, the limit of the bench.
+   * Returns the labels at which a property can be violated independently of earlier events. A run stops at these labels. The maximum is 32, the limit
+   * of the bench.
    * @returns {number[]}
    */
   get stops() {
@@ -225,7 +226,7 @@ export class Search {
   }
 
   /**
-   * Examines a walk after each change; returns the steps after which something is new, and whether a property seems violated.
+   * Examines a walk after each change. Returns the steps after which something is new, and whether a property seems violated.
    * @param {Uint8Array} file
    * @param {State} state
    * @param {WalkStep[]} steps
@@ -238,21 +239,21 @@ export class Search {
     const values = new PlaceValues(this.subject.engine.ask(file, stops.map((address) => `break ${address}\n`).join("") + lines).answers);
     values.skip(stops.length);
     /** @type {number[]} */
-    const fresh = [];
+    const newSteps = [];
     /** @type {Snapshot[]} */
     const snapshots = [];
     const seem = new ApparentState(this, state);
     for (const [at, step] of steps.entries()) {
-      const begun = counts ? values.counts() : [];
-      if (values.takeRun().end !== "end") return { fresh, isSuspect: true, snapshots };
+      const instructionCounts = counts ? values.counts() : [];
+      if (values.takeRun().end !== "end") return { fresh: newSteps, isSuspect: true, snapshots };
       if (step.kind !== "none") values.skip(1);
       const snapshot = this.snapshotOf(places.row(values));
       snapshots.push(snapshot);
-      if (seem.isBroken(step, snapshot, begun)) return { fresh, isSuspect: true, snapshots };
-      if (this.coverage.add(begun)) fresh.push(at);
-      if (this.isNew(snapshot, seem.marks) && !fresh.includes(at)) fresh.push(at);
+      if (seem.isBroken(step, snapshot, instructionCounts)) return { fresh: newSteps, isSuspect: true, snapshots };
+      if (this.coverage.add(instructionCounts)) newSteps.push(at);
+      if (this.isNew(snapshot, seem.marks) && !newSteps.includes(at)) newSteps.push(at);
     }
-    return { fresh, isSuspect: false, snapshots };
+    return { fresh: newSteps, isSuspect: false, snapshots };
   }
 
   /**
@@ -268,7 +269,7 @@ export class Search {
       holds: this.conditions.map((each) => each.holds(values)),
       opens: this.conditions.map((each) => each.opens(values)),
     };
-    if (this.snapshots.size >= MOST_LOOKS) this.snapshots.clear();
+    if (this.snapshots.size >= MAX_SNAPSHOTS) this.snapshots.clear();
     this.snapshots.set(row, snapshot);
     return snapshot;
   }
@@ -290,12 +291,12 @@ export class Search {
    * @param {Uint8Array} file
    * @param {WalkStep[]} steps
    * @param {import("./watching.js").After[]} after
-   * @param {number[]} fresh
+   * @param {number[]} newSteps
    */
-  keep(state, file, steps, after, fresh) {
+  keep(state, file, steps, after, newSteps) {
     let [from, parent] = [0, state];
-    for (const at of fresh) {
-      if (this.states.length >= MOST_STATES || state.depth + at >= DEEPEST) return;
+    for (const at of newSteps) {
+      if (this.states.length >= MAX_STATES || state.depth + at >= MAX_DEPTH) return;
       const part = steps.slice(from, at + 1);
       this.subject.engine.serve(file, linesOf(this.campaign, part), file);
       const { time, down, memories } = after[at];
@@ -308,7 +309,7 @@ export class Search {
   }
 
   /**
-   * Closes a property that was broken or cannot be judged.
+   * Closes a property that is violated or cannot be judged.
    * @param {number} property
    */
   close(property) {
@@ -336,16 +337,14 @@ function pathOf(state) {
 const NONE = [];
 
 /**
- * Returns whether a property may be violated whenever the counter reaches its label.
+ * Returns whether a property can be violated whenever the program counter reaches its label.
  * @param {Property} property
  */
 function stopsAtLabel({ form, guards }) {
   return guards.length === 0 && (form === "at" || form === "reach at" || form === "never");
 }
 
-/**
- * The state of properties as snapshots show it. For a label they show how often the counter was there in a wait, but not when.
- */
+/** The property states as far as snapshots show them. For a label, they show how often the counter reached it during a wait, but not when. */
 class ApparentState {
   /**
    * @param {Search} search
@@ -363,15 +362,15 @@ class ApparentState {
   /**
    * @param {WalkStep} step
    * @param {Snapshot} snapshot
-   * @param {import("../engine/tracing.js").Counted[]} begun how often each address was begun at
+   * @param {import("../engine/tracing.js").Counted[]} instructionCounts the instruction counts of the wait
    */
-  isBroken(step, { holds, opens }, begun) {
+  isBroken(step, { holds, opens }, instructionCounts) {
     const { campaign: { properties, inputs }, asked, memories } = this;
     this.down = downAfter(this.down, step);
     const input = step.kind === "down" ? inputs[step.input].name : "";
     const time = this.time + step.wait;
     const moment = { time, changed: time, address: -1, holds: false, opens: NONE, input, isDown: this.down.length };
-    const countAt = (/** @type {number} */ label) => (begun.find(({ address }) => address === label) || { begun: 0 }).begun;
+    const countAt = (/** @type {number} */ label) => (instructionCounts.find(({ address }) => address === label) || { begun: 0 }).begun;
     const isAtLabel = this.ofLabels.some((at) => (
       properties[at].form === "within" ? this.mayBeLate(properties[at], memories[at], moment, step, countAt)
         : this.mayBreakAtLabel(properties[at], memories[at], moment, step, countAt(properties[at].address))));
@@ -388,13 +387,13 @@ class ApparentState {
   /**
    * @param {Property} property
    * @param {number[]} memory
-   * @param {import("./properties.js").Moment} moment at the end of the wait
+   * @param {import("./properties.js").Moment} moment the moment at the end of the wait
    * @param {WalkStep} step
-   * @param {number} count how often the counter reached its label
+   * @param {number} count the number of times the counter reached the label
    */
   mayBreakAtLabel(property, memory, moment, step, count) {
     const { form, see, limit, guards } = property;
-    // Only watching shows whether it was open then.
+    // Only watching shows whether the guards were open at that time.
     if (guards.length > 0) return count > 0 || form === "after press";
     if (stopsAtLabel(property)) return count > 0;
     if (form === "after press" && memory[0] >= 0 && (count > 0 || moment.time > memory[0] + limit)) {
@@ -402,7 +401,7 @@ class ApparentState {
       memory[0] = -1;
     }
     if (form === "every") {
-      // The counter was there last at the beginning of a wait, or later.
+      // The counter reached the label at the start of the wait or later.
       if (moment.time - memory[0] > limit) return true;
       if (count > 0) memory[0] = this.time;
     }
@@ -414,25 +413,25 @@ class ApparentState {
   }
 
   /**
-   * Returns whether the counter may have been late at the label that it must reach.
+   * Returns whether the counter can have reached the required label too late.
    * @param {Property} property
    * @param {number[]} memory
-   * @param {import("./properties.js").Moment} moment at the end of the wait
+   * @param {import("./properties.js").Moment} moment the moment at the end of the wait
    * @param {WalkStep} step
-   * @param {(address: number) => number} countAt how often the counter was at an address
+   * @param {(address: number) => number} countAt returns the number of times the counter reached an address
    */
   mayBeLate({ start, address, limit, see }, memory, moment, step, countAt) {
     const isLate = () => memory[0] >= 0 && moment.time - memory[0] > limit;
     if (isLate()) return true;
     if (countAt(address) > 0) memory[0] = -1;
-    // The counter was there first at the beginning of the wait, or later.
+    // The counter reached the first label at the start of the wait or later.
     if (countAt(start) > 0 && memory[0] < 0) memory[0] = this.time;
     if (isLate()) return true;
     if (step.kind === "reset") see(memory, "reset", moment);
     return false;
   }
 
-  /** Returns the part of the memories that makes a state new. */
+  /** Returns the parts of the memories that make a state new. */
   get marks() {
     let marks = "";
     for (const at of [...this.asked, ...this.ofLabels]) {

@@ -1,15 +1,15 @@
-// The coverage so far: for each address whether an instruction began there, whether it jumped, and whether it continued.
+// The coverage so far. For each address: whether an instruction started there, whether it jumped, and whether it continued.
 
 import { ADDRESSES } from "../bench/rom_bytes.js";
 
 /** @typedef {import("./subject.js").Instruction} Instruction */
 
-const BEGUN = 1;
+const STARTED = 1;
 const JUMPED = 2;
 const CONTINUED = 4;
 
 export class Coverage {
-  /** @param {string} [text] of another coverage */
+  /** @param {string} [text] the text of another coverage */
   constructor(text = "") {
     this.flags = new Uint8Array(ADDRESSES);
     [...text].forEach((digit, address) => {
@@ -18,13 +18,13 @@ export class Coverage {
   }
 
   /**
-   * Adds the report of `count`; returns whether any of it is new.
+   * Adds the answer to `count`; returns whether any of it is new.
    * @param {{ address: number, begun: number, jumped: number }[]} counts
    */
   add(counts) {
     let isNew = false;
     for (const { address, begun, jumped } of counts) {
-      const flags = BEGUN | (jumped > 0 ? JUMPED : 0) | (jumped >= 0 && jumped < begun ? CONTINUED : 0);
+      const flags = STARTED | (jumped > 0 ? JUMPED : 0) | (jumped >= 0 && jumped < begun ? CONTINUED : 0);
       isNew = isNew || (flags & ~this.flags[address]) !== 0;
       this.flags[address] |= flags;
     }
@@ -38,19 +38,19 @@ export class Coverage {
     });
   }
 
-  /** Returns a digit for each address, up to the last one where an instruction began. */
+  /** The coverage as text: one digit per address, up to the last address at which an instruction started. */
   get text() {
     return [...this.flags].join("").replace(/0+$/, "");
   }
 
   /**
-   * Returns how many of the program's instructions and branch directions were run, and the lines of the others.
+   * Returns the number of executed instructions and branch directions of the program, and the lines of the others.
    * @param {Instruction[]} instructions
    */
   summary(instructions) {
-    const left = instructions.filter(({ address }) => !(this.flags[address] & BEGUN)).map(({ line }) => line);
+    const left = instructions.filter(({ address }) => !(this.flags[address] & STARTED)).map(({ line }) => line);
     const forks = instructions.filter(({ hasWays }) => hasWays);
-    const oneWay = forks.filter(({ address }) => (this.flags[address] & BEGUN) && (this.flags[address] & (JUMPED | CONTINUED)) !== 6)
+    const oneWay = forks.filter(({ address }) => (this.flags[address] & STARTED) && (this.flags[address] & (JUMPED | CONTINUED)) !== 6)
       .map(({ line }) => line);
     const ways = forks.reduce((sum, { address }) => sum + Number((this.flags[address] & JUMPED) > 0)
       + Number((this.flags[address] & CONTINUED) > 0), 0);

@@ -1,4 +1,4 @@
-// The minimising of a counterexample: steps are left out, waits are shortened, as long as the same property is violated.
+// Minimises a counterexample: removes steps and shortens waits as long as the same property is violated.
 
 import { LONGEST_RUN } from "../engine/key_queue.js";
 import { Watcher } from "./watching.js";
@@ -11,12 +11,12 @@ import { downAfter, downAtFirst, isSound, longestAfter } from "./walks.js";
  * @typedef {import("./walks.js").WalkStep} WalkStep
  */
 
-/** A step takes as long as this many cycles, in addition to those of its wait. */
-const COST_OF_STEP = 500;
-/** The extra cycles that are tried. */
-const PHASES = 256;
-/** The parts of a wait that are tried. */
-const PARTS = [0, 1 / 4, 1 / 2, 3 / 4, 7 / 8, 15 / 16, 63 / 64];
+/** The cost of a step in cycles, in addition to its wait. */
+const STEP_COST = 500;
+/** The maximum number of additional cycles to try for the first wait. */
+const MAX_EXTRA_CYCLES = 256;
+/** The fractions of a wait to try. */
+const WAIT_FRACTIONS = [0, 1 / 4, 1 / 2, 3 / 4, 7 / 8, 15 / 16, 63 / 64];
 
 export class Shortening {
   /**
@@ -24,12 +24,12 @@ export class Shortening {
    * @param {Campaign} campaign
    * @param {import("./watching.js").Start} start
    * @param {Find} find
-   * @param {number} patience the cycles to spend, so that the result is the same on each machine
-   * @param {() => Promise<void>} yieldToMessages between two tries
+   * @param {number} patience the maximum number of cycles to run; a limit in cycles gives the same result on every machine
+   * @param {() => Promise<void>} yieldToMessages called between two tries
    */
   constructor(subject, campaign, start, find, patience, yieldToMessages) {
     this.campaign = campaign;
-    // It checks only this property.
+    // The watcher checks only this property.
     this.watcher = new Watcher(subject, { ...campaign, properties: [campaign.properties[find.property]] }, null);
     this.start = { ...start, memories: [start.memories[find.property]] };
     this.property = find.property;
@@ -47,14 +47,14 @@ export class Shortening {
       isShorter = await this.leaveOut();
       isShorter = (await this.leaveOutPairs()) || isShorter;
       isShorter = (await this.wait()) || isShorter;
-      // This needs the most tries, so it comes last.
+      // This step needs the most tries, so it comes last.
       isShorter = isShorter || (await this.beginLater());
     }
     return { property: this.property, steps: this.steps, time: this.time };
   }
 
   /**
-   * Replaces the steps so far, if the property is violated by these.
+   * Replaces the current steps if the new steps also violate the property.
    * @param {WalkStep[]} steps
    */
   async take(steps) {
@@ -62,7 +62,7 @@ export class Shortening {
     await this.yieldToMessages();
     const wait = Math.min(this.campaign.longest, longestAfter(this.campaign, steps));
     const last = wait > 0 ? [{ wait, kind: /** @type {const} */ ("none"), input: -1 }] : [];
-    this.left -= [...steps, ...last].reduce((sum, step) => sum + step.wait + COST_OF_STEP, 0);
+    this.left -= [...steps, ...last].reduce((sum, step) => sum + step.wait + STEP_COST, 0);
     const { broken } = this.watcher.watch(this.start, [...steps, ...last], [0]);
     if (!broken) return false;
     this.steps = steps.slice(0, broken.step);
@@ -70,7 +70,7 @@ export class Shortening {
     return true;
   }
 
-  /** Leaves out steps, first many and then few. */
+  /** Removes steps: first many at a time, then few. */
   async leaveOut() {
     let isShorter = false;
     for (let size = Math.ceil(this.steps.length / 2); size >= 1; size = size > 1 ? Math.ceil(size / 2) : 0) {
@@ -84,7 +84,7 @@ export class Shortening {
   }
 
   /**
-   * Leaves out some steps with their waits, or without their waits.
+   * Removes some steps. First tries to remove their waits too.
    * @param {(index: number) => boolean} isOut
    */
   async takeWithout(isOut) {
@@ -94,7 +94,7 @@ export class Shortening {
   }
 
   /**
-   * Returns the steps without some, with the same total time; null if a wait would become too long.
+   * Returns the steps without some of them, with the same total time; null if a wait becomes too long.
    * @param {(index: number) => boolean} isOut
    */
   waiting(isOut) {
@@ -102,20 +102,20 @@ export class Shortening {
     let down = downAtFirst(campaign);
     let waited = 0;
     /** @type {WalkStep[]} */
-    const kept = [];
+    const remainingSteps = [];
     for (const [at, step] of this.steps.entries()) {
       waited += step.wait;
       if (isOut(at)) continue;
-      // With nothing down, time may pass for longer; a wait is one run.
+      // If no input is down, a wait can be longer. Each wait must fit into one run.
       if (waited > (down.length > 0 ? campaign.longest : LONGEST_RUN)) return null;
-      kept.push({ ...step, wait: waited });
+      remainingSteps.push({ ...step, wait: waited });
       down = downAfter(down, step);
       waited = 0;
     }
-    return kept;
+    return remainingSteps;
   }
 
-  /** Leaves out a press and its release. */
+  /** Removes a press and its release. */
   async leaveOutPairs() {
     for (let at = 0; at < this.steps.length; at++) {
       const { kind, input } = this.steps[at];
@@ -127,8 +127,8 @@ export class Shortening {
   }
 
   /**
-   * Leaves out everything before a moment at which nothing is down. The program's own work then happens at another time, so the wait after
-   * it is also tried with some more cycles.
+   * Removes everything before a moment at which no input is down. The program's own activity then has another phase, so the next wait is also tried
+   * with additional cycles.
    */
   async beginLater() {
     const { campaign, steps } = this;
@@ -139,20 +139,20 @@ export class Shortening {
       return isIdle ? [at] : [];
     });
     for (const at of idle.reverse()) {
-      // A wait is one run.
-      for (let { wait } = steps[at]; wait < Math.min(steps[at].wait + PHASES, LONGEST_RUN + 1); wait++) {
+      // A wait must fit into one run.
+      for (let { wait } = steps[at]; wait < Math.min(steps[at].wait + MAX_EXTRA_CYCLES, LONGEST_RUN + 1); wait++) {
         if (await this.take([{ ...steps[at], wait }, ...steps.slice(at + 1)])) return true;
       }
     }
     return false;
   }
 
-  /** Makes waits shorter. */
+  /** Shortens waits. */
   async wait() {
     let isShorter = false;
     for (let at = 0; at < this.steps.length; at++) {
       const { wait } = this.steps[at];
-      for (const part of PARTS) {
+      for (const part of WAIT_FRACTIONS) {
         const shorter = Math.max(this.campaign.shortest, Math.floor(wait * part));
         if (shorter >= wait) continue;
         if (await this.take(this.steps.map((step, index) => (index === at ? { ...step, wait: shorter } : step)))) {

@@ -1,4 +1,4 @@
-// The subject of a search: a session at power-on that has board and program, and their names.
+// The subject of a search: a session at power-on with a board and a program, and their names.
 
 import { readBoard, refusalOf } from "../bench/answers.js";
 import { matchAnswers, readInputs } from "../bench/inputs.js";
@@ -12,15 +12,15 @@ import * as say from "../../words/explore.js";
  * @typedef {import("../engine/engine_host.js").EngineHost} Engine
  * @typedef {import("../conditions/condition_language.js").Names} Names
  *
- * An instruction of the program: its line, its address, and whether it has two possible successors.
+ * A program instruction: its line, its address, and whether it has two possible successors.
  * @typedef {{ line: number, address: number, hasWays: boolean }} Instruction
  *
  * @typedef {{ engine: Engine, file: Uint8Array, names: Names & { map: SourceMap }, codes: Uint8Array,
- *   instructions: Instruction[], texts: { board: string, program: string } }} Subject `file` is that of the session; `codes` are the bytes
+ *   instructions: Instruction[], texts: { board: string, program: string } }} Subject `file` is the session file; `codes` are the bytes
  *   in ROM
  */
 
-/** A text was rejected: which one, the number of the refusal and the line that it names, 0 for none. */
+/** The bench rejected a text: the text, the refusal number, and the line number of the error (0 for none). */
 export class TextRefused extends Error {
   /**
    * @param {"board" | "program"} which
@@ -38,7 +38,7 @@ export class TextRefused extends Error {
  * @param {Engine} engine
  * @param {string} boardText
  * @param {string} programText
- * @param {number} [before] how many lines of its file precede the program's text
+ * @param {number} [before] the number of lines before the program text in its file
  * @returns {Subject}
  */
 export function subjectOf(engine, boardText, programText, before = 0) {

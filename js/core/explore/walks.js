@@ -1,18 +1,18 @@
-// Walks: waits, and the change after each of them.
+// Walks: sequences of waits, each followed by a change.
 
 import { runLines } from "../engine/key_queue.js";
 
 /**
  * @typedef {import("./campaign.js").Campaign} Campaign
  *
- * A wait of this many cycles, and then a change: an input of the campaign that goes down or up, a power cycle, or nothing.
+ * A wait in cycles, followed by a change: an input goes down or up, a power cycle, or no change.
  * @typedef {{ wait: number, kind: "down" | "up" | "reset" | "none", input: number }} WalkStep
  *
- * @typedef {() => number} Random from 0 up to 1
+ * @typedef {() => number} Random returns a number from 0 up to, but not including, 1
  */
 
 /**
- * Returns a generator that gives the same numbers for the same seed (mulberry32).
+ * Returns a random number generator (mulberry32). The same seed gives the same numbers.
  * @param {number} seed
  * @returns {Random}
  */
@@ -42,8 +42,8 @@ export function downAtFirst({ inputs }) {
   return inputs.flatMap(({ isDown }, at) => (isDown ? [at] : []));
 }
 
-/** The share of waits that have the maximum length. The others have any length, short ones as often as long ones. */
-const LONGEST_SHARE = 0.6;
+/** The share of waits with the maximum length. All other waits are chosen on a logarithmic scale. */
+const LONGEST_WAIT_SHARE = 0.6;
 /** The share of steps that are power cycles. */
 const RESET_SHARE = 0.02;
 
@@ -51,13 +51,13 @@ const RESET_SHARE = 0.02;
  * @param {Campaign} campaign
  * @param {Random} random
  */
-function waitOf({ shortest, longest }, random) {
-  return random() < LONGEST_SHARE ? longest : Math.round(shortest * (longest / shortest) ** random());
+function chooseWait({ shortest, longest }, random) {
+  return random() < LONGEST_WAIT_SHARE ? longest : Math.round(shortest * (longest / shortest) ** random());
 }
 
 /**
- * Returns the next step, if these inputs are down, and each was changed this many cycles ago. A key that would be held for too long goes
- * up.
+ * Returns the next step. `down` are the inputs that are down, and `since` the cycles since the last change of each input. A key that reaches the
+ * maximum hold time goes up.
  * @param {Campaign} campaign
  * @param {number[]} down
  * @param {number[]} since
@@ -65,13 +65,13 @@ function waitOf({ shortest, longest }, random) {
  * @returns {WalkStep}
  */
 export function chooseStep(campaign, down, since, random) {
-  const wait = waitOf(campaign, random);
+  const wait = chooseWait(campaign, random);
   if (campaign.held === Infinity || down.length === 0) return chooseChange(campaign, down, since, wait, random);
   const left = down.map((at) => campaign.held - since[at]);
   const first = left.indexOf(Math.min(...left));
-  // An input that goes down now must be up in time as well: a wait, and then a key at a time.
+  // An input that goes down now must also go up in time: after a wait, one key at a time.
   if (left[first] >= wait + campaign.shortest * down.length) return chooseChange(campaign, down, since, wait, random);
-  // Inputs that went down together go up one after the other, at least a cycle apart, and no wait is without a cycle.
+  // Inputs that went down together go up one after another, at least one cycle apart. Each wait has at least one cycle.
   const inTurn = [...left].sort((one, other) => one - other).map((cycles, turn) => cycles - turn);
   return { wait: Math.max(1, Math.min(wait, ...inTurn)), kind: "up", input: down[first] };
 }
@@ -97,7 +97,7 @@ function chooseChange(campaign, down, since, wait, random) {
 }
 
 /**
- * Returns how many cycles ago each input was changed last, at power-on.
+ * Returns the cycles since the last change of each input, at power-on.
  * @param {Campaign} campaign
  */
 export function sinceAtFirst({ inputs }) {
@@ -105,7 +105,7 @@ export function sinceAtFirst({ inputs }) {
 }
 
 /**
- * Returns the same numbers after a step.
+ * Returns the cycles since the last change of each input, after a step.
  * @param {number[]} since
  * @param {WalkStep} step
  */
@@ -114,7 +114,7 @@ export function sinceAfter(since, { wait, input }) {
 }
 
 /**
- * Returns the keys that are down after a step.
+ * Returns the inputs that are down after a step.
  * @param {number[]} down
  * @param {WalkStep} step
  */
@@ -124,7 +124,7 @@ export function downAfter(down, { kind, input }) {
 }
 
 /**
- * Returns whether each step changes something, from the state at power-on, and no more keys are down, nor for longer, than allowed.
+ * Returns whether all steps are allowed from power-on: each step changes something, and the limits on keys, hold times and pauses are kept.
  * @param {Campaign} campaign
  * @param {WalkStep[]} steps
  */
@@ -134,7 +134,7 @@ export function isSound(campaign, steps) {
   for (const step of steps) {
     if (step.kind === "down" && (down.includes(step.input) || since[step.input] + step.wait < campaign.apart)) return false;
     if (step.kind === "up" && !down.includes(step.input)) return false;
-    if (step.wait > longestFrom(campaign, down, since)) return false;
+    if (step.wait > longestAllowedWait(campaign, down, since)) return false;
     since = sinceAfter(since, step);
     down = downAfter(down, step);
     if (down.filter((at) => campaign.inputs[at].isKey).length > campaign.together) return false;
@@ -143,26 +143,26 @@ export function isSound(campaign, steps) {
 }
 
 /**
- * Returns the longest wait after which no input was held for too long; Infinity if none is down.
+ * Returns the longest wait that keeps the hold time of each input; Infinity if no input is down.
  * @param {Campaign} campaign
  * @param {number[]} down
  * @param {number[]} since
  */
-function longestFrom({ held }, down, since) {
+function longestAllowedWait({ held }, down, since) {
   return Math.min(...down.map((at) => held - since[at]));
 }
 
 /**
- * Returns the longest wait after steps from power-on after which no input was held for too long.
+ * Returns the longest allowed wait after steps from power-on.
  * @param {Campaign} campaign
  * @param {WalkStep[]} steps
  */
 export function longestAfter(campaign, steps) {
-  return longestFrom(campaign, steps.reduce(downAfter, downAtFirst(campaign)), steps.reduce(sinceAfter, sinceAtFirst(campaign)));
+  return longestAllowedWait(campaign, steps.reduce(downAfter, downAtFirst(campaign)), steps.reduce(sinceAfter, sinceAtFirst(campaign)));
 }
 
 /**
- * Returns the line that makes a step's change; "" for none.
+ * Returns the line for the change of a step; "" if there is no change.
  * @param {Campaign} campaign
  * @param {WalkStep} step
  */
@@ -172,7 +172,7 @@ export function lineOf({ inputs }, { kind, input }) {
 }
 
 /**
- * Returns the lines of steps.
+ * Returns the lines for steps.
  * @param {Campaign} campaign
  * @param {WalkStep[]} steps
  */

@@ -1,5 +1,5 @@
-// A walk that is watched instruction by instruction: the places of its properties are traced, its instructions are counted, and each
-// property receives the events, in the order of time. Walks that show something new are watched, and a sample of the others.
+// Watches a walk instruction by instruction: traces the places of its properties, counts its instructions, and reports the events to the properties
+// in time order. Walks that show something new are watched, and a sample of the other walks.
 
 import { cyclesOf, isCall, isReturn } from "../engine/rom_codes.js";
 import { readTraced } from "../engine/tracing.js";
@@ -16,16 +16,17 @@ import { downAfter, lineOf } from "./walks.js";
  * @typedef {import("./place_questions.js").Change} Change
  * @typedef {import("../engine/tracing.js").Counted} Counted
  *
- * The starting point of a walk: the session, the cycles since power-on, the inputs that are down, and the memory of each property.
+ * The start of a walk: the session, the cycles since power-on, the inputs that are down, and the memory of each property.
  * @typedef {{ file: Uint8Array, time: number, down: number[], memories: number[][] }} Start
  *
- * The violation of a property (or a goal that is reached): its number, its time, and how many steps had begun.
+ * The violation of a property, or the reaching of a goal: the property number, the time, and the number of steps that had started.
  * @typedef {{ property: number, time: number, step: number }} Broken
  *
- * The state after a step: the time, the inputs that are down, the memory of each property; `isNew` if it ran something for the first time.
+ * The state after a step: the time, the inputs that are down, and the memory of each property. `isNew` is true if the step executed code for the
+ * first time.
  * @typedef {{ time: number, down: number[], memories: number[][], isNew: boolean }} After
  *
- * The answers about one step; `list` has all its instructions if they were queried.
+ * The answers about one step. `list` has all its instructions, or null if they were not queried.
  * @typedef {{ values: string[], changes: Change[], counts: Counted[], ran: string,
  *   list: { cycles: number, address: number }[] | null }} StepReport
  */
@@ -34,27 +35,27 @@ export class Watcher {
   /**
    * @param {Subject} subject
    * @param {Campaign} campaign
-   * @param {import("./search_coverage.js").Coverage | null} coverage null if it does not matter what is run
+   * @param {import("./search_coverage.js").Coverage | null} coverage null if the executed code does not matter
    */
   constructor(subject, campaign, coverage) {
     this.subject = subject;
     this.campaign = campaign;
     this.coverage = coverage;
-    const looked = campaign.properties.flatMap(conditionsOf).flatMap((condition) => (condition ? condition.places : []));
+    const conditionPlaces = campaign.properties.flatMap(conditionsOf).flatMap((condition) => (condition ? condition.places : []));
     this.calls = campaign.properties.flatMap(({ form }, at) => (form === "calls" || form === "returns" ? [at] : []));
-    this.places = new Places(this.calls.length > 0 ? [...looked, "ret"] : looked);
+    this.places = new Places(this.calls.length > 0 ? [...conditionPlaces, "ret"] : conditionPlaces);
     this.conditions = campaign.properties.map((property) => new Conditions(property, this.places));
-    /** @type {Set<number>} the labels of the properties that are open */
+    /** @type {Set<number>} the labels of the open properties */
     this.labels = new Set();
-    /** True if `count` is queried. */
+    /** True if the queries include `count`. */
     this.counts = coverage !== null || this.calls.length > 0 || campaign.properties.some(({ address }) => address >= 0);
   }
 
   /**
-   * Watches a walk. It ends when an open property is violated.
+   * Watches a walk. The walk ends when an open property is violated.
    * @param {Start} start
    * @param {WalkStep[]} steps
-   * @param {number[]} open the numbers of properties
+   * @param {number[]} open the numbers of the open properties
    * @returns {{ broken: Broken | null, after: After[] }}
    */
   watch(start, steps, open) {
@@ -133,8 +134,8 @@ export class Watcher {
   }
 
   /**
-   * Returns whether all instructions of a step must be queried: the counter reaches a label of a property; or no line shows a call or a
-   * return, because it leaves the return addresses unchanged.
+   * Returns whether all instructions of a step must be queried. This is necessary if the counter reaches a label of a property, or if no trace line
+   * shows a call or return because the return addresses stay the same.
    * @param {StepReport} report
    * @param {boolean} asksCalls
    */
@@ -149,7 +150,7 @@ export class Watcher {
   }
 }
 
-/** A walk whose events are reported to the properties. */
+/** A walk that reports its events to the properties. */
 class Walk {
   /**
    * @param {Watcher} watcher
@@ -172,15 +173,15 @@ class Walk {
   /**
    * @param {Event} event
    * @param {number} time
-   * @param {{ address?: number, input?: string, changed?: number }} more the address of a label, the input that goes down, the time of a
+   * @param {{ address?: number, input?: string, changed?: number }} more the address of a label, the input that goes down, or the time of a
    *   change of values
    */
   notify(event, time, { address = -1, input = "", changed = time } = {}) {
     const { watcher: { campaign: { properties }, conditions, calls }, values } = this;
     const isOfCalls = event === "call" || event === "return";
     for (const at of isOfCalls ? calls : this.open) {
-      const { see, address: own, start } = properties[at];
-      if (event === "label" && own !== address && start !== address) continue;
+      const { see, address: ownAddress, start } = properties[at];
+      if (event === "label" && ownAddress !== address && start !== address) continue;
       const isAsked = event === "values" || event === "label";
       const holds = isAsked && conditions[at].holds(values);
       const opens = isAsked || event === "down" ? conditions[at].opens(values) : NONE;
@@ -234,7 +235,7 @@ class Walk {
   }
 
   /**
-   * Reports the changes of a step whose instructions are listed. The counter reaches an instruction before that changes anything.
+   * Reports the changes of a step with listed instructions. The counter reaches an instruction before the instruction changes anything.
    * @param {StepReport} report
    * @param {number} began
    * @param {number} end
@@ -265,11 +266,11 @@ class Walk {
     if (step.kind === "down") this.notify("down", this.time, { input: inputs[step.input].name });
     if (step.kind === "reset") {
       this.notify("reset", this.time);
-      for (const at of this.watcher.calls) this.watcher.campaign.properties[at].see(this.memories[at], "reset", NOTHING);
+      for (const at of this.watcher.calls) this.watcher.campaign.properties[at].see(this.memories[at], "reset", EMPTY_MOMENT);
     }
   }
 }
 
 /** @type {boolean[]} */
 const NONE = [];
-const NOTHING = { time: 0, changed: 0, address: -1, holds: false, opens: NONE, input: "", isDown: 0 };
+const EMPTY_MOMENT = { time: 0, changed: 0, address: -1, holds: false, opens: NONE, input: "", isDown: 0 };

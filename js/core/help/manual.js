@@ -1,23 +1,23 @@
-// The tables of the manual that the page shows. page/build extracts them from docs/MANUAL.md and page/help.md.
+// Reads the manual tables that the page shows. page/build extracts them from docs/MANUAL.md and page/help.md.
 
 import * as say from "../../words/help.js";
 
 /**
- * A table: its caption ("" for none), its column heads and its rows. Code in a cell is between backticks.
+ * A table: its caption ("" for none), its column headings and its rows. Code in a cell is between backticks.
  * @typedef {{ caption: string, head: string[], rows: string[][] }} ManualTable
  * @typedef {{ title: string, tables: ManualTable[] }} ManualSection
  *
  * A piece of text in a cell.
  * @typedef {{ text: string, isCode: boolean }} Piece
  *
- * The manual's description of an instruction; `form` is the mnemonic with its operands, `does` the effect.
+ * The manual's description of an instruction. `form` is the mnemonic with operands; `does` describes the effect.
  * @typedef {{ form: string, code: string, words: string, cycles: string, does: string }} Instruction
  */
 
 /** The titles of the sections about instructions and about the cells of the machine. */
 export const INSTRUCTIONS = say.INSTRUCTIONS;
 export const CELLS = say.CELLS;
-/** The titles of the sections whose rows begin with a bench line. */
+/** The titles of sections in which each row starts with a bench line. */
 const BENCH_LINE_SECTIONS = say.SECTIONS_OF_LINES;
 
 /**
@@ -30,7 +30,7 @@ export function piecesOf(cell) {
 }
 
 /**
- * Returns the text of a cell without backticks.
+ * Returns the text of a cell without the backticks.
  * @param {string} cell
  */
 export function plain(cell) {
@@ -38,7 +38,7 @@ export function plain(cell) {
 }
 
 /**
- * Returns the rows of all tables in a section; none if there is no such section.
+ * Returns the rows of all tables in a section; an empty list if there is no such section.
  * @param {ManualSection[]} manual
  * @param {string} title
  */
@@ -48,9 +48,9 @@ export function rowsOf(manual, title) {
 }
 
 /**
- * Searches the manual for words, in any case. Returns the sections whose titles contain all words, and of other sections the rows that do.
+ * Searches the manual for words and ignores case. Returns the sections whose titles contain all words, and the matching rows of the other sections.
  * @param {ManualSection[]} manual
- * @param {string} wanted the words
+ * @param {string} wanted the words to search for
  * @returns {ManualSection[]}
  */
 export function searchManual(manual, wanted) {
@@ -65,14 +65,14 @@ export function searchManual(manual, wanted) {
 }
 
 /**
- * Returns the instructions by their mnemonics in upper case.
+ * Returns the instructions by upper-case mnemonic.
  * @param {ManualSection[]} manual
  * @returns {Map<string, Instruction>}
  */
 export function instructionsOf(manual) {
   const found = new Map();
   for (const row of rowsOf(manual, INSTRUCTIONS)) {
-    // A table without the columns for words and cycles has instructions of one word and one cycle.
+    // A table without columns for words and cycles describes instructions with one word and one cycle.
     const [forms, code, words, cycles, does] = row.length === 3 ? [row[0], row[1], "1", "1", row[2]] : row;
     for (const [, form] of forms.matchAll(/`([^`]+)`/g)) found.set(form.split(" ")[0], { form, code, words, cycles, does: plain(does) });
   }
@@ -80,7 +80,7 @@ export function instructionsOf(manual) {
 }
 
 /**
- * Returns the meaning of each condition number of JCN.
+ * Returns the meanings of the JCN condition numbers.
  * @param {ManualSection[]} manual
  * @returns {Map<number, string>}
  */
@@ -90,7 +90,7 @@ export function conditionsOf(manual) {
 }
 
 /**
- * Returns the forms of bench lines with their effects.
+ * Returns the bench line forms with their effects.
  * @param {ManualSection[]} manual
  * @returns {{ form: string, does: string }[]}
  */
@@ -100,7 +100,7 @@ export function linesOfBench(manual) {
 }
 
 /**
- * Returns the bench lines whose first word is the typed one, or starts with it while the first word is being typed.
+ * Returns the bench lines that match the typed text: those with the same first word, or those that start with an unfinished first word.
  * @param {{ form: string, does: string }[]} lines
  * @param {string} typed
  */
@@ -112,8 +112,8 @@ export function fittingLines(lines, typed) {
 }
 
 /**
- * Returns the description of a cell; "" for none. `R5` can have the description of `R`, and `bank 0` that of `bank`.
- * @param {Map<string, string>} words the descriptions by name
+ * Returns the description of a cell; "" if there is none. `R5` can have the description of `R`, and `bank 0` that of `bank`.
+ * @param {Map<string, string>} words the descriptions, by cell name
  * @param {string} name
  */
 export function wordsOfCell(words, name) {
@@ -121,7 +121,7 @@ export function wordsOfCell(words, name) {
 }
 
 /**
- * Returns the descriptions of the machine's cells by their names.
+ * Returns the descriptions of the machine's cells, by cell name.
  * @param {ManualSection[]} manual
  * @returns {Map<string, string>}
  */

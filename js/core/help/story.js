@@ -1,22 +1,22 @@
-// The story of an example: a text in steps, with links that are actions on the page. `# TITLE` is its first line; each step begins
-// with `## TITLE`; blank lines separate its paragraphs. `[WORDS](ACT)` is a link. The actions are:
+// Parses the story of an example: a text in steps, with links that are actions on the page. The first line is `# TITLE`. Each step starts with `##
+// TITLE`. Blank lines separate paragraphs. `[WORDS](ACT)` is a link. The actions are:
 //
-//     run, stop, back, forward                runs time; pauses it; goes back to the stop before; goes forward again
-//     go to LABEL, run to LABEL               shows a line of the program; runs time up to it
-//     back to PLACE                           goes back to before the last change of a place, such as r11, ram.0.0x12 or rom0.2
-//     press KEY, release KEY                  presses a key, which stays down while time is paused; releases a key that is down
+//     run, stop, back, forward                runs time; pauses it; goes back to the previous stop; goes forward
+//     go to LABEL, run to LABEL               shows a line of the program; runs time to a line
+//     back to PLACE                           goes back to the moment before the last change of a place, such as r11, ram.0.0x12 or rom0.2
+//     press KEY, release KEY                  presses a key (it stays down while time is paused); releases a key
 //     show VIEW                               shows a text or a panel
 
 /**
  * @typedef {import("./tour.js").Part} Part
  * @typedef {import("./tour.js").TourStep} TourStep
  *
- * The action of a link, with its argument, "" if it needs none.
+ * The action of a link, with its argument ("" for none).
  * @typedef {"run" | "stop" | "back" | "forward" | "go to" | "run to" | "back to" | "press" | "release" | "show"} ActName
  * @typedef {{ name: ActName, argument: string }} Act
  */
 
-/** The views that `show` accepts: texts, in the order of their tabs, and panels. */
+/** The views that `show` accepts: texts in tab order, and panels. */
 export const TEXTS = ["program", "board", "tests", "properties", "wiring", "waves"];
 export const PANELS = ["front", "processor", "listing", "memory", "ports"];
 
@@ -24,7 +24,7 @@ const ACT = /^(?:(run|stop|back|forward)|(go to|run to|back to|press|release|sho
 const LINK = /\[([^\]]+)\]\(([^()]+)\)/g;
 
 /**
- * Parses the action of a link; returns null if it is not valid.
+ * Parses the action of a link; returns null if the action is invalid.
  * @param {string} words
  * @returns {Act | null}
  */
@@ -65,7 +65,7 @@ function stepOf(text) {
 }
 
 /**
- * Returns the steps of a story; none if the text is empty.
+ * Returns the steps of a story; an empty list for an empty text.
  * @param {string} text
  * @returns {TourStep[]}
  */

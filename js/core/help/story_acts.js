@@ -1,4 +1,4 @@
-// Runs the actions of a story's links. Each one is a call of the page.
+// Runs the actions of story links. Each action calls a function of the page.
 
 import { TEXTS } from "./story.js";
 import * as say from "../../words/help.js";
@@ -11,26 +11,27 @@ import * as say from "../../words/help.js";
  */
 
 /**
- * The calls of the page.
+ * The functions of the page that actions use.
  * @typedef {object} ActCalls
  * @property {(label: string) => number | undefined} addressOf Returns the address of a label of the program in ROM; undefined if there is
  *   no such label.
- * @property {() => BoardKey[]} keys Returns the keys of the board that is shown.
+ * @property {() => BoardKey[]} keys Returns the keys of the displayed board.
  * @property {() => void} run Runs time without a goal.
- * @property {() => Promise<void>} stand Pauses time; resolves once it is paused.
- * @property {(goal: Goal) => Promise<void>} goOn Runs time to a goal; resolves once the goal is reached, or time runs to it.
- * @property {(goal: BackGoal) => Promise<void>} goBack Goes back to a goal; resolves once the session is at the goal.
+ * @property {() => Promise<void>} stand Pauses time; resolves after time is paused.
+ * @property {(goal: Goal) => Promise<void>} goOn Runs time to a goal. Resolves when time reaches a near goal; for a distant goal, when time runs
+ *   towards it.
+ * @property {(goal: BackGoal) => Promise<void>} goBack Goes back to a goal; resolves when the session is at the goal.
  * @property {() => Promise<void>} goForward Returns to the state before the last move back.
- * @property {(address: number) => void} goTo Shows the line of an address in the source and in the listing.
- * @property {() => boolean} isRunning Returns whether time runs, so that keys are queued.
+ * @property {(address: number) => void} goTo Shows an address in the source and in the listing.
+ * @property {() => boolean} isRunning Returns whether time runs; key changes are then queued.
  * @property {(key: BoardKey) => boolean} isDown Returns whether a key will be down after all queued changes.
  * @property {(key: BoardKey) => void} press Clicks a key: presses it, or releases it if it is down.
- * @property {(name: string) => void} showText Shows a text, by the name of its tab.
- * @property {(name: string) => void} showPanel Shows a panel, by its name.
+ * @property {(name: string) => void} showText Shows a text, selected by tab name.
+ * @property {(name: string) => void} showPanel Shows a panel, selected by name.
  */
 
 /**
- * Calls a function with the address of a label. Returns an error message, "" if there is no error.
+ * Calls a function with the address of a label. Returns an error message, or "".
  * @param {string} label
  * @param {ActCalls} calls
  * @param {(address: number) => unknown} act
@@ -43,7 +44,7 @@ async function atLabel(label, calls, act) {
 }
 
 /**
- * Calls a function with the key that has a legend. Returns an error message, "" if there is no error.
+ * Calls a function with the key that has a legend. Returns an error message, or "".
  * @param {string} legend
  * @param {ActCalls} calls
  * @param {(key: BoardKey) => unknown} act
@@ -56,33 +57,33 @@ function atKey(legend, calls, act) {
 }
 
 /**
- * The functions of the actions. Each one resolves to an error message, "" if there is no error.
+ * The action functions, by action name. Each function resolves to an error message, or "".
  * @type {Record<import("./story.js").ActName, (argument: string, calls: ActCalls) => Promise<string>>}
  */
 const ACTS = {
-  run: (_, calls) => done(() => calls.run()),
-  stop: (_, calls) => done(() => calls.stand()),
-  back: (_, calls) => done(() => calls.goBack({ kind: "stop" })),
-  forward: (_, calls) => done(() => calls.goForward()),
+  run: (_, calls) => perform(() => calls.run()),
+  stop: (_, calls) => perform(() => calls.stand()),
+  back: (_, calls) => perform(() => calls.goBack({ kind: "stop" })),
+  forward: (_, calls) => perform(() => calls.goForward()),
   "go to": (argument, calls) => atLabel(argument, calls, (address) => calls.goTo(address)),
   "run to": (argument, calls) => atLabel(argument, calls, (address) => calls.goOn({ kind: "here", address })),
-  "back to": (argument, calls) => done(() => calls.goBack({ kind: "change", place: argument })),
+  "back to": (argument, calls) => perform(() => calls.goBack({ kind: "change", place: argument })),
   press: async (argument, calls) => atKey(argument, calls, (key) => (calls.isRunning() || !calls.isDown(key)) && calls.press(key)),
   release: async (argument, calls) => atKey(argument, calls, (key) => calls.isDown(key) && calls.press(key)),
-  show: (argument, calls) => done(() => (TEXTS.includes(argument) ? calls.showText(argument) : calls.showPanel(argument))),
+  show: (argument, calls) => perform(() => (TEXTS.includes(argument) ? calls.showText(argument) : calls.showPanel(argument))),
 };
 
 /**
- * Calls a function that cannot fail; resolves to "".
+ * Calls a function that always succeeds; resolves to "".
  * @param {() => unknown} act
  */
-async function done(act) {
+async function perform(act) {
   await act();
   return "";
 }
 
 /**
- * Runs an action. Resolves to an error message, "" if there is no error.
+ * Runs an action. Resolves to an error message, or "".
  * @param {Act} act
  * @param {ActCalls} calls
  */

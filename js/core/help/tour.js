@@ -1,29 +1,29 @@
-// The tour: a first program in five steps. Each step has a text, a program to type, and a condition that the bench's answers must fulfil.
+// The tour: a first program in five steps. Each step has a text, a program to type, and a condition on the bench's answers.
 
 import * as say from "../../words/help.js";
 
 /**
  * The values that decide whether a step is done:
- * - `lamps`: a mark for each lamp, `*` if it is on;
- * - `patterns`: the number of different patterns of lamps in this step;
- * - `keysDown`: the number of keys that are down;
+ * - `lamps`: one mark per lamp, `*` if the lamp is on;
+ * - `patterns`: the number of different lamp patterns in this step;
+ * - `keysDown`: the number of pressed keys;
  * - `end`: the reason for the last stop in this step, such as `break` or `watch`; "" for none.
  * @typedef {{ lamps: string, patterns: number, keysDown: number, end: string }} TourState
  *
- * A piece of a paragraph: text, or in a story a link with an action.
+ * A piece of a paragraph: text, or a link with an action (only in a story).
  * @typedef {string | { words: string, act: import("./story.js").Act }} Part
  *
- * The control that a step highlights: the button that assembles, a key, the margin of the source, or a RAM character.
+ * The control that a step highlights: the assemble button, a key, the margin of the source, or a RAM character.
  * @typedef {"send" | "key" | "margin" | "ram"} Target
  *
- * A step: its title, its paragraphs, the program to type ("" to leave the program as it is), the control that it highlights, and the
- * function that returns whether it is done.
+ * A step: its title, its paragraphs, the program to type ("" for no change), the highlighted control, and a function that returns whether the step is
+ * done.
  * @typedef {{ title: string, words: (string | Part[])[], program: string, target?: Target,
  *   isDone: (state: TourState) => boolean }} TourStep
  */
 
 /**
- * The texts with which the tour begins.
+ * The texts at the start of the tour.
  * @type {import("../engine/examples.js").Example}
  */
 export const FIRST_PROGRAM = {
@@ -66,14 +66,14 @@ export const TOUR = [
 ];
 
 /**
- * Returns whether a text is empty or the program of a step, so that the tour can replace it.
+ * Returns whether a text is empty or the program of a step. The tour can replace such a text.
  * @param {string} text
  */
 export function isOfTour(text) {
   return text.trim() === "" || TOUR.some(({ program }) => program === text);
 }
 
-/** The progress of the tour: its current step, and whether that step is done. */
+/** The progress of the tour: the current step, and whether it is done. */
 export class TourWatch {
   /** @param {TourStep[]} steps */
   constructor(steps = TOUR) {
@@ -81,13 +81,13 @@ export class TourWatch {
     this.at = 0;
     /** @type {TourState} */
     this.state = { lamps: "", patterns: 0, keysDown: 0, end: "" };
-    /** @type {Set<string>} the different patterns of lamps in this step */
+    /** @type {Set<string>} the different lamp patterns in this step */
     this.patterns = new Set();
     this.isDone = false;
   }
 
   /**
-   * Begins a step.
+   * Starts a step.
    * @param {number} at the index of the step
    */
   begin(at) {
@@ -102,8 +102,8 @@ export class TourWatch {
   }
 
   /**
-   * Notes the state of the lamps.
-   * @param {string} lamps a mark for each lamp
+   * Records the state of the lamps.
+   * @param {string} lamps one mark per lamp, `*` if the lamp is on
    */
   seeLamps(lamps) {
     this.patterns.add(lamps);
@@ -115,13 +115,13 @@ export class TourWatch {
     this.update({ keysDown });
   }
 
-  /** @param {string} end the reason for a stop */
+  /** @param {string} end the reason for the last stop */
   noteEnd(end) {
     this.update({ end });
   }
 
   /**
-   * Updates the values, and whether the step is done.
+   * Updates the values and checks whether the step is done.
    * @param {Partial<TourState>} changes
    */
   update(changes) {

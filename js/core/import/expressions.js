@@ -1,26 +1,26 @@
-// Evaluates expressions in the syntax of Intel's assembler and of AS: names, numbers, brackets and the operators + - * / and &. The
-// prefixes < and > select the low and the high byte. $ and * are the address of the line.
+// Evaluates expressions in the syntax of Intel's assembler and of the AS macro assembler: names, numbers, parentheses and the operators + - * / and
+// &. The prefixes < and > select the low and the high byte. $ and * stand for the address of the line.
 
 import { capitals } from "./source_lines.js";
 import * as say from "../../words/import.js";
 
 /**
- * A value. `isKnown` is false if a name has no value yet. `fault` is an error message, "" if there is no error.
+ * A value. `isKnown` is false if a name in the expression has no value yet. `fault` is an error message, or "".
  * @typedef {{ value: number, isKnown: boolean, fault: string }} Evaluated
  *
- * The values of names: `isDefined` returns whether a line defines a name, `valueOf` its value, undefined if it is not known yet.
+ * The values of names. `isDefined` returns whether a line defines a name. `valueOf` returns the value, undefined if it is not known yet.
  * @typedef {{ isDefined: (name: string) => boolean, valueOf: (name: string) => number | undefined }} NameValues
  */
 
-/** The maximum nesting of an expression. */
+/** The maximum nesting depth of an expression. */
 const MAX_DEPTH = 50;
 const BYTE = 256;
-/** The highest bit that & compares. */
+/** The highest bit that & compares; higher bits of the result are 0. */
 const HIGHEST_BIT = 4096;
 const NAME = /[A-Za-z_.?@][A-Za-z0-9_.?@$]*/y;
 const BYTE_OF = /(LOW|HIGH|LO|HI|low|high|lo|hi)[ \t]*\(/y;
 const CHARACTER = /'[^']'|"[^"]"/y;
-/** The patterns of numbers in the order in which they are tried, and their bases. */
+/** The number patterns in the order of the attempts, with their bases. */
 const NUMBER_PATTERNS = [
   { pattern: /0[xX]([0-9A-Fa-f]+)/y, base: 16 },
   { pattern: /[$]([0-9A-Fa-f]+)/y, base: 16 },
@@ -44,7 +44,7 @@ function bitwiseAnd(left, right) {
 }
 
 /**
- * Returns the value of digits in a base.
+ * Returns the value of digits in a number base.
  * @param {string} digits
  * @param {number} base
  */
@@ -54,7 +54,7 @@ function numberOfDigits(digits, base) {
   return value;
 }
 
-/** A recursive-descent evaluator: `at` is the index of the next character. */
+/** A recursive-descent evaluator. `at` is the index of the next character. */
 class Evaluation {
   /**
    * @param {string} text
@@ -72,7 +72,7 @@ class Evaluation {
   }
 
   /**
-   * Notes an error unless there is one already.
+   * Records an error. Only the first error is stored.
    * @param {string} words
    */
   fail(words) {
@@ -84,7 +84,7 @@ class Evaluation {
     while (/[ \t]/.test(this.text[this.at] || "")) this.at += 1;
   }
 
-  /** Returns the next character that is not a blank, "" at the end. */
+  /** Returns the next non-blank character; "" at the end. */
   peek() {
     this.skipBlanks();
     return this.text[this.at] || "";
@@ -163,7 +163,7 @@ class Evaluation {
     return 0;
   }
 
-  /** @param {string} sign - and + apply to a factor, `<` and `>` to the whole sum after them */
+  /** @param {string} sign the prefix: - and + apply to a factor, `<` and `>` to the whole sum that follows */
   signed(sign) {
     this.at += 1;
     if (sign === "-") return -this.factor();
@@ -197,12 +197,12 @@ class Evaluation {
     return numberOfDigits(digits, base);
   }
 
-  /** @param {string} spelled */
-  nameValue(spelled) {
-    this.at += spelled.length;
-    const name = capitals(spelled);
+  /** @param {string} spelling */
+  nameValue(spelling) {
+    this.at += spelling.length;
+    const name = capitals(spelling);
     const value = this.names.valueOf(name);
-    if (!this.names.isDefined(name)) this.fail(say.noName(spelled));
+    if (!this.names.isDefined(name)) this.fail(say.noName(spelling));
     else if (value === undefined) this.isKnown = false;
     return value === undefined ? 0 : value;
   }

@@ -1,5 +1,5 @@
-// Converts a program in the syntax of Intel's assembler or of AS to the bench's syntax, line by line. The first passes find the values of
-// names; the last one writes the lines.
+// Converts a program in the syntax of Intel's assembler or of the AS macro assembler to the bench's syntax, line by line. Repeated passes compute the
+// values of names. The last pass writes the lines.
 
 import { LAST_ADDRESS, hex } from "../bench/numbers.js";
 import { MAX_NAME_LENGTH } from "../text/assembly.js";
@@ -17,34 +17,34 @@ import * as say from "../../words/import.js";
  * An error in a line; `line` counts from 1.
  * @typedef {{ line: number, words: string }} ImportFault
  *
- * The rules for an operand's value: its range, the modulus for negative numbers (0 if they are not allowed), and true in `isNumber` if a
- * name must be replaced by its value.
+ * The rules for an operand value. `from` and `to` are its range. `modulus` is the modulus for negative numbers, 0 if they are not allowed. `isNumber`
+ * is true if a name must be replaced by its value.
  * @typedef {{ from?: number, to: number, modulus?: number, isNumber?: boolean }} OperandRules
  */
 
-/** The maximum number of passes that find the values of names. */
+/** The maximum number of passes that compute the values of names. */
 const MAX_PASSES = 20;
 const NIBBLE = 16;
 const BYTE = 256;
 /** The columns of statements and comments in the output. */
 const COLUMNS = { statement: 8, comment: 24 };
-/** Names that are words of the bench's syntax. */
+/** Matches names that are reserved words in the bench's syntax. */
 const RESERVED = /^(ORG|DB|WPM|R[0-9]|R1[0-5]|P[0-7])$/;
 const NAME = /^[A-Za-z_.?@][A-Za-z0-9_.?@$]*$/;
-/** Numbers whose original text is not kept in a comment. */
+/** Matches numbers whose original text is not repeated in a comment. */
 const PLAIN_NUMBER = /^([0-9]+|[0-9][0-9A-Fa-f]*[hH]|(0[xX]|[$%])[0-9A-Fa-f]+)$/;
-/** @type {Map<string, number>} the condition numbers of JCN by their names */
+/** @type {Map<string, number>} the JCN condition numbers, by condition name */
 const CONDITIONS = new Map(Object.entries({ TZ: 1, T0: 1, TN: 9, T1: 9, CN: 2, C1: 2, CZ: 10, C0: 10, AZ: 4, AN: 12 }));
 /** The bit that inverts a condition. */
 const INVERTED = 8;
-/** @type {Record<string, number>} the bits of a condition by its letters */
+/** @type {Record<string, number>} the condition bits, by letter */
 const CONDITION_BITS = { Z: 4, C: 2, T: 1 };
 
-/** The error of a line that cannot be converted. */
+/** The error for a line that cannot be converted. */
 class LineFault extends Error {}
 
 /**
- * Pads a text to a column, with at least one blank after it.
+ * Pads a text to a column. A longer text gets one blank.
  * @param {string} text
  * @param {number} column
  */
@@ -59,34 +59,34 @@ class ProgramImport {
     this.lines = readSource(texts);
     /** @type {ImportFault[]} */
     this.faults = [];
-    /** @type {Map<string, number>} the line that defines each name, by the name in capitals */
+    /** @type {Map<string, number>} the numbers of the defining lines, by upper-case name */
     this.definedAt = new Map();
-    /** @type {Map<string, number>} the values of names, by the name in capitals */
+    /** @type {Map<string, number>} the values, by upper-case name */
     this.values = new Map();
-    /** @type {Map<string, string>} the output spelling of each name, by the name in capitals */
+    /** @type {Map<string, string>} the output spellings, by upper-case name */
     this.names = new Map();
     this.isForAs = this.lines.some(({ word }) => word === "CPU");
-    /** The address of the line that is written. */
+    /** The address of the current output line. */
     this.address = 0;
-    /** @type {string[]} the original texts of its expressions, for the comment */
+    /** @type {string[]} the original expressions in the current line, for its comment */
     this.originals = [];
     /** @type {import("./expressions.js").NameValues} */
     this.meaning = { isDefined: (name) => this.definedAt.has(name), valueOf: (name) => this.values.get(name) };
   }
 
-  /** Returns the lines in the bench's syntax; none if a name is defined twice or a line is too long. */
+  /** Returns the lines in the bench's syntax; an empty list if a name is defined twice or a line is too long. */
   run() {
     this.lines.forEach((line, at) => this.define(line, at + 1));
     if (this.faults.length > 0) return [];
     this.chooseNames();
     let passes = MAX_PASSES;
-    // A name can depend on names in later lines, so passes are repeated until no value changes.
+    // A name can depend on names in later lines, so the passes continue until no value changes.
     while (passes > 0 && this.locateNames()) passes -= 1;
     return this.lines.map((line, at) => this.attempt(at + 1, () => this.outputLine(line), ""));
   }
 
   /**
-   * Calls a function and returns its result. If it throws a LineFault, notes the error and returns `instead`.
+   * Calls a function and returns its result. If the function throws a LineFault, records the error and returns `instead`.
    * @template Result
    * @param {number} line
    * @param {() => Result} act
@@ -105,9 +105,9 @@ class ProgramImport {
   // --- names ---
 
   /**
-   * Notes the line that defines a name.
+   * Records the line that defines a name.
    * @param {SourceLine} line
-   * @param {number} number of the line
+   * @param {number} number the line number
    */
   define({ label, isLong }, number) {
     this.attempt(number, () => {
@@ -120,10 +120,10 @@ class ProgramImport {
     }, undefined);
   }
 
-  /** Chooses the output spelling of each name: that of its definition, changed if the bench rejects it or another name has it. */
+  /** Chooses the output spelling of each name. It is the original spelling, unless the bench rejects it or another name already has it. */
   chooseNames() {
     const used = new Set();
-    /** @type {Map<string, number>} the next number to append, by the name that is in use */
+    /** @type {Map<string, number>} the next number to append, by spelling in use */
     const next = new Map();
     for (const [name, line] of this.definedAt) {
       const plain = this.lines[line - 1].label.replace(/[^A-Za-z0-9_]/g, "_").replace(/^(?=[0-9])/, "_");
@@ -143,13 +143,13 @@ class ProgramImport {
 
   /**
    * @param {string} text
-   * @param {number} address of the line
+   * @param {number} address the address of the line
    */
   valueOf(text, address) {
     return evaluate(text, address, this.meaning);
   }
 
-  /** Runs a pass that sets the values of names. Returns whether a value has changed. */
+  /** Runs a pass that computes the values of names. Returns whether any value has changed. */
   locateNames() {
     let [at, hasChanged] = [0, false];
     for (const line of this.lines) {
@@ -165,7 +165,7 @@ class ProgramImport {
   }
 
   /**
-   * Returns the address after a line.
+   * Returns the address of the next line.
    * @param {SourceLine} line
    * @param {number} at the address of the line
    */
@@ -185,7 +185,7 @@ class ProgramImport {
   // --- lines ---
 
   /**
-   * Returns the output line with its comment; throws LineFault if the line cannot be converted.
+   * Returns the output line with its comment. Throws LineFault if the line cannot be converted.
    * @param {SourceLine} line
    */
   outputLine(line) {
@@ -236,7 +236,7 @@ class ProgramImport {
   }
 
   /**
-   * Returns the ORG for a directive that reserves bytes.
+   * Returns the ORG line for a directive that reserves bytes.
    * @param {string} word
    * @param {string} operand
    */
@@ -267,7 +267,7 @@ class ProgramImport {
    */
   instruction(word, operand, kinds) {
     let parts = partsOfList(operand);
-    // Blanks can separate two operands instead of a comma.
+    // Two operands can be separated by blanks instead of a comma.
     const separated = kinds.length > 1 && parts.length === 1 ? /^([^ \t]+)[ \t]+(.+)$/.exec(operand) : null;
     if (separated) parts = [separated[1], separated[2]];
     if (word === "BBL" && parts.length === 0) parts = ["0"];
@@ -291,7 +291,7 @@ class ProgramImport {
   }
 
   /**
-   * Returns the output text of an operand. A name stays a name. An expression becomes a number; its original text goes into the comment.
+   * Returns the output text of an operand. A name stays a name. An expression becomes a number, and the comment gets its original text.
    * @param {string} text
    * @param {OperandRules} rules
    */
@@ -346,7 +346,7 @@ class ProgramImport {
 /**
  * Converts a program to the bench's syntax.
  * @param {string} source
- * @returns {{ text: string, faults: ImportFault[] }} the text, "" if a line has an error, and the errors
+ * @returns {{ text: string, faults: ImportFault[] }} the converted text ("" if a line has an error), and the errors
  */
 export function importProgram(source) {
   const texts = source.split("\n").map((line) => line.replace(/\r$/, ""));

@@ -1,17 +1,17 @@
-// Splits the lines of a program in the syntax of Intel's assembler or of AS. (text/assembly.js splits lines in the bench's syntax.)
+// Splits source lines in the syntax of Intel's assembler or of the AS macro assembler. (text/assembly.js splits lines in the bench's syntax.)
 
 /**
- * A line: its label, its mnemonic or directive in capitals (`word`), the text of its operands, and its comment. The word of a definition is
- * always EQU. `isLong` is true if the line is too long to be split.
+ * A line: its label, its upper-case mnemonic or directive (`word`), the text of its operands, and its comment. `word` is always EQU for a definition.
+ * `isLong` is true if the line is too long to be split.
  * @typedef {{ text: string, label: string, word: string, operand: string, comment: string, isLong: boolean }} SourceLine
  *
  * @typedef {"register" | "pair" | "digit" | "byte" | "target" | "condition"} OperandKind
  */
 
-/** The maximum length of a line without its comment. */
+/** The maximum length of a line without its comment, in characters. */
 export const LONGEST_SOURCE_LINE = 1024;
 
-/** @type {[string[], OperandKind[]][]} mnemonics and the kinds of their operands */
+/** @type {[string[], OperandKind[]][]} the mnemonics and their operand kinds */
 const INSTRUCTION_FORMS = [
   [["NOP", "CLB", "CLC", "IAC", "CMC", "CMA", "RAL", "RAR", "TCC", "DAC", "TCS", "STC", "DAA", "KBP", "DCL", "WRM", "WMP", "WRR",
     "WR0", "WR1", "WR2", "WR3", "SBM", "RDM", "RDR", "ADM", "RD0", "RD1", "RD2", "RD3"], []],
@@ -23,21 +23,21 @@ const INSTRUCTION_FORMS = [
   [["ISZ"], ["register", "target"]],
   [["JCN"], ["condition", "target"]],
 ];
-/** The kinds of operands by mnemonic. */
+/** The operand kinds, by mnemonic. */
 export const OPERANDS = new Map(INSTRUCTION_FORMS.flatMap(([names, kinds]) => names.map((name) => /** @type {const} */ ([name, kinds]))));
-/** The instructions that only the 4040 has. */
+/** The instructions that exist only on the 4040. */
 export const ONLY_4040 = new Set(["HLT", "BBS", "LCR", "OR4", "OR5", "AN6", "AN7", "DB0", "DB1", "SB0", "SB1", "EIN", "DIN", "RPM"]);
-/** The directives that become comments. */
+/** The directives that the import turns into comments. */
 export const REMARKS = new Set(["CPU", "TITLE", "PAGE", "LISTING", "NEWPAGE", "PRTINIT", "PRTEXIT", "SUBTITLE", "EJECT", "NOLIST", "LIST",
   "NAME", "SPACE", "RELAXED", "RADIX", "INTSYNTAX"]);
-/** The directives for bytes, and the directives that reserve bytes. */
+/** The directives that define bytes, and the directives that reserve bytes. */
 export const BYTE_WORDS = new Set(["DB", "DATA", "BYTE", "DEFB", "FCB", "DC"]);
 export const RESERVE_WORDS = new Set(["DS", "RES", "DEFS", "RMB"]);
 const DIRECTIVES = new Set([...BYTE_WORDS, ...RESERVE_WORDS, "EQU", "=", "SET", "ORG", "ALIGN", "END"]);
 /** The directives that cannot be imported. */
 export const UNSUPPORTED = new Set(["MACRO", "ENDM", "IF", "ELSE", "ENDIF", "IFDEF", "IFNDEF", "INCLUDE", "BINCLUDE", "REPT", "IRP",
   "WHILE", "STRUCT", "SECTION", "DW"]);
-/** The instruction that writes program RAM, which the bench does not have. */
+/** The instruction that writes to program RAM. The bench has no program RAM. */
 export const PROGRAM_RAM = "WPM";
 /** The words that cannot be labels. */
 const KNOWN_WORDS = [OPERANDS, ONLY_4040, REMARKS, DIRECTIVES, UNSUPPORTED, new Set([PROGRAM_RAM])];
@@ -49,7 +49,7 @@ const DEFINITION = /^(=|EQU|SET|:=)(?=[ \t]|$|[^A-Za-z0-9_=])/i;
 const NAMED_DEFINITION = new RegExp(`^(${NAME})[ \\t]*(?:=|[ \\t]EQU[ \\t]|[ \\t]SET[ \\t])`, "i");
 
 /**
- * Returns a text with its ASCII letters in capitals.
+ * Returns a text with upper-case ASCII letters.
  * @param {string} text
  */
 export function capitals(text) {
@@ -57,7 +57,7 @@ export function capitals(text) {
 }
 
 /**
- * Returns a text without blanks and tabs at its ends.
+ * Removes blanks and tabs from both ends of a text.
  * @param {string} text
  */
 export function trimmed(text) {
@@ -65,7 +65,7 @@ export function trimmed(text) {
 }
 
 /**
- * Returns the index of the mark that begins a comment, -1 for none. `/` is a mark only at the start or after a blank.
+ * Returns the index at which a comment starts, -1 for none. `/` starts a comment only at the start of the line or after a blank.
  * @param {string} line
  */
 function commentAt(line) {
@@ -81,7 +81,7 @@ function commentAt(line) {
 }
 
 /**
- * Splits a line into the text before its comment and the comment.
+ * Splits a line into its code and its comment. A line that starts with `*` or `/` is a comment.
  * @param {string} text
  */
 function withoutComment(text) {
@@ -94,7 +94,7 @@ function withoutComment(text) {
 }
 
 /**
- * Splits a line into its label and the text after it. A name in the first column is a label unless it is a mnemonic or a directive.
+ * Splits a line into its label and the rest. A name in the first column is a label, unless it is a mnemonic or a directive.
  * @param {string} line
  */
 function withoutLabel(line) {
@@ -107,7 +107,7 @@ function withoutLabel(line) {
 }
 
 /**
- * Splits the statement after a label. A definition is `X = 5` or `X EQU 5`, with or without a colon after X.
+ * Splits the statement after a label. A definition has the form `X = 5` or `X EQU 5`, with or without a colon after X.
  * @param {string} label
  * @param {string} rest
  */
@@ -123,7 +123,7 @@ function statementIn(label, rest) {
 }
 
 /**
- * Splits the lines of a source. All lines after END are comments.
+ * Splits the lines of a source. All lines after END count as comments.
  * @param {string[]} texts
  * @returns {SourceLine[]}
  */
@@ -142,7 +142,7 @@ export function readSource(texts) {
 }
 
 /**
- * Splits a list at the commas outside brackets and quotes.
+ * Splits a list at commas outside parentheses and quotes.
  * @param {string} list
  */
 export function partsOfList(list) {
@@ -165,7 +165,7 @@ export function partsOfList(list) {
 }
 
 /**
- * Returns the characters of a quoted string with more than one character; null for any other part.
+ * Returns the characters of a quoted string with two or more characters; null for any other part.
  * @param {string} part
  */
 export function quotedCharacters(part) {

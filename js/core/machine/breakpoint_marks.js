@@ -1,4 +1,4 @@
-// The marks of breakpoints in the margin of the source and in the listing, with a description of each.
+// The breakpoint marks in the margin of the source and in the listing, with their descriptions.
 
 import * as say from "../../words/machine.js";
 
@@ -7,14 +7,14 @@ import * as say from "../../words/machine.js";
  * @typedef {{ mark: string, words: string }} BreakpointMark
  */
 
-/** The marks of a breakpoint: it always stops, it stops on a condition, it logs, it never stops. */
+/** The marks of breakpoints that always stop, stop on a condition, log, or never stop. */
 const ALWAYS = "\u25CF";
 const SOMETIMES = "\u25C6";
 const LOGS = "\u25B8";
 const NEVER = "\u25CB";
 
 /**
- * Returns the condition, the hit count and the log text of a breakpoint, or "" if it has none of them.
+ * Describes the condition, the hit count and the log text of a breakpoint; "" if it has none of them.
  * @param {Pick<Breakpoint, "condition" | "from" | "note">} breakpoint
  */
 export function detailsOfBreakpoint({ condition, from, note }) {
@@ -24,7 +24,7 @@ export function detailsOfBreakpoint({ condition, from, note }) {
 }
 
 /**
- * Returns a sentence that describes a breakpoint.
+ * Describes a breakpoint in one sentence.
  * @param {Pick<Breakpoint, "condition" | "from" | "note">} breakpoint
  */
 export function wordsOfBreakpoint(breakpoint) {
@@ -32,9 +32,9 @@ export function wordsOfBreakpoint(breakpoint) {
 }
 
 /**
- * Returns the mark and the description of a breakpoint.
+ * Returns the mark of a breakpoint and its description.
  * @param {Breakpoint} breakpoint
- * @param {string} fault the error in its condition or log text, or "". With an error it stops every time.
+ * @param {string} fault the error in its condition or log text, or ""; a breakpoint with an error stops every time
  * @returns {BreakpointMark}
  */
 export function markOf(breakpoint, fault) {
@@ -47,9 +47,9 @@ export function markOf(breakpoint, fault) {
 }
 
 /**
- * Returns the marks by source line, and the marks by address.
+ * Returns the breakpoint marks by source line, and by address.
  * @param {Breakpoint[]} breakpoints
- * @param {Map<number, string>} faults the errors of breakpoints, by their ids
+ * @param {Map<number, string>} faults the error messages, by breakpoint id
  */
 export function marksOf(breakpoints, faults) {
   /** @type {Map<number, BreakpointMark>} */

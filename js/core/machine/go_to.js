@@ -1,4 +1,4 @@
-// Parses the target of "go to": a name of the program, a name plus a number, an address as in listings, or a number as in commands.
+// Parses the target of "go to": a program name, a name plus an offset, an address as in listings, or a number as in commands.
 
 import { LAST_ADDRESS, numberOf } from "../bench/numbers.js";
 import * as say from "../../words/machine.js";
@@ -6,17 +6,17 @@ import * as say from "../../words/machine.js";
 /**
  * @typedef {import("./source_map.js").SourceMap} SourceMap
  *
- * The address, or the message of an error.
+ * The target address, or an error message.
  * @typedef {{ address: number, words: string }} Goal
  */
 
-/** An address as in listings: three hexadecimal digits, even if all of them are decimal. */
+/** Matches an address as in listings: three hexadecimal digits without a prefix. */
 const LISTING_ADDRESS = /^[0-9a-f]{3}$/i;
-/** A name plus an offset, as the page writes addresses. */
+/** Matches a name plus an offset, as the page writes addresses. */
 const NAME_PLUS_OFFSET = /^([a-z_]\w*)\s*\+\s*(0x[0-9a-f]+|\d+)$/i;
 
 /**
- * Returns an error.
+ * Creates an error result.
  * @param {string} words
  * @returns {Goal}
  */
@@ -25,9 +25,9 @@ function goalError(words) {
 }
 
 /**
- * Parses a target.
+ * Parses the target of "go to".
  * @param {string} text
- * @param {SourceMap | null} map the program in ROM
+ * @param {SourceMap | null} map the source map of the program in ROM; null if unknown
  * @returns {Goal}
  */
 export function goalOf(text, map) {

@@ -1,4 +1,4 @@
-// Adds the names of the program in ROM to a line of a listing.
+// Adds program names to the lines of a listing.
 
 import { hex } from "../bench/numbers.js";
 import { wordsOfLine } from "../../words/stops.js";
@@ -7,22 +7,22 @@ import { wordsOfLine } from "../../words/stops.js";
  * @typedef {import("../bench/answers.js").Listed} Listed
  * @typedef {import("./source_map.js").SourceMap} SourceMap
  *
- * The fields of a listing line. `first`, `second`: its address, and the address of its second byte ("" for none); `bytes`: address and
- * bytes as the answer has them; `labels`: the labels at its address; `source`: its source line as text ("" for none).
+ * The fields of a listing line. `first` is its address and `second` the address of its second byte ("" for none). `bytes` holds address and bytes as
+ * in the answer. `labels` are the labels at its address. `source` is its source line ("" for none).
  * @typedef {{ address: number, first: string, second: string, bytes: string, labels: string, instruction: string, source: string }}
  *   NamedLine
  */
 
-/** An instruction whose last operand is an address. */
+/** Matches an instruction whose last operand is an address. */
 const HAS_TARGET = /^(JUN|JMS|JCN|ISZ) .*0x([0-9A-F]{3})$/;
-/** Columns in a line of a listing. */
+/** The columns in a listing line. */
 const BYTES_END = 9;
 const SECOND_BYTE = 7;
 const INSTRUCTION_AT = 10;
-const COLON = 1;
+const COLON_LENGTH = 1;
 
 /**
- * Returns a line of a listing with names.
+ * Returns a listing line with names.
  * @param {Listed} listed
  * @param {SourceMap | null} map
  * @returns {NamedLine}
@@ -42,7 +42,7 @@ export function namedLine({ address, line }, map) {
 }
 
 /**
- * Returns an instruction with a label in place of its target address. If the target has several labels, it is the one in the source line.
+ * Replaces the target address in an instruction by a label. If the target has several labels, uses the label in the source line.
  * @param {string} instruction
  * @param {string} source
  * @param {SourceMap} map
@@ -58,10 +58,10 @@ function withTarget(instruction, source, map) {
 }
 
 /**
- * Returns the length of the longest label, with its colon, or 0 if there is none.
+ * Returns the length of the longest label including its colon; 0 if there are no labels.
  * @param {SourceMap | null} map
  */
 export function widthOfLabels(map) {
-  const lengths = map ? [...map.labels.values()].map((labels) => labels.join(": ").length + COLON) : [];
+  const lengths = map ? [...map.labels.values()].map((labels) => labels.join(": ").length + COLON_LENGTH) : [];
   return Math.max(0, ...lengths);
 }

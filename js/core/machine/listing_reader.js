@@ -1,4 +1,4 @@
-// Reads the part of a listing that is shown, with as few queries as possible.
+// Reads the visible part of a listing with as few queries as possible.
 
 import { readListing } from "../bench/answers.js";
 import { joinLines, matchAnswers, readInputs } from "../bench/inputs.js";
@@ -16,9 +16,9 @@ export class ListingReader {
   }
 
   /**
-   * Resolves to a listing that is aligned with the goal's anchor. Usually the first query finds it.
+   * Resolves to a listing that is aligned with the anchor of the goal. Usually the first query is sufficient.
    * @param {Goal} goal
-   * @param {number} rows the number of lines to show
+   * @param {number} rows the number of visible lines
    */
   async read(goal, rows) {
     /** @type {Listed[]} */

@@ -1,5 +1,5 @@
-// Finds where to begin a listing, and cuts the lines to show from it. The bench disassembles from the first byte on. So a listing is
-// aligned with the program only if one of its lines begins at an address where an instruction is known to begin.
+// Finds start addresses for a listing, and cuts out the visible lines. The bench disassembles from the first byte on. Therefore a listing is aligned
+// with the program only if one of its lines starts at a known instruction start.
 
 import { upTo } from "../bench/numbers.js";
 import { ADDRESSES, MAX_LISTED } from "../bench/rom_bytes.js";
@@ -7,24 +7,24 @@ import { ADDRESSES, MAX_LISTED } from "../bench/rom_bytes.js";
 /**
  * @typedef {import("../bench/answers.js").Listed} Listed
  *
- * The part of a listing to show: its first line is the first one at or after `from`. A line must begin at `anchor`, if that is known.
+ * The visible part of a listing. Its first line is the first line at or after `from`. If `anchor` is not null, a line must start at that address.
  * @typedef {{ from: number, anchor: number | null }} Goal
  */
 
 /**
- * A disassembly becomes aligned within a few instructions, so a listing begins some bytes early. If it stays misaligned, it begins a byte
- * later.
+ * A disassembly becomes aligned after a few instructions, so the listing starts some bytes early. If it is still misaligned, the next try starts one
+ * byte later.
  */
 const BYTES_BEFORE = 12;
 const MAX_TRIES = 4;
 
 /**
- * Returns the addresses at which to begin a listing, the best first. The last one is the anchor itself.
+ * Returns the start addresses to try, best first. The last one is the anchor itself.
  * @param {Goal} goal
- * @param {number} rows the number of lines to show
+ * @param {number} rows the number of visible lines
  */
 export function beginningsOf({ from, anchor }, rows) {
-  // At the end of ROM the last lines fill the view. A line has one or two bytes.
+  // At the end of ROM, the last lines fill the view. Each line has one or two bytes.
   const base = Math.min(from, ADDRESSES - 2 * rows) - BYTES_BEFORE;
   const starts = upTo(MAX_TRIES).map((later) => Math.max(0, base + later));
   if (anchor !== null) starts.push(anchor);
@@ -32,7 +32,7 @@ export function beginningsOf({ from, anchor }, rows) {
 }
 
 /**
- * Returns how many lines a listing from `start` needs.
+ * Returns the number of lines that a listing from `start` needs.
  * @param {number} start
  * @param {Goal} goal
  * @param {number} rows
@@ -42,7 +42,7 @@ export function linesNeeded(start, { from, anchor }, rows) {
 }
 
 /**
- * Returns whether a line begins at an address.
+ * Returns whether a line starts at an address.
  * @param {Listed[]} lines
  * @param {number | null} address
  */
@@ -51,7 +51,7 @@ export function beginsLine(lines, address) {
 }
 
 /**
- * Returns the lines to show.
+ * Returns the visible lines.
  * @param {Listed[]} lines
  * @param {number} from
  * @param {number} rows
@@ -63,7 +63,7 @@ export function stretchOf(lines, from, rows) {
 }
 
 /**
- * Returns whether an address is inside a line: then the listing is not aligned with it.
+ * Returns whether an address is inside a line. The listing is then not aligned with the address.
  * @param {Listed[]} lines
  * @param {number} address
  */

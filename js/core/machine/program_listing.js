@@ -1,21 +1,21 @@
-// The listing of a program, as assemblers print it: each source line with its address and its bytes, and at the end the names with values.
+// Creates the listing of a program in the format of assemblers: each source line with its address and bytes, followed by the names with their values.
 
 import { hex, upTo } from "../bench/numbers.js";
 
 /** @typedef {import("./source_map.js").SourceMap} SourceMap */
 
-/** The width of the columns before the source. */
+/** The width of the address and byte columns before the source. */
 const WIDTH = 17;
 const BYTES_IN_ROW = 4;
 const TAB = " ".repeat(8);
 const ONLY_LABEL = /^[A-Za-z_]\w*:$/;
 const NAME_DEFINITION = /^([A-Za-z_]\w*)=/;
 
-/** @type {(left: string, source: string) => string} returns a row without trailing blanks */
+/** @type {(left: string, source: string) => string} returns a row; trailing blanks are removed */
 const rowOf = (left, source) => `${left.padEnd(WIDTH)}${source}`.replace(/ +$/, "");
 
 /**
- * Returns the rows of a line that has bytes. The first row has the source.
+ * Returns the rows of a line with bytes. The first row contains the source.
  * @param {number} address
  * @param {number[]} bytes
  * @param {string} source
@@ -28,7 +28,7 @@ function rowsOfBytes(address, bytes, source) {
 }
 
 /**
- * Returns the text before a line without bytes: the value that it gives to a name, or the address of a label that is alone in its line.
+ * Returns the text before a line without bytes: the value of a name definition, or the address of a label that stands alone.
  * @param {string} line
  * @param {number} address
  * @param {SourceMap} map
@@ -41,10 +41,10 @@ function meaningOf(line, address, map) {
 }
 
 /**
- * Returns the rows for all lines of a program.
- * @param {string} text the source
+ * Returns the rows for all program lines.
+ * @param {string} text the source text
  * @param {SourceMap} map
- * @param {Int16Array} bytes the byte at each address
+ * @param {Int16Array} bytes the bytes, by address
  */
 function rowsOf(text, map, bytes) {
   return text.replace(/\n$/, "").split("\n").flatMap((line, at) => {
@@ -56,9 +56,9 @@ function rowsOf(text, map, bytes) {
 }
 
 /**
- * Returns the names of a program with their values, in alphabetical order.
+ * Returns the program names with their values, in alphabetical order.
  * @param {SourceMap} map
- * @param {boolean} onlyLabels whether to return only labels
+ * @param {boolean} onlyLabels true to return only labels
  */
 export function namesOfProgram(map, onlyLabels) {
   return [...map.names.values()].filter(({ isLabel }) => isLabel || !onlyLabels)
@@ -67,10 +67,10 @@ export function namesOfProgram(map, onlyLabels) {
 }
 
 /**
- * Returns the lines of a program's listing.
- * @param {string} text the source
+ * Returns the lines of a program listing.
+ * @param {string} text the source text
  * @param {SourceMap} map
- * @param {Int16Array} bytes the byte at each address
+ * @param {Int16Array} bytes the bytes, by address
  */
 export function programListing(text, map, bytes) {
   const names = namesOfProgram(map, false).map(({ name, value }) => rowOf(name, value));

@@ -1,4 +1,4 @@
-// The names of RAM nibbles. They are from the list of watched values, and from the source if the operand of an SRC is a name.
+// Finds names for RAM nibbles: the names of watch expressions, and the names of numbers that the source loads for an SRC.
 
 import { hex } from "../bench/numbers.js";
 import { PAIR, partsOf } from "../text/assembly.js";
@@ -10,7 +10,7 @@ import { PAIR, partsOf } from "../text/assembly.js";
  */
 
 /**
- * Returns the named numbers that the program loads by FIM into a register pair of an SRC, without duplicates.
+ * Returns the named numbers that FIM loads into a register pair used by SRC, without duplicates.
  * @param {SourceMap} map
  * @returns {{ name: string, byte: number }[]}
  */
@@ -28,7 +28,7 @@ export function bytesOfSource(map) {
 }
 
 /**
- * Returns the names of RAM nibbles, by their places as in `poke`. The byte of an SRC selects a nibble in each bank.
+ * Returns the names of RAM nibbles, by `poke` place. An SRC byte selects one nibble in each bank.
  * @param {Board} board
  * @param {Pick<Watched, "name" | "place">[]} watched
  * @param {SourceMap | null} map null if the source is not the program in ROM
@@ -42,7 +42,7 @@ export function namesOfCharacters({ banks }, watched, map) {
     const present = names.get(place) || [];
     if (!present.includes(name)) names.set(place, [...present, name]);
   };
-  // A watched value without a name is called by its place, which is not a word.
+  // A watch expression without a name has its place as its name, which is not a word.
   for (const { name, place } of watched) if (place !== "" && /^\w+$/.test(name)) add(place, name);
   for (const { name, byte } of map ? bytesOfSource(map) : []) {
     for (const { bank, chips } of banks) if (byte < chips * 64) add(`ram.${bank}.0x${hex(byte, 2)}`, name);

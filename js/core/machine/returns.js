@@ -1,5 +1,5 @@
-// Describes the return addresses in the stack. The stack keeps stale entries. A call stores the address after its JMS, so an entry without
-// a JMS before it is stale.
+// Describes the return addresses in the stack. The stack also contains stale entries. A call stores the address after its JMS, so an entry without a
+// preceding JMS is stale.
 
 import { LAST_ADDRESS } from "../bench/numbers.js";
 import * as say from "../../words/machine.js";
@@ -24,10 +24,10 @@ export function callBefore(address) {
 }
 
 /**
- * Returns for each return address, the newest first, whether a call stored it. All entries older than a stale one are stale.
+ * Returns for each return address, newest first, whether a call stored it. All entries older than a stale entry are also stale.
  * @param {number[]} addresses
- * @param {string[]} bytes for each address, the byte in ROM where its JMS would begin
- * @param {SourceMap | null} map the program in ROM
+ * @param {string[]} bytes for each address, the ROM byte at the position of its JMS
+ * @param {SourceMap | null} map the source map of the program in ROM; null if unknown
  */
 export function areLive(addresses, bytes, map) {
   const firstStale = addresses.findIndex((address, at) => {
@@ -39,7 +39,7 @@ export function areLive(addresses, bytes, map) {
 }
 
 /**
- * Returns the description of the program counter.
+ * Describes the program counter.
  * @param {number} address
  * @param {SourceMap | null} map
  * @returns {Note}
@@ -51,7 +51,7 @@ export function noteOfCounter(address, map) {
 }
 
 /**
- * Returns the description of a return address.
+ * Describes a return address.
  * @param {number} address
  * @param {boolean} isLive
  * @param {SourceMap | null} map

@@ -1,4 +1,4 @@
-// The map of a program, from the answers to `map`: the address and the bytes of each source line, and the names.
+// The source map of a program, built from the answers to `map`: the address and bytes of each source line, and the names.
 
 import { readMap } from "../bench/answers.js";
 import { hex } from "../bench/numbers.js";
@@ -6,7 +6,7 @@ import { ADDRESSES } from "../bench/rom_bytes.js";
 import * as say from "../../words/machine.js";
 
 /**
- * A name with its value. A label is the address of a statement; any other name is a number that the program defines.
+ * A name with its value. The value of a label is an address; the value of any other name is a number that the program defines.
  * @typedef {{ name: string, value: number, isLabel: boolean }} Name
  */
 
@@ -15,24 +15,24 @@ const DATA = /^([ \t]*[A-Za-z_][A-Za-z0-9_]*[ \t]*:)?[ \t]*DB[ \t]/i;
 
 export class SourceMap {
   /**
-   * @param {string[]} answers the answers to `map`
-   * @param {string} text the source
+   * @param {string[]} answers the answer lines to `map`
+   * @param {string} text the source text
    */
   constructor(answers, text) {
     this.text = text;
-    /** @type {number[]} the address of each line; lines count from 1 */
+    /** @type {number[]} the addresses, by line number from 1 */
     this.addresses = [];
-    /** @type {number[]} the number of bytes of each line */
+    /** @type {number[]} the numbers of bytes, by line number */
     this.sizes = [];
-    /** @type {Map<string, Name>} in the order of their definitions */
+    /** @type {Map<string, Name>} the names, in definition order */
     this.names = new Map();
-    /** @type {Map<number, string[]>} the labels at each address */
+    /** @type {Map<number, string[]>} the labels, by address */
     this.labels = new Map();
-    /** The line of the byte at each address, 0 for none. */
+    /** The source lines, by the address of the byte; 0 for none. */
     this.lines = new Uint16Array(ADDRESSES);
     this.sources = text.split("\n");
     this.read(answers);
-    /** For each address, the nearest address at or below it that has a label and is in the same run of bytes; -1 for none. */
+    /** The nearest labelled address at or below each address, within the same contiguous bytes; -1 for none. */
     this.owners = this.findOwners();
   }
 
@@ -57,7 +57,7 @@ export class SourceMap {
     if (name.isLabel) this.labels.set(name.value, [...this.labelsAt(name.value), name.name]);
   }
 
-  /** Returns the value of `owners`. */
+  /** Computes `owners`. */
   findOwners() {
     const owners = new Int16Array(ADDRESSES);
     let owner = -1;
@@ -69,13 +69,13 @@ export class SourceMap {
     return owners;
   }
 
-  /** The number of lines in the program. */
+  /** The number of program lines. */
   get count() {
     return Math.max(0, this.addresses.length - 1);
   }
 
   /**
-   * Returns the address of a line that has bytes, undefined for any other line.
+   * Returns the address of a line with bytes; undefined for any other line.
    * @param {number} line
    * @returns {number | undefined}
    */
@@ -84,7 +84,7 @@ export class SourceMap {
   }
 
   /**
-   * Returns the line of the byte at an address, or 0.
+   * Returns the line of the byte at an address; 0 if there is none.
    * @param {number} address
    */
   lineOf(address) {
@@ -92,7 +92,7 @@ export class SourceMap {
   }
 
   /**
-   * Returns the line of a label, or 0.
+   * Returns the line of a label; 0 if there is none.
    * @param {string} label
    */
   lineOfLabel(label) {
@@ -100,7 +100,7 @@ export class SourceMap {
   }
 
   /**
-   * Returns whether an instruction of the program begins at an address.
+   * Returns whether a program instruction starts at an address.
    * @param {number} address
    */
   beginsInstruction(address) {
@@ -109,7 +109,7 @@ export class SourceMap {
   }
 
   /**
-   * Returns whether an address is inside an instruction of the program, so that no instruction begins at it.
+   * Returns whether an address is inside a program instruction, after its first byte.
    * @param {number} address
    */
   isInside(address) {
@@ -118,7 +118,7 @@ export class SourceMap {
   }
 
   /**
-   * Returns the labels at an address, in the order of their lines.
+   * Returns the labels at an address, in line order.
    * @param {number} address
    */
   labelsAt(address) {
@@ -126,8 +126,8 @@ export class SourceMap {
   }
 
   /**
-   * Returns the name of an address: its label, as `put`, or the nearest label below it in the same run of bytes, as `put + 2`. Returns ""
-   * if it has none.
+   * Returns the name of an address: its label, such as `put`, or the nearest label below it with an offset, such as `put + 2`. The bytes between must
+   * be contiguous. Returns "" if there is no name.
    * @param {number} address
    */
   nameOf(address) {
@@ -138,7 +138,7 @@ export class SourceMap {
   }
 
   /**
-   * Returns a text with the value of a name, or "" if the program does not define it.
+   * Describes the value of a name; "" if the program does not define it.
    * @param {string} word
    */
   meaningOf(word) {
@@ -150,7 +150,7 @@ export class SourceMap {
   }
 
   /**
-   * Returns the value of a name, undefined if the program does not define it.
+   * Returns the value of a name; undefined if the program does not define it.
    * @param {string} name
    * @returns {number | undefined}
    */
@@ -160,7 +160,7 @@ export class SourceMap {
   }
 
   /**
-   * Returns the value of a name, ignoring case if necessary. Returns undefined if no name matches, or more than one.
+   * Returns the value of a name and ignores case if necessary. Returns undefined if no name matches, or if several names match.
    * @param {string} word
    * @returns {number | undefined}
    */

@@ -1,4 +1,4 @@
-// Addresses as locations in a program's source: `014 (wait), line 22: wait: FIM P1, time`.
+// Formats addresses as source locations: `014 (wait), line 22: wait: FIM P1, time`.
 
 import { hex } from "../bench/numbers.js";
 import { inSource, notInSource } from "../../words/machine.js";
@@ -6,9 +6,9 @@ import { inSource, notInSource } from "../../words/machine.js";
 /** @typedef {import("./source_map.js").SourceMap} SourceMap */
 
 /**
- * Returns an address with its name and its source line.
+ * Returns an address with its name and source line.
  * @param {SourceMap} map
- * @param {{ lines: string[], before: number }} source its lines, and the number of lines before it in the file
+ * @param {{ lines: string[], before: number }} source the source lines, and the number of lines before them in the file
  * @param {number} address
  */
 export function placeInSource(map, { lines, before }, address) {

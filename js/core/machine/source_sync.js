@@ -1,5 +1,5 @@
-// The link between the source and the machine. While the source is the program in ROM, the next line is marked, and addresses have names.
-// The check is repeated whenever the source or ROM can have changed.
+// Links the source and the machine. While the source is the program in ROM, the editor marks the next line, and addresses have names. The check is
+// repeated after each possible change of the source or ROM.
 
 import { hex } from "../bench/numbers.js";
 import { SourceMap } from "./source_map.js";
@@ -8,8 +8,8 @@ import * as say from "../../words/machine.js";
 /**
  * @typedef {import("../engine/program_check.js").Checked} Checked
  *
- * The editor of the source. `showNext` marks the next line, 0 for none. `showAddresses` shows the address of each line, "" for none.
- * `reveal` scrolls to a line.
+ * The source editor. `showNext` marks the next line, 0 for none. `showAddresses` shows the addresses of the lines, "" for none. `reveal` scrolls to a
+ * line.
  * @typedef {{ showNext: (line: number) => void, showAddresses: (addresses: string[]) => void,
  *   reveal: (line: number) => void }} SourceEditor
  */
@@ -18,7 +18,7 @@ import * as say from "../../words/machine.js";
  * The callbacks of SourceSync.
  * @typedef {object} SyncCalls
  * @property {() => string} text Returns the source as sent to the bench.
- * @property {(text: string) => Promise<Checked>} check Resolves to the map of a source or its error, and its first difference from ROM.
+ * @property {(text: string) => Promise<Checked>} check Resolves to the `map` answer for a source or its refusal, and the first difference from ROM.
  * @property {(map: SourceMap | null, words: string) => void} changed Handles a change of the program in ROM. `map` is null if the source is
  * not that program; then `words` is the message.
  * @property {(number: number) => string} wordsOfRefusal Returns the message of a refusal.
@@ -37,22 +37,22 @@ export class SourceSync {
   constructor(calls) {
     this.calls = calls;
     this.editor = NO_EDITOR;
-    /** @type {SourceMap | null} the program in ROM */
+    /** @type {SourceMap | null} the source map of the program in ROM; null if the source is another program */
     this.map = null;
-    /** The message if the source is not that program, or "". */
+    /** The reason why the source is not the program in ROM, or "". */
     this.words = "";
     /** @type {Checked | null} the result of the last check */
     this.checked = null;
     /** The text of the last check. */
     this.text = "";
-    /** The number of the last check, to discard results of older checks. */
+    /** The number of the last check; results of older checks are discarded. */
     this.lastCheck = 0;
-    /** @type {Promise<void> | null} the check that all callers of `fresh` share */
+    /** @type {Promise<void> | null} the check shared by all callers of `fresh` */
     this.pendingCheck = null;
     this.next = 0;
   }
 
-  /** Forgets the program, because the editor shows another text. */
+  /** Forgets the program because the editor shows another text. */
   forget() {
     this.map = null;
     this.words = "";
@@ -89,7 +89,7 @@ export class SourceSync {
   }
 
   /**
-   * Returns the message if the source is not the program in ROM, or "".
+   * Returns the reason why the source is not the program in ROM, or "".
    * @param {Checked} checked
    * @param {SourceMap} map
    */
@@ -106,7 +106,7 @@ export class SourceSync {
   }
 
   /**
-   * Marks the next line. While time is running, no line is marked.
+   * Marks the next line. While time runs, no line is marked.
    * @param {number} counter
    * @param {boolean} isRunning
    */
@@ -126,9 +126,9 @@ export class SourceSync {
     if (line > 0) this.editor.reveal(line);
   }
 
-  /** Waits until the present source has been checked. */
+  /** Waits until the current source has been checked. */
   async fresh() {
-    // A newer check makes the result of an older one useless. So all callers share one check; otherwise none would ever finish.
+    // A newer check invalidates the result of an older one. If each caller started a check, none would ever finish, so all callers share one check.
     while (this.calls.text() !== this.text || !this.checked) {
       this.pendingCheck = this.pendingCheck || this.check().finally(() => {
         this.pendingCheck = null;
@@ -138,7 +138,7 @@ export class SourceSync {
   }
 
   /**
-   * Returns a text with the value of a name of the program, or "" for any other word.
+   * Describes the value of a program name; "" for any other word.
    * @param {string} word
    */
   meaningOf(word) {
@@ -147,7 +147,7 @@ export class SourceSync {
 }
 
 /**
- * Returns the address of each line, "" for a line without bytes.
+ * Returns the addresses of all lines, "" for a line without bytes.
  * @param {SourceMap} map
  */
 function addressesOf(map) {

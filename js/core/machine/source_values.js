@@ -1,5 +1,4 @@
-// The values of the words in the source while time is paused, and the changes that the last executed lines made. Both are from the last
-// snapshot.
+// Provides the values of words in the source while time is paused, and the changes made by the last executed lines. Both come from the last snapshot.
 
 import { LineChanges } from "../debug/line_changes.js";
 import { MachineState } from "../debug/standing.js";
@@ -11,15 +10,14 @@ import { valuesAt } from "../debug/value_words.js";
  */
 
 /**
- * The callbacks of the page for values in the source.
+ * The page's callbacks for values in the source.
  * @typedef {object} ValuesOwnCalls
- * @property {() => import("./source_map.js").SourceMap | null} map Returns the map of the program in ROM; null if the source is not in
- *   ROM.
- * @property {(lines: ReadonlyMap<number, string>) => void} showLines Shows the changes of each line at its end, by line numbers from 1.
- * @property {() => void} showWatched Shows the watched values again.
+ * @property {() => import("./source_map.js").SourceMap | null} map Returns the source map of the program in ROM; null if the source is not in ROM.
+ * @property {(lines: ReadonlyMap<number, string>) => void} showLines Shows the changes at the end of each line; line numbers count from 1.
+ * @property {() => void} showWatched Updates the watch values.
  * @property {() => string[]} snapshot Returns the answers of the last snapshot.
- * @property {() => boolean} isRunning Returns whether time is running; values are shown only while it is paused.
- * @property {() => void} changed Handles a change of the values, or that they are hidden because time is running.
+ * @property {() => boolean} isRunning Returns whether time runs; values are shown only while it is paused.
+ * @property {() => void} changed Handles a change of the values, including their disappearance when time starts.
  */
 
 /** @typedef {Program & ValuesOwnCalls} ValuesCalls */
@@ -30,20 +28,20 @@ export class SourceValues {
     this.calls = calls;
     /** @type {string[]} the last snapshot */
     this.snapshot = [];
-    /** @type {MachineState | null} the state in that snapshot */
+    /** @type {MachineState | null} the state in the last snapshot */
     this.read = null;
     this.isRunning = false;
     this.changes = new LineChanges();
   }
 
-  /** Forgets the values, because another session is shown. */
+  /** Forgets the values because another session is shown. */
   forget() {
     this.snapshot = [];
     this.read = null;
     this.changes.forget();
   }
 
-  /** @returns {MachineState | null} the state of the machine, null while time is running */
+  /** @returns {MachineState | null} the state of the machine; null while time runs */
   get standing() {
     if (this.calls.isRunning()) return null;
     const snapshot = this.calls.snapshot();
@@ -66,7 +64,7 @@ export class SourceValues {
   }
 
   /**
-   * Handles a new snapshot. While time is running, it updates the view only at the first one.
+   * Handles a new snapshot. While time runs, only the first snapshot updates the view.
    * @param {number} cycles the cycle count
    */
   looked(cycles) {

@@ -1,4 +1,4 @@
-// The heat map's levels: the heat of a cell, by how often or how recently it has changed, and the texts about it.
+// The levels of the heat map and the texts about it. The heat of a cell depends on how often or how recently it has changed.
 
 import { hex } from "../bench/numbers.js";
 import { wordsOfAddress } from "../../words/stops.js";
@@ -15,11 +15,11 @@ import * as say from "../../words/machine.js";
 
 /** The highest heat level. */
 export const MAX_HEAT_LEVEL = 5;
-/** The number of parts in which the last cycles are stored. */
+/** The number of intervals into which the stored cycles are divided. */
 const MAX_PARTS = 50;
 
 /**
- * Returns the level of a number between 1 and `most` on a logarithmic scale, from 1 to MAX_HEAT_LEVEL.
+ * Maps a number from 1 to `most` to a level from 1 to MAX_HEAT_LEVEL on a logarithmic scale.
  * @param {number} number
  * @param {number} most
  */
@@ -28,8 +28,8 @@ function levelOf(number, most) {
 }
 
 /**
- * Returns the heat level of each place that has changed, from 1 to MAX_HEAT_LEVEL. The place that changed most often, or last, has the
- * highest level.
+ * Returns the heat levels of all changed places, from 1 to MAX_HEAT_LEVEL. The place that changed most often, or most recently, has the highest
+ * level.
  * @param {Heat} heat
  * @param {HeatKind} kind
  * @returns {Map<string, number>}
@@ -41,11 +41,11 @@ export function heatLevels({ cycles, cells }, kind) {
     [place, kind === "often" ? levelOf(count, most) : MAX_HEAT_LEVEL + 1 - levelOf(1 + ago - last, cycles)])));
 }
 
-/** The changes in the last cycles while time is running. */
+/** The changes in the last cycles while time runs. */
 export class PassingHeat {
   constructor() {
     this.total = 0;
-    /** @type {{ from: number, cells: Map<string, Heated & { at: number }> }[]} parts of time, each with the cycle count at its beginning */
+    /** @type {{ from: number, cells: Map<string, Heated & { at: number }> }[]} the intervals, each with the cycle count at its start */
     this.parts = [];
   }
 
@@ -56,7 +56,7 @@ export class PassingHeat {
 
   /**
    * @param {PassedHeat} heat
-   * @param {number} cycles the cycles since the last call; at full speed `heat` covers only some of them
+   * @param {number} cycles the cycles since the previous call; at full speed, `heat` covers only some of them
    * @param {number} most the number of cycles to store
    */
   add({ cells }, cycles, most) {
@@ -80,7 +80,7 @@ export class PassingHeat {
 }
 
 /**
- * Adds newer changes to a map by place.
+ * Adds newer changes to a map of changes by place.
  * @param {Map<string, Heated & { at: number }>} changes
  * @param {(Heated & { at: number })[]} newer
  */
@@ -89,7 +89,7 @@ function addChanges(changes, newer) {
 }
 
 /**
- * Returns a text for the cause of a place's last change.
+ * Describes the cause of the last change of a place.
  * @param {Heated} cell
  * @param {SourceMap | null} map
  */
@@ -98,7 +98,7 @@ function causeOf({ address, line }, map) {
 }
 
 /**
- * Returns a text for the cause and the time of a place's last change.
+ * Describes the cause and time of the last change of a place.
  * @param {Heated} cell
  * @param {SourceMap | null} map
  */
@@ -113,7 +113,7 @@ function timesText(count) {
 }
 
 /**
- * Returns the description of a place's changes: `12 times, last by 00B (turn + 9, line 7), 320 cycles, 3.456 ms ago`.
+ * Describes the changes of a place: `12 times, last by 00B (turn + 9, line 7), 320 cycles, 3.456 ms ago`.
  * @param {Heated} cell
  * @param {SourceMap | null} map
  */
@@ -122,7 +122,7 @@ export function wordsOfChanges(cell, map) {
 }
 
 /**
- * Returns the description while time is running. It has no time of the last change, because the reports are late and incomplete.
+ * Describes the changes of a place while time runs. The time of the last change is left out because the reports are late and incomplete.
  * @param {Heated} cell
  * @param {SourceMap | null} map
  */
@@ -131,9 +131,9 @@ export function wordsOfSeen(cell, map) {
 }
 
 /**
- * Returns the status of the heat map while time is running.
+ * Returns the heat map status while time runs.
  * @param {PassedHeat} heat
- * @param {boolean} isAll whether all cycles are examined
+ * @param {boolean} isAll true if all cycles are examined
  */
 export function wordsOfPassing({ chips }, isAll) {
   return say.heatCounted(chips, isAll);
@@ -142,7 +142,7 @@ export function wordsOfPassing({ chips }, isAll) {
 /**
  * Returns the summary of a heat map.
  * @param {Heat} heat
- * @param {number} wanted the number of cycles that were requested
+ * @param {number} wanted the requested number of cycles
  * @param {(place: string) => string} nameOf
  * @param {SourceMap | null} map
  */

@@ -1,4 +1,4 @@
-// The lamps of a board as rows of characters: first lamps in groups and in the grid, in their layout, then other lamps that have names.
+// Lays out the lamps of a board as rows of characters: first lamps in groups and in the grid, then the other named lamps.
 
 import { fittingGroups, isScanned, lampNames, looseLamps } from "../board/face_board.js";
 import { lampAt, scannedLampAt } from "../board/seen_lamps.js";
@@ -9,25 +9,25 @@ import { upTo } from "../bench/numbers.js";
  * @typedef {import("../board/face.js").Group} Group
  * @typedef {import("../board/seen_lamps.js").SeenLamp} SeenLamp
  *
- * A cell of a row: its lamp (null for a gap), its width in columns, the name of the lamp ("" for none) and its colour.
+ * A cell in a row: its lamp (null for a gap), its width in characters, the lamp name ("" for none) and the colour.
  * @typedef {{ seen: SeenLamp | null, width: number, name: string, colour: string }} LampCell
  */
 
-/** The minimum number of columns of a group whose lamps have no gaps between them. */
+/** The minimum number of columns at which a group has no gaps between its lamps. */
 const MIN_NARROW_COLUMNS = 13;
-/** The width of a cell in a die. */
+/** The width of a die cell in characters. */
 const DIE_WIDTH = 4;
-/** The width of a cell with a name, less the name: `( ) ` before it and a blank after it. */
+/** The width of a named cell without the name: `( ) ` before it and a blank after it. */
 const NAME_PADDING = 5;
 const DEFAULT_COLOUR = "red";
-/** The character of a lamp for each brightness level. */
+/** The lamp characters, by brightness level. */
 const LEVEL_CHARACTERS = [" ", ":", "+", "*"];
 
-/** The rows of a board's lamps. */
+/** Builds the lamp rows of a board. */
 class LampRows {
   /**
    * @param {Face} face
-   * @param {number} count of the board's lamps
+   * @param {number} count the number of lamps on the board
    */
   constructor(face, count) {
     this.face = face;
@@ -44,7 +44,7 @@ class LampRows {
   }
 
   /**
-   * Returns the width of a cell with the name of a lamp; 0 if the lamp has no name.
+   * Returns the width of a cell with the lamp name; 0 if the lamp has no name.
    * @param {number} lamp
    */
   widthOf(lamp) {
@@ -53,7 +53,7 @@ class LampRows {
 
   /**
    * @param {SeenLamp} seen
-   * @param {number} lamp the lamp whose colour the cell has
+   * @param {number} lamp the lamp that determines the colour of the cell
    * @param {number} width
    * @param {string} name
    * @returns {LampCell}
@@ -64,7 +64,7 @@ class LampRows {
   }
 
   /**
-   * Returns the cell of a lamp with its name.
+   * Returns the cell of a lamp together with its name.
    * @param {number} lamp
    * @param {number} width
    */
@@ -75,7 +75,7 @@ class LampRows {
   /**
    * Adds the rows of a group.
    * @param {Group} group
-   * @param {number} number the index among the multiplexed groups, -1 for a group that is not multiplexed
+   * @param {number} number the index among the multiplexed groups; -1 for a group without multiplexing
    */
   addGroup(group, number) {
     const { kind, first, rows, columns } = group;
@@ -91,7 +91,7 @@ class LampRows {
   }
 
   /**
-   * Adds the three rows of a die, with two, three and two pips.
+   * Adds the three rows of a die: two, three and two pips.
    * @param {LampCell[]} pips
    */
   addDie([first, second, ...others]) {
@@ -123,18 +123,18 @@ function gap(width) {
 }
 
 /**
- * Returns the rows of a board's lamps.
+ * Returns the lamp rows of a board.
  * @param {Face} face
- * @param {number} count of the lamps
+ * @param {number} count the number of lamps on the board
  */
 export function lampRowsOf(face, count) {
   return new LampRows(face, count).rows;
 }
 
 /**
- * Returns the text of a lamp: `(*) red`, or one character if it has no name.
+ * Returns the text of a lamp: `(*) red`, or one character if the lamp has no name.
  * @param {LampCell} cell
- * @param {number} level of brightness
+ * @param {number} level the brightness level
  */
 export function textOfCell({ seen, width, name }, level) {
   if (!seen) return " ".repeat(width);

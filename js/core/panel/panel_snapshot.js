@@ -1,5 +1,5 @@
-// A snapshot of a session for the panel, from the answers to queries: registers, keys, RAM, the brightness of lamps, and the instructions
-// around the program counter.
+// A session snapshot for the panel, built from the answers to queries: registers, keys, RAM, lamp brightness, and the instructions near the program
+// counter.
 
 import { readRam } from "../bench/answers.js";
 import { joinLines, matchAnswers, readInputs } from "../bench/inputs.js";
@@ -21,11 +21,11 @@ import { stretchOf } from "../machine/listing_stretch.js";
  * @typedef {import("./terminal_panel.js").Panel} Panel
  */
 
-/** The number of rows of a RAM chip: four registers and a port. */
+/** The number of screen rows per RAM chip: four registers and a port. */
 export const CHIP_ROWS = 5;
-/** A new listing begins this number of bytes before the counter. */
+/** The number of bytes between the start of a new listing and the program counter. */
 const BYTES_BEFORE = 6;
-/** The listing is replaced when the counter leaves it, or reaches this number of lines at its end. */
+/** The number of lines at the end of a listing. If the counter reaches them or leaves the listing, a new listing replaces it. */
 const LINES_LEFT = 2;
 
 export class PanelSnapshot {
@@ -33,7 +33,7 @@ export class PanelSnapshot {
   constructor(panel) {
     this.panel = panel;
     const { board, face } = panel.subject;
-    /** @type {{ bank: number, name: string }[]} the RAM chips of the board, named as in `0.1` */
+    /** @type {{ bank: number, name: string }[]} the RAM chips of the board; their names have the form `0.1` */
     this.chips = board.banks.flatMap(({ bank, chips }) => upTo(chips).map((chip) => ({ bank, name: `${bank}.${chip}` })));
     this.hasDisplay = face.groups.some(({ kind }) => kind === "display");
     this.text = new SeenText(face, board.lamps.length);
@@ -42,13 +42,13 @@ export class PanelSnapshot {
     /** @type {Registers | null} */
     this.registers = null;
     this.keysDown = new KeysDown();
-    /** A mark for each lamp: `*` if it is on at this instant. */
+    /** The lamp marks at this instant, `*` if the lamp is on. */
     this.marks = "";
     /** @type {Brightness | null} the perceived brightness of the lamps; null while time is paused */
     this.brightness = null;
-    /** @type {string[]} the addresses of the breakpoints, in three hexadecimal digits */
+    /** @type {string[]} the breakpoint addresses as three hexadecimal digits */
     this.breakpoints = [];
-    /** @type {Ram} the contents of the chips that are shown */
+    /** @type {Ram} the contents of the visible chips */
     this.ram = { registers: new Map(), ports: new Map() };
     /** @type {Listed[]} */
     this.listing = [];
@@ -82,7 +82,7 @@ export class PanelSnapshot {
 
   /**
    * Queries the session and takes a new snapshot.
-   * @param {number} rows of RAM and listing; 0 for the state only
+   * @param {number} rows the number of rows for RAM and listing; 0 to query only the state
    */
   async take(rows) {
     const banks = new Set(this.shownChips(rows).map(({ bank }) => bank));
@@ -96,7 +96,7 @@ export class PanelSnapshot {
     if (rows > 0) await this.takeListing(rows);
   }
 
-  /** @param {string} answer to `state` */
+  /** @param {string} answer the answer to `state` */
   takeState(answer) {
     const { registers, keys, lamps, breaks } = partsOfState(answer);
     this.commands = valueIn(answer, "seq");
@@ -106,7 +106,7 @@ export class PanelSnapshot {
     this.breakpoints = itemsOf(breaks);
   }
 
-  /** @param {string[][]} answers to `ram B`, for each bank that is shown */
+  /** @param {string[][]} answers the answers to `ram B`, one for each visible bank */
   takeRam(answers) {
     const read = answers.map(readRam);
     this.ram = {
@@ -116,7 +116,7 @@ export class PanelSnapshot {
   }
 
   /**
-   * Reads the instructions around the counter, unless the present listing still has them.
+   * Reads the instructions near the program counter, unless the current listing still contains them.
    * @param {number} rows
    */
   async takeListing(rows) {
@@ -126,13 +126,13 @@ export class PanelSnapshot {
     this.listing = stretchOf(await this.reader.read({ from, anchor: counter }, rows), from, rows);
   }
 
-  /** Drops the listing after the size of the terminal has changed. */
+  /** Drops the listing after a change of the terminal size. */
   forgetListing() {
     this.listing = [];
   }
 
   /**
-   * Returns the brightness level of a lamp: as perceived while time runs, otherwise at this instant.
+   * Returns the brightness level of a lamp: the perceived level while time runs, otherwise the level at this instant.
    * @param {SeenLamp} lamp
    */
   levelOf(lamp) {
@@ -140,7 +140,7 @@ export class PanelSnapshot {
     return lamp.isLit(this.marks) ? FULL_LEVEL : 0;
   }
 
-  /** Returns the text of the displays. */
+  /** The text of the displays. */
   get display() {
     const { text } = this.text;
     return wholeText(this.brightness ? this.text.ofBrightness(this.brightness) : text.read(this.marks));

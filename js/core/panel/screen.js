@@ -1,6 +1,6 @@
-// The rows of the panel's screen. The top rows show the session and its time, the display, registers, and the source at the counter. Below
-// are, side by side, RAM, the front panel and the listing. The last rows are a message and the help for keys. A row consists of pieces of
-// text; the piece of a lamp has the colour and brightness level of the lamp. js/node/panel_terminal.mjs positions the rows.
+// Builds the rows of the panel screen. The top rows show the session and its time, the display, the registers, and the source at the program counter.
+// Below, RAM, the front panel and the listing are side by side. The last rows are a message and the help for keys. A row consists of text pieces. The
+// piece of a lamp has its colour and brightness level. js/node/panel_terminal.mjs positions the rows.
 
 import { hex, upTo } from "../bench/numbers.js";
 import { printoutLines } from "../board/strip.js";
@@ -21,37 +21,37 @@ import * as say from "../../words/panel.js";
  * @typedef {{ pieces: Piece[], isInverse: boolean }} ScreenRow
  */
 
-/** The minimum size of a terminal. */
+/** The minimum terminal size. */
 export const MIN_SIZE = { rows: 24, columns: 80 };
 const TOP_ROWS = 10;
-/** The rows above and below RAM, front panel and listing. */
+/** The number of rows above and below the middle part (RAM, front panel and listing). */
 const OTHER_ROWS = TOP_ROWS + 2;
 const RAM_WIDTH = 28;
 const FRONT_WIDTH = 24;
-/** The minimum width of a key. */
+/** The minimum width of a key in characters. */
 const MIN_KEY_WIDTH = 3;
-/** The minimum rows of the printout. */
+/** The minimum number of printout rows. */
 const MIN_PRINTOUT_ROWS = 2;
-/** The maximum number of large characters, and the width of their rows. */
+/** The maximum number of large characters, and the width of their rows in characters. */
 const MAX_LARGE = 18;
 const LARGE_WIDTH = 58;
 
-/** @type {(text: string) => Piece} a piece that is not a lamp */
+/** @type {(text: string) => Piece} creates a piece that is not a lamp */
 const plain = (text) => ({ text, colour: "", level: 0 });
 
 /**
- * Cuts or pads a row of pieces to a width.
+ * Cuts or pads a row of pieces to a width in characters.
  * @param {Piece[]} pieces
  * @param {number} width
  */
 function fitToWidth(pieces, width) {
   let left = width;
-  const cut = pieces.map((piece) => {
+  const cutPieces = pieces.map((piece) => {
     const text = [...piece.text].slice(0, left).join("");
     left -= [...text].length;
     return { ...piece, text };
   });
-  return left > 0 ? [...cut, plain(" ".repeat(left))] : cut;
+  return left > 0 ? [...cutPieces, plain(" ".repeat(left))] : cutPieces;
 }
 
 /**
@@ -63,14 +63,14 @@ export function hasRoom({ rows, columns }) {
 }
 
 /**
- * Returns the number of rows of RAM, front panel and listing.
+ * Returns the number of rows of the middle part (RAM, front panel and listing).
  * @param {ScreenSize} size
  */
 export function middleRows({ rows }) {
   return rows - OTHER_ROWS;
 }
 
-/** The screen of one panel. */
+/** The screen of a panel. */
 export class Screen {
   /** @param {Panel} panel */
   constructor(panel) {
@@ -139,7 +139,7 @@ export class Screen {
   }
 
   /**
-   * Returns the name of an address in the source; its hexadecimal digits if it has no name.
+   * Returns the name of an address; without a name, its hexadecimal digits.
    * @param {number} address
    */
   placeOf(address) {
@@ -147,7 +147,7 @@ export class Screen {
     return (source && source.map.nameOf(address)) || hex(address, 3);
   }
 
-  /** Returns the source line at the counter. */
+  /** Returns the source line at the program counter. */
   sourceText() {
     const { subject: { source }, seen: { counter } } = this.panel;
     if (!source) return "";
@@ -159,7 +159,7 @@ export class Screen {
   // --- RAM, front panel and listing ---
 
   /**
-   * Returns a row of RAM: a register or the port of a chip.
+   * Returns a RAM row: a register, or the port of a chip.
    * @param {number} at
    */
   ramText(at) {
@@ -176,7 +176,7 @@ export class Screen {
   }
 
   /**
-   * Returns a row of the listing, with marks for the counter and a breakpoint. If a source line begins at the address, the row shows it.
+   * Returns a listing row, with marks for the program counter and a breakpoint. If a source line starts at the address, the row shows the source.
    * @param {number} at
    */
   listingText(at) {
@@ -191,7 +191,7 @@ export class Screen {
   }
 
   /**
-   * Returns the rows of the front panel: keys, the switch at TEST, lamps and the printout.
+   * Returns the front-panel rows: keys, the button or switch at TEST, lamps and the printout.
    * @param {number} count
    */
   frontRows(count) {
@@ -221,8 +221,8 @@ export class Screen {
   }
 
   /**
-   * Returns the last lines of the printout, at least MIN_PRINTOUT_ROWS.
-   * @param {number} room the free rows
+   * Returns the last printout lines, at least MIN_PRINTOUT_ROWS.
+   * @param {number} room the number of free rows
    */
   printoutRows(room) {
     const { printing, printed, subject: { face } } = this.panel;
@@ -241,7 +241,8 @@ function testName({ name }) {
 }
 
 /**
- * Returns the label of a key: its name, with the character that presses it if that differs. A key without a name has only the character.
+ * Returns the label of a key: its name, and the character that presses it if this differs from the name. For an unnamed key, returns only the
+ * character.
  * @param {BoardKey} key
  */
 function labelOf({ legend, letter, isNamed }) {
@@ -250,7 +251,7 @@ function labelOf({ legend, letter, isNamed }) {
 }
 
 /**
- * Returns a source line without its comment and with short indentation.
+ * Returns a source line without its comment and with reduced indentation.
  * @param {string} line
  */
 function codeOf(line) {

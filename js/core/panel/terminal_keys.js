@@ -1,18 +1,18 @@
-// Splits the input of a terminal into keys: characters, and sequences that begin with the escape character.
+// Splits terminal input into keys: characters, and sequences that start with the escape character.
 
-/** One key of the input. */
+/** Matches one key of the input. */
 // eslint-disable-next-line no-control-regex
 const KEYS = /\u001b(?:\[[0-9;?]*[A-Za-z~]|O[A-Za-z]|[^\u001b[O])?|[^]/gu;
-/** @type {Record<string, string>} the arrow keys by their sequences, without the escape character */
+/** @type {Record<string, string>} the arrow keys, by sequence without the escape character */
 const ARROWS = { "[C": "right", OC: "right", "[D": "left", OD: "left" };
 
 /**
- * A key: `text` is "left" or "right" for an arrow, otherwise its characters.
+ * A key. `text` is "left" or "right" for an arrow key, otherwise the characters of the key.
  * @typedef {{ kind: "arrow" | "sequence" | "escape" | "character", text: string }} TypedKey
  */
 
 /**
- * Returns the keys of an input in their order.
+ * Returns the keys of an input in order.
  * @param {string} input
  * @returns {TypedKey[]}
  */

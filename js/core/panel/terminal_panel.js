@@ -1,5 +1,5 @@
-// The panel of a session for a terminal. Time runs as fast as in the real chip, or is paused; typed keys press the keys of the board. The
-// panel only sends lines to a session. screen.js converts its state to rows of characters.
+// The panel of a session in a terminal. Time runs as fast as on a real 4004, or is paused. Typed keys press the keys of the board. The panel only
+// sends lines to a session. screen.js converts its state to rows of characters.
 
 import { refusalOf, readRun } from "../bench/answers.js";
 import { joinLines } from "../bench/inputs.js";
@@ -25,28 +25,28 @@ import * as say from "../../words/panel.js";
  * @typedef {import("../machine/source_map.js").SourceMap} SourceMap
  * @typedef {import("./terminal_keys.js").TypedKey} TypedKey
  *
- * Sends lines to the session and resolves to its answers; throws if the session has ended.
+ * Sends lines to the session; resolves to the answers. Throws if the session has ended.
  * @typedef {(lines: string) => Promise<string[]>} Ask
  *
- * The source of the program in ROM: its lines, and the number of lines before them in its file.
+ * The source of the program in ROM: its source map, its lines, and the number of lines before them in the file.
  * @typedef {{ map: SourceMap, lines: string[], before: number }} PanelSource
  *
- * The subject of the panel: the name of the session, its board and front panel, its program (null if unknown), and the messages for
- * refusal numbers. `isPaused` is true if time is paused at first; `note` is the first message.
+ * The subject of the panel: the session name, the board and its front panel, the program (null if unknown), and the messages for refusal numbers.
+ * `isPaused` is true if time is paused at the start. `note` is the first message.
  * @typedef {{ name: string, board: Board, face: Face, source: PanelSource | null, wordsOfRefusal: (number: number) => string,
  *   isPaused: boolean, note: string }} PanelSubject
  */
 
 /** The maximum number of key changes in the queue. */
 const MAX_CHANGES = 128;
-/** The maximum number of cycles of an instruction. */
+/** The maximum length of an instruction in cycles. */
 const STEP_CYCLES = 2;
 
 export class Panel {
   /**
    * @param {Ask} ask
    * @param {PanelSubject} subject
-   * @param {number} now in milliseconds
+   * @param {number} now the current time in milliseconds
    */
   constructor(ask, subject, now) {
     this.ask = ask;
@@ -58,10 +58,10 @@ export class Panel {
     this.heldKeys = [];
     this.time = new RealTime(now, now);
     this.isPaused = subject.isPaused;
-    /** The reason for the pause, in words; "" if the user paused time. */
+    /** The reason for the pause as text; "" if the user paused time. */
     this.pauseReason = "";
     this.message = subject.note;
-    /** The index of the first RAM chip that is shown. */
+    /** The index of the first visible RAM chip. */
     this.firstChip = 0;
     this.isEnded = false;
     const printer = printerOf(board, face);
@@ -71,7 +71,7 @@ export class Panel {
     this.seen = new PanelSnapshot(this);
   }
 
-  /** Takes the first snapshot; pauses if the session is at a breakpoint. */
+  /** Takes the first snapshot. Pauses time if the session is at a breakpoint. */
   async begin() {
     await this.seen.take(0);
     if (this.seen.isAtBreakpoint) this.pause(REASONS.break);
@@ -80,7 +80,7 @@ export class Panel {
   // --- lines ---
 
   /**
-   * Sends a command and returns its answer. Shows a message if the bench rejects it.
+   * Sends a command; returns its answer. Shows a message if the bench rejects the command.
    * @param {string} line
    */
   async sendCommand(line) {
@@ -100,7 +100,7 @@ export class Panel {
 
   // --- time ---
 
-  /** @param {string} reason in words */
+  /** @param {string} reason the reason for the pause as text */
   pause(reason) {
     this.isPaused = true;
     this.pauseReason = reason;
@@ -122,7 +122,7 @@ export class Panel {
   }
 
   /**
-   * Runs some cycles, with the waiting keys, up to a stop.
+   * Runs cycles, including the waiting key changes, up to a stop.
    * @param {number} cycles
    */
   async advance(cycles) {
@@ -130,8 +130,8 @@ export class Panel {
   }
 
   /**
-   * Does the next event of the key queue: a change of a key, or a run up to the next change. Returns the number of cycles run.
-   * @param {number} cycles the maximum
+   * Executes the next event of the key queue: a key change, or a run up to the next key change. Returns the number of cycles run.
+   * @param {number} cycles the maximum number of cycles
    */
   async runNextEvent(cycles) {
     const [planned] = this.queue.plan(cycles);
@@ -154,7 +154,7 @@ export class Panel {
   }
 
   /**
-   * Runs time up to a stop. Returns the number of cycles run; if the bench rejects the run, the number planned.
+   * Runs time up to a stop. Returns the number of cycles run. If the bench rejects the run, returns the number of planned cycles.
    * @param {PlannedLine} planned
    */
   async run(planned) {
@@ -178,7 +178,7 @@ export class Panel {
     if (run && run.end !== "end") this.pauseReason = REASONS[run.end];
   }
 
-  /** Returns the codes that the printer has received. */
+  /** The codes that the printer has received. */
   get printed() {
     if (!this.printing) return [];
     return this.printing.codes.slice(0, this.printing.countAt(this.cycles)).map(([, code]) => code);
@@ -202,7 +202,7 @@ export class Panel {
 
   /**
    * Scrolls the RAM chips.
-   * @param {number} count the number of chips
+   * @param {number} count the number of chips; negative values scroll back
    */
   scrollRam(count) {
     const last = this.seen.chips.length - 1;
@@ -210,8 +210,8 @@ export class Panel {
   }
 
   /**
-   * Handles a key of the board. While time runs, queues a short press. While time is paused, presses or releases the key at once.
-   * @param {string} typed the character
+   * Handles a board key. While time runs, queues a short press. While time is paused, presses or releases the key at once.
+   * @param {string} typed the typed character
    */
   async typeKey(typed) {
     const found = keyOfKeyboard(this.keys, typed);
@@ -224,7 +224,7 @@ export class Panel {
   }
 
   /**
-   * Presses a key that is up, or releases one that is down.
+   * Presses a released key, or releases a pressed key.
    * @param {Key} key
    */
   async toggle(key) {
@@ -232,13 +232,13 @@ export class Panel {
     await this.change({ key, word: this.seen.isDown(key) ? "release" : "press" });
   }
 
-  /** Sets a breakpoint at the counter, or deletes it. */
+  /** Sets or deletes a breakpoint at the program counter. */
   async toggleBreakpoint() {
     const { counter } = this.seen;
     await this.sendCommand(`${this.seen.isAtBreakpoint ? "unbreak" : "break"} 0x${hex(counter, 3)}`);
   }
 
-  /** Ends the panel: completes the queued key presses while time runs, and releases the keys that the panel holds down. */
+  /** Ends the panel. Completes the queued key presses while time runs, and releases the keys that the panel holds down. */
   async end() {
     while (!this.isPaused && this.queue.changes.length > 0) await this.runNextEvent(LONGEST_RUN);
     for (const key of this.heldKeys) await this.sendCommand(lineOfKey("release", key));
@@ -252,7 +252,7 @@ const step = (panel) => panel.step();
 const end = (panel) => panel.end();
 
 /**
- * The actions of the keys that do not belong to the board: blank, Enter, Tab, Ctrl-T, Ctrl-R, Ctrl-C and Ctrl-D.
+ * The actions of the panel's own keys: blank, Enter, Tab, Ctrl-T, Ctrl-R, Ctrl-C and Ctrl-D.
  * @type {Record<string, (panel: Panel, now: number) => Promise<unknown> | void>}
  */
 const KEY_ACTIONS = {

@@ -1,4 +1,4 @@
-// Reads a project from its folder. The files that the project file names must exist.
+// Reads a project from its folder. All files named in the project file must exist.
 
 import { LONGEST_PROJECT_FILE, PROJECT_FILE, filesNamed, readProjectToml } from "./project_toml.js";
 import * as say from "../../words/server.js";
@@ -6,14 +6,14 @@ import * as say from "../../words/server.js";
 /**
  * @typedef {import("./project_toml.js").ProjectNames} ProjectNames
  *
- * A project: the paths of its files, relative to its folder. `speed` is "" if the project has none.
+ * A project: the paths of its files, relative to the project folder. `speed` is "" if the project file does not set it.
  * @typedef {{ board: string, program: string, tests: string[], properties: string[], speed: string }} ProjectFolder
  *
- * Checks that a path names a file in the folder. Returns an error message, "" if it does.
+ * Checks that a path names a file in the folder. Returns an error message, or "" for a valid path.
  * @typedef {(path: string) => string} CheckFile
  */
 
-/** The error of a folder that is not a valid project. Its message names the file, the line and the error. */
+/** The error for a folder that is not a valid project. The message names the file, the line and the error. */
 export class ProjectFault extends Error {
   /**
    * @param {string} file
@@ -29,7 +29,7 @@ export class ProjectFault extends Error {
 }
 
 /**
- * Checks the bytes of a project file before they are decoded. Returns an error message, "" if there is no error.
+ * Checks the bytes of a project file before they are decoded. Returns an error message, or "".
  * @param {Uint8Array} bytes
  */
 function faultOfBytes(bytes) {
@@ -40,7 +40,7 @@ function faultOfBytes(bytes) {
 }
 
 /**
- * Returns the paths of a project's files.
+ * Returns the file paths of a project.
  * @param {ProjectNames} names
  * @returns {ProjectFolder}
  */
@@ -50,10 +50,10 @@ function pathsOf({ board, program, tests, properties, speed }) {
 }
 
 /**
- * Returns the project in a project file; throws ProjectFault for its first error.
+ * Reads a project file; throws ProjectFault for the first error.
  * @param {Uint8Array} bytes
  * @param {CheckFile} checkFile
- * @param {string} file the name of the project file in error messages
+ * @param {string} file the file name for error messages
  * @returns {ProjectFolder}
  */
 export function readProject(bytes, checkFile, file = PROJECT_FILE) {

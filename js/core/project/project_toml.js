@@ -1,4 +1,4 @@
-// The parser of project files, `mcs4.toml`, which name the board, program, tests and properties of a project.
+// Parses project files (`mcs4.toml`), which name the board, program, tests and properties of a project.
 
 import { readBoardText } from "../text/board_reader.js";
 import { SPEEDS } from "../time/speeds.js";
@@ -9,10 +9,10 @@ import * as say from "../../words/server.js";
  * @typedef {import("../text/board_reader.js").Value} Value
  * @typedef {import("../text/text_fault.js").Fault} Fault
  *
- * A path in the project file, with its key and its range: the line counts from 1, columns from 0.
+ * A path in the project file, with its key and its range. The line counts from 1, columns from 0.
  * @typedef {{ path: string, key: string, line: number, from: number, to: number }} NamedFile
  *
- * The contents of a project file; `speed` is "" if it has none.
+ * The contents of a project file. `speed` is "" if the file does not set it.
  * @typedef {{ board: NamedFile, program: NamedFile, tests: NamedFile[], properties: NamedFile[], speed: string }} ProjectNames
  */
 
@@ -21,7 +21,7 @@ export const PROJECT_FILE = "mcs4.toml";
 export const LONGEST_PROJECT_FILE = 16384;
 
 const SPEED_NAMES = SPEEDS.map(({ id }) => `"${id}"`);
-/** The description of each key, for error messages. */
+/** The descriptions of the keys, for error messages. */
 const KEYS = new Map([
   ["board", say.BOARD_IS],
   ["program", say.PROGRAM_IS],
@@ -33,7 +33,7 @@ const LIST_KEYS = ["tests", "properties"];
 const REQUIRED = ["board", "program"];
 
 /**
- * Returns an error at a range.
+ * Returns an error with its range.
  * @param {{ line: number, from: number, to: number }} range
  * @param {string} words
  * @returns {Fault}
@@ -43,7 +43,7 @@ function faultAt({ line, from, to }, words) {
 }
 
 /**
- * Returns the error message of a path that a project must not have; "" if the path is valid.
+ * Returns the error message for an invalid path; "" for a valid path.
  * @param {string} key
  * @param {string} path
  */
@@ -77,7 +77,7 @@ function faultsOfKey({ name, line, from, to, value }) {
 }
 
 /**
- * Returns an error for each key that occurs a second time.
+ * Returns an error for each repeated key.
  * @param {Key[]} keys
  * @returns {Fault[]}
  */
@@ -92,7 +92,7 @@ function faultsOfDuplicates(keys) {
 }
 
 /**
- * Returns the files that a key names; none if the key is missing.
+ * Returns the files that a key names; an empty list if the key is missing.
  * @param {Key[]} keys
  * @param {string} name
  * @returns {NamedFile[]}
@@ -105,13 +105,13 @@ function filesOf(keys, name) {
 }
 
 /**
- * Parses a project file. Returns its contents, or null and the errors in the order of their lines.
+ * Parses a project file. Returns its contents; or null, and the errors in line order.
  * @param {string} text
  * @returns {{ names: ProjectNames | null, faults: Fault[] }}
  */
 export function readProjectToml(text) {
   const { entries, others, keys, faults } = readBoardText(text.replace(/^\uFEFF/, ""));
-  // The board reader does not list the key of an empty list in `others`.
+  // The board reader does not list keys with an empty list in `others`.
   const lists = keys.filter(({ value: { inner } }) => Array.isArray(inner) && inner.length === 0);
   const errors = [
     ...faults.map((fault) => ({ ...fault, number: 0 })),
@@ -130,7 +130,7 @@ export function readProjectToml(text) {
 }
 
 /**
- * Returns all files that a project names: board, program, tests, properties.
+ * Returns all files that a project file names: board, program, tests, properties.
  * @param {ProjectNames} names
  */
 export function filesNamed({ board, program, tests, properties }) {

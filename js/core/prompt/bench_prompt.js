@@ -1,5 +1,5 @@
-// The prompt of `mcs4 new` and `mcs4 open`. The host serves the lines of the bench. The prompt adds files in place of typed texts, help,
-// completion, and an explanation when a line is rejected.
+// The prompt of `mcs4 new` and `mcs4 open`. The host serves the bench lines. The prompt adds texts from files, help, completion, and explanations of
+// rejected lines.
 //
 //     const prompt = new SessionPrompt(calls);
 //     await prompt.take("press 3 9"); prompt.label; prompt.isEnded; await prompt.complete("pr");
@@ -21,37 +21,36 @@ import * as say from "../../words/session_prompt.js";
  * @typedef {import("./line_completion.js").Completion} Completion
  * @typedef {"wire" | "asm" | "map" | "wiring" | "errors"} TextWord
  *
- * An error in a text: its line, which counts from 1 (0 for none), and the message.
+ * An error in a text: the line number from 1 (0 for none), and the message.
  * @typedef {{ line: number, words: string }} TextError
  *
- * A text that is being typed: the word that opened it, its lines, and the line of the source file that opened it (0 if typed).
+ * An unfinished text: the word that opened it, its lines, and the line number of the opening line in the source file (0 if typed).
  * @typedef {{ word: TextWord, lines: string[], at: number }} OpenedText
  */
 
 /**
  * The callbacks of the prompt. Completion also uses `files` and `ask`.
  * @typedef {object} SessionPromptCalls
- * @property {(input: string) => Promise<string>} serve Serves an input and prints its answers. Resolves to the first answer line, "" for
- *   none.
- * @property {(line: string) => Promise<string[]>} ask Resolves to the answers to a line, which are not printed.
+ * @property {(input: string) => Promise<string>} serve Serves an input and prints its answers. Resolves to the first answer line, or "".
+ * @property {(line: string) => Promise<string[]>} ask Resolves to the answers to a line. Does not print them.
  * @property {(words: string) => void} print Prints a message on standard output.
  * @property {(words: string) => void} complain Prints a message on standard error.
- * @property {(name: string) => string} read Returns the text of a file; throws an error that says why it cannot be read.
+ * @property {(name: string) => string} read Returns the text of a file; throws an error with the reason if it cannot be read.
  * @property {(begin: string) => string[]} files Returns the file names that start with a prefix.
- * @property {(word: TextWord, text: string, board: string) => Promise<TextError[]>} errorsOf Resolves to all errors in a text that the
- *   bench rejected. `board` is the text of the board for a program.
+ * @property {(word: TextWord, text: string, board: string) => Promise<TextError[]>} errorsOf Resolves to all errors in a rejected text. For a
+ *   program, `board` is the board text.
  * @property {(number: number) => string} wordsOf Returns the message of a refusal.
  * @property {() => ManualSection[]} manual Returns the sections of the manual, with their tables.
  */
 
 const COMMENT_MARKS = /** @type {const} */ ({ wire: "#", asm: ";", map: ";", wiring: "#", errors: ";" });
 const MAX_SHOWN = 120;
-/** The numbers of refusals that this prompt explains in its own words. */
+/** The refusal numbers that this prompt explains in its own words. */
 const NO_KEY = 41;
 const NO_ROM = 42;
 const NO_RAM = 43;
 const NO_RUN = 44;
-/** The range of the refusal numbers that errors in texts have. */
+/** The range of refusal numbers for errors in texts. */
 const TEXT_REFUSALS = { first: 12, last: 42 };
 
 /** An error that the prompt itself finds. */
@@ -67,31 +66,31 @@ export class SessionPrompt {
     this.sources = new Sources(this, calls);
   }
 
-  /** Returns the prompt before a line. */
+  /** The prompt text before a line. */
   get label() {
     return `${this.openText ? this.openText.word : "mcs4"}> `;
   }
 
-  /** Returns false: no line runs long enough to be interrupted. */
+  /** Returns false because no line runs long enough to be interrupted. */
   interrupt() {
     return false;
   }
 
-  /** Discards the unfinished text. Returns a message about it, "" if there is none. */
+  /** Discards the unfinished text. Returns a message about it, or "". */
   drop() {
     const { openText } = this;
     this.openText = null;
     return openText ? say.textDropped(openText.word) : "";
   }
 
-  /** Returns the unfinished text, which the session receives at the end of input; "" if there is none. */
+  /** The unfinished text, which the session receives at the end of input; "" if there is none. */
   get rest() {
     return this.openText ? [this.openText.word, ...this.openText.lines].map((line) => `${line}\n`).join("") : "";
   }
 
   /**
-   * Serves a line. If the line is rejected, prints why and returns false.
-   * @param {string} whole the line, perhaps with a carriage return
+   * Serves a line. If the line is rejected, prints the reason and returns false.
+   * @param {string} whole the line, with or without a carriage return
    */
   async take(whole) {
     const line = withoutReturn(whole);
@@ -105,7 +104,7 @@ export class SessionPrompt {
   }
 
   /**
-   * Adds a line to the open text, or serves the text at its dot.
+   * Adds a line to the open text. At a dot, serves the text.
    * @param {string} line
    * @param {OpenedText} openText
    */
@@ -156,23 +155,23 @@ export class SessionPrompt {
   // --- texts ---
 
   /**
-   * Serves a text from a file. As in other commands, its comments are not sent.
+   * Serves a text from a file, without its comments.
    * @param {TextWord} word
    * @param {string} name
    */
   async takeFile(word, name) {
     const text = this.read(name);
     const mark = COMMENT_MARKS[word];
-    const unsent = faultsOfLines(text, mark);
-    if (unsent.length > 0) return this.complainOfText(unsent, text, { name, before: 0 });
+    const textFaults = faultsOfLines(text, mark);
+    if (textFaults.length > 0) return this.complainOfText(textFaults, text, { name, before: 0 });
     return this.serveText(word, sentText(text, mark), text, { name, before: 0 });
   }
 
   /**
    * @param {TextWord} word
    * @param {string} sent
-   * @param {string} text with its comments
-   * @param {{ name: string, before: number }} place the name of its file, "" for none, and the number of lines before the text
+   * @param {string} text the text with its comments
+   * @param {{ name: string, before: number }} place the file name ("" for none), and the number of lines before the text
    */
   async serveText(word, sent, text, place) {
     const board = word === "asm" ? await this.board() : "";
@@ -194,7 +193,7 @@ export class SessionPrompt {
   async errorsOfText(word, text, board, { number, line }) {
     const isTextRefusal = number >= TEXT_REFUSALS.first && number <= TEXT_REFUSALS.last;
     const errors = isTextRefusal ? await this.calls.errorsOf(word, text, board) : [];
-    // For a board the bench reports the line of a table, but an error can be at one of its keys.
+    // For a board, the bench reports the line of a table, but the error can be in one of its keys.
     const isSameLine = line === 0 || COMMENT_MARKS[word] === "#" || errors.some((error) => error.line === line);
     return isSameLine && errors.length > 0 ? errors : [{ line, words: this.calls.wordsOf(number) }];
   }
@@ -262,8 +261,8 @@ export class SessionPrompt {
   // --- help ---
 
   /**
-   * Prints a list of all lines, or the manual's description of one line, of places, or of a refusal number.
-   * @param {string} about "" for all lines
+   * Prints a list of all lines; or the manual's description of a line, of the places, or of a refusal number.
+   * @param {string} about the topic; "" for all lines
    */
   help(about) {
     const [word = ""] = about.split(/[ \t]+/);
@@ -287,12 +286,12 @@ export class SessionPrompt {
   // --- completion ---
 
   /**
-   * Returns the possible continuations of a line.
-   * @param {string} line up to the cursor
+   * Returns the completions of a line.
+   * @param {string} line the line up to the cursor
    * @returns {Promise<Completion>}
    */
   async complete(line) {
-    // In a text the tab key inserts a tab.
+    // Inside a text, the tab key inserts a tab.
     return this.openText ? [["\t"], ""] : completeLine(line, this.calls);
   }
 }

@@ -1,4 +1,4 @@
-// The prompt's commands for breakpoints and watches.
+// The prompt commands for breakpoints and watches.
 
 import { watchedPlaces } from "../bench/answers.js";
 import { addressText, breakpointLines } from "./looks.js";
@@ -11,18 +11,18 @@ import * as say from "../../words/prompt.js";
  */
 
 const BREAKPOINT_ARGUMENTS = /^(.*?)(?:\s*\bfrom\s+(\d{1,9}))?(?:\s*\bif\s+(.+?))?(?:\s*\blog\s+"([^"]*)")?$/;
-/** The word for the breakpoint that was set last, as in gdb. */
+/** The word for the last breakpoint that was set, as in gdb. */
 export const LAST_BREAKPOINT = "$bpnum";
-/** A RAM character, which the bench itself watches. */
+/** Matches a RAM character; the bench itself watches RAM characters. */
 const RAM_CHARACTER = /^ram\.[0-7]\.\w+$/i;
 
 export class BreakpointCommands {
   /** @param {Prompt} prompt */
   constructor(prompt) {
     this.prompt = prompt;
-    /** The place that `continue` watches, "" for none. RAM characters are not here: the bench watches them. */
+    /** The place that `continue` watches, "" for none. The bench watches RAM characters, so they are not stored here. */
     this.watched = "";
-    /** The number of the breakpoint that was set last, 0 for none. */
+    /** The number of the last breakpoint that was set, 0 for none. */
     this.lastNumber = 0;
   }
 
@@ -49,7 +49,7 @@ export class BreakpointCommands {
     };
   }
 
-  /** Adds the bench's breakpoints to the list, and removes those that the bench no longer has. */
+  /** Adds bench breakpoints to the list, and removes breakpoints that the bench no longer has. */
   syncWithBench() {
     const { map, debugger: { session } } = this.prompt.session;
     for (const address of session.breaks) {
@@ -61,7 +61,7 @@ export class BreakpointCommands {
 
   /**
    * Sets a breakpoint. Returns its number.
-   * @param {string} rest the arguments: place, first hit, condition and note
+   * @param {string} rest the arguments: location, first hit, condition and note
    */
   async add(rest) {
     const { session, machine, calls } = this.prompt;
@@ -86,7 +86,7 @@ export class BreakpointCommands {
   }
 
   /**
-   * Changes a breakpoint. Restores it and fails if its condition or note has an error.
+   * Changes a breakpoint. If its condition or note has an error, restores it and fails.
    * @param {number} id
    * @param {Partial<import("../debug/breakpoints.js").KeptBreakpoint>} changes
    */
@@ -109,7 +109,7 @@ export class BreakpointCommands {
   }
 
   /**
-   * Returns the numbers of breakpoints; fails if a word names none.
+   * Returns breakpoint numbers; fails if a word is not the number of a breakpoint.
    * @param {string} rest
    */
   numbersOf(rest) {
@@ -151,19 +151,19 @@ export class BreakpointCommands {
     else refuse(say.notWatched(place));
   }
 
-  /** Returns the watched places. */
+  /** The watched places. */
   get watchedPlaces() {
     const [answer] = this.prompt.session.debugger.session.ask("watches\n");
     return [...watchedPlaces(answer), ...(this.watched ? [this.watched] : [])];
   }
 
-  /** Returns the text of `info watches`. */
+  /** The text of `info watches`. */
   get watches() {
     const places = this.watchedPlaces.map((place) => (place === this.watched ? say.byContinue(place) : place));
     return places.join("\n") || say.NOTHING_WATCHED;
   }
 
-  /** Returns the text of `info breakpoints`. */
+  /** The text of `info breakpoints`. */
   get lines() {
     return breakpointLines(this.prompt.session, (id) => this.prompt.stops.textOf(id));
   }

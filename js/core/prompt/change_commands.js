@@ -1,4 +1,4 @@
-// The prompt's commands that change the session while time is paused: keys, values and the program.
+// The prompt commands that change the session while time is paused: keys, values and the program.
 
 import { linesOfSet } from "../adapter/set_place.js";
 import { refuse } from "./words_of_line.js";
@@ -36,9 +36,9 @@ export class ChangeCommands {
   }
 
   /**
-   * @param {"press" | "release"} word of the bench
+   * @param {"press" | "release"} word the bench word
    * @param {string} rest the keys
-   * @param {string} command of the prompt, for messages
+   * @param {string} command the prompt command, for messages
    */
   async moveKeys(word, rest, command) {
     for (const key of this.prompt.keys.read(rest, command)) await this.prompt.serve(key[word]);

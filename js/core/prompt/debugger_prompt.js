@@ -1,5 +1,5 @@
-// The debugger at a prompt: each line is a command. Output goes to `print`, errors go to `complain`. The debugger is the one of the page
-// (debug/), on a session in memory. At each stop the session is saved to its file.
+// The debugger at a prompt: each line is a command. Output goes to `print`, errors go to `complain`. The prompt uses the same debugger as the page
+// (debug/), on a session in memory. At each stop, the session is saved to its file.
 //
 //     const prompt = new Prompt(launched, dataOfPage, { print, complain, pause, source, isByHand });   (adapter/launching.js launches)
 //     await prompt.begin(); await prompt.take("break show"); prompt.isEnded; prompt.complete("br")
@@ -29,7 +29,7 @@ import { stoppedAt } from "../../words/stops.js";
 /**
  * @typedef {import("../adapter/launching.js").Launched} Launched
  *
- * A command: receives the text after the command's name.
+ * A command handler. It receives the text after the command name.
  * @typedef {(rest: string) => void | Promise<void>} CommandHandler
  */
 
@@ -38,39 +38,39 @@ import { stoppedAt } from "../../words/stops.js";
  * @typedef {object} PromptCalls
  * @property {(words: string) => void} print Prints a message on standard output.
  * @property {(words: string) => void} complain Prints a message on standard error.
- * @property {() => Promise<void>} pause Resolves after other tasks had their turn, such as the handler of Ctrl-C.
- * @property {() => string | null} source Returns the present text of the program's file; null if the program has no file.
- * @property {(name: string) => string} read Returns the text of a file; throws an error that says why it cannot be read.
- * @property {(name: string, text: string) => void} write Writes a text to a file; throws an error that says why it cannot be written.
+ * @property {() => Promise<void>} pause Yields to other tasks, such as the handler of Ctrl-C.
+ * @property {() => string | null} source Returns the current text of the program file; null if the program has no file.
+ * @property {(name: string) => string} read Returns the text of a file; throws an error with the reason if it cannot be read.
+ * @property {(name: string, text: string) => void} write Writes a text to a file; throws an error with the reason if it cannot be written.
  * @property {(begin: string) => string[]} files Returns the file names that start with a prefix.
  * @property {boolean} isByHand True if a user at a terminal can interrupt an endless run.
- * @property {{ toggle: () => string, turn: (isOn: boolean) => string } | null} view Shows or hides the view (view.js); null without a
- *   terminal. Each call returns an error message, "" if there is no error.
+ * @property {{ toggle: () => string, turn: (isOn: boolean) => string } | null} view Shows or hides the view (view.js); null without a terminal. Each
+ *   function returns an error message, or "".
  */
 
-/** The maximum number of cycles in a move of a script: 18 minutes on the board. */
+/** The maximum length of a move in a script, in cycles: 18 minutes on a real board. */
 const MAX_CYCLES = 100000000;
-/** The maximum number of stops in a script's line whose breakpoint commands run. */
+/** The maximum number of stops per script line at which breakpoint commands run. */
 const MAX_STOPS = 100000;
-/** A command's word and the text after it. */
+/** Matches a command word and the text after it. */
 const COMMAND = /^([a-zA-Z-]+|\S)(.*)$/;
 const NO_COMMANDS = { commands: [], isSilent: false, words: "", hasMoved: false };
-/** The commands that an empty line repeats. */
+/** Matches the commands that an empty line repeats. */
 const REPEATED = /^(next|step|reverse-step|reverse-next|reverse-continue|continue|until|list|run|x)$/;
 
 /**
- * The commands with a file name, and the patterns that find it.
+ * The commands with a file name, and the patterns that capture it.
  * @type {Record<string, RegExp>}
  */
 const FILE_ARGUMENTS = { source: /^\s*\S+\s+(.*)$/, save: /^\s*\S+\s+\S+\s+(.*)$/ };
 
-/** An error whose message is printed already. */
+/** An error whose message has already been printed. */
 class ReportedError extends Error {}
 
 export class Prompt {
   /**
    * @param {Launched} launched
-   * @param {{ refusals: Record<string, string>, manual: import("../help/manual.js").ManualSection[] }} data of the page
+   * @param {{ refusals: Record<string, string>, manual: import("../help/manual.js").ManualSection[] }} data the refusal texts and the manual
    * @param {PromptCalls} calls
    */
   constructor(launched, { refusals, manual }, calls) {
@@ -78,13 +78,13 @@ export class Prompt {
     this.session = launched.session;
     this.calls = calls;
     this.isEnded = false;
-    /** The line that an empty line repeats. */
+    /** The command line that an empty line repeats. */
     this.repeatedLine = "";
-    /** The cycle count at the beginning of the last line. */
+    /** The cycle count at the start of the last line. */
     this.startCycles = 0;
-    /** True if the user has interrupted the last line. */
+    /** True if the user interrupted the last line. */
     this.isInterrupted = false;
-    /** @type {{ commands: string[], isSilent: boolean, words: string, hasMoved: boolean }} the commands of the last stop */
+    /** @type {{ commands: string[], isSilent: boolean, words: string, hasMoved: boolean }} the commands to run after the last stop */
     this.atStop = NO_COMMANDS;
     /** @type {import("../adapter/debugged_machine.js").MoveEnd} the last stop */
     this.lastStop = { reason: "", words: "", id: 0 };
@@ -121,19 +121,19 @@ export class Prompt {
     });
   }
 
-  /** The place that `continue` watches, "" for none. */
+  /** The place that `continue` watches; "" for none. */
   get watched() {
     return this.breakpoints.watched;
   }
 
-  /** Adds the session's breakpoints to the list and shows the current stop. */
+  /** Adds the session's breakpoints to the list, and shows the current stop. */
   async begin() {
     this.breakpoints.syncWithBench();
     await this.session.applyBreakpoints();
     this.showStop(stoppedAt(this.session.counterWords));
   }
 
-  /** Yields to other tasks. In a script, ends a move that exceeds its maximum. */
+  /** Yields to other tasks. In a script, ends a move that exceeds MAX_CYCLES. */
   async yieldTurn() {
     await this.calls.pause();
     const { count } = this.session.debugger.session;
@@ -146,14 +146,14 @@ export class Prompt {
    */
   output(words, category) {
     if (category === "stderr") this.sources.complain(words.trimEnd());
-    // `makeMove` reports a move that did nothing.
+    // `makeMove` itself reports a move that did nothing.
     else if (!words.startsWith(say.NOTHING_DONE)) this.calls.print(words.trimEnd());
   }
 
   // --- lines ---
 
   /**
-   * Executes a line and the commands of the breakpoints at which it stops. If a line is rejected, prints why and returns false.
+   * Executes a line, and the commands of the breakpoints at which it stops. If a line is rejected, prints the reason and returns false.
    * @param {string} text
    */
   async take(text) {
@@ -162,13 +162,13 @@ export class Prompt {
     this.isInterrupted = false;
     const name = this.nameOf(line);
     const isDone = await this.executeLine(line);
-    // A repeated `list` has no argument, so it lists the next lines.
+    // A repeated `list` has no argument, so that it lists the next lines.
     this.repeatedLine = isDone && REPEATED.test(name) ? (name === "list" ? name : line) : "";
     return isDone && this.runCommands();
   }
 
   /**
-   * Executes a line without the commands of breakpoints. If the line is rejected, prints why and returns false.
+   * Executes a line without the breakpoint commands. If the line is rejected, prints the reason and returns false.
    * @param {string} line
    */
   async executeLine(line) {
@@ -184,7 +184,7 @@ export class Prompt {
   }
 
   /**
-   * Returns the full name of a line's command; "" if the line has none.
+   * Returns the full command name of a line; "" if the line has no command.
    * @param {string} line
    */
   nameOf(line) {
@@ -200,8 +200,8 @@ export class Prompt {
   }
 
   /**
-   * Runs the commands of the breakpoint that stopped the last line. A command that moves time ends the list; then the commands of its stop
-   * run. Returns false if a command is rejected.
+   * Runs the commands of the breakpoint that stopped the last line. A command that moves time ends the list; the commands of its stop run next.
+   * Returns false if a command is rejected.
    */
   async runCommands() {
     let stops = 0;
@@ -219,8 +219,8 @@ export class Prompt {
   }
 
   /**
-   * Begins a move and waits for its end. Returns its report; fails if nothing was done.
-   * @param {() => void} begin begins the move
+   * Starts a move and waits for its end. Returns the report; fails if the move did nothing.
+   * @param {() => void} begin starts the move
    */
   async makeMove(begin) {
     begin();
@@ -243,7 +243,7 @@ export class Prompt {
 
   /**
    * Shows a stop: its reason, the next instruction, and the expressions of `display`.
-   * @param {string} words the reason
+   * @param {string} words the stop reason
    */
   showStop(words) {
     this.looks.listed = 0;
@@ -254,9 +254,9 @@ export class Prompt {
   }
 
   /**
-   * Returns the name of a place of the machine; fails if the board has no such place.
-   * @param {string} text a place, or the name of a lamp
-   * @param {string} command of the prompt, for messages
+   * Returns the name of a place; fails if the board does not have it.
+   * @param {string} text a place or a lamp name
+   * @param {string} command the prompt command, for messages
    */
   placeOfWords(text, command) {
     if (text === "") refuse(say.placeForm(command));
@@ -266,12 +266,12 @@ export class Prompt {
     return this.session.values([place.name])[0] === "" ? refuse(boardHasNo(place.name)) : place.name;
   }
 
-  /** Returns the prompt before a line. */
+  /** The prompt text before a line. */
   get label() {
     return this.stops.unfinished ? "> " : "(mcs4) ";
   }
 
-  /** Interrupts the present move. Returns false if there is none. */
+  /** Interrupts the current move. Returns false if there is none. */
   interrupt() {
     const { isMoving } = this.machine;
     this.isInterrupted = true;
@@ -279,7 +279,7 @@ export class Prompt {
     return isMoving;
   }
 
-  /** Discards the unfinished commands of a breakpoint. Returns a message about them, "" if there are none. */
+  /** Discards the unfinished breakpoint commands. Returns a message about them, or "". */
   drop() {
     return this.stops.drop();
   }
@@ -288,7 +288,7 @@ export class Prompt {
 
   /**
    * Resolves to the completions of a line: the words, and the part of the line that they replace.
-   * @param {string} line up to the cursor
+   * @param {string} line the line up to the cursor
    * @returns {Promise<[string[], string]>}
    */
   async complete(line) {

@@ -1,4 +1,4 @@
-// Values in the formats of `print/FORMAT`.
+// Formats values for `print/FORMAT`.
 
 import { expressionOf } from "../conditions/condition_language.js";
 import { valueOfExpression } from "../adapter/expression_values.js";
@@ -12,7 +12,7 @@ import * as say from "../../words/prompt.js";
  * @typedef {import("../adapter/expression_values.js").ExpressionContext} ExpressionContext
  */
 
-/** @type {(base: number, mark: string) => (value: number) => string} formats a number in a base, with a mark before its digits */
+/** @type {(base: number, mark: string) => (value: number) => string} creates a formatter for a number base, with a prefix before the digits */
 const digits = (base, mark) => (value) => `${value < 0 ? "-" : ""}${mark}${Math.abs(value).toString(base).toUpperCase()}`;
 /** @type {Record<string, (value: number, session: DebugSession) => string>} */
 const FORMATS = {
@@ -26,7 +26,7 @@ const FORMATS = {
 };
 
 /**
- * Returns the current value of an expression as a number; 1 for a condition that is true, 0 for one that is false.
+ * Returns the current value of an expression as a number. A true condition is 1, a false condition 0.
  * @param {string} text
  * @param {DebugSession} session
  */
@@ -40,7 +40,7 @@ function numberOfText(text, session) {
 
 /**
  * Returns the current value of an expression as text.
- * @param {string} text the expression, perhaps with a format before it: `/x r4`
+ * @param {string} text the expression, with an optional format before it: `/x r4`
  * @param {ExpressionContext} context
  */
 export function formattedValue(text, context) {

@@ -1,4 +1,4 @@
-// The names of keys at a prompt: those of the board's front panel, or `row.column`.
+// The key names at a prompt: the names on the board's front panel, or `row.column`.
 
 import { readBoard } from "../bench/answers.js";
 import { matrixKey, textOfKey } from "../board/key_place.js";
@@ -22,7 +22,7 @@ export class KeysOfPrompt {
     this.named = keysOf(face);
   }
 
-  /** Returns the names of all keys; a key without a name is `row.column`. */
+  /** The names of all keys; an unnamed key is called `row.column`. */
   get names() {
     const { rows, columns } = readBoard(this.session.debugger.session.statusQueries.board);
     const namedKeys = new Set([...this.named.values()].map(({ key }) => textOfKey(key)));
@@ -43,7 +43,7 @@ export class KeysOfPrompt {
   }
 
   /**
-   * Returns the key that a word names; null if there is none.
+   * Returns the key with a name; null if there is none.
    * @param {string} word
    * @returns {NamedKey | null}
    */
@@ -57,9 +57,9 @@ export class KeysOfPrompt {
   }
 
   /**
-   * Returns the keys that words name; fails if there is no such key. A word that is not a name is read letter by letter.
+   * Returns the keys for words; fails if a key does not exist. A word that is not a key name is split into letters.
    * @param {string} text
-   * @param {string} command of the prompt, for messages
+   * @param {string} command the prompt command, for messages
    */
   read(text, command) {
     if (text === "") refuse(say.keyForm(command));

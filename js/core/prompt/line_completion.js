@@ -1,4 +1,4 @@
-// Completion of lines at the prompt of `mcs4 new` and `mcs4 open`.
+// Completes lines at the prompt of `mcs4 new` and `mcs4 open`.
 
 import { ANSWER_FORMS } from "../bench/answer_table.js";
 import { readBoard, readMarks } from "../bench/answers.js";
@@ -6,7 +6,7 @@ import { POKE_NAMES, TRACE_NAMES } from "../bench/line_forms.js";
 import { upTo } from "../bench/numbers.js";
 
 /**
- * The possible words, and the end of the line that they replace.
+ * The possible words, and the part at the end of the line that they replace.
  * @typedef {[string[], string]} Completion
  */
 
@@ -14,12 +14,12 @@ import { upTo } from "../bench/numbers.js";
  * The callbacks of completion.
  * @typedef {object} CompletionCalls
  * @property {(begin: string) => string[]} files Returns the file names that start with a prefix.
- * @property {(line: string) => Promise<string[]>} ask Resolves to the bench's answers to a line, which are not printed.
+ * @property {(line: string) => Promise<string[]>} ask Resolves to the bench's answers to a line. Does not print them.
  */
 
-/** Words of the prompt itself. */
+/** The words of the prompt itself. */
 export const PROMPT_WORDS = ["help", "source", "quit"];
-/** Words that a file name can follow. */
+/** The words that a file name can follow. */
 export const FILE_WORDS = ["wire", "asm", "map", "wiring", "errors", "source"];
 const HELP_WORDS = ["places"];
 
@@ -29,20 +29,20 @@ const withPrefix = (words, begin) => words.filter((word) => word.startsWith(begi
 const numbers = (count) => upTo(count).map(String);
 
 /**
- * Resolves to the words that can be the argument with an index.
+ * Resolves to the possible words for the argument at an index.
  * @typedef {(at: number, ask: (line: string) => Promise<string[]>) => Promise<string[]>} WordsAt
  */
 
-/** @type {(words: string[]) => WordsAt} proposes words for the first argument only */
+/** @type {(words: string[]) => WordsAt} proposes words only for the first argument */
 const firstArgument = (words) => async (at) => (at === 0 ? words : []);
-/** @type {WordsAt} proposes rows, then columns */
+/** @type {WordsAt} proposes row numbers, then column numbers */
 const keysAt = async (at, ask) => {
   const { rows, columns } = readBoard(await ask("board"));
   return at > 1 ? [] : numbers(at === 0 ? rows : columns);
 };
 
 /**
- * The words that can be arguments, by the first word of the line.
+ * The functions that propose arguments, by the first word of the line.
  * @type {Record<string, WordsAt>}
  */
 const WORDS_AFTER = {
@@ -59,7 +59,7 @@ const WORDS_AFTER = {
 
 /**
  * Returns the completions of a line.
- * @param {string} line up to the cursor
+ * @param {string} line the line up to the cursor
  * @param {CompletionCalls} calls
  * @returns {Promise<Completion>}
  */

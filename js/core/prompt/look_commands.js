@@ -1,4 +1,4 @@
-// The prompt's commands that show the state of the session without changing it.
+// The prompt commands that show the state of the session without a change to it.
 
 import { LAST_ADDRESS } from "../bench/numbers.js";
 import { placeOf } from "../conditions/places.js";
@@ -22,7 +22,7 @@ export const INFO_WORDS = [
   "registers", "ram", "ports", "keys", "breakpoints", "watches", "display", "names", "source", "session", "line", "symbol", "frame",
   "stack", "program", "locals",
 ];
-/** gdb's abbreviations of the words after `info`. */
+/** gdb's abbreviations of the words after `info`, mapped to full words. */
 const INFO_ABBREVIATIONS = new Map([
   ["r", "registers"], ["s", "stack"], ["f", "frame"], ["args", "locals"], ["all-registers", "registers"],
 ]);
@@ -31,7 +31,7 @@ export class LookCommands {
   /** @param {Prompt} prompt */
   constructor(prompt) {
     this.prompt = prompt;
-    /** @type {string[]} the expressions that each stop prints */
+    /** @type {string[]} the expressions that are printed at each stop */
     this.displays = [];
     /** The last source line that `list` has printed since the last stop, 0 for none. */
     this.listed = 0;
@@ -61,7 +61,7 @@ export class LookCommands {
     };
   }
 
-  /** @param {string} rest the argument of `view`, or of gdb's `layout` and `tui` */
+  /** @param {string} rest the argument of `view` or of gdb's `layout` and `tui` */
   view(rest) {
     const { view } = this.prompt.calls;
     if (!/^(|on|off|enable|disable|src|regs|asm|split)$/.test(rest)) refuse(say.VIEW_FORM);
@@ -75,7 +75,7 @@ export class LookCommands {
 
   /**
    * Returns the current value of an expression as text.
-   * @param {string} expression the expression, perhaps with a format before it: `/x r4`
+   * @param {string} expression the expression, with an optional format before it: `/x r4`
    */
   value(expression) {
     return formattedValue(expression, this.prompt.expressionContext);
@@ -95,7 +95,7 @@ export class LookCommands {
 
   /**
    * Prints the expressions of `display` with their values.
-   * @param {number} [from] the index of the first one
+   * @param {number} [from] the index of the first expression
    */
   showDisplays(from = 0) {
     this.displays.slice(from).forEach((expression, at) => {
@@ -145,13 +145,13 @@ export class LookCommands {
     this.listed = Math.min(count, from + LIST_LENGTH - 1);
   }
 
-  /** Returns the text of `frame`: the innermost frame and the next instruction. */
+  /** The text of `frame`: the innermost frame and the next instruction. */
   get frame() {
     const { session } = this.prompt;
     return `${looks.frameLines(session).split("\n")[0]}\n${looks.nextInstruction(session)}`;
   }
 
-  /** @returns {Record<string, (rest: string) => string>} functions that return the text of `info`, by the word after it */
+  /** @returns {Record<string, (rest: string) => string>} the functions that return the text of `info`, by the word after `info` */
   get infoTexts() {
     const { session, keys, launched, breakpoints, lastStop } = this.prompt;
     return {

@@ -1,4 +1,4 @@
-// The texts with which a prompt shows the state of a session: source, registers, RAM, ports, ROM, calls and breakpoints.
+// Formats the state of a session for a prompt: source, registers, RAM, ports, ROM, calls and breakpoints.
 
 import { counted, hex, numberOf, upTo } from "../bench/numbers.js";
 import { linesOfBreakpoints } from "../debug/breakpoint_lines.js";
@@ -16,12 +16,12 @@ import * as say from "../../words/prompt.js";
  * Returns the current state of the machine.
  * @param {DebugSession} session
  */
-function standingOf(session) {
+function stateOf(session) {
   return new MachineState(session.debugger.session.takeSnapshot());
 }
 
 /**
- * Returns a source line with its address, `>` at the next instruction and `*` at an enabled breakpoint.
+ * Returns a source line with its address. `>` marks the next instruction, and `*` an enabled breakpoint.
  * @param {DebugSession} session
  * @param {number} line
  */
@@ -36,7 +36,7 @@ export function sourceLine(session, line) {
 }
 
 /**
- * Returns the number of lines of the source.
+ * Returns the number of source lines.
  * @param {DebugSession} session
  */
 export function linesOfSource({ program }) {
@@ -44,10 +44,10 @@ export function linesOfSource({ program }) {
 }
 
 /**
- * Returns source lines; fails if the source ends before the first one.
+ * Returns source lines; fails if the first line is after the end of the source.
  * @param {DebugSession} session
  * @param {number} from
- * @param {number} to included
+ * @param {number} to the last line, inclusive
  */
 export function sourceLines(session, from, to) {
   const last = Math.min(to, linesOfSource(session));
@@ -56,7 +56,7 @@ export function sourceLines(session, from, to) {
 }
 
 /**
- * Returns the source line of the next instruction; if it has none, the disassembled instruction.
+ * Returns the source line of the next instruction. Without a source line, returns the disassembled instruction.
  * @param {DebugSession} session
  */
 export function nextInstruction(session) {
@@ -83,7 +83,7 @@ export function codeLines(session, address, count) {
  * @param {DebugSession} session
  */
 export function registerLines(session) {
-  const { registers } = standingOf(session);
+  const { registers } = stateOf(session);
   const pairs = upTo(8).map((at) => `P${at} ${registers.registers[2 * at]}${registers.registers[2 * at + 1]}`).join("  ");
   const { accumulator, carry, bank, test, owed } = registers;
   const owedText = owed === "1" ? "  owed 1" : "";
@@ -91,11 +91,11 @@ export function registerLines(session) {
 }
 
 /**
- * Returns the text of `info ram`: each register with its status characters, and the output ports.
+ * Returns the text of `info ram`: all registers with their status characters, and the output ports.
  * @param {DebugSession} session
  */
 export function ramLines(session) {
-  const { ram } = standingOf(session);
+  const { ram } = stateOf(session);
   const lines = [...ram].flatMap(([bank, { registers, ports }]) => [
     ...[...registers].map(([name, { characters, status }]) => {
       const [, chip, register] = name.split(".").map(Number);
@@ -107,11 +107,11 @@ export function ramLines(session) {
 }
 
 /**
- * Returns the text of `info ports`: the SRC bytes, the ROM ports, the chains with their bits in groups of ten, and the keys that are down.
+ * Returns the text of `info ports`: the SRC bytes, the ROM ports, the chains with their bits in groups of ten, and the pressed keys.
  * @param {DebugSession} session
  */
 export function portLines(session) {
-  const { sources, roms, chains, keys } = standingOf(session).ports;
+  const { sources, roms, chains, keys } = stateOf(session).ports;
   return [
     `src ${sources.join(" ")}`,
     ...roms.map(({ chip, out, in: reads }) => `rom ${chip} out ${out} in ${reads}`),
@@ -121,11 +121,11 @@ export function portLines(session) {
 }
 
 /**
- * Returns the keys that are down, as `row.column`.
+ * Returns the pressed keys as `row.column`.
  * @param {DebugSession} session
  */
 export function keysDown(session) {
-  return standingOf(session).ports.keys;
+  return stateOf(session).ports.keys;
 }
 
 /**
@@ -146,7 +146,7 @@ export function addressText(session, address) {
 }
 
 /**
- * Returns the text of `info line`: the line of an instruction, with its addresses.
+ * Returns the text of `info line`: the source line of an instruction, with the instruction's addresses.
  * @param {DebugSession} session
  * @param {{ line: number, address: number }} place
  */
@@ -157,7 +157,7 @@ export function lineText(session, { line, address }) {
 }
 
 /**
- * Returns the text of `backtrace`, the newest frame first.
+ * Returns the text of `backtrace`, newest frame first.
  * @param {DebugSession} session
  */
 export function frameLines(session) {
@@ -179,7 +179,7 @@ export function nameLines({ map }) {
 /**
  * Returns the text of `info breakpoints`.
  * @param {DebugSession} session
- * @param {(id: number) => string} extraText returns text to add to a breakpoint
+ * @param {(id: number) => string} extraText returns the additional text for a breakpoint
  */
 export function breakpointLines({ breakpoints }, extraText) {
   const { all, kept } = breakpoints;
@@ -190,7 +190,7 @@ export function breakpointLines({ breakpoints }, extraText) {
 }
 
 /**
- * Returns RAM characters from a place on; fails if the board has no such place.
+ * Returns RAM characters, starting at a place; fails if the board does not have it.
  * @param {DebugSession} session
  * @param {string} text the place, such as `ram.0.0x10`
  * @param {number} count
@@ -199,7 +199,7 @@ export function characterLines(session, text, count) {
   const [, bank, at] = /^ram\.([0-7])\.(\w+)$/i.exec(text) || [];
   const first = numberOf(at || "");
   if (bank === undefined || !(first <= 255)) refuse(say.noPlaceOfRam(text));
-  const standing = standingOf(session);
+  const standing = stateOf(session);
   const values = upTo(Math.min(count, 256 - first)).map((offset) => standing.character(Number(bank), first + offset));
   const missing = values.findIndex((value) => value === "");
   if (missing === 0) refuse(say.noRamAt(text));

@@ -1,4 +1,4 @@
-// The prompt's commands that move time forward or back. Each one waits for the end of its move and reports the stop.
+// The prompt commands that move time forward or back. Each command waits for the end of its move and reports the stop.
 
 import { goalOfText } from "../debug/becoming.js";
 import { openCallCount } from "./looks.js";
@@ -65,17 +65,17 @@ export class MoveCommands {
   }
 
   /**
-   * Makes a move and shows its stop.
-   * @param {() => void} act begins the move
+   * Makes a move and shows the stop.
+   * @param {() => void} act starts the move
    */
   async move(act) {
     this.prompt.showStop(await this.prompt.makeMove(act));
   }
 
   /**
-   * Makes a move several times, until it stops for another reason than the end of a step.
-   * @param {string} rest the count, "" for 1
-   * @param {() => void} act begins the move
+   * Repeats a move until the count is reached, or until a stop has another reason than the end of a step.
+   * @param {string} rest the count; "" means 1
+   * @param {() => void} act starts the move
    */
   async repeat(rest, act) {
     const { prompt } = this;
@@ -104,7 +104,7 @@ export class MoveCommands {
   }
 
   /**
-   * Presses keys one after the other while time passes.
+   * Presses keys one after another while time passes.
    * @param {string} rest
    */
   async press(rest) {

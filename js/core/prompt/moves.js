@@ -1,4 +1,4 @@
-// Moves of the prompt that the debugger does not have: stepping back over a subroutine, and pressing a key while time passes.
+// Moves of the prompt in addition to those of the debugger: a step back over a subroutine, and a key press while time passes.
 
 import { isCall, isReturn } from "../engine/rom_codes.js";
 import { KEY_DOWN_CYCLES, TOOL_KEY_UP_CYCLES } from "../time/mcs4_time.js";
@@ -13,30 +13,31 @@ import * as say from "../../words/prompt.js";
  * Returns the first byte of the next instruction.
  * @param {DebugSession} session
  */
-function nextCode(session) {
+function nextOpcode(session) {
   return parseInt(session.debugger.session.ask(`list ${session.address} 1\n`)[0].slice(4, 6), 16);
 }
 
 /**
- * Steps back over an instruction. If it is the return of a subroutine, goes back to the call; finds it by changes of the return addresses.
+ * Steps back over an instruction. If the instruction is the return of a subroutine, goes back to the call. Finds the call by the changes of the
+ * return addresses.
  * @param {DebugSession} session
  * @param {GoesOn} goesOn
  */
 export async function backOver(session, goesOn) {
   let result = await session.back({ kind: "instruction" }, goesOn);
-  let depth = result.isDone && isReturn(nextCode(session)) ? 1 : 0;
+  let depth = result.isDone && isReturn(nextOpcode(session)) ? 1 : 0;
   while (depth > 0) {
     result = await session.back({ kind: "change", place: "ret" }, goesOn);
-    const words = say.backInSubroutine(session.counterWords);
-    if (!result.isDone) return { ...result, words, isDone: true };
-    const code = nextCode(session);
+    const message = say.backInSubroutine(session.counterWords);
+    if (!result.isDone) return { ...result, words: message, isDone: true };
+    const code = nextOpcode(session);
     depth += Number(isReturn(code)) - Number(isCall(code));
   }
   return { ...result, words: result.isDone ? say.backAt(session.counterWords) : result.words };
 }
 
 /**
- * Presses and releases a key while time passes. Resolves to the stop that ended it.
+ * Presses and releases a key while time passes. Resolves to the stop at the end.
  * @param {DebugSession} session
  * @param {import("../board/key_place.js").Key} key
  * @param {GoesOn} goesOn

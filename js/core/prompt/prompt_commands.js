@@ -1,10 +1,10 @@
-// The names, abbreviations and help texts of the commands of the debugger's prompt.
+// The names, abbreviations and help texts of the debugger prompt's commands.
 
 import { COMMAND_WORDS } from "../../words/debug_commands.js";
 import * as say from "../../words/prompt.js";
 
 /**
- * A command's texts: its name, abbreviations, usage, effect, and further help.
+ * The texts of a command: its name, abbreviations, usage, effect, and further help.
  * @typedef {{ name: string, short: string[], use: string, does: string, more: string }} CommandText
  */
 
@@ -15,7 +15,7 @@ export const COMMANDS = COMMAND_WORDS.map(({ words, use, does, more }) => {
 });
 
 /**
- * Returns the command that a word names: by its name, an abbreviation or a unique prefix. Otherwise returns an error message.
+ * Finds a command by its name, an abbreviation or a unique prefix. If none matches, returns an error message.
  * @param {string} word
  * @returns {{ command: CommandText | null, words: string }}
  */
@@ -30,7 +30,7 @@ export function commandOf(word) {
 
 /**
  * Returns the help for a command, or the list of all commands.
- * @param {string} word "" for the list
+ * @param {string} word the command; "" for the list
  */
 export function helpOf(word) {
   if (word === "") return COMMANDS.map(({ use, does }) => `${use.padEnd(25)} ${does}`).join("\n");

@@ -3,12 +3,12 @@
 import * as say from "../../words/session_prompt.js";
 
 /**
- * The prompt that serves the lines. `take` returns false if a line is rejected. `drop` discards unfinished input and returns a message
- * about it, "" if there is none.
+ * The prompt that serves the lines. `take` returns false if a line is rejected. `drop` discards unfinished input and returns a message about it, or
+ * "".
  * @typedef {{ isEnded: boolean, take: (line: string) => Promise<boolean>, drop: () => string }} LineServer
  */
 
-/** The maximum nesting of `source` lines. */
+/** The maximum nesting depth of `source` lines. */
 const MAX_NESTING = 8;
 
 export class Sources {
@@ -19,17 +19,17 @@ export class Sources {
   constructor(server, calls) {
     this.server = server;
     this.calls = calls;
-    /** @type {{ name: string, at: number }[]} the nested files with their current line numbers, the innermost last */
+    /** @type {{ name: string, at: number }[]} the nested files with their current line numbers, innermost last */
     this.files = [];
   }
 
-  /** Returns the file whose line is served; undefined if the line was typed. */
+  /** The file whose line is currently served; undefined if the line was typed. */
   get file() {
     return this.files[this.files.length - 1];
   }
 
   /**
-   * Reports an error, with its file and line if it is in a file.
+   * Reports an error. For an error in a file, adds the file and the line.
    * @param {string} words
    */
   complain(words) {
@@ -37,7 +37,7 @@ export class Sources {
   }
 
   /**
-   * Serves the lines of a file up to one that is rejected. Returns false if a line is rejected; throws if the file cannot be served.
+   * Serves the lines of a file until a line is rejected. Returns false if a line is rejected; throws if the file cannot be served.
    * @param {string} name
    */
   async serve(name) {

@@ -1,5 +1,4 @@
-// The prompt's commands for what breakpoints do in addition to stopping: temporary breakpoints, ignored hits, commands at a stop. One
-// command saves the list.
+// The prompt commands for additional breakpoint actions: temporary breakpoints, ignored hits, and commands at a stop. One command saves the list.
 
 import { hex } from "../bench/numbers.js";
 import { LAST_BREAKPOINT } from "./breakpoint_commands.js";
@@ -11,7 +10,7 @@ import * as say from "../../words/prompt.js";
  * @typedef {import("./debugger_prompt.js").Prompt} Prompt
  * @typedef {import("../debug/breakpoints.js").Breakpoint} Breakpoint
  *
- * The actions at a stop: deleting the breakpoint, and running commands.
+ * The actions at a stop: delete the breakpoint, and run commands.
  * @typedef {{ isTemporary: boolean, commands: string[] }} StopActions
  */
 
@@ -22,16 +21,16 @@ const MAX_COMMANDS = 100;
 export const END = "end";
 const SILENT = "silent";
 
-/** @type {(command: string) => string} a command applied to the breakpoint that was set last */
-const forLast = (command) => `${command} ${LAST_BREAKPOINT}`;
+/** @type {(command: string) => string} applies a command to the last breakpoint that was set */
+const forLastBreakpoint = (command) => `${command} ${LAST_BREAKPOINT}`;
 
 export class StopCommands {
   /** @param {Prompt} prompt */
   constructor(prompt) {
     this.prompt = prompt;
-    /** @type {Map<number, StopActions>} the actions of breakpoints by their ids */
+    /** @type {Map<number, StopActions>} the actions, by breakpoint id */
     this.actions = new Map();
-    /** @type {{ id: number, lines: string[] } | null} the commands that are being typed, and their breakpoint; null for none */
+    /** @type {{ id: number, lines: string[] } | null} the unfinished commands and their breakpoint; null for none */
     this.unfinished = null;
   }
 
@@ -70,9 +69,9 @@ export class StopCommands {
   }
 
   /**
-   * Returns the breakpoint that the first word names, and the text after it; fails if there is no such breakpoint.
+   * Returns the breakpoint for the first word, and the text after it; fails if the breakpoint does not exist.
    * @param {string} rest
-   * @param {string} form of the command, for messages
+   * @param {string} form the usage of the command, for messages
    * @returns {{ breakpoint: Breakpoint, more: string }}
    */
   breakpointNamed(rest, form) {
@@ -107,7 +106,7 @@ export class StopCommands {
   }
 
   /**
-   * Adds a line to the commands that are being typed, or ends them; fails if there are too many.
+   * Adds a line to the unfinished commands, or ends them; fails if there are too many commands.
    * @param {string} line
    */
   addLine(line) {
@@ -121,7 +120,7 @@ export class StopCommands {
     } else if (line.trim() !== "") lines.push(line.trim());
   }
 
-  /** Discards the commands that are being typed. Returns a message about them, "" if there are none. */
+  /** Discards the unfinished commands. Returns a message about them, or "". */
   drop() {
     const { unfinished } = this;
     this.unfinished = null;
@@ -134,17 +133,18 @@ export class StopCommands {
    */
   async commandsAtStop() {
     const { lastStop: { reason, id }, session, breakpoints } = this.prompt;
-    const here = reason === "breakpoint" ? this.list.get(id) || this.list.atAddress(session.address) : undefined;
-    const { isTemporary, commands } = here ? this.actionsOf(here.id) : NO_ACTIONS;
-    if (here && isTemporary) await breakpoints.remove(String(here.id));
+    const breakpoint = reason === "breakpoint" ? this.list.get(id) || this.list.atAddress(session.address) : undefined;
+    const { isTemporary, commands } = breakpoint ? this.actionsOf(breakpoint.id) : NO_ACTIONS;
+    if (breakpoint && isTemporary) await breakpoints.remove(String(breakpoint.id));
     const isSilent = commands[0] === SILENT;
-    return { commands: isSilent ? commands.slice(1) : commands, isSilent, words: here && isTemporary ? say.temporaryDeleted(here.id) : "" };
+    return { commands: isSilent ? commands.slice(1) : commands, isSilent,
+      words: breakpoint && isTemporary ? say.temporaryDeleted(breakpoint.id) : "" };
   }
 
   // --- reports and saved lists ---
 
   /**
-   * Returns the text that `info breakpoints` adds to a breakpoint.
+   * Returns the additional text for a breakpoint in `info breakpoints`.
    * @param {number} id
    */
   textOf(id) {
@@ -163,7 +163,7 @@ export class StopCommands {
   }
 
   /**
-   * Returns the lines that set a breakpoint again.
+   * Returns the lines that recreate a breakpoint.
    * @param {Breakpoint} breakpoint
    */
   linesOf({ id, line, address, isOn, from, hits, condition, note }) {
@@ -172,8 +172,8 @@ export class StopCommands {
     const place = line > 0 ? String(line) : `0x${hex(address, 3)}`;
     const words = [isTemporary ? "tbreak" : "break", place, ...(left > 1 ? [`from ${left}`] : [])];
     return [
-      `${words.join(" ")}${say.ifCondition(condition)}${say.logNote(note)}`, ...(isOn ? [] : [forLast("disable")]),
-      ...(commands.length > 0 ? [forLast("commands"), ...commands.map((each) => `  ${each}`), END] : []),
+      `${words.join(" ")}${say.ifCondition(condition)}${say.logNote(note)}`, ...(isOn ? [] : [forLastBreakpoint("disable")]),
+      ...(commands.length > 0 ? [forLastBreakpoint("commands"), ...commands.map((each) => `  ${each}`), END] : []),
     ];
   }
 }

@@ -1,4 +1,4 @@
-// The view above a debugger's prompt, as lines for a terminal: the source around the next instruction, registers, lamps and displays.
+// The view above a debugger's prompt as terminal lines: the source near the next instruction, registers, lamps and displays.
 // js/node/view_on_terminal.mjs positions the lines.
 //
 //     const view = new View(prompt);
@@ -13,27 +13,27 @@ import * as say from "../../words/prompt.js";
 
 /**
  * @typedef {import("./debugger_prompt.js").Prompt} Prompt
- * @typedef {{ rows: number, columns: number }} ViewSize the number of lines, and their maximum length
+ * @typedef {{ rows: number, columns: number }} ViewSize the number of lines and their maximum length in characters
  * @typedef {(text: string) => string} Highlight highlights a text
  *
- * The highlighting of the header line, of the next instruction, and of a value that the last move changed.
+ * The highlighting of the header line, of the next instruction, and of values that the last move changed.
  * @typedef {{ head: Highlight, here: Highlight, other: Highlight }} Highlights
  */
 
-/** The minimum rows and columns of a terminal, and the minimum rows below the view. */
+/** The minimum rows and columns of a terminal, and the minimum number of rows below the view. */
 export const MIN_ROWS = 12;
 export const MIN_COLUMNS = 40;
 const MIN_COMMAND_ROWS = 5;
 const MAX_ROWS = 40;
-/** The minimum columns for registers next to the source; otherwise they are below it. */
+/** The minimum columns for registers beside the source. On a narrower terminal, the registers are below the source. */
 const WIDE_COLUMNS = 72;
-/** The columns of the registers next to the source. */
+/** The number of columns for registers beside the source. */
 const SIDE_COLUMNS = 24;
-/** The maximum number of expressions of `display` in the view. */
+/** The maximum number of `display` expressions in the view. */
 const MAX_DISPLAYS = 4;
 
 /**
- * Returns the size of the view on a terminal; null if the terminal is too small.
+ * Returns the size of the view in a terminal; null if the terminal is too small.
  * @param {number} rows
  * @param {number} columns
  * @returns {ViewSize | null}
@@ -46,11 +46,11 @@ export function sizeOf(rows, columns) {
 }
 
 /**
- * Cuts a text to a maximum number of columns, and escapes control characters.
+ * Cuts a text to a maximum number of columns. Escapes control characters.
  * @param {string} text
  * @param {number} length
  */
-function cut(text, length) {
+function cutText(text, length) {
   const shown = [...escaped(text).replace(/[\t\n]/g, " ")];
   return shown.length > length ? `${shown.slice(0, length - 2).join("")}..` : shown.join("");
 }
@@ -59,11 +59,11 @@ export class View {
   /** @param {Prompt} prompt */
   constructor(prompt) {
     this.prompt = prompt;
-    /** @type {Map<string, string>} the values of the registers before the last move */
+    /** @type {Map<string, string>} the register values before the last move */
     this.before = new Map();
-    /** @type {Map<string, string>} the values of the registers now */
+    /** @type {Map<string, string>} the current register values */
     this.now = new Map();
-    /** The cycle count of the values in `now`, -1 for none. */
+    /** The cycle count of the values in `now`; -1 before the first reading. */
     this.total = -1;
   }
 
@@ -80,14 +80,14 @@ export class View {
     const height = Math.max(1, rows - 2 - below.length);
     const width = isWide ? columns - SIDE_COLUMNS : columns;
     const body = this.sourceLines(height).map((line, at) => {
-      const text = cut(line, width);
-      const own = line.startsWith(">") ? here(text) : text;
-      return isWide && registers[at] ? `${own}${" ".repeat(width - text.length)}  ${registers[at]}` : own;
+      const text = cutText(line, width);
+      const shownText = line.startsWith(">") ? here(text) : text;
+      return isWide && registers[at] ? `${shownText}${" ".repeat(width - text.length)}  ${registers[at]}` : shownText;
     });
     return [head(this.head(columns)), ...body, ...below, "-".repeat(columns)].slice(0, rows);
   }
 
-  /** Reads the registers; keeps their values from before the last move. */
+  /** Reads the registers. Stores their values from before the last move. */
   readRegisters() {
     const { session } = this.prompt;
     const { total } = session.debugger.session.count;
@@ -104,7 +104,7 @@ export class View {
   head(columns) {
     const { session, launched } = this.prompt;
     const name = launched.program.split("/").pop() || "ROM";
-    return cut(`${name}  ${session.counterWords}  ${wordsOfCycles(session.debugger.session.count.total)}`, columns).padEnd(columns);
+    return cutText(`${name}  ${session.counterWords}  ${wordsOfCycles(session.debugger.session.count.total)}`, columns).padEnd(columns);
   }
 
   /** @param {number} height */
@@ -157,6 +157,6 @@ export class View {
     const keys = keysDown(session).join(" ");
     const shown = machine.shown.now();
     const displays = looks.displays.slice(0, MAX_DISPLAYS).map((expression) => `${expression} = ${looks.valueOrFault(expression)}`);
-    return [shown, keys && say.down(keys), ...displays].filter(Boolean).map((line) => cut(line, columns));
+    return [shown, keys && say.down(keys), ...displays].filter(Boolean).map((line) => cutText(line, columns));
   }
 }

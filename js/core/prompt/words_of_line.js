@@ -1,4 +1,4 @@
-// Parsers for the arguments of the prompt's commands: places in the program, counts, times, conditions.
+// Parsers for the arguments of prompt commands: program locations, counts, times, conditions.
 
 import { LAST_ADDRESS, numberOf } from "../bench/numbers.js";
 import { wholeDuration } from "../conditions/durations.js";
@@ -9,10 +9,10 @@ import * as say from "../../words/prompt.js";
 
 /**
  * @typedef {import("../debug/debug_session.js").DebugSession} DebugSession
- * @typedef {{ line: number, address: number }} ProgramPlace a place in the program; `line` is 0 if the address has no line
+ * @typedef {{ line: number, address: number }} ProgramPlace a location in the program; `line` is 0 if the address has no source line
  */
 
-/** The error of a rejected command. */
+/** The error for a rejected command. */
 export class RefusedCommand extends Error {}
 
 /**
@@ -24,8 +24,8 @@ export function refuse(words) {
 }
 
 /**
- * Returns the address that a text names; undefined if it names none.
- * @param {string} text a label or an address, perhaps with an offset: `show + 3`
+ * Returns the address for a text; undefined if the text is not an address.
+ * @param {string} text a label or an address, with an optional offset: `show + 3`
  * @param {DebugSession} session
  */
 export function addressIn(text, { map }) {
@@ -37,7 +37,7 @@ export function addressIn(text, { map }) {
 }
 
 /**
- * Returns the instruction that a text names; fails if there is none. For a line without an instruction it is the next one.
+ * Returns the instruction at a program location; fails if there is none. For a line without an instruction, returns the next instruction.
  * @param {string} text a line, a label or an address; "" for the next instruction
  * @param {DebugSession} session
  * @returns {ProgramPlace}
@@ -57,8 +57,8 @@ export function instructionIn(text, session) {
 }
 
 /**
- * Parses a count; fails if it is less than 1 or more than the maximum.
- * @param {string} text "" for 1
+ * Parses a count; fails if it is not in the range from 1 to `most`.
+ * @param {string} text the count; "" means 1
  * @param {number} most
  */
 export function countIn(text, most) {
@@ -68,7 +68,7 @@ export function countIn(text, most) {
 }
 
 /**
- * Parses a time such as `20 ms`. Returns it in cycles.
+ * Parses a time such as `20 ms`; returns it in cycles.
  * @param {string} text
  */
 export function cyclesIn(text) {
@@ -77,7 +77,7 @@ export function cyclesIn(text) {
 }
 
 /**
- * Returns a text that is a condition; "" for a place in the program: a line, an address, a label. Fails if the condition has an error.
+ * Returns the text if it is a condition; "" if it is a program location (a line, an address or a label). Fails if the condition has an error.
  * @param {string} text
  * @param {DebugSession} session
  */

@@ -1,4 +1,4 @@
-// The common part of the handlers for test files and property files. Both use the names of a board and a program.
+// The common part of the handlers for test files and property files. Both kinds of files use the names of a board and a program.
 
 import { Face } from "../board/face.js";
 import { prepare } from "../testing/prepared.js";
@@ -21,19 +21,19 @@ import * as say from "../../words/server.js";
  * A text with its URI; the text is null if it cannot be read.
  * @typedef {{ uri: string, text: string | null }} NamedText
  *
- * The texts that a test file or a property file depends on: the board, the program, and the test files up to this one.
+ * The texts that a test or property file depends on: the board, the program, and the test files up to this file.
  * @typedef {{ board: NamedText, program: NamedText, tests: NamedText[] }} DependencyTexts
  */
 
-/** The protocol's kinds of completions. */
+/** The completion kinds of the protocol. */
 const KEYWORD_COMPLETION = 14;
 const VALUE_COMPLETION = 12;
 
 /**
- * Returns an error with its range: the word at its column, or the whole line if the column is unknown. Removes the column from the message
- * if the range shows it.
+ * Returns an error with its range: the word at its column, or the whole line if the column is unknown. If the range shows the column, the column is
+ * removed from the message.
  * @param {string[]} lines
- * @param {{ line: number, column: number, words: string }} fault the line counts from 1, the column from 0; column -1 if unknown
+ * @param {{ line: number, column: number, words: string }} fault the line counts from 1, the column from 0; the column is -1 if unknown
  * @returns {ShownFault}
  */
 export function faultInLine(lines, { line, column, words: whole }) {
@@ -47,7 +47,7 @@ export function faultInLine(lines, { line, column, words: whole }) {
 }
 
 /**
- * Returns the file name in a URI, without its folder.
+ * Returns the file name in a URI.
  * @param {string} uri
  */
 export function fileNameOf(uri) {
@@ -67,12 +67,12 @@ export class DependentLanguage {
   constructor(engine, dependenciesOf) {
     this.engine = engine;
     this.dependenciesOf = dependenciesOf;
-    /** @type {{ texts: Texts, prepared: ReturnType<typeof prepare> } | null} the last result of `prepare`, with its texts */
+    /** @type {{ texts: Texts, prepared: ReturnType<typeof prepare> } | null} the last result of `prepare` and its texts */
     this.last = null;
   }
 
   /**
-   * Returns a session with board and program, and their names, or their errors. Repeats the last result if the texts are the same.
+   * Returns a session with board and program, and their names; or their errors. For the same texts, returns the last result again.
    * @param {Texts} texts
    */
   prepareTexts(texts) {
@@ -97,7 +97,7 @@ export class DependentLanguage {
   }
 
   /**
-   * Returns the names of keys, lamps and labels, even if board or program have errors.
+   * Returns the names of keys, lamps and labels, even if the board or program has errors.
    * @param {OpenText} open
    * @returns {TestNames}
    */
@@ -111,7 +111,7 @@ export class DependentLanguage {
   }
 
   /**
-   * Adds the protocol's kinds to the entries of a completion.
+   * Adds the protocol's completion kinds to the completions.
    * @param {import("../text/completion.js").Completion} completion
    */
   withKinds({ from, to, list }) {
@@ -120,7 +120,7 @@ export class DependentLanguage {
 
   /**
    * Returns a hover with help for the word at a position; null if there is no help.
-   * @param {string} words the help, "" for none
+   * @param {string} words the help text, "" for none
    * @param {string[]} lines
    * @param {Position} position
    */
@@ -133,7 +133,7 @@ export class DependentLanguage {
   }
 
   /**
-   * Returns the location of the program's label that a position names; null if there is none.
+   * Returns the location of the program label at a position; null if there is none.
    * @param {OpenText} open
    * @param {Position} position
    */

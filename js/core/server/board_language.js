@@ -1,4 +1,4 @@
-// The handlers of an editor's requests about a board's text. They use the same modules as the page's editor.
+// Handlers for an editor's requests about a board text. They use the same modules as the page's editor.
 
 import { Face } from "../board/face.js";
 import { AllFaultsOfTexts, faultsOfFace } from "../text/all_faults.js";
@@ -21,14 +21,14 @@ import * as say from "../../words/server.js";
  * @typedef {import("./token_codes.js").ColouredWord} ColouredWord
  */
 
-/** The protocol's kinds of symbols and of completions. */
+/** The symbol kind and completion kind of the protocol. */
 const OBJECT = 19;
 const PROPERTY_COMPLETION = 10;
 
 export class BoardLanguage {
   /**
    * @param {TextBench} bench
-   * @param {Map<string, Map<string, string>>} tables of the manual
+   * @param {Map<string, Map<string, string>>} tables the manual tables
    * @param {(number: number) => string} wordsOf returns the message of a refusal
    */
   constructor(bench, tables, wordsOf) {
@@ -63,7 +63,7 @@ export class BoardLanguage {
   }
 
   /**
-   * Returns the range of the chip or chain that the value at a position names; null if there is none.
+   * Returns the range of the chip or chain for the value at a position; null if there is none.
    * @param {OpenText} open
    * @param {Position} position
    */
@@ -75,7 +75,7 @@ export class BoardLanguage {
   }
 
   /**
-   * Returns the ranges of all values that name the chip or chain at a position.
+   * Returns the ranges of all values that refer to the chip or chain at a position.
    * @param {OpenText} open
    * @param {Position} position
    * @param {boolean} withDefinition
@@ -100,7 +100,7 @@ export class BoardLanguage {
    * @param {string} trigger
    */
   completion({ lines }, { line, character }, trigger) {
-    // After a blank the editor asks automatically. The answer is empty unless a value begins there.
+    // After a blank, the editor sends a request automatically. The answer is empty unless a value starts there.
     const lineStart = lines[line].slice(Math.max(0, character - 9), character);
     if (trigger === " " && !/=[ \t]*$/.test(lineStart)) return { from: character, to: character, list: [] };
     const found = completeBoard(lines, line, character, this.tables);
@@ -108,7 +108,7 @@ export class BoardLanguage {
   }
 
   /**
-   * Returns the parts of the board, each with the range of its table.
+   * Returns the parts of the board with their table ranges.
    * @param {OpenText} open
    */
   symbols({ lines, text }) {

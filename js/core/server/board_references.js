@@ -1,4 +1,4 @@
-// The parts of a board in its text (chips and chains), and the values that name them, such as the line of a lamp.
+// Finds the parts of a board in its text (chips and chains), and the values that refer to them, such as the line of a lamp.
 
 import { readBoardText } from "../text/board_reader.js";
 import * as say from "../../words/server.js";
@@ -9,13 +9,13 @@ import * as say from "../../words/server.js";
  * @typedef {Value & { key: string, entry: Entry }} KeyedValue a value that is not an array, with its key and its table
  */
 
-/** The name of a line or a chain bit, such as `rom0.2`, `ram0.1.3` or `chain0.5`. */
+/** Matches the name of a port line or a chain bit, such as `rom0.2`, `ram0.1.3` or `chain0.5`. */
 const LINE_NAME = /^(rom|ram|chain)(\d+)\.(\d+)(?:\.(\d+))?$/;
-/** @type {Record<string, string>} the key with the number of a chip, by the name of its table */
+/** @type {Record<string, string>} the keys that hold chip numbers, by table name */
 const NUMBER_KEYS = { rom: "chip", ram: "bank" };
 
 /**
- * Returns the value of a key in a table; undefined if the table lacks the key.
+ * Returns the value of a key in a table; undefined if the key is missing.
  * @param {Entry} entry
  * @param {string} name
  */
@@ -36,9 +36,9 @@ export class BoardReferences {
       const inner = Array.isArray(value.inner) ? value.inner : [value];
       return inner.map((each) => ({ ...each, key: name, entry }));
     }));
-    /** @type {Map<Entry, number>} the index of each table among those with the same name */
+    /** @type {Map<Entry, number>} the index of each table among tables with the same name */
     this.numbers = new Map();
-    /** @type {Map<string, Entry>} the first table of each chip, by a name such as `rom 3` or `ram 0` */
+    /** @type {Map<string, Entry>} the first table of each chip, by chip name (`rom 3`, `ram 0`) */
     this.chips = new Map();
     /** @type {Map<string, number>} */
     const counts = new Map();
@@ -55,7 +55,7 @@ export class BoardReferences {
 
   /**
    * Returns the value at a position; null if there is none.
-   * @param {number} line from 1
+   * @param {number} line the line number from 1
    * @param {number} at the column, from 0
    */
   valueAt(line, at) {
@@ -63,7 +63,7 @@ export class BoardReferences {
   }
 
   /**
-   * Returns the chip or chain that a value names; null if it names none.
+   * Returns the chip or chain that a value refers to; null if there is none.
    * @param {KeyedValue} value
    * @returns {Entry | null}
    */
@@ -78,7 +78,7 @@ export class BoardReferences {
 
   /**
    * Returns the chip or chain whose table contains a line; null if there is none.
-   * @param {number} line from 1
+   * @param {number} line the line number from 1
    */
   partAt(line) {
     const contains = (/** @type {Entry} */ entry) => line >= entry.line && entry.keys.some((key) => line <= key.line);
@@ -98,7 +98,7 @@ export class BoardReferences {
   }
 
   /**
-   * Returns the hover text of a value that names a line: the line, its lamp, and where its chip is; "" if the value does not name a line.
+   * Returns the hover text for a value that is a line name: the line, its lamp, and the location of its chip. Returns "" for any other value.
    * @param {KeyedValue} value
    * @param {import("../board/face.js").Face} face
    */

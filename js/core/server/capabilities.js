@@ -1,4 +1,4 @@
-// The capabilities of the server, and those of its client that the server uses.
+// The capabilities of the server, and the client capabilities that the server uses.
 
 import { fieldOf } from "./framing.js";
 import { MODIFIERS, TYPES } from "./token_codes.js";
@@ -7,9 +7,9 @@ import { MODIFIERS, TYPES } from "./token_codes.js";
  * The capabilities of a client:
  * - `showsMarkdown`: true if a hover can be Markdown;
  * - `pulls`: true if the client requests diagnostics itself;
- * - `refreshesDiagnostics`: true if it requests them again on demand;
- * - `commands`: its commands for code lenses;
- * - `folders`: the URIs of its open folders.
+ * - `refreshesDiagnostics`: true if it requests diagnostics again on demand;
+ * - `commands`: the client's commands for code lenses;
+ * - `folders`: the URIs of the open folders.
  * @typedef {{ showsMarkdown: boolean, pulls: boolean, refreshesDiagnostics: boolean, commands: Set<string>, folders: string[] }} Client
  */
 
@@ -22,14 +22,14 @@ export const RUN_TEST = "mcs4.runTest";
 /**
  * Returns the value at a path in a message; undefined if there is none.
  * @param {any} value
- * @param {string[]} path the names of nested fields
+ * @param {string[]} path the names of the nested fields
  */
 function fieldAt(value, ...path) {
   return path.reduce((inner, name) => fieldOf(inner, name), value);
 }
 
 /**
- * Returns a list, or an empty list for any other value.
+ * Returns a value if it is a list; an empty list for any other value.
  * @param {any} value
  * @returns {any[]}
  */
@@ -38,7 +38,7 @@ function listOf(value) {
 }
 
 /**
- * Reads the capabilities of a client from its request `initialize`.
+ * Reads the capabilities of a client from its `initialize` request.
  * @param {any} params
  * @returns {Client}
  */

@@ -1,14 +1,14 @@
-// Code lenses, the commands above a line. A click runs a test on the server, or shows references if the client has a command for that.
+// Code lenses: commands above a line. A click runs a test on the server, or shows references if the client has a command for them.
 
 import { RUN_TEST, SHOW_REFERENCES } from "./capabilities.js";
 
 /** @typedef {import("./language.js").Lens} Lens */
 
 /**
- * Returns a code lens in the form of the protocol.
+ * Returns a code lens in the protocol's format.
  * @param {Lens} lens
  * @param {string} uri
- * @param {Set<string>} commands of the client
+ * @param {Set<string>} commands the commands of the client
  */
 export function codeLensOf({ range, title, references, test }, uri, commands) {
   if (test !== null) return { range, command: { title, command: RUN_TEST, arguments: [uri, test] } };

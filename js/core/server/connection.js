@@ -12,17 +12,17 @@ import * as say from "../../words/server.js";
 /**
  * @typedef {number | string | null} Id
  *
- * A request without a response yet. If the client cancels it, the response is sent at once; long work checks `isCancelled` and ends.
+ * A request without a response. If the client cancels it, the response is sent at once; long work checks `isCancelled` and ends.
  * @typedef {{ isCancelled: boolean }} PendingRequest
  *
- * A handler: returns the result of a request, or a promise of it.
+ * A request handler: returns the result, or a promise of it.
  * @typedef {(params: any, pending: PendingRequest) => unknown} RequestHandler
  *
- * The handlers of requests and of notifications, by their methods.
+ * The handlers of requests and notifications, by method name.
  * @typedef {{ requests: Record<string, RequestHandler>, notifications: Record<string, RequestHandler> }} Handlers
  */
 
-/** The protocol's types of messages. */
+/** The message types of the protocol. */
 const ERROR = 1;
 const INFORMATION = 3;
 
@@ -31,7 +31,7 @@ function isId(id) {
   return typeof id === "string" || typeof id === "number" || id === null;
 }
 
-/** @type {PendingRequest} for handlers of notifications, which cannot be cancelled */
+/** @type {PendingRequest} for notification handlers; notifications cannot be cancelled */
 const NOT_CANCELLABLE = { isCancelled: false };
 
 export class Connection extends MessageStream {
@@ -46,9 +46,9 @@ export class Connection extends MessageStream {
     this.served = { requests: {}, notifications: {} };
     /** @type {"new" | "open" | "shut"} */
     this.state = "new";
-    /** @type {Map<Id, PendingRequest>} the requests without a response yet */
+    /** @type {Map<Id, PendingRequest>} the requests without a response */
     this.unanswered = new Map();
-    /** The number of requests that were sent to the client. */
+    /** The number of requests sent to the client. */
     this.sentRequests = 0;
   }
 
@@ -77,7 +77,7 @@ export class Connection extends MessageStream {
   }
 
   /**
-   * Returns the error of a request that is not allowed in the present state; null if it is allowed.
+   * Returns the error for a request that is not allowed in the current state; null if it is allowed.
    * @param {string} method
    */
   orderError(method) {
@@ -103,7 +103,7 @@ export class Connection extends MessageStream {
     }
     const pending = { isCancelled: false };
     this.unanswered.set(id, pending);
-    // Messages in the same chunk are served in order, so the state changes before anything is awaited.
+    // Messages in the same chunk are served in order, so the state changes before the first `await`.
     if (method === "initialize") this.state = "open";
     if (method === "shutdown") this.state = "shut";
     try {
@@ -115,7 +115,7 @@ export class Connection extends MessageStream {
   }
 
   /**
-   * Removes a request before its response is sent. Returns false if it was cancelled, so that it has its response already.
+   * Removes a request before its response is sent. Returns false if the request was cancelled and therefore already has a response.
    * @param {Id} id
    * @param {PendingRequest} pending
    */
@@ -124,7 +124,7 @@ export class Connection extends MessageStream {
     return this.unanswered.delete(id);
   }
 
-  /** @param {Id} id of the request that the client no longer wants */
+  /** @param {Id} id the id of the request that the client cancels */
   cancel(id) {
     const pending = this.unanswered.get(id);
     if (!pending) return;
@@ -139,7 +139,7 @@ export class Connection extends MessageStream {
    */
   async serveNotification(method, params) {
     if (method === "exit") {
-      // The response to a shutdown in the same chunk is written first.
+      // The response to a `shutdown` in the same chunk is written first.
       if (this.unanswered.size > 0) await null;
       this.end(this.state === "shut" ? 0 : 1);
       return;
@@ -158,7 +158,7 @@ export class Connection extends MessageStream {
   }
 
   /**
-   * Logs an error that is not the error of a request.
+   * Logs an error that does not belong to a request.
    * @param {string} words
    */
   logMessage(words) {
@@ -192,7 +192,7 @@ export class Connection extends MessageStream {
   }
 
   /**
-   * Sends the response of a request that failed.
+   * Sends the error response for a request that failed.
    * @param {Id} id
    * @param {unknown} thrown
    */

@@ -1,4 +1,4 @@
-// Diagnostics and quick fixes: the errors of a text in the form of the protocol.
+// Diagnostics and quick fixes: the errors in a text, in the protocol's format.
 
 import { MAX_ERRORS } from "../bench/text_judgement.js";
 import { LONGEST_KEPT, TEXT_TOO_LONG } from "../text/text_fault.js";
@@ -9,7 +9,7 @@ import * as say from "../../words/server.js";
  * @typedef {import("../text/text_fault.js").Fault} Fault
  * @typedef {import("./lsp_protocol.js").Range} Range
  *
- * An error in any text. Without a number it is a warning, unless `isError` is true.
+ * An error in any text. An error without a number is a warning, unless `isError` is true.
  * @typedef {Fault & { isError?: boolean }} ShownFault
  * @typedef {{ range: Range, severity: number, code?: number, source: string, message: string }} Diagnostic
  */
@@ -20,7 +20,7 @@ const INFORMATION = 3;
 const SOURCE = "mcs4";
 
 /**
- * Returns the diagnostic of an error. In a board's text an error without a number is about the front panel, and only a warning.
+ * Returns the diagnostic for an error. In a board text, an error without a number concerns the front panel and is only a warning.
  * @param {ShownFault} fault
  * @returns {Diagnostic}
  */
@@ -30,9 +30,9 @@ export function diagnosticOf({ number, line, from, to, words, isError = number >
 }
 
 /**
- * Returns the diagnostics of a text. If there are more errors than it can show, or not all are known, the last one says so.
+ * Returns the diagnostics of a text. If some errors are not listed or not known, the last diagnostic says so.
  * @param {ShownFault[]} faults
- * @param {boolean} areAll false if the text can have more errors
+ * @param {boolean} areAll false if the text can contain more errors
  * @returns {Diagnostic[]}
  */
 export function diagnosticsOf(faults, areAll) {
@@ -44,7 +44,7 @@ export function diagnosticsOf(faults, areAll) {
 }
 
 /**
- * Returns the error of a text that is too long to be checked; null if it is not too long.
+ * Returns the error for a text that is too long to check; null for a shorter text.
  * @param {import("./open_text.js").OpenText} open
  * @returns {Fault | null}
  */
@@ -52,8 +52,8 @@ export function faultOfLength({ lines, length }) {
   if (length <= LONGEST_KEPT) return null;
   let [line, before] = [0, 0];
   for (; before + lines[line].length < LONGEST_KEPT; line++) before += lines[line].length + 1;
-  const words = say.textTooLong(LONGEST_KEPT.toLocaleString("en"), length.toLocaleString("en"));
-  return { number: TEXT_TOO_LONG, line: line + 1, from: Math.max(0, LONGEST_KEPT - before - 1), to: lines[line].length, words };
+  const message = say.textTooLong(LONGEST_KEPT.toLocaleString("en"), length.toLocaleString("en"));
+  return { number: TEXT_TOO_LONG, line: line + 1, from: Math.max(0, LONGEST_KEPT - before - 1), to: lines[line].length, words: message };
 }
 
 /**
@@ -69,7 +69,7 @@ function touches({ line, from, to }, { start, end }) {
 }
 
 /**
- * Returns the quick fixes for the errors in a range: one for each text that can replace a wrong word.
+ * Returns the quick fixes for the errors in a range: one for each suggested replacement of a wrong word.
  * @param {string} uri
  * @param {Fault[]} faults
  * @param {Range} range

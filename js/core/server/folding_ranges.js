@@ -1,4 +1,4 @@
-// The folding ranges of a text, in the form of the protocol.
+// The folding ranges of a text, in the protocol's format.
 
 import { lastFolded } from "../text/folding.js";
 

@@ -1,26 +1,26 @@
-// The framing of messages in a stream: a header with the length of the body in bytes, and the body in JSON.
+// The framing of messages in a stream: a header with the length of the body in bytes, followed by the JSON body.
 
 import * as say from "../../words/server.js";
 
-/** The maximum length of a message in bytes. A longer one is skipped. */
+/** The maximum message length in bytes. A longer message is skipped. */
 export const MAX_MESSAGE = 16777216;
-/** The maximum length of a skipped message in bytes. A longer one ends the stream. */
+/** The maximum length of a skipped message in bytes. A longer message ends the stream. */
 export const MAX_SKIPPED = 16 * MAX_MESSAGE;
-/** The maximum length of a header in bytes. */
+/** The maximum header length in bytes. */
 const MAX_HEADER = 4096;
-/** The header line with the length of the body. */
+/** Matches the header line with the body length. */
 const CONTENT_LENGTH = /^content-length[ \t]*:[ \t]*(\d{1,12})[ \t]*$/i;
 
 /**
- * A received message, or the size of a message that was skipped because it was too long.
+ * A received message, or the size of a message that was skipped because of its length.
  * @typedef {{ text: string } | { tooLong: number }} Received
  */
 
-/** The error of a malformed stream: the start of the next message is unknown. */
+/** The error for a malformed stream. The start of the next message is unknown. */
 export class StreamLost extends Error {}
 
 /**
- * Returns the length of the body in bytes; throws StreamLost if the header does not have exactly one length.
+ * Returns the length of the body in bytes; throws StreamLost if the header does not contain exactly one length.
  * @param {string} header
  */
 function contentLength(header) {
@@ -36,21 +36,21 @@ export class MessageReader {
   constructor() {
     this.decoder = new TextDecoder();
     this.header = "";
-    /** The number of missing bytes of the body; -1 while a header is read. */
+    /** The number of missing bytes in the body; -1 during the header. */
     this.missing = -1;
-    /** @type {Uint8Array | null} receives the body; null if it is skipped */
+    /** @type {Uint8Array | null} the buffer for the body; null if the body is skipped */
     this.body = null;
     this.size = 0;
   }
 
-  /** Returns the error message of a message that is incomplete at the end of the stream; "" between messages. */
+  /** An error message if a message is incomplete at the end of the stream; "" between messages. */
   get incomplete() {
     if (this.missing > 0) return say.messageIncomplete(this.size - this.missing, this.size);
     return this.header === "" ? "" : say.HEAD_INCOMPLETE;
   }
 
   /**
-   * Reads bytes and yields the messages that they complete. Throws StreamLost at bytes that violate the protocol.
+   * Reads bytes and yields the completed messages. Throws StreamLost at bytes that violate the protocol.
    * @param {Uint8Array} bytes
    * @returns {Generator<Received, void>}
    */
@@ -67,7 +67,7 @@ export class MessageReader {
   }
 
   /**
-   * Reads the bytes of a header. Returns the index after the header, or after the last byte.
+   * Reads header bytes. Returns the index after the header, or after the last byte.
    * @param {Uint8Array} bytes
    * @param {number} start the index of the first byte
    */
@@ -87,7 +87,7 @@ export class MessageReader {
   }
 
   /**
-   * Ends a message.
+   * Ends a message and returns it.
    * @returns {Received}
    */
   end() {
@@ -99,7 +99,7 @@ export class MessageReader {
 }
 
 /**
- * Returns a message with its header as bytes.
+ * Returns a message as bytes, with its header.
  * @param {object} message
  */
 export function framed(message) {
@@ -113,7 +113,7 @@ export function framed(message) {
 }
 
 /**
- * Returns a field of an object in a message; undefined if the value is not an object.
+ * Returns a field of an object; undefined if the value is not an object.
  * @param {any} value
  * @param {string} name
  */

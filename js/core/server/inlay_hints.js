@@ -1,4 +1,4 @@
-// Inlay hints of a program: the address and the cycles at the end of a line, and the values after names.
+// Inlay hints for a program: the address and cycles at the end of a line, and the values after names.
 
 import { hex } from "../bench/numbers.js";
 import { partsOf } from "../text/assembly.js";
@@ -11,7 +11,7 @@ import * as say from "../../words/server.js";
  */
 
 /**
- * Returns the hint for a name of the program; "" for another word.
+ * Returns the hint for a program name; "" for any other word.
  * @param {SourceMap} map
  * @param {string} word
  */
@@ -22,11 +22,11 @@ function valueOf(map, word) {
 }
 
 /**
- * Returns the hints of one line.
+ * Returns the hints for one line.
  * @param {string} text
- * @param {number} line from 0
+ * @param {number} line the line number from 0
  * @param {SourceMap} map
- * @param {(mnemonic: string) => string} cyclesOf returns the cycles of an instruction, "" for another word
+ * @param {(mnemonic: string) => string} cyclesOf returns the cycles of an instruction, "" for any other word
  * @returns {InlayHint[]}
  */
 function hintsOfLine(text, line, map, cyclesOf) {
@@ -38,15 +38,15 @@ function hintsOfLine(text, line, map, cyclesOf) {
   const address = map.addressOf(line + 1);
   if (address === undefined || !head) return values;
   const cycles = cyclesOf(head.text.toUpperCase());
-  const words = cycles ? say.hintOfInstruction(hex(address, 3), cycles) : say.hintOfData(hex(address, 3), map.sizes[line + 1]);
-  return [...values, hintAt(text.length, words)];
+  const hintText = cycles ? say.hintOfInstruction(hex(address, 3), cycles) : say.hintOfData(hex(address, 3), map.sizes[line + 1]);
+  return [...values, hintAt(text.length, hintText)];
 }
 
 /**
- * Returns the hints of the lines in a range.
+ * Returns the hints for the lines in a range.
  * @param {string[]} lines
  * @param {SourceMap} map
- * @param {(mnemonic: string) => string} cyclesOf returns the cycles of an instruction, "" for another word
+ * @param {(mnemonic: string) => string} cyclesOf returns the cycles of an instruction, "" for any other word
  * @param {Range} range
  * @returns {InlayHint[]}
  */

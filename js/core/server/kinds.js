@@ -1,4 +1,4 @@
-// Finds the kind of a text (program, board, tests, properties, project file), and the project, board and program that belong to it.
+// Determines the kind of a text (program, board, tests, properties, project file), and finds its project, board and program.
 
 import { LONGEST_PROJECT_FILE, PROJECT_FILE, filesNamed, readProjectToml } from "../project/project_toml.js";
 import { readBoardText } from "../text/board_reader.js";
@@ -9,36 +9,37 @@ import * as say from "../../words/server.js";
  * @typedef {import("./open_text.js").OpenText} OpenText
  * @typedef {import("../text/text_fault.js").Fault} Fault
  *
- * Returns the text of a file; null if it cannot be read, or is outside `folder`, the folder of the project that names it ("" for none).
+ * Returns the text of a file. Returns null if the file cannot be read or is outside `folder`, the folder of the project that names the file ("" for
+ * none).
  * @typedef {(uri: string, folder: string) => string | null} TextOf
  *
- * The URIs of a project's folder and files.
+ * The URIs of a project folder and its files.
  * @typedef {{ folder: string, board: string, program: string, tests: string[], properties: string[] }} Project
  *
- * The URIs of the files that a test file or a property file depends on; `folder` is that of its project, "" for none.
+ * The URIs of the files that a test or property file depends on. `folder` is the URI of its project folder, "" for none.
  * @typedef {Omit<Project, "properties">} Dependencies
  *
- * The URI of a board, and the folder of the project that names it, "" for none.
+ * The URI of a board, and the folder of the project that names the board ("" for none).
  * @typedef {{ uri: string, folder: string }} NamedBoard
  */
 
 const TESTS = /\.test$/i;
 const PROPERTIES = /\.props$/i;
-/** The names of files that are not programs. */
+/** Matches the names of files that are not programs. */
 const NOT_PROGRAMS = /\.(test|props|txt|mcsp|mcs|md|json|toml|[ch])$/i;
 const TOML = /\.toml$/i;
-/** The names of files that cannot be boards. */
+/** Matches the names of files that cannot be boards. */
 export const NOT_BOARDS = /\.(asm|4004|test|props)$/i;
-/** The names of tables that only boards have. */
+/** The names of tables that occur only in boards. */
 const BOARD_TABLES = ["rom", "ram", "chain", "lamp"];
 
-/** The maximum number of folders that are searched for a project, from the text's folder upwards. */
+/** The maximum number of folders to search for a project, upwards from the folder of the text. */
 const MAX_FOLDERS = 8;
 
 /**
  * Returns the URI of a file in a folder.
- * @param {string} folder its URI, which ends with `/`
- * @param {string} path relative to the folder
+ * @param {string} folder the folder URI, which ends with `/`
+ * @param {string} path the path relative to the folder
  */
 export function uriIn(folder, path) {
   return folder + path.split("/").map(encodeURIComponent).join("/");
@@ -58,7 +59,7 @@ export function isProjectFile(uri) {
 }
 
 /**
- * Parses a project file. One that is too long has only this error.
+ * Parses a project file. If the file is too long, returns only that error.
  * @param {string} text
  * @returns {ReturnType<typeof readProjectToml>}
  */
@@ -69,7 +70,7 @@ export function readProject(text) {
 }
 
 /**
- * Returns the errors of a project file, also for files that do not exist.
+ * Returns the errors in a project file, including an error for each missing file.
  * @param {string} uri
  * @param {string} text
  * @param {TextOf} textOf
@@ -84,7 +85,7 @@ export function faultsOfProject(uri, text, textOf) {
 }
 
 /**
- * Finds the project of a text: that of the nearest folder with a valid project file, from its own folder upwards; null if there is none.
+ * Finds the project of a text: the nearest folder with a valid project file, upwards from the folder of the text. Returns null if there is none.
  * @param {string} uri
  * @param {TextOf} textOf
  * @returns {Project | null}
@@ -100,8 +101,8 @@ export function projectFor(uri, textOf) {
 }
 
 /**
- * Returns the project of a folder; null if the folder has no valid project file.
- * @param {string} folder its URI, which ends with `/`
+ * Returns the project in a folder; null if the folder has no valid project file.
+ * @param {string} folder the folder URI, which ends with `/`
  * @param {TextOf} textOf
  * @returns {Project | null}
  */
@@ -115,7 +116,7 @@ export function projectIn(folder, textOf) {
 }
 
 /**
- * Finds the board of a program: the one that its project names; otherwise `board.toml` in its folder.
+ * Finds the board of a program: the board of its project, or else `board.toml` in its folder.
  * @param {string} uri
  * @param {TextOf} textOf
  * @returns {NamedBoard}
@@ -126,8 +127,8 @@ export function boardFor(uri, textOf) {
 }
 
 /**
- * Finds the files that a test file or a property file depends on: those of its project; otherwise `board.toml` in its folder, and the
- * program in this folder with the same name. `tests` are the test files of the project up to this one.
+ * Finds the files that a test or property file depends on: the files of its project; or else `board.toml` and the program of the same name in its
+ * folder. `tests` are the test files of the project up to this file.
  * @param {string} uri
  * @param {TextOf} textOf
  * @returns {Dependencies}
@@ -146,7 +147,7 @@ export function dependenciesOf(uri, textOf) {
 }
 
 /**
- * Returns whether a text is a board: a TOML text with the name `board.toml` or with a board's tables.
+ * Returns whether a text is a board: a TOML text named `board.toml`, or with the tables of a board.
  * @param {OpenText} open
  */
 export function isBoard({ uri, language, text }) {
@@ -157,7 +158,7 @@ export function isBoard({ uri, language, text }) {
 }
 
 /**
- * Returns whether a text is a program: any text without the name of another kind.
+ * Returns whether a text is a program: any text whose name does not belong to another kind.
  * @param {OpenText} open
  */
 export function isProgram({ uri, language }) {

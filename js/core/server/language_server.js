@@ -1,5 +1,5 @@
-// The language server for programs, boards, tests, properties and project files. Holds the open texts, serves requests about them, and
-// reports their errors after each edit.
+// The language server for programs, boards, tests, properties and project files. It stores the open texts, serves requests about them, and reports
+// their errors after each edit.
 
 import { boardTables } from "../text/text_help.js";
 import { Words } from "../bench/words.js";
@@ -29,11 +29,11 @@ import * as say from "../../words/server.js";
  * @typedef {import("./diagnostics.js").ShownFault} ShownFault
  * @typedef {import("./language.js").Language} Language
  *
- * The calls of the host: `readFile` returns the text of a file, `pause` yields to other tasks.
+ * The functions of the host: `readFile` returns the text of a file, `pause` yields to other tasks.
  * @typedef {{ readFile: import("./kinds.js").TextOf, pause: () => Promise<void> }} Host
  *
- * An open text with its errors and diagnostics. `checkedEdits` is the number of edits at the last finished check, -1 for none; `check` is
- * the last check.
+ * An open text with its errors and diagnostics. `checkedEdits` is the number of edits at the last completed check, -1 for none. `check` resolves at
+ * the end of the last check.
  * @typedef {{ open: OpenText, faults: ShownFault[], diagnostics: Diagnostic[], checkedEdits: number, check: Promise<void> }} CheckedText
  */
 
@@ -41,7 +41,7 @@ export class LanguageServer {
   /**
    * @param {Connection} connection
    * @param {import("../engine/engine_host.js").EngineHost} engine
-   * @param {{ refusals: Record<string, string>, manual: import("../help/manual.js").ManualSection[] }} data of the page
+   * @param {{ refusals: Record<string, string>, manual: import("../help/manual.js").ManualSection[] }} data the refusal texts and the manual
    * @param {Host} host
    */
   constructor(connection, engine, { refusals, manual }, host) {
@@ -60,7 +60,7 @@ export class LanguageServer {
     this.properties = new PropertyLanguage(engine, manual, dependencies, textOf);
     this.project = new ProjectLanguage(textOf);
     this.runs = new TestRuns(engine, wordsOf, dependencies, host.pause);
-    /** @type {Client} without capabilities before `initialize` */
+    /** @type {Client} the client; it has no capabilities before `initialize` */
     this.client = clientOf({});
     connection.served = { requests: new Requests(this).table(), notifications: this.notifications() };
   }
@@ -78,7 +78,7 @@ export class LanguageServer {
   // --- the texts
 
   /**
-   * Returns the open text that a request names; throws ProtocolError if there is none.
+   * Returns the open text for a request; throws ProtocolError if the text is not open.
    * @param {any} params
    * @returns {CheckedText}
    */
@@ -90,9 +90,9 @@ export class LanguageServer {
   }
 
   /**
-   * Returns a text as it is in the editor; if it is not open, as it is in its file; null if it cannot be read.
+   * Returns a text as shown in the editor, or as stored in its file if it is not open. Returns null if it cannot be read.
    * @param {string} uri
-   * @param {string} folder of the project that names it, "" for none
+   * @param {string} folder the folder of the project that names the text, "" for none
    */
   textOf(uri, folder) {
     const text = this.texts.get(uri);
@@ -114,7 +114,7 @@ export class LanguageServer {
   }
 
   /**
-   * Returns the texts that a test file or a property file depends on.
+   * Returns the texts that a test or property file depends on.
    * @param {string} uri
    * @returns {import("./beside_language.js").DependencyTexts}
    */
@@ -125,7 +125,7 @@ export class LanguageServer {
   }
 
   /**
-   * Returns the open texts, and the texts of their projects and of the projects in the client's open folders.
+   * Returns the open texts, the texts of their projects, and the texts of projects in the client's open folders.
    * @returns {OpenText[]}
    */
   allTexts() {
@@ -160,7 +160,7 @@ export class LanguageServer {
     const text = this.textIn(params);
     const changes = fieldOf(params, "contentChanges");
     if (!Array.isArray(changes)) throw new ProtocolError(INVALID_PARAMS, say.CHANGES_ARE);
-    // All changes are checked before the first one is made.
+    // All changes are checked before the first one is applied.
     const edits = changes.map((change) => {
       const range = fieldOf(change, "range");
       return { range: range ? needRange(range) : null, text: needText(fieldOf(change, "text"), say.TEXT_OF_CHANGE) };
@@ -178,14 +178,14 @@ export class LanguageServer {
     this.checkDependents((uri) => this.isAffectedBy(open.uri, uri));
   }
 
-  /** @param {string} uri of a program */
+  /** @param {string} uri the URI of a program */
   boardFor(uri) {
     return boardFor(uri, (each, folder) => this.textOf(each, folder));
   }
 
   /**
-   * Returns the text of a program's board; null if it cannot be read.
-   * @param {string} program its URI
+   * Returns the board text of a program; null if it cannot be read.
+   * @param {string} program the URI of the program
    */
   boardOf(program) {
     const { uri, folder } = this.boardFor(program);
@@ -195,16 +195,16 @@ export class LanguageServer {
   // --- errors
 
   /**
-   * Returns whether the errors of a text depend on a changed text. Those of a program depend on its board; those of tests and properties on
-   * board, program and tests.
-   * @param {string} uri of the changed text
+   * Returns whether a changed text affects the errors of another text. The errors of a program depend on its board. The errors of tests and
+   * properties depend on board, program and tests.
+   * @param {string} uri the URI of the changed text
    * @param {string} other the URI of the other text
    */
   isAffectedBy(uri, other) {
     if (isProjectFile(uri)) return true;
     const text = this.texts.get(other);
     if (!text || uri === other) return false;
-    // Projects are searched only if necessary: a program does not depend on another program.
+    // Projects are searched only if necessary, because a program does not depend on another program.
     const isOfBoth = isTests(text.open) || isProperties(text.open);
     if (!isOfBoth) return !NOT_BOARDS.test(uri) && this.boardFor(other).uri === uri;
     const { board, program, tests } = dependenciesOf(other, (each, folder) => this.textOf(each, folder));
@@ -212,7 +212,7 @@ export class LanguageServer {
   }
 
   /**
-   * Checks a text that is new or edited, and the texts that depend on it.
+   * Checks a new or edited text, and the texts that depend on it.
    * @param {CheckedText} text
    */
   checkWithDependents(text) {
@@ -222,8 +222,8 @@ export class LanguageServer {
   }
 
   /**
-   * Checks open texts again that depend on another text.
-   * @param {(uri: string) => boolean} isDependent returns whether a text depends on it
+   * Checks the open texts again that depend on another text.
+   * @param {(uri: string) => boolean} isDependent returns whether the text at a URI depends on the changed text
    */
   checkDependents(isDependent) {
     const dependents = [...this.texts.values()].filter(({ open }) => !isBoard(open) && isDependent(open.uri));
@@ -235,7 +235,7 @@ export class LanguageServer {
   }
 
   /**
-   * Waits until a text is checked with all its edits, also those that arrive meanwhile.
+   * Waits until a text is checked with all its edits, including edits that arrive during the wait.
    * @param {CheckedText} text
    */
   async untilChecked(text) {
@@ -243,14 +243,14 @@ export class LanguageServer {
   }
 
   /**
-   * Checks a text and publishes its diagnostics, unless it is edited or closed meanwhile.
+   * Checks a text and publishes its diagnostics, unless it is edited or closed during the check.
    * @param {CheckedText} text
    */
   async checkText(text) {
     const { open } = text;
     const { edits, uri } = open;
     const isWanted = () => open.edits === edits && this.texts.get(uri) === text;
-    // After the pause, edits that arrived together need only one check.
+    // The pause combines edits that arrive together into one check.
     await this.host.pause();
     if (!isWanted()) return;
     try {
@@ -258,7 +258,7 @@ export class LanguageServer {
       if (!found || !isWanted()) return;
       Object.assign(text, { faults: found.faults, diagnostics: diagnosticsOf(found.faults, found.areAll), checkedEdits: edits });
       this.publish(text);
-      // The program is assembled now so that the first hover is fast.
+      // The program is assembled now, so that the first hover is fast.
       if (found.faults.length === 0 && this.languageOf(open) === this.program) this.program.assembled(open);
     } catch (thrown) {
       Object.assign(text, { faults: [], diagnostics: [], checkedEdits: edits });
@@ -267,7 +267,7 @@ export class LanguageServer {
   }
 
   /**
-   * Sends the diagnostics of a text if the client does not request them itself.
+   * Sends the diagnostics of a text, unless the client requests diagnostics itself.
    * @param {CheckedText} text
    */
   publish({ open: { uri, version }, diagnostics }) {
@@ -289,7 +289,7 @@ export class LanguageServer {
   // --- tests
 
   /**
-   * Runs a test and shows its result. A failure is also a diagnostic in the text until the next edit.
+   * Runs a test and shows its result. After a failure, the text also has a diagnostic until the next edit.
    * @param {string} uri
    * @param {string} name
    * @param {import("./connection.js").PendingRequest} pending

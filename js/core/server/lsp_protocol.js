@@ -4,7 +4,8 @@ import { fieldOf } from "./framing.js";
 import * as say from "../../words/server.js";
 
 /**
- * @typedef {{ line: number, character: number }} Position both count from 0; `character` counts UTF-16 code units, as JavaScript does
+ * @typedef {{ line: number, character: number }} Position a position; both numbers count from 0, and `character` counts UTF-16 code units like
+ *   JavaScript
  * @typedef {{ start: Position, end: Position }} Range
  * @typedef {{ range: Range, newText: string }} TextEdit
  * @typedef {{ uri: string, range: Range }} Location
@@ -20,7 +21,7 @@ export const REQUEST_FAILED = -32803;
 export const CONTENT_MODIFIED = -32801;
 export const CANCELLED = -32800;
 
-/** The error of a request. */
+/** An error that rejects a request. */
 export class ProtocolError extends Error {
   /**
    * @param {number} code
@@ -33,10 +34,10 @@ export class ProtocolError extends Error {
 }
 
 /**
- * Returns a range in one line.
- * @param {number} line from 1, as in errors and references
- * @param {number} from the first column, from 0
- * @param {number} to the column after the last one
+ * Returns a range within one line.
+ * @param {number} line the line number from 1, as in errors and references
+ * @param {number} from the first column, counted from 0
+ * @param {number} to the column after the range
  * @returns {Range}
  */
 export function rangeOf(line, from, to) {
@@ -44,7 +45,7 @@ export function rangeOf(line, from, to) {
 }
 
 /**
- * Returns a value that must be a string; throws ProtocolError if it is not one.
+ * Checks that a value is a string; throws ProtocolError for any other value.
  * @param {any} value
  * @param {string} what the name of the parameter
  * @returns {string}

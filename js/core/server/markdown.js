@@ -1,4 +1,4 @@
-// Converts text to Markdown. Marks in the text are escaped, so that it cannot contain links, images or headings.
+// Converts text to Markdown. Special characters in the text are escaped, so that it cannot contain links, images or headings.
 
 /**
  * Returns Markdown that shows a text unchanged.
@@ -27,7 +27,7 @@ export function asBlock(lines) {
 /**
  * Returns a Markdown table.
  * @param {string[]} head
- * @param {string[][]} rows whose cells are Markdown
+ * @param {string[][]} rows the rows; their cells are Markdown
  */
 export function asTable(head, rows) {
   return [head, head.map(() => "---"), ...rows].map((cells) => `| ${cells.join(" | ")} |`).join("\n");

@@ -1,5 +1,5 @@
-// The common base class of the connections of language server and debug adapter. It splits the stream into messages and reports errors of
-// the stream to the client. Subclasses serve the messages.
+// The base class for the connections of the language server and the debug adapter. It splits the stream into messages, and reports stream errors to
+// the client. Subclasses serve the messages.
 
 import { MessageReader, StreamLost, framed } from "./framing.js";
 import { messageTooLong } from "../../words/server.js";
@@ -12,7 +12,7 @@ export class MessageStream {
   }
 
   /**
-   * Reads bytes of the stream. If the stream is malformed, reports it to the client and throws StreamLost.
+   * Reads bytes of the stream. If the stream is malformed, reports the error to the client and throws StreamLost.
    * @param {Uint8Array} bytes
    */
   take(bytes) {
@@ -28,7 +28,7 @@ export class MessageStream {
   }
 
   /**
-   * Reports a message that is incomplete at the end of the stream. Returns the error message, "" if none is incomplete.
+   * Reports an incomplete message at the end of the stream. Returns the error message, or "" if no message is incomplete.
    * @returns {string}
    */
   refuseIncomplete() {
@@ -51,7 +51,7 @@ export class MessageStream {
   }
 
   /**
-   * Sends an error that is not the error of a request. Subclasses override it.
+   * Sends an error that does not belong to a request. Subclasses override it.
    * @param {string} words
    */
   reportStreamError(words) {

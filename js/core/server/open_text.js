@@ -11,7 +11,7 @@ const LINE_END = /\r\n|\r|\n/;
 export class OpenText {
   /**
    * @param {string} uri
-   * @param {string} language the editor's id of the language
+   * @param {string} language the language id in the editor
    * @param {string} text
    * @param {number | null} version
    */
@@ -22,23 +22,23 @@ export class OpenText {
     this.lines = text.split(LINE_END);
     /** The number of edits. */
     this.edits = 0;
-    /** @type {{ text: string, edits: number } | null} a cache of `text`, with the number of edits at that time */
+    /** @type {{ text: string, edits: number } | null} a cache of `text`, with the number of edits at the time of caching */
     this.cachedText = null;
   }
 
-  /** Returns the number of characters. */
+  /** The number of characters. */
   get length() {
     return this.lines.reduce((count, { length }) => count + length + 1, -1);
   }
 
-  /** Returns the text, with line feeds between its lines. */
+  /** The text, with line feeds between its lines. */
   get text() {
     if (!this.cachedText || this.cachedText.edits !== this.edits) this.cachedText = { text: this.lines.join("\n"), edits: this.edits };
     return this.cachedText.text;
   }
 
   /**
-   * Returns the nearest position inside the text.
+   * Returns the nearest valid position in the text.
    * @param {Position} position
    * @returns {Position}
    */

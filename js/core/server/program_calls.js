@@ -1,4 +1,4 @@
-// The call hierarchy of a program, and the code lenses above its labels with the numbers of calls.
+// The call hierarchy of a program, and the code lenses with call counts above its labels.
 
 import { Routines } from "../text/routines.js";
 import { rangeOf } from "./lsp_protocol.js";
@@ -28,7 +28,7 @@ export class ProgramCalls {
   }
 
   /**
-   * Returns a routine in the form of the protocol.
+   * Returns a routine in the protocol's format.
    * @param {import("../text/routines.js").Routine} routine
    * @returns {Routine}
    */
@@ -39,7 +39,7 @@ export class ProgramCalls {
   }
 
   /**
-   * Returns calls in the form of the protocol.
+   * Returns calls in the protocol's format.
    * @param {{ routine: import("../text/routines.js").Routine, places: CallPlace[] }[]} calls
    * @returns {Call[]}
    */
@@ -48,9 +48,9 @@ export class ProgramCalls {
   }
 
   /**
-   * Returns the routine with a name; otherwise the routine that contains a line; null if there is none.
-   * @param {string} name "" for none
-   * @param {number} line from 0
+   * Returns the routine with a name. If there is none, returns the routine that contains a line; null if there is none either.
+   * @param {string} name the name, "" for none
+   * @param {number} line the line number from 0
    */
   find(name, line) {
     return this.routines.routineOf(name) || this.routines.routineAt(line);
@@ -66,7 +66,7 @@ export class ProgramCalls {
   }
 
   /**
-   * Returns the calls of a routine by others.
+   * Returns the calls of a routine from other routines.
    * @param {string} name
    * @param {number} line
    */
@@ -86,7 +86,7 @@ export class ProgramCalls {
   }
 
   /**
-   * Returns a code lens for each label, with the number of its calls and other uses.
+   * Returns a code lens for each label, with the numbers of calls and other uses.
    * @param {(name: string) => Range[]} usesOf returns the ranges of a name, except its definition
    * @returns {Lens[]}
    */

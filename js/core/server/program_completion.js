@@ -10,12 +10,12 @@ import { wordsOfDirective, wordsOfInstruction, wordsOfRegister } from "../text/t
  * @typedef {import("./language.js").CompletedWord} CompletedWord
  * @typedef {import("./lsp_protocol.js").Position} Position
  *
- * The manual's instructions and conditions of JCN, and the meaning of the program's names.
+ * The manual's instructions and JCN conditions, and the meanings of program names.
  * @typedef {{ instructions: Map<string, Instruction>, conditions: Map<number, string>,
  *   meaningOf: (name: string) => string }} CompletionContext
  */
 
-/** The protocol's kinds of completions. */
+/** The completion kinds of the protocol. */
 const FUNCTION_COMPLETION = 3;
 const VARIABLE_COMPLETION = 6;
 const KEYWORD_COMPLETION = 14;
@@ -23,7 +23,7 @@ const CONSTANT_COMPLETION = 21;
 const VALUE_COMPLETION = 12;
 
 /**
- * Returns the condition numbers that match the typed text; none if the operand is not a condition.
+ * Returns the condition numbers that match the typed text; an empty list if the operand is not a condition.
  * @param {string} before the line up to the caret
  * @param {CompletionContext} context
  * @returns {CompletedWord[]}
@@ -38,7 +38,7 @@ function conditionsFor(before, { instructions, conditions }) {
 }
 
 /**
- * Returns whether the caret is in the operands of a statement. Only there a typed blank triggers completion, so indentation does not.
+ * Returns whether the caret is in the operands of a statement. A typed blank triggers completion only there, so that indentation does not trigger it.
  * @param {string} before the line up to the caret
  */
 function isInOperands(before) {
@@ -47,7 +47,7 @@ function isInOperands(before) {
 }
 
 /**
- * Returns the completion at a position of a program.
+ * Returns the completion at a position in a program.
  * @param {string[]} lines
  * @param {Position} position
  * @param {string} trigger the typed character that triggered the request, "" for none

@@ -1,4 +1,4 @@
-// The hover of a program: the manual's table for an instruction, or the meaning of a name with its comment, and the address of the line.
+// The hover for a program: the manual's table for an instruction, or the meaning of a name with its comment; and the address of the line.
 
 import { NUMBER, namesOf, partsOf, wordAt } from "../text/assembly.js";
 import { operandsOfForm } from "../text/program_words.js";
@@ -13,17 +13,17 @@ import * as say from "../../words/server.js";
  * @typedef {import("./language.js").Hover} Hover
  * @typedef {import("./lsp_protocol.js").Position} Position
  *
- * The context of a hover: the manual's instructions and conditions of JCN, the meanings and values of names, and the address of a line in
- * words, "" if unknown.
+ * The context of a hover: the manual's instructions and JCN conditions, the meanings and values of names, and the address of a line as text ("" if
+ * unknown).
  * @typedef {{ instructions: Map<string, Instruction>, conditions: Map<number, string>, meaningOf: (name: string) => string,
  *   valueOf: (name: string) => number | undefined, wordsOfLine: (line: number) => string }} HoverContext
  */
 
-/** The maximum number of lines of a name's comment. */
+/** The maximum number of lines in the comment of a name. */
 const MAX_LINES = 12;
 
 /**
- * Returns the comment of a name: the comment lines above a label, and the comment in the line of the definition.
+ * Returns the comment of a name: the comment lines above a label, and the comment on the line of the definition.
  * @param {string[]} lines
  * @param {string} name
  * @returns {string[]}
@@ -39,8 +39,8 @@ export function commentOf(lines, name) {
 }
 
 /**
- * Returns the meaning of a word that is a condition of JCN; "" for another word.
- * @param {string} text of the line
+ * Returns the meaning of a word that is a JCN condition; "" for any other word.
+ * @param {string} text the text of the line
  * @param {Word} word
  * @param {HoverContext} context
  */
@@ -55,7 +55,7 @@ function wordsOfCondition(text, word, { instructions, conditions, valueOf }) {
 }
 
 /**
- * Returns a table with the manual's description of an instruction, in Markdown.
+ * Returns a Markdown table with the manual's description of an instruction.
  * @param {Instruction} instruction
  */
 function tableOf(instruction) {
@@ -64,7 +64,7 @@ function tableOf(instruction) {
 }
 
 /**
- * Returns the hover at a position of a program; null if there is none.
+ * Returns the hover at a position in a program; null if there is none.
  * @param {string[]} lines
  * @param {Position} position
  * @param {HoverContext} context

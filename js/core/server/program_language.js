@@ -1,4 +1,4 @@
-// The handlers of an editor's requests about a program's text. They use the same modules as the page's editor.
+// Handlers for an editor's requests about a program. They use the same modules as the page's editor.
 
 import { hex } from "../bench/numbers.js";
 import { conditionsOf, instructionsOf } from "../help/manual.js";
@@ -25,17 +25,17 @@ import * as say from "../../words/server.js";
  * @typedef {import("./lsp_protocol.js").Range} Range
  * @typedef {import("./text_bench.js").TextBench} TextBench
  * @typedef {import("./token_codes.js").ColouredWord} ColouredWord
- * @typedef {{ map: SourceMap, bytes: () => Int16Array }} Assembled an assembled program: the addresses of its lines, and the bytes of ROM
+ * @typedef {{ map: SourceMap, bytes: () => Int16Array }} Assembled an assembled program: its source map, and the bytes of ROM
  */
 
-/** The protocol's kinds of symbols. */
+/** The symbol kinds of the protocol. */
 const FUNCTION = 12;
 const CONSTANT = 14;
-/** @type {Record<string, string>} the protocol's token types by the kinds of words */
+/** @type {Record<string, string>} the protocol's token types, by kind of word */
 const TOKEN_TYPES = { comment: "comment", instruction: "keyword", directive: "macro", register: "variable", number: "number" };
 
 /**
- * Returns the ranges of each name in the operands of a program.
+ * Returns the ranges of the names in the operands of a program, by name.
  * @param {string[]} lines
  * @returns {Map<string, Range[]>}
  */
@@ -57,7 +57,7 @@ export class ProgramLanguage {
    * @param {TextBench} bench
    * @param {ManualSection[]} manual
    * @param {(number: number) => string} wordsOf returns the message of a refusal
-   * @param {(uri: string) => string | null} boardOf returns the text of a program's board
+   * @param {(uri: string) => string | null} boardOf returns the board text of a program
    * @param {() => Promise<void>} pause yields to other tasks
    */
   constructor(bench, manual, wordsOf, boardOf, pause) {
@@ -68,7 +68,7 @@ export class ProgramLanguage {
     this.wordsOf = wordsOf;
     this.boardOf = boardOf;
     this.pause = pause;
-    /** @type {{ text: string, assembled: Assembled | null } | null} the last text that was assembled, with its result */
+    /** @type {{ text: string, assembled: Assembled | null } | null} the last assembled text with its result */
     this.last = null;
     this.isInstruction = (/** @type {string} */ word) => this.instructions.has(word);
     this.isHead = (/** @type {string} */ word) => this.instructions.has(word) || DIRECTIVES.includes(word);
@@ -126,9 +126,9 @@ export class ProgramLanguage {
   }
 
   /**
-   * Returns the address, bytes and cycles of a line in words; "" if it has no bytes.
+   * Returns the address, bytes and cycles of a line as text; "" if the line has no bytes.
    * @param {string} text
-   * @param {number} line from 1
+   * @param {number} line the line number from 1
    * @param {Assembled} assembled
    */
   wordsOfLine(text, line, { map, bytes }) {
@@ -163,7 +163,7 @@ export class ProgramLanguage {
   }
 
   /**
-   * Returns the name at a position that can be renamed, and its range; null if there is none.
+   * Returns the name at a position with its range; null if there is no name to rename.
    * @param {OpenText} open
    * @param {Position} position
    */
@@ -267,7 +267,7 @@ export class ProgramLanguage {
   }
 
   /**
-   * Returns the ranges of columns by which a selection grows: operands, statement, statement with label, comment.
+   * Returns the column ranges by which a selection grows: operands, statement, statement with label, comment.
    * @param {OpenText} open
    * @param {Position} position
    * @returns {[number, number][]}

@@ -1,4 +1,4 @@
-// The handlers of an editor's requests about a project file: errors, and links to the files that it names.
+// Handlers for an editor's requests about a project file: errors, and links to the named files.
 
 import { filesNamed } from "../project/project_toml.js";
 import { PARTS } from "../text/folding.js";
@@ -26,7 +26,7 @@ export class ProjectLanguage {
   }
 
   /**
-   * Returns the files that a project names; none if it has errors.
+   * Returns the files that a project names; an empty list if the project file has errors.
    * @param {OpenText} open
    */
   namedFiles({ text }) {
@@ -43,7 +43,7 @@ export class ProjectLanguage {
   }
 
   /**
-   * Returns links to the files that can be read and are inside the folder.
+   * Returns links to the named files that exist and are inside the folder.
    * @param {OpenText} open
    * @returns {DocumentLink[]}
    */

@@ -1,4 +1,4 @@
-// The handlers of an editor's requests about a property file. Its parser (explore/campaign.js) uses the names of the board and the program.
+// Handlers for an editor's requests about a property file. Its parser (explore/campaign.js) uses the names of the board and the program.
 
 import { readCampaign } from "../explore/campaign.js";
 import { subjectOf } from "../explore/subject.js";
@@ -16,11 +16,11 @@ import { colouredWords } from "./token_codes.js";
  * @typedef {import("./lsp_protocol.js").Position} Position
  */
 
-/** The protocol's kind of a symbol. */
+/** The symbol kind of the protocol. */
 const PROPERTY = 7;
-/** A line with a property. */
+/** Matches a line with a property. */
 const PROPERTY_LINE = /^(never|always|at|after|every|reach|model|while|once|@\S+|.*\bonly after)\b/;
-/** A line `from STATE of FILE`. */
+/** Matches a line `from STATE of FILE`. */
 const STATE_OF_FILE = /^([ \t]*from[ \t]+\S+[ \t]+of[ \t]+)(\S.*)$/;
 
 export class PropertyLanguage extends DependentLanguage {
@@ -48,7 +48,7 @@ export class PropertyLanguage extends DependentLanguage {
   }
 
   /**
-   * Returns board and program as the search uses them. Repeats the last result if the texts are the same.
+   * Returns the board and program as the search uses them. For the same texts, returns the last result again.
    * @param {string} boardText
    * @param {string} programText
    */
@@ -78,7 +78,7 @@ export class PropertyLanguage extends DependentLanguage {
   }
 
   /**
-   * Returns the location of the program's label that a position names; null if there is none.
+   * Returns the location of the program label at a position; null if there is none.
    * @param {OpenText} open
    * @param {Position} position
    */
@@ -101,7 +101,7 @@ export class PropertyLanguage extends DependentLanguage {
   }
 
   /**
-   * Returns links to the files in lines `from STATE of FILE` that can be read and are inside the folder.
+   * Returns links to the files in `from STATE of FILE` lines, if the files exist and are inside the folder.
    * @param {OpenText} open
    * @returns {DocumentLink[]}
    */

@@ -1,5 +1,5 @@
-// The handlers of all requests by their methods. They check the parameters, call the language of the text, and convert its answer to the
-// form of the protocol.
+// The handlers of all requests, by method name. They check the parameters, call the language of the text, and convert its answer to the protocol's
+// format.
 
 import { capabilitiesFor, clientOf, RUN_TEST } from "./capabilities.js";
 import { codeLensOf } from "./code_lens.js";
@@ -26,8 +26,8 @@ const WHOLE_TEXT = { start: { line: 0, character: 0 }, end: { line: Number.MAX_S
 const MAX_TAB_SIZE = 16;
 
 /**
- * Reads the layout for formatting: the tab size, and whether gaps are filled with blanks.
- * @param {any} options of the request
+ * Reads the formatting options: the tab size, and whether blanks fill the gaps.
+ * @param {any} options the options of the request
  */
 function layoutOf(options) {
   const tabSize = fieldOf(options, "tabSize");
@@ -36,7 +36,7 @@ function layoutOf(options) {
 }
 
 /**
- * Returns a value that must be a list; throws ProtocolError if it is not one.
+ * Checks that a value is a list; throws ProtocolError for any other value.
  * @param {any} value
  * @param {string} what the name of the parameter
  * @returns {any[]}
@@ -90,11 +90,11 @@ export class Requests {
   // --- requests about a text
 
   /**
-   * Asks the language of the text that a request names.
+   * Calls the language of the requested text.
    * @template Result
    * @param {any} params
    * @param {(language: Language, open: OpenText) => Result} ask
-   * @returns {Result | null} null for a text in another language
+   * @returns {Result | null} null for a text in an unknown language
    */
   askLanguage(params, ask) {
     const { open } = this.server.textIn(params);
@@ -168,7 +168,7 @@ export class Requests {
   // --- requests about a position in a text
 
   /**
-   * Asks the language of a text about the position that a request names.
+   * Calls the language of a text with the requested position.
    * @template Result
    * @param {any} params
    * @param {(language: Language, open: OpenText, position: Position) => Result} ask
@@ -263,7 +263,7 @@ export class Requests {
   }
 
   /**
-   * Returns an item of a call hierarchy.
+   * Returns a call hierarchy item.
    * @param {Routine} routine
    * @param {string} uri
    */
@@ -272,7 +272,7 @@ export class Requests {
   }
 
   /**
-   * Asks the language of a text about an item of a call hierarchy.
+   * Calls the language of a text with a call hierarchy item.
    * @template Result
    * @param {any} params
    * @param {(language: Language, open: OpenText, position: Position) => Result} ask

@@ -1,5 +1,5 @@
-// Selection ranges, the steps by which a selection grows: the word, larger parts of its line, the line, the folding ranges around it, the
-// whole text.
+// Selection ranges: the steps by which a selection grows. The steps are the word, larger parts of its line, the line, the folding ranges around it,
+// and the whole text.
 
 import { wordAt } from "../text/assembly.js";
 import { foldsOf } from "./folding_ranges.js";
@@ -24,9 +24,9 @@ function isLarger(outer, inner) {
 }
 
 /**
- * Returns the parts of a text that contain a line, the smallest first.
+ * Returns the parts of a text that contain a line, smallest first.
  * @param {string[]} lines
- * @param {number} line from 0
+ * @param {number} line the line number from 0
  * @param {Parts} parts
  * @returns {Range[]}
  */
@@ -38,10 +38,10 @@ function partsWith(lines, line, parts) {
 }
 
 /**
- * Returns the ranges around a position. Each range is linked to the next larger one.
+ * Returns the ranges around a position. Each range links to the next larger range.
  * @param {string[]} lines
  * @param {Position} position
- * @param {[number, number][]} columnRanges the language's ranges of columns in the line
+ * @param {[number, number][]} columnRanges the column ranges of the language in the line
  * @param {Parts} parts
  * @returns {SelectionRange}
  */

@@ -1,4 +1,4 @@
-// Signature help: the form of a statement while its operands are typed, and the current operand.
+// Signature help: the form of a statement during the typing of its operands, and the current operand.
 
 import { partsOf } from "../text/assembly.js";
 import { operandsOfForm, wordsOfOperand } from "../text/program_words.js";
@@ -29,8 +29,8 @@ function signatureOf(label, documentation, operands) {
 
 /**
  * Returns the signature of a directive.
- * @param {string} words its description, which begins with its form and a colon
- * @param {string} kind the manual's letter for the kind of its operands
+ * @param {string} words the description; it starts with the form and a colon
+ * @param {string} kind the manual's letter for the operand kind
  */
 function signatureOfDirective(words, kind) {
   const form = words.split(":")[0];
@@ -38,8 +38,8 @@ function signatureOfDirective(words, kind) {
 }
 
 /**
- * Returns the signature of a statement; null if it has no operands or is unknown.
- * @param {string} head the mnemonic or directive in upper case
+ * Returns the signature of a statement; null if the statement is unknown or has no operands.
+ * @param {string} head the upper-case mnemonic or directive
  * @param {Map<string, Instruction>} instructions
  */
 function signatureOfHead(head, instructions) {
@@ -52,9 +52,9 @@ function signatureOfHead(head, instructions) {
 }
 
 /**
- * Returns the signature of the statement at a column, and the index of the operand there; null if there is none.
+ * Returns the signature of the statement at a column, and the index of the operand at that column; null if there is none.
  * @param {string} line
- * @param {number} column the column
+ * @param {number} column the column of the caret
  * @param {Map<string, Instruction>} instructions
  * @returns {SignatureHelp | null}
  */

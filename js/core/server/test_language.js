@@ -1,4 +1,4 @@
-// The handlers of an editor's requests about a test file. Its parser (testing/test_text.js) uses the names of the board and the program.
+// Handlers for an editor's requests about a test file. Its parser (testing/test_text.js) uses the names of the board and the program.
 
 import { readSources } from "../testing/test_text.js";
 import { COLOURS } from "../text/test_colours.js";
@@ -14,11 +14,11 @@ import * as say from "../../words/server.js";
  * @typedef {import("./open_text.js").OpenText} OpenText
  * @typedef {import("./lsp_protocol.js").Position} Position
  *
- * The first line of a test or of shared steps; `line` counts from 0, `from` and `to` are the columns of the name.
+ * The first line of a test or of shared steps. `line` counts from 0. `from` and `to` are the columns of the name.
  * @typedef {{ kind: "test" | "steps", name: string, line: number, from: number, to: number }} Head
  */
 
-/** The protocol's kinds of symbols. */
+/** The symbol kinds of the protocol. */
 const METHOD = 6;
 const FUNCTION = 12;
 const FIRST_LINE = /^([ \t]*)(test|steps)([ \t]+)(\S.*)$/;
@@ -80,7 +80,7 @@ export class TestLanguage extends DependentLanguage {
   }
 
   /**
-   * Returns the location of the steps that a `do` names, or of a label of the program; null if there is none.
+   * Returns the location of the steps that a `do` line names, or of a program label; null if there is none.
    * @param {OpenText} open
    * @param {Position} position
    */
@@ -106,7 +106,7 @@ export class TestLanguage extends DependentLanguage {
   }
 
   /**
-   * Returns a code lens for each test that runs it.
+   * Returns code lenses that run the tests, one for each test.
    * @param {OpenText} open
    * @returns {Lens[]}
    */

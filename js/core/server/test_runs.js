@@ -1,4 +1,4 @@
-// Runs a test from an editor, after the tests that save its starting states. Board and program are those in the editor.
+// Runs a test from an editor. The tests that save its start states run first. Board and program come from the editor.
 
 import { Cancelled } from "../bench/faults.js";
 import { runTests } from "../testing/test_suite.js";
@@ -12,12 +12,12 @@ import * as say from "../../words/server.js";
  * @typedef {import("./diagnostics.js").ShownFault} ShownFault
  * @typedef {import("./open_text.js").OpenText} OpenText
  *
- * The result of a test: a message, whether the test passed, and the error in the failed line with the URI of its text; null for none.
+ * The result of a test: a message, whether the test passed, and the error in the failed line with the URI of its text (null for none).
  * @typedef {{ words: string, hasPassed: boolean, failure: { uri: string, fault: ShownFault } | null }} TestResult
  */
 
 /**
- * Returns the result of a test that was not run.
+ * Returns the result for a test that did not run.
  * @param {string} words the reason
  * @returns {TestResult}
  */
@@ -35,15 +35,15 @@ export class TestRuns {
     this.wordsOf = wordsOf;
     this.dependenciesOf = dependenciesOf;
     this.pause = pause;
-    /** The number of the present run; a new run cancels the one before it. */
+    /** The number of the current run. A new run cancels the previous one. */
     this.runNumber = 0;
   }
 
   /**
    * Runs a test; throws ProtocolError if the run is cancelled.
    * @param {OpenText} open
-   * @param {string} name of the test
-   * @param {import("./connection.js").PendingRequest} pending the request, which can be cancelled
+   * @param {string} name the name of the test
+   * @param {import("./connection.js").PendingRequest} pending the request; the client can cancel it
    * @returns {Promise<TestResult>}
    */
   async run({ uri, lines, text }, name, pending) {

@@ -1,4 +1,4 @@
-// Queries the bench about texts, on temporary sessions in memory.
+// Queries the bench about texts, in temporary sessions in memory.
 
 import { readBoard, refusalOf } from "../bench/answers.js";
 import { readErrors, readWiring } from "../bench/text_judgement.js";
@@ -10,7 +10,7 @@ import { ALL_ROMS, faultOfText, readProgram } from "../engine/program_check.js";
  * @typedef {import("../engine/engine_host.js").EngineHost} Engine
  * @typedef {import("../engine/program_check.js").Program} Program
  *
- * A session with a board: the board's text (null for none), the bytes of the session, and the numbers of its ROMs.
+ * A session with a board: the board text (null for none), the session bytes, and the numbers of the ROMs.
  * @typedef {{ text: string | null, file: Uint8Array, roms: Set<number> }} BoardSession
  */
 
@@ -20,12 +20,12 @@ export class TextBench {
     this.engine = engine;
     this.empty = engine.begin();
     this.boardSession = this.beginSession(null);
-    /** @type {Program | null} the last program that was read */
+    /** @type {Program | null} the last assembled program */
     this.program = null;
   }
 
   /**
-   * Returns a session with a board. If the text is null or the bench rejects it, the board has all ROMs.
+   * Returns a session with a board. If the text is null, or if the bench rejects it, the board has all ROMs.
    * @param {string | null} text
    * @returns {BoardSession}
    */
@@ -38,7 +38,7 @@ export class TextBench {
   }
 
   /**
-   * Sets the board for the following programs.
+   * Sets the board for the programs that follow.
    * @param {string | null} text
    */
   setBoard(text) {
@@ -46,8 +46,8 @@ export class TextBench {
   }
 
   /**
-   * Returns the bench's refusal of lines; null if it accepts them.
-   * @param {Uint8Array} file of the session
+   * Returns the refusal of the lines; null if the bench accepts them.
+   * @param {Uint8Array} file the session file
    * @param {string} lines
    */
   refusal(file, lines) {
@@ -55,8 +55,8 @@ export class TextBench {
   }
 
   /**
-   * Returns the error of a board; null if there is none.
-   * @param {string} text from `sentText`
+   * Returns the error in a board text; null if there is none.
+   * @param {string} text the result of `sentText`
    */
   wiring(text) {
     return readWiring(this.engine.ask(this.empty, `wiring\n${text}.\n`).answers[0]);
@@ -64,22 +64,22 @@ export class TextBench {
 
   /**
    * Returns the errors in the lines of a program.
-   * @param {string} text from `sentText`
+   * @param {string} text the result of `sentText`
    */
   errors(text) {
     return readErrors(this.engine.ask(this.empty, `errors\n${text}.\n`).answers);
   }
 
   /**
-   * Returns the bench's refusal of a program on the present board; null if it accepts the program.
-   * @param {string} text from `sentText`
+   * Returns the refusal of a program on the current board; null if the bench accepts the program.
+   * @param {string} text the result of `sentText`
    */
   programRefusal(text) {
     return this.refusal(this.boardSession.file, `asm\n${text}.\n`);
   }
 
   /**
-   * Returns this bench's queries as callbacks for AllFaultsOfTexts.
+   * Returns the queries of this bench as callbacks for AllFaultsOfTexts.
    * @returns {import("../text/all_faults.js").Asked}
    */
   queries() {
@@ -93,8 +93,8 @@ export class TextBench {
   }
 
   /**
-   * Returns the answers to `map` for a program; null if the bench rejects it.
-   * @param {string} sent the text from `sentText`
+   * Returns the `map` answers for a program; null if the bench rejects the program.
+   * @param {string} sent the result of `sentText`
    */
   map(sent) {
     if (faultOfText(sent)) return null;
@@ -103,8 +103,8 @@ export class TextBench {
   }
 
   /**
-   * Returns the addresses and bytes of a program. Repeats the last result if the text is the same.
-   * @param {string} sent the text from `sentText`
+   * Returns the `map` answers and bytes of a program. For the same text, returns the last result again.
+   * @param {string} sent the result of `sentText`
    * @returns {Program}
    */
   read(sent) {

@@ -1,22 +1,22 @@
 // Semantic tokens: the kinds of words that editors colour, and their encoding in the protocol.
 
 /**
- * A word to colour: its line and columns, which count from 0, its token type, and true if it is a definition or a constant.
+ * A word to colour: its line and columns (from 0), its token type, and whether it is a definition or a constant.
  * @typedef {{ line: number, from: number, to: number, type: string, isDeclaration?: boolean, isReadonly?: boolean }} ColouredWord
  */
 
 export const TYPES = ["comment", "function", "variable", "enumMember", "keyword", "macro", "number", "string", "property", "class"];
 export const MODIFIERS = ["declaration", "readonly"];
 
-/** @type {Record<string, string>} the protocol's token types by the styles of the page's editor */
+/** @type {Record<string, string>} the protocol's token types, by style of the page's editor */
 const TYPES_BY_STYLE = {
   "keyword": "keyword", "number": "number", "comment": "comment", "string": "string", "def": "function", "variable-2": "variable",
 };
 
 /**
- * Returns the words to colour in lines.
+ * Returns the words to colour in some lines.
  * @param {string[]} lines
- * @param {(line: string) => { from: number, to: number, style: string }[]} colours returns the styles in one line
+ * @param {(line: string) => { from: number, to: number, style: string }[]} colours returns the styled words of a line
  * @returns {ColouredWord[]}
  */
 export function colouredWords(lines, colours) {
@@ -25,8 +25,8 @@ export function colouredWords(lines, colours) {
 }
 
 /**
- * Encodes words as five numbers each: the lines since the previous word, the columns since the previous word in the line, length, type and
- * modifiers.
+ * Encodes each word as five numbers: the line distance to the previous word, the column distance to the previous word in the same line, the length,
+ * the type, and the modifiers.
  * @param {ColouredWord[]} words
  * @returns {number[]}
  */
@@ -43,7 +43,7 @@ export function tokenCodes(words) {
 }
 
 /**
- * Returns the edits from one encoding to another: none, or one that replaces a range.
+ * Returns the edits from one encoding to another: no edit, or one edit that replaces a range.
  * @param {number[]} before
  * @param {number[]} after
  * @returns {{ start: number, deleteCount: number, data: number[] }[]}

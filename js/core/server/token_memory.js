@@ -1,4 +1,4 @@
-// The semantic tokens that were sent last for each text, so that an editor can request only the changes.
+// The last semantic tokens sent for each text. With them, an editor can request only the changes.
 
 import { codeEdits, tokenCodes } from "./token_codes.js";
 
@@ -8,18 +8,18 @@ import { codeEdits, tokenCodes } from "./token_codes.js";
  * @typedef {import("./token_codes.js").ColouredWord} ColouredWord
  */
 
-/** The maximum number of texts whose tokens are kept. */
+/** The maximum number of texts with stored tokens. */
 const MAX_TEXTS = 32;
 
 export class TokenMemory {
   constructor() {
-    /** @type {Map<string, { resultId: string, data: number[] }>} the last response for each text, by its URI */
+    /** @type {Map<string, { resultId: string, data: number[] }>} the last responses, by text URI */
     this.sent = new Map();
     this.count = 0;
   }
 
   /**
-   * Stores the tokens of a text. Returns their result id.
+   * Stores the tokens of a text. Returns the new result id.
    * @param {string} uri
    * @param {number[]} data
    */
@@ -43,7 +43,7 @@ export class TokenMemory {
   }
 
   /**
-   * Returns the changes since a result; if it is not the last result for the text, all tokens.
+   * Returns the changes since a result. If that is not the last result for the text, returns all tokens.
    * @param {OpenText} open
    * @param {ColouredWord[]} words
    * @param {unknown} previous the result id
@@ -56,7 +56,7 @@ export class TokenMemory {
   }
 
   /**
-   * Returns the tokens in the lines of a range.
+   * Returns the tokens of the lines in a range.
    * @param {ColouredWord[]} words
    * @param {Range} range
    */

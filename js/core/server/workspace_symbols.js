@@ -1,4 +1,4 @@
-// Workspace symbols: the names in the open texts and in their projects that match a query.
+// Workspace symbols: finds the names that match a query, in the open texts and their projects.
 
 import { fileNameOf } from "./beside_language.js";
 
@@ -11,7 +11,7 @@ import { fileNameOf } from "./beside_language.js";
 const MAX_NAMES = 512;
 
 /**
- * Returns whether a name matches a query, in any case. One word must contain the letters of the query in their order; a name with several
+ * Returns whether a name matches a query; the case is ignored. A one-word name must contain the letters of the query in order. A name with several
  * words must contain the whole query.
  * @param {string} name
  * @param {string} query

@@ -1,6 +1,6 @@
-// Base64: bytes as ASCII text.
+// Converts bytes to base64 and back.
 
-/** The number of bytes to convert at once. */
+/** The number of bytes that are converted in one call. */
 const PIECE = 8192;
 
 /** @param {Uint8Array} bytes */
@@ -11,7 +11,7 @@ export function toBase64(bytes) {
 }
 
 /**
- * Returns the bytes of a base64 text. Throws if the text is not base64.
+ * Returns the bytes of a base64 text. Throws if the text is invalid.
  * @param {string} text
  */
 export function fromBase64(text) {

@@ -1,5 +1,5 @@
-// The picture of an example in the gallery: its front panel, small, as the board's text describes it. Only the program knows which lamps
-// are on. The picture shows as on the first lamp of each colour, and the digits of a display.
+// The picture of an example in the gallery: a small front panel, drawn from the board text. Only the program determines which lamps are on. The
+// picture shows the first lamp of each colour as on, and sample digits on a display.
 
 import { partLines } from "../bench/part_lines.js";
 import { Face } from "../board/face.js";
@@ -7,7 +7,7 @@ import { endOfGroup, isScanned, lampsOfGroup } from "../board/face_board.js";
 import { upTo } from "../bench/numbers.js";
 
 /**
- * A shape in the picture: a lamp, a key with its legend, or a display with its digits. Sizes are in units of the picture.
+ * A shape in the picture: a lamp, a key with its legend, or a display with its digits. Sizes are in picture units.
  * @typedef {{ kind: "lamp", x: number, y: number, size: number, colour: string, isLit: boolean }} LampShape
  * @typedef {{ kind: "key", x: number, y: number, width: number, height: number, legend: string }} KeyShape
  * @typedef {{ kind: "display", x: number, y: number, width: number, height: number, digits: string,
@@ -18,20 +18,20 @@ import { upTo } from "../bench/numbers.js";
 
 const WIDTH = 120;
 const GAP = 4;
-/** The positions of a die's pips, in the order of its lamps: column and row, from 0 to 2. */
+/** The positions of the pips of a die, in lamp order: column and row, from 0 to 2. */
 const PIPS = [[0, 0], [2, 0], [0, 1], [1, 1], [2, 1], [0, 2], [2, 2]];
 
 class Drawing {
-  /** @param {string} text of a board */
+  /** @param {string} text the board text */
   constructor(text) {
     this.face = new Face(text);
     this.parts = partLines(text);
     /** @type {Shape[]} */
     this.shapes = [];
     this.bottom = GAP;
-    /** @type {Set<string>} the colours that have a lamp that is on */
+    /** @type {Set<string>} the colours of which a lamp is already on */
     this.litColours = new Set();
-    /** @type {Set<number>} the lamps that are drawn */
+    /** @type {Set<number>} the lamps that are already drawn */
     this.drawn = new Set();
   }
 
@@ -42,7 +42,7 @@ class Drawing {
   /**
    * Draws a lamp.
    * @param {number} lamp
-   * @param {number} x the position of its centre
+   * @param {number} x the x position of the centre
    * @param {number} y
    * @param {number} size
    */
@@ -63,14 +63,14 @@ class Drawing {
         this.drawGrid(upTo(7).map((at) => ({ lamp: group.first + at, column: PIPS[at][0], row: PIPS[at][1] })));
       } else {
         const { first, rows, columns } = group;
-        // A scanned group has the colours of its columns.
+        // The lamps of a multiplexed group have the colours of its columns.
         const lampAt = (/** @type {number} */ at) => first + (isScanned(group) ? at % columns : at);
         this.drawGrid(upTo(rows * columns).map((at) => ({ lamp: lampAt(at), column: at % columns, row: Math.floor(at / columns) })));
       }
     }
   }
 
-  /** @param {import("../board/face.js").Group} group a display with one digit for each row */
+  /** @param {import("../board/face.js").Group} group a display with one digit per row */
   drawDisplay({ rows, first }) {
     const height = 24;
     const colour = (this.face.colours.get(first) || { text: "red" }).text;
@@ -80,7 +80,7 @@ class Drawing {
   }
 
   /**
-   * Draws lamps in a grid, as large as possible.
+   * Draws lamps in a grid as large as possible.
    * @param {{ lamp: number, column: number, row: number }[]} cells
    */
   drawGrid(cells) {

@@ -1,12 +1,12 @@
-// Makes names that other people wrote safe to show. A link must not make them look like texts of the page.
+// Makes names from other people safe to show. A name in a link must not imitate texts of the page.
 
 /** The maximum length of a name, in characters. */
 const MAX_NAME_LENGTH = 60;
-/** Control characters, bidirectional marks, line separators and invisible characters. */
+/** Matches control characters, bidirectional marks, line separators and invisible characters. */
 const UNSAFE_CHARACTERS = /[\p{Cc}\p{Bidi_Control}\u200b\u2028\u2029\u2060\ufeff]/gu;
 
 /**
- * Returns a name in one line, without such characters, and cut to the maximum length.
+ * Returns a name as one line without unsafe characters, cut to the maximum length.
  * @param {string} text
  */
 export function shortName(text) {

@@ -1,5 +1,5 @@
-// Finds the content of a file that the user chooses or drops: a project, a session, a board, a program, tests, properties, lines for the
-// bench, or a ROM image. The first bytes decide, then the file's name, then the text.
+// Determines the contents of a file that the user chooses or drops: a project, a session, a board, a program, tests, properties, bench lines, or a
+// ROM image. The first bytes decide, then the file name, then the text.
 
 import { readInputs } from "../bench/inputs.js";
 import { PROJECT_FILE } from "../project/project_toml.js";
@@ -10,15 +10,15 @@ import { isProject } from "./project_file.js";
 import * as say from "../../words/session.js";
 
 /**
- * The texts in a file, null for a missing kind. `lines` are the other lines for the bench. `isGuess`: neither the name nor the text shows
- * that the file is a program.
+ * The texts in a file; null for a missing kind. `lines` are the other bench lines. `isGuess` is true if neither the name nor the text shows that the
+ * file is a program.
  * @typedef {{ board: string | null, program: string | null, tests: string | null, properties: string | null, lines: string,
  *   isGuess?: boolean }} FileTexts
  *
  * @typedef {{ kind: "project" } | { kind: "session" } | { kind: "texts", texts: FileTexts } | { kind: "image", bytes: Int16Array }} Opened
  */
 
-/** An error: the bench cannot use a file. The message says why. */
+/** The error for a file that the bench cannot use. The message gives the reason. */
 export class NotForTheBench extends Error {}
 
 /** The first bytes of a session file. */
@@ -29,7 +29,7 @@ const BOARD_FILES = /\.toml$/i;
 const TEST_FILES = /\.test$/i;
 const PROPERTY_FILES = /\.props$/i;
 const PROGRAM_FILES = /\.(asm|s|src|a4|4004)$/i;
-/** Names that do not show the kind of text. */
+/** Matches names that do not determine the kind of text. */
 const TEXT_FILES = /(^[^.]*|\.(txt|text))$/i;
 
 /**
@@ -42,11 +42,11 @@ function refusal(why) {
 }
 
 /**
- * Decodes a text as UTF-8, or else as Windows-1252. Returns null if the bytes are not a text.
+ * Decodes a text as UTF-8, or else as Windows-1252. Returns null if the bytes are no text.
  * @param {Uint8Array} bytes
  */
 function textOf(bytes) {
-  // A text contains no other control characters.
+  // A text contains no control characters except tab, line feed, form feed, carriage return and Ctrl-Z.
   if (bytes.some((byte) => byte < 32 && ![9, 10, 12, 13, 26].includes(byte))) return null;
   try {
     return new TextDecoder("utf-8", { fatal: true }).decode(bytes);
@@ -56,7 +56,7 @@ function textOf(bytes) {
 }
 
 /**
- * Returns the texts in lines for the bench, the last one of each kind, and the other lines.
+ * Returns the texts in bench lines (the last one of each kind), and the other lines.
  * @param {string} script
  * @returns {FileTexts}
  */
@@ -73,7 +73,7 @@ function textsOfLines(script) {
 }
 
 /**
- * Finds the kind of a text by the file's name, or else by the text.
+ * Determines the kind of a text from the file name, or else from the text.
  * @param {string} name
  * @param {string} text
  * @returns {FileTexts}
@@ -91,7 +91,7 @@ function readTexts(name, text) {
 }
 
 /**
- * Returns the content of a text file. Throws if the bench cannot use it.
+ * Returns the contents of a text file. Throws if the bench cannot use the file.
  * @param {string} name the name of the file
  * @param {string} text
  * @returns {Opened}
@@ -114,7 +114,7 @@ function openText(name, text) {
 }
 
 /**
- * Returns the content of a file. Throws if the bench cannot use it.
+ * Returns the contents of a file. Throws if the bench cannot use the file.
  * @param {string} name the name of the file
  * @param {Uint8Array} bytes
  * @returns {Opened}

@@ -1,5 +1,5 @@
-// Reads and writes a project file: one text file with the session's file, its name and the texts of the editors. The manual ("A project
-// file") describes its lines. project_parts.js has the same parts as the files of a folder.
+// Reads and writes project files. A project file is one text file with the session file, its name and the editor texts. The manual ("A project file")
+// describes its lines. project_parts.js writes the same parts as files in a folder.
 
 import { checksum } from "./checksum.js";
 import { shortName } from "./names.js";
@@ -9,36 +9,36 @@ import { LONGEST_KEPT } from "../text/text_fault.js";
 import * as say from "../../words/session.js";
 
 /**
- * The name and the texts of a project. The file omits empty tests and properties.
+ * The name and the texts of a project. Empty tests and properties are omitted in the file.
  * @typedef {{ name: string, boardText: string, programText: string, testText?: string, propertiesText?: string }} Texts
  * @typedef {import("../debug/breakpoints.js").KeptBreakpoint} KeptBreakpoint
  *
- * The same with breakpoints and with the watched values, as they are stored.
+ * The name and texts with breakpoints and watch expressions, as they are stored.
  * @typedef {Texts & { breakpoints?: KeptBreakpoint[], watched?: string[] }} DebuggedTexts
  * @typedef {DebuggedTexts & { file: Uint8Array }} Project
  *
- * The line before a text.
+ * The word on the line before a text.
  * @typedef {"wire" | "asm" | "test" | "properties"} Word
  */
 
 const FIRST_LINE = "fethsaim project 1";
-/** The line that ends a text, as in lines for the bench. */
+/** The line that ends a text, as in bench lines. */
 const DOT = ".";
 const LAST_LINE = "end";
 const CHECKSUM_LINE = /^cksum \d+$/;
-/** The bytes in a line of the session's file. Lines of zeros are omitted. */
+/** The number of bytes per line of the session file. Lines of zeros are omitted. */
 const BYTES_OF_LINE = 16;
-/** The maximum size of a project file in bytes. The largest texts and sessions need far less. */
+/** The maximum size of a project file in bytes, much more than the largest texts and sessions need. */
 export const MAX_PROJECT_BYTES = 4 << 20;
 
-/** An error: the bytes are not a project. The message says why. */
+/** The error for bytes that are not a project. The message gives the reason. */
 export class NotAProject extends Error {}
 
-/** An error: a text of the project is longer than the editors accept. */
+/** The error for a project text that is longer than the editors accept. */
 export class TextTooLong extends NotAProject {}
 
 /**
- * Returns a message if one of the texts is too long for a project and for a link, or "".
+ * Returns a message if one of the texts is too long for a project and for a link; otherwise "".
  * @param {{ boardText: string, programText: string, testText?: string, propertiesText?: string }} texts
  */
 export function wordsOfLength({ boardText, programText, testText = "", propertiesText = "" }) {
@@ -52,7 +52,7 @@ export function wordsOfLength({ boardText, programText, testText = "", propertie
 // --- writing ---
 
 /**
- * Returns the lines of a text. A line that consists of dots gets one more dot, so that it does not end the text.
+ * Returns the lines of a text. A line that consists only of dots gets an additional dot, so that it does not end the text.
  * @param {Word} word
  * @param {string} text
  */
@@ -63,7 +63,7 @@ function linesOfText(word, text) {
 }
 
 /**
- * Returns a line that notes that a text does not end with a line feed, if so.
+ * Returns an `unended` line if a text does not end with a line feed; otherwise an empty list.
  * @param {Word} word
  * @param {string} text
  */
@@ -85,7 +85,7 @@ function linesOfFile(file) {
 }
 
 /**
- * Returns a text without carriage returns at the ends of lines. The bench ignores them, too.
+ * Returns a text without carriage returns at line ends; the bench also ignores them.
  * @param {string} text
  */
 function plainLines(text) {
@@ -98,7 +98,7 @@ function oneLine(text) {
 }
 
 /**
- * Returns the lines for the name, the breakpoints, the watched values and the texts.
+ * Returns the lines for the name, the breakpoints, the watch expressions and the texts.
  * @param {DebuggedTexts} texts
  */
 export function linesOfTexts({ name, boardText, programText, testText = "", propertiesText = "", breakpoints = [], watched = [] }) {
@@ -122,14 +122,14 @@ export function projectText(project) {
 // --- reading ---
 
 /**
- * Returns whether bytes begin like a project file.
+ * Returns whether bytes start like a project file.
  * @param {Uint8Array} bytes
  */
 export function isProject(bytes) {
   return /^\uFEFF?fethsaim project /.test(new TextDecoder("utf-8", { ignoreBOM: true }).decode(bytes.subarray(0, 40)));
 }
 
-/** A reader of the lines of a project file. */
+/** Reads the lines of a project file. */
 export class Lines {
   /** @param {string} text */
   constructor(text) {
@@ -171,7 +171,7 @@ export class Lines {
 }
 
 /**
- * Checks the first line, the last line and the checksum, if there is one. Throws if one of them is wrong.
+ * Checks the first line, the last line, and the checksum if there is one. Throws if one of them is wrong.
  * @param {string} text
  */
 function checkWhole(text) {
@@ -189,8 +189,8 @@ function checkWhole(text) {
 }
 
 /**
- * Reads the lines before the first text: the name, the breakpoints and the watched values. `unended` are the texts that do not end with a
- * line feed.
+ * Reads the lines before the first text: the name, the breakpoints and the watch expressions. `unended` are the texts that do not end with a line
+ * feed.
  * @param {Lines} lines
  */
 function readHead(lines) {
@@ -214,7 +214,7 @@ function readHead(lines) {
 }
 
 /**
- * Reads a text of the project.
+ * Reads a text of a project.
  * @param {Lines} lines
  * @param {Word} word
  * @param {Set<string>} unended the texts that do not end with a line feed
@@ -225,9 +225,9 @@ function readText(lines, word, unended) {
 }
 
 /**
- * Reads the name, the texts, the breakpoints and the watched values. Throws if a text is too long for the editors.
+ * Reads the name, the texts, the breakpoints and the watch expressions. Throws if a text is too long for the editors.
  * @param {Lines} lines
- * @param {boolean} [acceptsLong] whether to accept longer texts
+ * @param {boolean} [acceptsLong] true to accept longer texts
  * @returns {DebuggedTexts}
  */
 export function readTexts(lines, acceptsLong = false) {
@@ -243,7 +243,7 @@ export function readTexts(lines, acceptsLong = false) {
 }
 
 /**
- * Reads the session's file.
+ * Reads the session file.
  * @param {Lines} lines
  * @param {number} size the size of a session file in bytes
  */
@@ -264,16 +264,16 @@ function readFile(lines, size) {
 }
 
 /**
- * Returns the content of a project file. Throws if the bytes are not a project.
+ * Returns the contents of a project file. Throws if the bytes are not a project.
  * @param {Uint8Array} bytes
  * @param {number} size the size of a session file in bytes
- * @param {boolean} [acceptsLong] whether to accept texts that are too long for the editors
+ * @param {boolean} [acceptsLong] true to accept texts that are too long for the editors
  * @returns {Project}
  */
 export function readProject(bytes, size, acceptsLong = false) {
   if (bytes.length > MAX_PROJECT_BYTES) throw new NotAProject(say.TOO_MANY_BYTES);
   if (bytes.includes(0)) throw new NotAProject(say.HAS_ZERO_BYTES);
-  const text = decoded(bytes);
+  const text = decode(bytes);
   checkWhole(text);
   const lines = new Lines(text);
   lines.take();
@@ -287,7 +287,7 @@ export function readProject(bytes, size, acceptsLong = false) {
 }
 
 /** @param {Uint8Array} bytes */
-function decoded(bytes) {
+function decode(bytes) {
   try {
     return plainLines(new TextDecoder("utf-8", { fatal: true }).decode(bytes));
   } catch {

@@ -1,4 +1,4 @@
-// A project as the files of a folder, for other programs to edit. Also reads the texts of such files.
+// Converts a project to files in a folder that other programs can edit. Also reads the texts of such files.
 
 import { joinLines } from "../bench/inputs.js";
 import { breakpointOfLine, linesOfBreakpoints } from "../debug/breakpoint_lines.js";
@@ -10,18 +10,18 @@ import * as say from "../../words/session.js";
  * @typedef {import("../debug/breakpoints.js").KeptBreakpoint} KeptBreakpoint
  * @typedef {import("./project_file.js").Project} Project
  *
- * A file of the folder. Its content is a text, or bytes.
+ * A file in the folder. Its content is a text or bytes.
  * @typedef {{ name: string, content: string | Uint8Array }} ProjectPart
  */
 
-/** The names of the files. A folder without a project file is read by the names of its texts. */
+/** The file names. In a folder without a project file, these names identify the texts. */
 export const PART_NAMES = {
   project: "mcs4.toml", board: "board.toml", program: "program.asm", tests: "program.test", properties: "program.props",
   breakpoints: "breakpoints", values: "values", session: "session.mcs", name: "name",
 };
 
 /**
- * Returns the text of the folder's project file.
+ * Returns the text of the project file.
  * @param {Project} project
  */
 function projectFileOf({ testText, propertiesText }) {
@@ -33,7 +33,7 @@ function projectFileOf({ testText, propertiesText }) {
 }
 
 /**
- * Returns the files of a project. It omits empty files, except the board and the program.
+ * Returns the files of a project. Empty files are omitted, except the board and the program.
  * @param {Project} project
  * @returns {ProjectPart[]}
  */
@@ -56,7 +56,7 @@ export function partsOfProject(project) {
 }
 
 /**
- * Returns the lines of a text that has one item on each line.
+ * Returns the lines of a text with one item per line.
  * @param {string} text
  */
 function linesIn(text) {
@@ -66,7 +66,7 @@ function linesIn(text) {
 }
 
 /**
- * Parses a text of breakpoints. Throws if a line is not a breakpoint, or if there are too many.
+ * Parses a breakpoint text. Throws if a line is not a breakpoint, or if there are too many breakpoints.
  * @param {string} text
  * @returns {KeptBreakpoint[]}
  */
@@ -82,7 +82,7 @@ export function breakpointsIn(text) {
 }
 
 /**
- * Parses a text of watched values. Throws if a line is empty.
+ * Parses a text of watch expressions. Throws if a line is empty.
  * @param {string} text
  */
 export function valuesIn(text) {

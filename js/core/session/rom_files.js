@@ -1,4 +1,4 @@
-// Loads ROM images from files into ROM, and saves ROM to files.
+// Loads ROM images from files into ROM, and saves ROM contents to files.
 
 import { readBoard } from "../bench/answers.js";
 import { counted, hex } from "../bench/numbers.js";
@@ -11,12 +11,12 @@ import * as say from "../../words/session.js";
  * The callbacks of RomFiles.
  * @typedef {object} RomCalls
  * @property {(lines: string) => Promise<string[]>} ask Resolves to the bench's answers to queries.
- * @property {(lines: string) => Promise<string | null>} act Serves lines that change the session. Resolves to the first answer. If the call
- *   fails, it reports that and resolves to null.
- * @property {() => Promise<void>} stop Pauses time. Resolves when time is paused.
+ * @property {(lines: string) => Promise<string | null>} act Serves lines that change the session. Resolves to the first answer. If the call fails,
+ *   reports the error and resolves to null.
+ * @property {() => Promise<void>} stop Pauses time; resolves after time is paused.
  */
 
-/** An error: the board lacks a ROM. The message says which. */
+/** The error for a missing ROM on the board. The message names the ROM. */
 export class LacksRom extends Error {}
 
 export class RomFiles {
@@ -25,13 +25,13 @@ export class RomFiles {
     this.calls = calls;
   }
 
-  /** Resolves to the numbers of the ROMs on the board. */
+  /** Resolves to the ROM numbers on the board. */
   async chips() {
     return readBoard(await this.calls.ask("board\n")).roms.map(({ chip }) => chip);
   }
 
   /**
-   * Loads an image into ROM, and changes nothing else. Resolves to a message, or to "" if the call fails, which `act` reports.
+   * Loads an image into ROM; nothing else changes. Resolves to a message; to "" if the call fails, because `act` reports the error.
    * @param {string} name the name of the file
    * @param {Int16Array} bytes
    */
@@ -49,19 +49,19 @@ export class RomFiles {
     return answer === null ? "" : say.bytesInRom(counted(count, "byte"), name, count === 1, hex(first, 3));
   }
 
-  /** Resolves to the bytes of all ROMs of the board. The answer to a `list` can continue after the end of a ROM, so this cuts it. */
+  /** Resolves to the bytes of all ROMs on the board. The answer to `list` can extend beyond a ROM; such bytes are removed. */
   async bytes() {
     const chips = await this.chips();
     const allBytes = bytesOf(await this.calls.ask(listQueries(PAGES.filter((page) => chips.includes(page)))));
     return allBytes.map((byte, at) => (chips.includes(Math.floor(at / PAGE_BYTES)) ? byte : NO_BYTE));
   }
 
-  /** Resolves to the content of ROM in Intel HEX, or to "" if the board has no ROM. */
+  /** Resolves to the ROM contents in Intel HEX; to "" if the board has no ROM. */
   async hex() {
     return (await this.chips()).length === 0 ? "" : writeHex(await this.bytes());
   }
 
-  /** Resolves to the content of ROM from 000 to the end of the last chip, with 0 for missing chips. */
+  /** Resolves to the ROM contents from address 000 to the end of the last ROM, with 0 for missing ROMs. */
   async image() {
     const end = (Math.max(-1, ...(await this.chips())) + 1) * PAGE_BYTES;
     return Uint8Array.from((await this.bytes()).subarray(0, end), (byte) => Math.max(0, byte));

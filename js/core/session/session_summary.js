@@ -1,4 +1,4 @@
-// A summary of a board and a program, for someone who does not know them yet.
+// Summarises a board and a program for someone who does not know them yet.
 
 import { counted } from "../bench/numbers.js";
 import { Face } from "../board/face.js";
@@ -8,9 +8,9 @@ import * as say from "../../words/session.js";
 /** @typedef {import("../bench/answers.js").Board} Board */
 
 /**
- * Returns the first sentence of the comment at the beginning of a text, or "". The comment ends at a line that describes the front panel.
+ * Returns the first sentence of the comment at the start of a text, or "". The comment ends at the first front-panel line.
  * @param {string} text
- * @param {string} mark the character that begins a comment
+ * @param {string} mark the character that starts a comment
  */
 function firstSentence(text, mark) {
   const comment = [];
@@ -24,7 +24,7 @@ function firstSentence(text, mark) {
 }
 
 /**
- * Returns the title in the board's text, or else the first sentence of a text.
+ * Returns the board title, or else the first sentence of a comment.
  * @param {string} boardText
  * @param {string} programText
  */
@@ -33,7 +33,7 @@ export function titleOf(boardText, programText) {
 }
 
 /**
- * Returns the parts of a board: `2 ROMs, 1 RAM chip, 3 lamps`.
+ * Describes the parts of a board: `2 ROMs, 1 RAM chip, 3 lamps`.
  * @param {Board} board
  */
 export function wordsOfBoard({ roms, banks, chains, lamps, rows, columns }) {

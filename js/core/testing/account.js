@@ -1,6 +1,5 @@
-// Counts the work of test runs, from the bench's forecasts (`count`, `trace`) before each run: how often each instruction begins and jumps,
-// its cycles, the duration of each call, and the time from a key press to a change of the lamps. The subclasses count less, for tools that
-// print no profile.
+// Counts the work of test runs, with the bench's forecasts (`count`, `trace`) before each run: how often each instruction starts and jumps, its
+// cycles, the duration of each call, and the time from a key press to a lamp change. The subclasses count less, for tools that print no profile.
 
 import { ADDRESSES } from "../bench/rom_bytes.js";
 import { readTraced } from "../engine/tracing.js";
@@ -10,14 +9,14 @@ import { cyclesOf, isCall, isReturn, targetOf } from "../engine/rom_codes.js";
  * @typedef {import("../engine/tracing.js").Answers} Answers
  * @typedef {import("../engine/tracing.js").Counted} Counted
  *
- * The calls of a routine: their number, their cycles including nested calls, and the cycles of the longest call.
+ * The calls of a routine: their number, their cycles including nested calls, and the length of the longest call in cycles.
  * @typedef {{ times: number, withCalls: number, longest: number }} Calls
  *
- * The presses of a key: their number, and how many of them changed a lamp. `first` is the longest time from a press to the first change of
- * a lamp, and `last` the longest time to the last change before the next press, in cycles.
+ * The presses of a key: their number, and the number of presses that changed a lamp. `first` is the longest time from a press to the first lamp
+ * change. `last` is the longest time to the last lamp change before the next press. Times are in cycles.
  * @typedef {{ presses: number, answered: number, first: number, last: number }} KeyTimes
  *
- * A call in progress: the address of the routine, and when it was called.
+ * A call in progress: the address of the routine, and the time of the call in cycles.
  * @typedef {{ at: number, entered: number }} Entered
  */
 
@@ -28,24 +27,24 @@ export class Account {
   /** @param {Uint8Array} codes the contents of ROM */
   constructor(codes) {
     this.codes = codes;
-    /** For each address, how often its instruction began and jumped, and its cycles. */
+    /** For each address: how often its instruction started, how often it jumped, and its cycles. */
     this.runs = new Float64Array(ADDRESSES);
     this.taken = new Float64Array(ADDRESSES);
     this.own = new Float64Array(ADDRESSES);
-    /** The cycles of instructions that began before a test. */
+    /** The cycles of instructions that started before a test. */
     this.begunBefore = 0;
     this.total = 0;
-    /** @type {Map<number, Calls>} by the address of the routine */
+    /** @type {Map<number, Calls>} the calls, by routine address */
     this.calls = new Map();
-    /** @type {Map<string, KeyTimes>} by the name of the key, in the order of first presses */
+    /** @type {Map<string, KeyTimes>} the key times, by key name, in the order of first presses */
     this.keys = new Map();
-    /** @type {Entered[]} the calls in progress, the innermost last */
+    /** @type {Entered[]} the calls in progress, innermost last */
     this.open = [];
-    /** The last key press, and the first and the last change of a lamp since then (0 for none). */
+    /** The last key press, and the times of the first and last lamp change since the press (0 for none). */
     this.waiting = { key: "", pressed: 0, first: 0, last: 0 };
   }
 
-  /** True if this account counts the times of instructions, calls and keys. */
+  /** True if this account records the times of instructions, calls and keys. */
   get keepsTimes() {
     return true;
   }
@@ -64,21 +63,21 @@ export class Account {
   }
 
   /**
-   * Counts a run, from the answers to the queries before it.
+   * Counts a run, with the answers to the queries before it.
    * @param {Answers} answers
-   * @param {number} elapsed the cycles of the test before the run
-   * @param {() => Answers} askAll queries a trace of all instructions in the run
+   * @param {number} elapsed the cycles from the start of the test to the run
+   * @param {() => Answers} askAll returns a trace of all instructions in the run
    */
   take(answers, elapsed, askAll) {
     const links = this.count(answers.takeCounts());
     const lines = answers.takeTrace().lines;
     if (this.waiting.key !== "") this.followLamps(answers.takeTrace().lines, elapsed);
-    // The short trace omits a JMS or a BBL that leaves the return addresses unchanged.
+    // The short trace omits a JMS or BBL that does not change the return addresses.
     this.followCalls(lines.length === links ? lines : askAll().takeTrace().lines, elapsed);
   }
 
   /**
-   * Counts the instructions in a run. Returns the number of JMS and BBL among them.
+   * Counts the instructions in a run. Returns the number of JMS and BBL instructions.
    * @param {Counted[]} counts
    */
   count(counts) {
@@ -95,7 +94,7 @@ export class Account {
   }
 
   /**
-   * Returns the calls of the routine at an address.
+   * Returns the calls of a routine.
    * @param {number} at
    * @returns {Calls}
    */
@@ -106,7 +105,7 @@ export class Account {
   }
 
   /**
-   * Follows calls and returns. The stack has three entries, so a fourth nested call makes the first one unable to return.
+   * Tracks calls and returns. The stack has three entries, so after a fourth nested call the first call can no longer return.
    * @param {string[]} lines
    * @param {number} elapsed
    */
@@ -122,8 +121,8 @@ export class Account {
   }
 
   /**
-   * Counts the end of the innermost call. A recursive call counts only with the outermost one. If the test ends during the JMS, the call
-   * counts 0 cycles.
+   * Counts the end of the innermost call. Of recursive calls, only the outermost one counts. If the test ends during the JMS, the call counts 0
+   * cycles.
    * @param {number} time
    */
   leave(time) {
@@ -136,7 +135,7 @@ export class Account {
   }
 
   /**
-   * Records changes of lamps after a key press. An instruction that writes a port takes one cycle.
+   * Records lamp changes after a key press. An instruction that writes to a port takes one cycle.
    * @param {string[]} lines
    * @param {number} elapsed
    */
@@ -157,7 +156,7 @@ export class Account {
     this.waiting = { key, pressed: elapsed, first: 0, last: 0 };
   }
 
-  /** Adds the last key press to the times of its key. */
+  /** Adds the last key press to the key times. */
   endKey() {
     const { key, pressed, first, last } = this.waiting;
     if (key === "") return;
@@ -173,14 +172,14 @@ export class Account {
   }
 
   /**
-   * Uncounts the last cycle of an instruction that the test did not complete.
+   * Subtracts the last cycle of an instruction that the test did not complete.
    * @param {number} address
    */
   cutShort(address) {
     this.own[address] -= 1;
   }
 
-  /** @param {number} elapsed the cycles of the test, which ends here */
+  /** @param {number} elapsed the cycles of the whole test */
   end(elapsed) {
     while (this.open.length > 0) this.leave(elapsed);
     this.endKey();
@@ -188,7 +187,7 @@ export class Account {
   }
 }
 
-/** Counts how often each instruction begins and jumps, for coverage. It records no times. */
+/** Counts how often each instruction starts and jumps, for coverage. It records no times. */
 export class LineAccount extends Account {
   get keepsTimes() {
     return false;
@@ -205,7 +204,7 @@ export class LineAccount extends Account {
   }
 }
 
-/** Counts nothing, and has no queries. */
+/** Counts nothing and sends no queries. */
 export class NoAccount extends Account {
   get keepsTimes() {
     return false;

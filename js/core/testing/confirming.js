@@ -1,14 +1,14 @@
-// Checks that the test of a counterexample has the expected result.
+// Checks that the test for a counterexample has the expected result.
 
 import { runTests } from "./test_suite.js";
 
 /**
- * Resolves to whether a test fails on a board and a program, or for a goal, whether it passes.
+ * Resolves to true if a test fails on a board and a program; for a goal, if it passes.
  * @param {import("../engine/engine_host.js").EngineHost} engine
  * @param {import("./prepared.js").Texts} texts
  * @param {string} test
  * @param {boolean} isGoal
- * @param {() => Promise<void>} yieldToMessages yields to other work
+ * @param {() => Promise<void>} yieldToMessages yields to other tasks
  */
 export async function isConfirmed(engine, { boardText, programText }, test, isGoal, yieldToMessages) {
   const { faults, outcomes } = await runTests(engine, { boardText, programText, testText: test }, async () => {

@@ -1,4 +1,4 @@
-// Coverage: how often each line of a program was run, and the branch directions of each conditional jump, from the counts of an account.
+// Coverage: how often each program line ran, and the branch directions of each conditional jump, from the counts of an account.
 
 import { formatTenths } from "../bench/numbers.js";
 import { hasWays, isCall, targetOf } from "../engine/rom_codes.js";
@@ -8,23 +8,23 @@ import * as say from "../../words/testing.js";
  * @typedef {import("../machine/source_map.js").SourceMap} SourceMap
  * @typedef {import("./account.js").Account} Account
  *
- * A line with an instruction: how often it was run, and how often its conditional jump was taken.
+ * A line with an instruction: how often it ran, and how often its conditional jump was taken.
  * @typedef {{ line: number, count: number, isJump: boolean, taken: number }} Covered
  *
- * Adjacent lines that were never run.
+ * A range of lines that never ran.
  * @typedef {{ from: number, to: number }} Stretch
  *
- * A label that a JMS calls, and how often its instruction was run.
+ * A label that a JMS calls, and how often its instruction ran.
  * @typedef {{ label: string, line: number, count: number }} Subroutine
  *
- * The coverage of a program. `instructions` and `ways` are the numbers of instructions and of branch directions; `run` and `waysRun` are
- * how many of them were run.
+ * The coverage of a program. `instructions` and `ways` are the total numbers of instructions and branch directions. `run` and `waysRun` are the
+ * numbers that were executed.
  * @typedef {{ lines: Covered[], instructions: number, run: number, ways: number, waysRun: number, never: Stretch[],
  *   subroutines: Subroutine[] }} Coverage
  */
 
 /**
- * Returns the lines with instructions. A line of data (DB) counts if it was run.
+ * Returns the lines with instructions. A data line (DB) counts if it ran.
  * @param {Account} account
  * @param {SourceMap} map
  * @returns {Covered[]}
@@ -42,7 +42,7 @@ function coveredLines({ codes, runs, taken }, map) {
 }
 
 /**
- * Returns the labels that a JMS in these lines calls, by rising address.
+ * Returns the labels that the JMS instructions in some lines call, in ascending address order.
  * @param {Account} account
  * @param {SourceMap} map
  * @param {Covered[]} lines
@@ -84,7 +84,7 @@ export function coverageOf(account, map) {
 }
 
 /**
- * Returns the summary: `20 of 21 instructions were run (95.2 %)`.
+ * Returns the coverage summary: `20 of 21 instructions were run (95.2 %)`.
  * @param {Coverage} coverage
  */
 export function wordsOfCoverage({ instructions, run, ways, waysRun }) {

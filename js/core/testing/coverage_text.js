@@ -1,4 +1,4 @@
-// Coverage as text: the source with the count of each line for a terminal, and the LCOV format for other programs.
+// Formats coverage as text: the source with line counts for a terminal, and the LCOV format for other programs.
 
 import { wordsOfCoverage } from "./coverage.js";
 import * as say from "../../words/testing.js";
@@ -17,7 +17,7 @@ const COUNT_WIDTH = 10;
 const WAYS_WIDTH = 13;
 
 /**
- * Returns a line with blanks in place of tabs.
+ * Returns a line with blanks instead of tabs.
  * @param {string} text
  */
 function expandTabs(text) {
@@ -26,11 +26,11 @@ function expandTabs(text) {
   return line;
 }
 
-/** @type {(jump: Covered) => boolean} returns whether a conditional jump was run, and always took the same direction */
+/** @type {(jump: Covered) => boolean} returns whether a conditional jump ran and always took the same direction */
 const isOneDirection = ({ isJump, count, taken }) => isJump && count > 0 && (taken === 0 || taken === count);
 
 /**
- * Returns a line of the report.
+ * Returns a row of the report.
  * @param {string} source
  * @param {Covered | undefined} covered undefined if the line has no instruction
  */
@@ -41,7 +41,7 @@ function rowOf(source, covered) {
 }
 
 /**
- * Returns the report: the source with its counts, a summary, the lines that were never run, and the jumps that took only one direction.
+ * Returns the report: the source with counts, a summary, the lines that never ran, and the jumps that took only one direction.
  * @param {Coverage} coverage
  * @param {ProgramText} program
  */
@@ -58,13 +58,13 @@ export function coverageText(coverage, { text, before }) {
   return `${[...rows, ...ends].join("\n")}\n`;
 }
 
-/** @type {(name: string, values: (string | number)[]) => string} returns a line of the LCOV format */
+/** @type {(name: string, values: (string | number)[]) => string} returns a line in the LCOV format */
 const record = (name, values) => `${name}:${values.join(",")}`;
 
 /**
- * Returns the coverage in the LCOV format. Its functions are the labels that a JMS calls.
+ * Returns the coverage in the LCOV format. Its functions are the labels that JMS instructions call.
  * @param {Coverage} coverage
- * @param {{ name: string, before: number }} program the name of its file, and the number of lines before it in the file
+ * @param {{ name: string, before: number }} program the file name, and the number of lines before the program in the file
  */
 export function lcovOf({ lines, subroutines, instructions, run, ways, waysRun }, { name, before }) {
   const branches = lines.filter(({ isJump }) => isJump).flatMap(({ line, count, taken }) => (

@@ -1,5 +1,4 @@
-// The last instructions of a session under test, one line each, as in a trace. They are from a copy of an earlier state, on which the last
-// cycles are repeated.
+// The last instructions of a session under test, one line each, as in a trace. For this, a copy of an earlier state runs the last cycles again.
 
 import { runLines } from "../engine/key_queue.js";
 import { InstructionTexts } from "../trace/instruction_texts.js";
@@ -14,18 +13,18 @@ import * as say from "../../words/testing.js";
  * @typedef {import("./test_session.js").TestSession} TestSession
  */
 
-/** The maximum of listed instructions, without the next one. */
+/** The maximum number of listed instructions, without the next instruction. */
 const MAX_INSTRUCTIONS = 12;
 
 /**
- * Returns where the listed part begins: the number of actions before it, and the cycles of its first run before it.
- * @param {Done[]} done
+ * Returns the start of the listed part: the number of actions before it, and the skipped cycles of its first run.
+ * @param {Done[]} actions
  */
-function listedPart(done) {
+function listedPart(actions) {
   let left = SHOWN_CYCLES;
-  let begin = { at: done.length, from: 0 };
-  for (let at = done.length - 1; at >= 0 && left > 0; at--) {
-    const { cycles } = done[at];
+  let begin = { at: actions.length, from: 0 };
+  for (let at = actions.length - 1; at >= 0 && left > 0; at--) {
+    const { cycles } = actions[at];
     begin = { at, from: Math.max(0, cycles - left) };
     left -= cycles - begin.from;
   }

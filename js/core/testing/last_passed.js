@@ -1,4 +1,4 @@
-// Finds the label that a session under test passed last, and when. It repeats the whole test in pieces, and counts each piece.
+// Finds the label that a session under test passed last, and the time. For this, it repeats the whole test in pieces, and counts each piece.
 
 import { LONGEST_RUN } from "../engine/key_queue.js";
 import { Answers, readTraced } from "../engine/tracing.js";
@@ -10,24 +10,24 @@ import * as say from "../../words/testing.js";
  * @typedef {import("./test_session.js").Done} Done
  * @typedef {import("./test_session.js").TestSession} TestSession
  *
- * An instruction: its address, and the cycles of the test before it.
+ * A passed instruction: its address, and the cycles from the start of the test to it.
  * @typedef {{ address: number, cycles: number }} Passed
  */
 
 /**
- * Yields the actions of a test, with runs split into pieces that the bench accepts.
- * @param {Done[]} done
+ * Yields the actions of a test. Runs are split into pieces that the bench accepts.
+ * @param {Done[]} actions
  * @returns {Generator<Done>}
  */
-function* piecesOf(done) {
-  for (const { line, cycles } of done) {
+function* piecesOf(actions) {
+  for (const { line, cycles } of actions) {
     if (line !== "run") yield { line, cycles: 0 };
     for (let left = cycles; left > 0; left -= LONGEST_RUN) yield { line: "run", cycles: Math.min(left, LONGEST_RUN) };
   }
 }
 
 /**
- * Returns the last instruction at one of some addresses, or null if there was none.
+ * Returns the last instruction at one of the given addresses; null if there was none.
  * @param {TestSession} session
  * @param {Set<number>} addresses
  * @returns {Passed | null}
@@ -56,8 +56,8 @@ export function lastPassed({ engine, begun, actions }, addresses) {
 }
 
 /**
- * Returns a text about the last label that was passed, for a condition that did not become true in time. If the condition is an address,
- * the text also says when it was passed.
+ * Describes the last label that was passed, after a condition did not become true in time. If the condition is an address, the text also says when it
+ * was passed.
  * @param {TestSession} session
  * @param {SourceMap} map
  * @param {Condition} condition

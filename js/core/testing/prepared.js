@@ -1,4 +1,4 @@
-// Prepares tests: loads the texts of a board and a program into a new session, and collects their names. Returns the errors of the texts.
+// Prepares tests: loads a board and a program into a new session and collects their names. Returns the errors in the texts.
 
 import { readBoard, refusalOf } from "../bench/answers.js";
 import { matchAnswers, readInputs } from "../bench/inputs.js";
@@ -13,8 +13,8 @@ import { romCodes } from "../engine/rom_codes.js";
  * @typedef {import("../engine/engine_host.js").EngineHost} Engine
  * @typedef {{ boardText: string, programText: string }} Texts
  *
- * An error in a text: its line (0 if unknown) and its message. `number` is the number of the bench's refusal, 0 if it is not one. `file` is
- * the name of a text of tests.
+ * An error in a text: its line (0 if unknown) and its message. `number` is the refusal number, 0 for an error that is not a refusal. `file` is the
+ * file name of a test text.
  * @typedef {{ text: "board" | "program" | "tests" | "properties", file?: string, line: number, number: number, words: string }} TextFault
  *
  * The session, the names, and the bytes in ROM.
@@ -22,7 +22,7 @@ import { romCodes } from "../engine/rom_codes.js";
  */
 
 /**
- * Returns the errors in the names of keys and lamps, and in displays.
+ * Returns the errors in key names, lamp names and displays.
  * @param {Face} face
  * @param {import("../bench/answers.js").Board} board
  * @returns {TextFault[]}
@@ -33,7 +33,7 @@ export function faultsOfNames(face, board) {
 }
 
 /**
- * Returns the errors because of which a text cannot be sent to the bench.
+ * Returns the errors that prevent the sending of a text to the bench.
  * @param {"board" | "program"} name
  * @param {string} text
  * @returns {TextFault[]}
@@ -43,27 +43,27 @@ export function faultsOfText(name, text) {
 }
 
 /**
- * Returns the error in an answer of the bench, if it is a refusal.
+ * Returns the refusal in an answer as a list of errors.
  * @param {"board" | "program"} name
  * @param {string} answer
  * @returns {TextFault[]}
  */
-function refusedBy(name, answer) {
+function refusalFaults(name, answer) {
   const refusal = refusalOf(answer);
   return refusal ? [{ text: name, line: refusal.line, number: refusal.number, words: "" }] : [];
 }
 
 /**
- * Wires a board in a new session. Returns the answers to `board`, or the error.
+ * Wires a board in a new session. Returns the answer to `board`, or the error.
  * @param {Engine} engine
  * @param {string} text
  * @returns {{ faults: TextFault[], answers: string[] }}
  */
 export function wiredBoard(engine, text) {
-  const unsent = faultsOfText("board", text);
-  if (unsent.length > 0) return { faults: unsent, answers: [] };
+  const textFaults = faultsOfText("board", text);
+  if (textFaults.length > 0) return { faults: textFaults, answers: [] };
   const [wired, ...answers] = engine.ask(engine.begin(), `wire\n${sentText(text, "#")}.\nboard\n`).answers;
-  return { faults: refusedBy("board", wired), answers };
+  return { faults: refusalFaults("board", wired), answers };
 }
 
 /**
@@ -74,15 +74,15 @@ export function wiredBoard(engine, text) {
  */
 export function newSession(engine, { boardText, programText }) {
   const file = engine.begin();
-  const unsent = [...faultsOfText("board", boardText), ...faultsOfText("program", programText)];
-  if (unsent.length > 0) return { file, faults: unsent };
+  const textFaults = [...faultsOfText("board", boardText), ...faultsOfText("program", programText)];
+  if (textFaults.length > 0) return { file, faults: textFaults };
   const texts = [
     ...(boardText === "" ? [] : [{ name: /** @type {const} */ ("board"), lines: `wire\n${sentText(boardText, "#")}.\n` }]),
     ...(programText === "" ? [] : [{ name: /** @type {const} */ ("program"), lines: `asm\n${sentText(programText, ";")}.\n` }]),
   ];
   if (texts.length === 0) return { file, faults: [] };
   const { answers } = engine.serve(file, texts.map(({ lines }) => lines).join(""), file);
-  return { file, faults: texts.flatMap(({ name }, at) => refusedBy(name, answers[at])).slice(0, 1) };
+  return { file, faults: texts.flatMap(({ name }, at) => refusalFaults(name, answers[at])).slice(0, 1) };
 }
 
 /**

@@ -1,4 +1,4 @@
-// Makes the lines that press keys of a board by their names, one after the other.
+// Creates the lines that press board keys by name, one key after another.
 
 import { SEEN_QUERY, hasScannedDisplay } from "../engine/seen_text.js";
 import { TOOL_KEY_DOWN_CYCLES, TOOL_KEY_UP_CYCLES } from "../time/mcs4_time.js";
@@ -7,10 +7,10 @@ import { keysOf } from "./test_text.js";
 /**
  * @typedef {import("../board/face.js").Face} Face
  *
- * The time that each key is down and then up, in cycles.
+ * The time for which each key is down and then up, in cycles.
  * @typedef {{ down: number, up: number }} Pace
  *
- * The lines, with a query of the lamps at the end, or the first name that is not a key.
+ * The lines, with a lamp query at the end; or the first name that is not a key.
  * @typedef {{ lines: string[], unknown: string | null }} PressLines
  */
 
@@ -18,9 +18,9 @@ import { keysOf } from "./test_text.js";
 export const USUAL_PACE = { down: TOOL_KEY_DOWN_CYCLES, up: TOOL_KEY_UP_CYCLES };
 
 /**
- * Returns the lines for keys. A word that is not a name is read letter by letter.
+ * Returns the lines for keys. A word that is not a key name is split into letters.
  * @param {Face} face
- * @param {string} text names with blanks between them
+ * @param {string} text key names, separated by blanks
  * @param {Pace} pace
  * @returns {PressLines}
  */

@@ -1,4 +1,4 @@
-// The printout of a test: the codes that the program has sent to the board's printer in the test, and in the state from which it began.
+// The printout of a test: the codes that the program sent to the printer during the test, and before its start state was saved.
 
 import { printoutLines } from "../board/strip.js";
 import { Printing } from "../engine/printing.js";
@@ -11,7 +11,7 @@ import { Printing } from "../engine/printing.js";
 export class Printout {
   /**
    * @param {Printer} printer
-   * @param {number[]} codes the codes before the test
+   * @param {number[]} codes the codes from before the test
    */
   constructor(printer, codes) {
     this.printer = printer;
@@ -26,7 +26,7 @@ export class Printout {
   /**
    * Reads the answers to the queries before a run.
    * @param {Answers} answers
-   * @param {number} elapsed the cycles of the test before the run
+   * @param {number} elapsed the cycles from the start of the test to the run
    */
   take(answers, elapsed) {
     const from = answers.at;

@@ -1,4 +1,4 @@
-// A profile: the cycles of tests by label, and the times of keys, from the counts of an account.
+// A profile: the cycles of tests by label, and the response times of keys, from the counts of an account.
 
 /**
  * @typedef {import("../machine/source_map.js").SourceMap} SourceMap
@@ -6,16 +6,16 @@
  * @typedef {import("./account.js").Calls} Calls
  * @typedef {import("./account.js").KeyTimes} KeyTimes
  *
- * A row for a label: the cycles from it up to the next label (`own`), and the calls of its routine. The row of the code before all labels
- * has the label "" and the address -1.
+ * A row for a label: the cycles from the label to the next label (`own`), and the calls of its routine. The code before all labels has a row with the
+ * label "" and the address -1.
  * @typedef {{ label: string, address: number, own: number, calls: Calls | null }} ProfileRow
  *
- * The rows, and a row for each key that was pressed. `begunBefore`: the cycles of instructions that began before a test.
+ * The rows for labels, and the rows for pressed keys. `begunBefore`: the cycles of instructions that started before a test.
  * @typedef {{ total: number, rows: ProfileRow[], begunBefore: number, keys: (KeyTimes & { key: string })[] }} Profile
  */
 
 /**
- * Returns the labels by rising address, and only the first one at each address.
+ * Returns the first label at each address, in ascending address order.
  * @param {SourceMap} map
  */
 function labelsOf(map) {

@@ -1,4 +1,4 @@
-// A profile as a table for a terminal, with a row for each label, and a row for each key that was pressed.
+// Formats a profile as a table for a terminal, with one row per label and one row per pressed key.
 
 import { formatTenths, hex } from "../bench/numbers.js";
 import { CYCLE_MS } from "../time/mcs4_time.js";
@@ -10,16 +10,16 @@ import * as say from "../../words/testing.js";
  */
 
 const LABEL_WIDTH = 17;
-/** The width of a label with its address. */
+/** The width of a label and its address. */
 const PLACE_WIDTH = 22;
 
-/** @type {(value: string | number, width: number) => string} returns a value aligned to the right */
+/** @type {(value: string | number, width: number) => string} returns a right-aligned value */
 const right = (value, width) => String(value).padStart(width);
 
 /** @param {number} cycles */
 const milliseconds = (cycles) => say.inMilliseconds(formatTenths(cycles * CYCLE_MS));
 
-/** @type {(own: number, total: number) => string} returns cycles with their percentage */
+/** @type {(own: number, total: number) => string} returns cycles and their percentage */
 const share = (own, total) => `${right(own, 10)} ${right(formatTenths((100 * own) / total), 6)}`;
 
 /**
@@ -29,8 +29,8 @@ const share = (own, total) => `${right(own, 10)} ${right(formatTenths((100 * own
  */
 function rowOf({ label, address, own, calls }, total) {
   const place = `${(label || say.NO_LABEL).padEnd(LABEL_WIDTH)} ${(address < 0 ? "" : hex(address, 3)).padEnd(4)}`;
-  const called = calls && calls.times > 0 ? ` ${right(calls.times, 9)} ${right(calls.withCalls, 10)} ${right(calls.longest, 10)}` : "";
-  return `${place} ${share(own, total)}${called}`;
+  const callColumns = calls && calls.times > 0 ? ` ${right(calls.times, 9)} ${right(calls.withCalls, 10)} ${right(calls.longest, 10)}` : "";
+  return `${place} ${share(own, total)}${callColumns}`;
 }
 
 /**

@@ -1,5 +1,5 @@
-// The sample test for a board without tests. It presses the board's first key, if there is one, and expects the result: the text of the
-// display, or a lamp that is on.
+// Creates a sample test for a board without tests. The test presses the first key of the board, if there is one, and expects the result: the display
+// text, or a lamp that is on.
 
 import { shownAnswers } from "../board/shown_answers.js";
 import { SEEN_QUERY, hasScannedDisplay } from "../engine/seen_text.js";
@@ -17,19 +17,19 @@ import { keysOf } from "./test_text.js";
  * @typedef {import("./prepared.js").Texts} Texts
  */
 
-/** The time that the key is down before the expectation, in milliseconds. */
-const HELD_MS = 50;
+/** The time for which the key is down before the expectation, in milliseconds. */
+const HOLD_MS = 50;
 
 /**
- * Resolves to conditions of tests that hold after a key was held, the best first.
+ * Resolves to test conditions that are true after the key was held, best first.
  * @param {Engine} engine
  * @param {Prepared} prepared
- * @param {string} press the command that presses the key, "" for none
+ * @param {string} press the command that presses the key; "" for no key
  */
-async function shownAfter(engine, { file, names: { face, board }, codes }, press) {
+async function conditionsAfter(engine, { file, names: { face, board }, codes }, press) {
   const session = new TestSession(engine, file, new NoAccount(codes), async () => {});
   if (press !== "") session.command(press);
-  await session.run(cyclesOfMs(HELD_MS));
+  await session.run(cyclesOfMs(HOLD_MS));
   const [display] = shownAnswers(face, board, "", session.ask(hasScannedDisplay(face) ? SEEN_QUERY : "lamps\n")).lines;
   const [marks] = session.ask("lamps\n");
   const lit = [...face.lampNumbers].find(([, at]) => marks.slice("lamps ".length)[at] === "*");
@@ -45,8 +45,8 @@ export async function sampleTest(engine, texts) {
   const { prepared } = prepare(engine, texts);
   if (!prepared) return say.SAMPLE_OF_CYCLES;
   const [key = null] = keysOf(prepared.names.face).values();
-  for (const condition of await shownAfter(engine, prepared, key ? key.press : "")) {
-    const testText = say.sampleTest(key ? key.name : "", HELD_MS, condition);
+  for (const condition of await conditionsAfter(engine, prepared, key ? key.press : "")) {
+    const testText = say.sampleTest(key ? key.name : "", HOLD_MS, condition);
     const { outcomes: [outcome] } = await runTests(engine, { ...texts, testText }, async () => true, { Counting: NoAccount });
     if (outcome && !outcome.failure) return testText;
   }

@@ -1,4 +1,4 @@
-// Counts the next cycles of a session, for coverage and a profile.
+// Counts the next cycles of a session for coverage and a profile.
 
 import { romCodes } from "../engine/rom_codes.js";
 import { sessionProgram } from "../engine/session_program.js";
@@ -16,15 +16,15 @@ import { TestSession } from "./test_session.js";
  * @typedef {import("./prepared.js").TextFault} TextFault
  * @typedef {import("./profile.js").Profile} Profile
  *
- * The counts, the cycles that were run, and why the run stopped ("end" if nothing stopped it).
+ * The counts, the number of cycles that ran, and the reason for the stop ("end" if nothing stopped the run).
  * @typedef {{ coverage: Coverage, profile: Profile, elapsed: number, stop: string }} Counted
  *
- * The result. If the program text has errors, or ROM differs from it, nothing is run and `counted` is null.
+ * The result. If the program has errors or differs from ROM, nothing runs and `counted` is null.
  * @typedef {{ faults: TextFault[], other: OtherByte | null, counted: Counted | null }} SessionCount
  */
 
 /**
- * Counts the next cycles of a session, without stopping at breakpoints and watches. The state is unchanged.
+ * Counts the next cycles of a session without a stop at breakpoints and watches. The state does not change.
  * @param {EngineHost} engine
  * @param {State} state
  * @param {string} programText
@@ -33,12 +33,12 @@ import { TestSession } from "./test_session.js";
  * @returns {Promise<SessionCount>}
  */
 export async function countSession(engine, state, programText, cycles, Counting = Account) {
-  const begun = withoutStops(engine, state);
-  const codes = romCodes(engine, begun);
+  const startState = withoutStops(engine, state);
+  const codes = romCodes(engine, startState);
   const { faults, other, map } = sessionProgram(engine, codes, programText);
   if (faults.length > 0 || other) return { faults, other, counted: null };
   const account = new Counting(codes);
-  const session = new TestSession(engine, begun, account, async () => {});
+  const session = new TestSession(engine, startState, account, async () => {});
   const stop = await session.run(cycles);
   session.end();
   const { elapsed } = session;

@@ -1,4 +1,4 @@
-// Test results in TAP version 13, which `prove` reads.
+// Formats test results in TAP version 13, which `prove` reads.
 
 import * as say from "../../words/testing.js";
 
@@ -16,7 +16,7 @@ export function quoted(text) {
 }
 
 /**
- * Returns the description of a test. It escapes `#`, which would begin a directive.
+ * Returns the description of a test. `#` is escaped because it would start a directive.
  * @param {string} name
  */
 export function described(name) {
@@ -27,7 +27,7 @@ export function described(name) {
 const placeOf = ({ source, line }) => `${source}:${line}`;
 
 /**
- * Returns the lines below `not ok`: the error, its location, and the state of the session at the error.
+ * Returns the lines below `not ok`: the error, its location, and the session state at the error.
  * @param {Failure} failure
  */
 function diagnosis(failure) {
@@ -41,7 +41,7 @@ function diagnosis(failure) {
 }
 
 /**
- * Returns the result of a test. The first one has the head before it.
+ * Returns the TAP lines of a test. The TAP header precedes the first test.
  * @param {Outcome} outcome
  * @param {number} number the number of the test, from 1
  * @param {number} total
@@ -61,7 +61,7 @@ export function tapOfTests(outcomes) {
 }
 
 /**
- * Returns a line with the error of a failed test, for people who watch a run, or "" if the test passed.
+ * Returns a line with the error of a failed test for users who watch a run; "" if the test passed.
  * @param {Outcome} outcome
  */
 export function failureLine({ name, failure }) {

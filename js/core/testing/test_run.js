@@ -1,4 +1,4 @@
-// Runs tests, each in a new session in memory. The page's worker and Node use it.
+// Runs tests, each in a new session in memory. The page's worker and Node use this module.
 
 import { counted, hex } from "../bench/numbers.js";
 import { itemsOf, valueIn } from "../bench/state_line.js";
@@ -25,15 +25,15 @@ import * as say from "../../words/testing.js";
  * @typedef {import("./test_text.js").Step} Step
  * @typedef {import("./test_text.js").Test} Test
  *
- * A failed test. `source`, `line`, `text`: the name of the test text, and the step that failed; `words`: the message. Of the session at
- * that step: the cycles of the test, lamps and registers as in `state`, the last instructions (`trace`), and its file. `file` is null if
- * the test did not begin.
+ * A failed test. `source`, `line`, `text`: the name of the test text, and the failed step. `words`: the message. The other fields describe the
+ * session at that step: the cycles of the test, lamps and registers as in `state`, the last instructions (`trace`), and the session file. `file` is
+ * null if the test did not start.
  * @typedef {{ source: string, line: number, text: string, words: string, cycles: number, lamps: string, registers: string, trace: string[],
  *   file: Uint8Array | null }} Failure
  * @typedef {{ name: string, line: number, cycles: number, failure: Failure | null }} Outcome
  */
 
-/** The interval at which perceived lamps and the printout are checked, in cycles. */
+/** The interval between checks of perceived lamps and the printout, in cycles. */
 const CHECK_INTERVAL = 1000;
 
 /** @param {Step} step */
@@ -41,14 +41,14 @@ function placeOf({ source, line, text }) {
   return { source: source.name, line, text };
 }
 
-/** Runs tests of one board with one program. */
+/** Runs tests of a program on a board. */
 export class TestRun {
   /**
    * @param {Engine} engine
    * @param {Prepared} prepared
    * @param {Account} account
    * @param {() => Promise<void>} yieldToMessages
-   * @param {import("../board/face.js").Printer | null} [printer] the printer, if a test has a condition about its printout
+   * @param {import("../board/face.js").Printer | null} [printer] the printer, if a test has a condition on the printout
    */
   constructor(engine, prepared, account, yieldToMessages, printer = null) {
     this.engine = engine;
@@ -56,37 +56,37 @@ export class TestRun {
     this.account = account;
     this.yieldToMessages = yieldToMessages;
     this.printer = printer;
-    /** @type {Map<string, { file: Uint8Array, codes: number[] }>} the saved states by name, each with its printout */
+    /** @type {Map<string, { file: Uint8Array, codes: number[] }>} the saved states with their printouts, by name */
     this.states = new Map();
-    /** The number of the test text that saved them. */
+    /** The number of the test text that saved the states. */
     this.textNumber = 1;
     this.down = TOOL_KEY_DOWN_CYCLES;
     this.up = TOOL_KEY_UP_CYCLES;
-    /** True if a test can change ROM, so that each test reads the bytes in ROM again. */
+    /** True if a test can change ROM; each test then reads the bytes in ROM again. */
     this.changesRom = true;
-    /** @type {(session: TestSession) => void} receives the session of each test at its end */
+    /** @type {(session: TestSession) => void} called with the session of each test at its end */
     this.ran = () => {};
   }
 
   /**
    * Runs a test.
    * @param {Test} test
-   * @param {string} savedBy the name of the test that saves the state from which this one begins
+   * @param {string} savedBy the name of the test that saves the start state of this test
    * @returns {Promise<Outcome>}
    */
   async run({ textNumber, name, line, from, steps }, savedBy) {
     if (textNumber !== this.textNumber) this.states.clear();
     this.textNumber = textNumber;
-    const begun = from === "" ? { file: this.prepared.file, codes: [] } : this.states.get(from);
-    if (!begun) {
-      const words = say.stateMissing(from, savedBy);
+    const startState = from === "" ? { file: this.prepared.file, codes: [] } : this.states.get(from);
+    if (!startState) {
+      const message = say.stateMissing(from, savedBy);
       const [step] = steps;
-      const failure = { ...placeOf(step), words, cycles: 0, lamps: "", registers: "", trace: [], file: null };
+      const failure = { ...placeOf(step), words: message, cycles: 0, lamps: "", registers: "", trace: [], file: null };
       return { name, line, cycles: 0, failure };
     }
     this.account.codes = this.prepared.codes;
-    const printout = this.printer && new Printout(this.printer, begun.codes);
-    const session = new TestSession(this.engine, begun.file, this.account, this.yieldToMessages, printout);
+    const printout = this.printer && new Printout(this.printer, startState.codes);
+    const session = new TestSession(this.engine, startState.file, this.account, this.yieldToMessages, printout);
     // The test that saved the state can have changed ROM.
     if (from !== "" && this.changesRom) session.readCodes();
     this.down = TOOL_KEY_DOWN_CYCLES;
@@ -101,7 +101,7 @@ export class TestRun {
    * Runs steps. Resolves to the failure, or to null.
    * @param {TestSession} session
    * @param {Step[]} steps
-   * @param {string[]} within descriptions of the repeated and shared steps around them, the innermost first
+   * @param {string[]} within descriptions of the enclosing repeated and shared steps, innermost first
    * @returns {Promise<Failure | null>}
    */
   async runSteps(session, steps, within) {
@@ -141,7 +141,7 @@ export class TestRun {
   }
 
   /**
-   * Returns the state of a session for a failure.
+   * Describes the session state for a failure.
    * @param {TestSession} session
    */
   reportOf(session) {
@@ -179,7 +179,7 @@ export class TestRun {
   /**
    * Saves a session as a named state.
    * @param {TestSession} session
-   * @param {string} state its name
+   * @param {string} state the name of the state
    */
   save(session, state) {
     this.engine.keep(session.file);
@@ -196,7 +196,7 @@ export class TestRun {
     return stop === "code" ? say.runStopped(session.elapsed, this.wordsOfCode(session)) : "";
   }
 
-  /** @param {TestSession} session has reached a code that is not an instruction */
+  /** @param {TestSession} session a session that has reached an opcode that is not an instruction */
   wordsOfCode({ counter }) {
     return say.beforeCode(this.addressText(counter));
   }
@@ -208,7 +208,7 @@ export class TestRun {
   }
 
   /**
-   * Returns the key that a value names now; if there is none, `words` is the message.
+   * Returns the key that a value currently selects. If there is none, `words` is the error message.
    * @param {TestSession} session
    * @param {ChosenKey} chosen
    * @returns {{ key: Key | undefined, words: string }}
@@ -248,26 +248,26 @@ export class TestRun {
   }
 
   /**
-   * Runs until a condition holds at the end of an instruction. For a label it always runs to the next time that the label is reached.
-   * Resolves to the error message, or to "".
+   * Runs until a condition is true at the end of an instruction. For a label, it always runs to the next arrival at the label. Resolves to the error
+   * message, or to "".
    * @param {TestSession} session
    * @param {Condition} condition
-   * @param {number} within the maximum of cycles
+   * @param {number} within the maximum number of cycles
    */
   async until(session, condition, within) {
-    const begun = session.elapsed;
+    const startCycles = session.elapsed;
     const isLabel = condition.address >= 0;
     if (!isLabel && session.check(condition).holds) return "";
-    const end = begun + within;
+    const end = startCycles + within;
     const stop = isLabel ? await this.untilLabel(session, condition, end) : await this.untilChange(session, condition, end);
     const { holds, message } = session.check(condition);
     if (holds) return "";
-    if (stop === "code") return say.runStoppedAt(session.elapsed - begun, this.wordsOfCode(session), message);
+    if (stop === "code") return say.runStoppedAt(session.elapsed - startCycles, this.wordsOfCode(session), message);
     return say.notReached(within, message, wordsOfPassed(session, this.prepared.names.map, condition));
   }
 
   /**
-   * Runs up to a label, with a temporary breakpoint. Resolves to why the run stopped.
+   * Runs to a label with a temporary breakpoint. Resolves to the reason for the stop.
    * @param {TestSession} session
    * @param {Condition} condition
    * @param {number} end
@@ -284,7 +284,7 @@ export class TestRun {
   }
 
   /**
-   * Runs until a condition becomes true, by tracing its places. The first traces are short, because it can become true soon.
+   * Runs until a condition becomes true, with traces of its places. The first traces are short because the condition can become true soon.
    * @param {TestSession} session
    * @param {Condition} condition
    * @param {number} end
@@ -292,7 +292,7 @@ export class TestRun {
   async untilChange(session, condition, end) {
     if (condition.needs.includes("seen") || condition.needs.includes("printed")) return this.untilSeen(session, condition, end);
     let stop = "end";
-    // TEST and a pending second cycle are not in a trace. During a run they can change only in the first cycle.
+    // Traces do not report TEST and a pending second cycle. During a run, these can only change in the first cycle.
     let piece = condition.places.length > 0 ? 1000 : 1;
     const beside = { ...session.readCondition(condition).beside, owed: "0" };
     for (; session.elapsed < end && stop === "end"; piece = piece < 10000 ? piece * 10 : LONGEST_RUN) {
@@ -306,7 +306,7 @@ export class TestRun {
   }
 
   /**
-   * Runs until a condition about a perceived display or the printout holds. It checks the condition at a fixed interval.
+   * Runs until a condition on a perceived display or the printout is true. Checks the condition at a fixed interval.
    * @param {TestSession} session
    * @param {Condition} condition
    * @param {number} end
@@ -321,12 +321,12 @@ export class TestRun {
   }
 
   /**
-   * Returns the cycles until a condition becomes true within a piece, or 0 if it does not.
+   * Returns the number of cycles until a condition becomes true within a piece; 0 if it does not.
    * @param {TestSession} session
    * @param {Condition} condition
-   * @param {Beside} beside the values that a run does not change
+   * @param {Beside} beside the values that do not change during a run
    * @param {number} piece
-   * @param {number} most the maximum to return
+   * @param {number} most the largest possible result
    */
   cyclesToChange(session, condition, beside, piece, most) {
     const { lines } = new Answers(session.ask(`trace ${piece} ${condition.places.join(" ")}\n`)).takeTrace();

@@ -1,5 +1,5 @@
-// A session under test, in memory. It stores an earlier state and the actions since then, so that the last instructions can be reported.
-// Each run is counted before it is executed.
+// A session under test in memory. It stores an earlier state and the later actions, so that it can report the last instructions. Each run is counted
+// before it is executed.
 
 import { SEEN_QUERY } from "../engine/seen_text.js";
 import { readCounter, readRegisters } from "../bench/answers.js";
@@ -15,10 +15,10 @@ import { Answers, readTraced, valuesOf } from "../engine/tracing.js";
  * @typedef {import("../engine/engine_host.js").EngineHost} Engine
  * @typedef {import("./printout.js").Printout} Printout
  *
- * A command, or a run ("run") with its cycles.
+ * A command; or a run ("run") with its number of cycles.
  * @typedef {{ line: string, cycles: number }} Done
  *
- * A stored state, and the actions since then.
+ * A stored state, and the actions after it.
  * @typedef {{ file: Uint8Array, elapsed: number, done: Done[] }} Kept
  */
 
@@ -30,24 +30,24 @@ export class TestSession {
    * @param {Engine} engine
    * @param {Uint8Array} file the initial state
    * @param {Account} account
-   * @param {() => Promise<void>} yieldToMessages is called between pieces of long work; throws if the work is cancelled
-   * @param {Printout | null} printout the printout, if a test asks for it
+   * @param {() => Promise<void>} yieldToMessages called between pieces of long work; throws if the work is cancelled
+   * @param {Printout | null} printout the printout, if a test needs it
    */
   constructor(engine, file, account, yieldToMessages, printout = null) {
     this.engine = engine;
     this.file = file.slice();
-    /** The session before the last run. The next run reuses its buffer. */
+    /** The session file before the last run. The next run reuses its buffer. */
     this.previous = file.slice();
     this.account = account;
     this.yieldToMessages = yieldToMessages;
     this.printout = printout;
     this.elapsed = 0;
     this.marked = 0;
-    /** The cycles of the last run, 0 if there was none. */
+    /** The number of cycles of the last run; 0 if there was none. */
     this.ran = 0;
     /** @type {Kept} */
     this.kept = { file: file.slice(), elapsed: 0, done: [] };
-    /** The initial state; `actions` are all actions since then, with consecutive runs joined. */
+    /** The initial state. `actions` are all later actions, with consecutive runs joined. */
     this.begun = file;
     /** @type {Done[]} */
     this.actions = [];
@@ -59,7 +59,7 @@ export class TestSession {
     this.beginsInSecondCycle = this.owed === "1";
   }
 
-  /** The codes that were printed, if the printout is recorded. */
+  /** The printed codes; empty if the printout is not recorded. */
   get codes() {
     return this.printout ? this.printout.codes : [];
   }
@@ -77,7 +77,7 @@ export class TestSession {
   }
 
   /**
-   * Serves a command other than a run. Throws if the bench rejects it.
+   * Serves a command that is not a run. Throws if the bench rejects the command.
    * @param {string} line
    */
   command(line) {
@@ -95,7 +95,7 @@ export class TestSession {
   }
 
   /**
-   * Runs for some cycles, or until something stops it. Resolves to why it stopped.
+   * Runs for a number of cycles, or until something stops the run. Resolves to the reason for the stop.
    * @param {number} cycles
    */
   async run(cycles) {
@@ -109,31 +109,31 @@ export class TestSession {
     return "end";
   }
 
-  /** @param {number} cycles at most LONGEST_RUN */
+  /** @param {number} cycles the length of the piece, at most LONGEST_RUN */
   runPiece(cycles) {
     if (cycles >= SHOWN_CYCLES) this.spare.set(this.file);
     const { account, engine, file, printout, previous } = this;
-    const asked = printout ? printout.queries(cycles) : "";
-    const answers = new Answers(engine.serve(file, `${asked}${account.queries(cycles)}run ${cycles}\nregs\n`, previous).answers);
+    const printoutQueries = printout ? printout.queries(cycles) : "";
+    const answers = new Answers(engine.serve(file, `${printoutQueries}${account.queries(cycles)}run ${cycles}\nregs\n`, previous).answers);
     if (printout) printout.take(answers, this.elapsed);
     account.take(answers, this.elapsed, () => new Answers(engine.ask(file, `trace ${cycles}\n`).answers));
-    const ran = answers.takeRun();
-    if (this.beginsInSecondCycle && ran.cycles > 0) {
+    const run = answers.takeRun();
+    if (this.beginsInSecondCycle && run.cycles > 0) {
       this.beginsInSecondCycle = false;
       account.begunBefore += 1;
     }
     [this.file, this.previous] = [previous, file];
     this.takeRegisters(answers.take());
-    this.ran = ran.cycles;
-    if (ran.cycles >= SHOWN_CYCLES) {
+    this.ran = run.cycles;
+    if (run.cycles >= SHOWN_CYCLES) {
       const { file: old } = this.kept;
       this.kept = { file: this.spare, elapsed: this.elapsed, done: [] };
       this.spare = old;
     }
-    if (ran.cycles > 0) this.kept.done.push({ line: "run", cycles: ran.cycles });
-    this.addRun(ran.cycles);
-    this.elapsed += ran.cycles;
-    return ran;
+    if (run.cycles > 0) this.kept.done.push({ line: "run", cycles: run.cycles });
+    this.addRun(run.cycles);
+    this.elapsed += run.cycles;
+    return run;
   }
 
   /** @param {number} cycles the length of a run to add to `actions` */
@@ -143,7 +143,7 @@ export class TestSession {
     else if (cycles > 0) this.actions.push({ line: "run", cycles });
   }
 
-  /** Uncounts the last cycle of the last instruction, which will not be completed. */
+  /** Subtracts the last cycle of the last instruction, because the instruction will not be completed. */
   cutShort() {
     if (this.ran === 0 || !this.account.keepsTimes) return;
     const before = this.ran > 1 ? `run ${this.ran - 1}\n` : "";
@@ -153,7 +153,7 @@ export class TestSession {
   }
 
   /**
-   * Returns the values of a condition's places, and the other values that it needs.
+   * Returns the values of the places in a condition, and the other values that it needs.
    * @param {Condition} condition
    * @returns {{ values: string[], beside: Beside }}
    */
@@ -170,7 +170,7 @@ export class TestSession {
   }
 
   /**
-   * Returns whether a condition holds now. If not, `message` has the present and the expected value.
+   * Returns whether a condition is currently true. If not, `message` contains the actual and the expected value.
    * @param {Condition} condition
    */
   check(condition) {

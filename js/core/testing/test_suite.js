@@ -1,5 +1,5 @@
-// Tests of a program: reads their texts, runs them, and counts their coverage. The page's worker and the commands `mcs4 test`, `mcs4 cover`
-// and `mcs4 profile` call it.
+// Reads the tests of a program, runs them, and counts their coverage. The page's worker and the commands `mcs4 test`, `mcs4 cover` and `mcs4 profile`
+// use this module.
 //
 //     const report = await runTests(engine, { boardText, programText, testText }, async (done, total) => true);
 
@@ -21,18 +21,18 @@ import { readSources } from "./test_text.js";
  * @typedef {import("./test_text.js").Source} Source
  * @typedef {import("./test_text.js").Test} Test
  *
- * The texts of a board and a program, with one test text, or several with their names.
+ * The texts of a board and a program, with one unnamed test text, or with several named test texts.
  * @typedef {{ boardText: string, programText: string, testText?: string, sources?: Source[] }} TestedTexts
  *
  * The options of a test run:
- * - `Counting`: the class that counts; if it counts less than an Account, the coverage or the profile is empty;
- * - `ended`: receives each outcome when its test ends;
- * - `ran`: receives the session of each test;
- * - `only`: the one test to run, after the tests that save the states it needs.
+ * - `Counting`: the class of the account; if it counts less than Account, the coverage or the profile is empty;
+ * - `ended`: called with each outcome when its test ends;
+ * - `ran`: called with the session of each test;
+ * - `only`: the only test to run, after the tests that save its start states.
  * @typedef {{ Counting?: typeof Account, ended?: (outcome: Outcome, number: number, total: number) => void,
  *   ran?: (session: import("./test_session.js").TestSession) => void, only?: { name: string, source: string } | null }} Options
  *
- * The results of tests. If the texts have errors, no test is run.
+ * The results of tests. If the texts have errors, no test runs.
  * @typedef {{ faults: TextFault[], outcomes: Outcome[], coverage: Coverage | null, profile: Profile | null }} Report
  */
 
@@ -40,7 +40,7 @@ import { readSources } from "./test_text.js";
 const YIELD_INTERVAL = 40;
 
 /**
- * Reads the texts. Returns the prepared session and the tests, or the errors.
+ * Parses the texts. Returns the prepared session and the tests, or the errors.
  * @param {Engine} engine
  * @param {TestedTexts} texts
  */
@@ -55,17 +55,17 @@ export function readTested(engine, texts) {
 }
 
 /**
- * Returns whether a step, or a step nested in one, has a wanted action.
+ * Returns whether a step or a nested step has a wanted action.
  * @param {import("./test_text.js").Step[]} steps
  * @param {(action: Action) => boolean} isWanted
  * @returns {boolean}
  */
-function someStep(steps, isWanted) {
-  return steps.some(({ action }) => ("steps" in action ? someStep(action.steps, isWanted) : isWanted(action)));
+function hasStep(steps, isWanted) {
+  return steps.some(({ action }) => ("steps" in action ? hasStep(action.steps, isWanted) : isWanted(action)));
 }
 
 /**
- * Returns the test that saves the state from which another test begins, or undefined if that test begins at power-on.
+ * Returns the test that saves the start state of another test; undefined if that test starts at power-on.
  * @param {Test[]} tests
  * @param {Test} test
  */
@@ -75,7 +75,7 @@ function testThatSaves(tests, { textNumber, from }) {
 }
 
 /**
- * Returns a test and the tests that save the states it needs, in their order.
+ * Returns a test and the tests that save its start states, in order.
  * @param {Test[]} tests
  * @param {(test: Test) => boolean} isWanted
  */
@@ -86,18 +86,17 @@ function withPrerequisites(tests, isWanted) {
   return tests.filter((test) => wanted.has(test));
 }
 
-/** @type {(action: Action) => boolean} returns whether the condition of a step is about the printout */
+/** @type {(action: Action) => boolean} returns whether the condition of a step depends on the printout */
 const needsPrintout = (action) => "condition" in action && action.condition.needs.includes("printed");
 
 /** @type {(action: Action) => boolean} */
 const changesRom = (action) => action.kind === "set" && action.changesRom;
 
 /**
- * Runs tests.
+ * Runs all tests of the texts, or one test and its prerequisites. Throws `Cancelled` if `goesOn` resolves to false.
  * @param {Engine} engine
  * @param {TestedTexts} texts
- * @param {(done: number, total: number) => Promise<boolean>} goesOn receives the number of completed tests, and resolves to whether to
- * continue
+ * @param {(done: number, total: number) => Promise<boolean>} goesOn called with the number of completed tests; resolves to true to continue
  * @param {Options} [options]
  * @returns {Promise<Report>}
  */
@@ -118,10 +117,10 @@ export async function runTests(engine, texts, goesOn, options = {}) {
     if (!(await goesOn(outcomes.length, tests.length))) throw new Cancelled();
     lastYield = performance.now();
   };
-  const printer = tests.some(({ steps }) => someStep(steps, needsPrintout)) ? prepared.names.face.printer : null;
+  const printer = tests.some(({ steps }) => hasStep(steps, needsPrintout)) ? prepared.names.face.printer : null;
   const run = new TestRun(engine, prepared, account, yieldToMessages, printer);
   run.ran = ran;
-  run.changesRom = tests.some(({ steps }) => someStep(steps, changesRom));
+  run.changesRom = tests.some(({ steps }) => hasStep(steps, changesRom));
   if (tests.length > 1) engine.keep(prepared.file);
   for (const test of tests) {
     const saving = testThatSaves(tests, test);

@@ -1,5 +1,5 @@
-// Parses test texts into tests with their steps, and reports the errors. Later texts can use the shared steps of earlier ones. Saved states
-// belong to one text. The manual ("The lines of a test") describes the language.
+// Parses test texts into tests with steps, and reports the errors. Later texts can use the shared steps of earlier texts. Saved states belong to one
+// text. The manual ("The lines of a test") describes the language.
 
 import { durationOf, wholeDuration } from "../conditions/durations.js";
 import { expressionOf, testConditionOf } from "../conditions/condition_language.js";
@@ -14,17 +14,17 @@ import * as say from "../../words/testing.js";
  * @typedef {import("../conditions/condition_language.js").Condition} Condition
  * @typedef {import("../conditions/condition_language.js").Names} Names
  *
- * A test text with the name of its file, "" if it has none.
+ * A test text with its file name, "" for none.
  * @typedef {{ name: string, text: string }} Source
  *
- * An error. `column` counts from 0, -1 if unknown.
+ * An error. `column` counts from 0; it is -1 if unknown.
  * @typedef {{ file: string, line: number, column: number, words: string }} Fault
  *
- * A key with its name, and the commands that press and release it.
+ * A key with its name and the commands that press and release it.
  * @typedef {{ name: string, key: import("../board/key_place.js").Key, press: string, release: string }} Key
  *
- * A key that a value names when the step is executed: the word in the line, the place of the value, the place for `trace`, and the keys for
- * the values from 0 on. If there are no keys, the value is the name of the key.
+ * A key that a value selects during the execution of the step: the word in the line, the place of the value, the `trace` place, and the keys for the
+ * values 0, 1 and so on. If there are no keys, the value is the key name.
  * @typedef {{ word: string, place: string, probe: string, keys: Key[] }} ChosenKey
  *
  * The action of a step.
@@ -38,12 +38,12 @@ import * as say from "../../words/testing.js";
  * Shared steps. `lines` is the number of lines that they execute, including all repetitions.
  * @typedef {{ source: Source, name: string, line: number, steps: Step[], lines: number }} Shared
  *
- * A test. `textNumber` is the number of its text, from 1. `from` is the name of the state from which it begins, "" for power-on.
+ * A test. `textNumber` is the number of its text, from 1. `from` is the name of its start state, "" for power-on.
  * @typedef {{ textNumber: number, name: string, line: number, from: string, steps: Step[] }} Test
  * @typedef {{ tests: Test[], faults: Fault[] }} TestText
  */
 
-/** The maximum of repetitions, and of executed lines in a test with all its repetitions. */
+/** The maximum number of repetitions, and the maximum number of executed lines in a test with all its repetitions. */
 const MAX_REPETITIONS = 100000;
 const MAX_LINES = 1000000;
 
@@ -51,7 +51,7 @@ const MAX_LINES = 1000000;
 class BadLine extends Error {
   /**
    * @param {string} words
-   * @param {number} column counts from 0, -1 if unknown
+   * @param {number} column the column from 0; -1 if unknown
    */
   constructor(words, column) {
     super(words);
@@ -70,13 +70,13 @@ function fail(words, column = -1) {
 }
 
 /**
- * Returns the address of a place in ROM, NaN for any other place.
+ * Returns the address of a ROM place; NaN for any other place.
  * @param {string} place
  */
 const romAddress = (place) => (place.startsWith("rom.") ? numberOf(place.slice("rom.".length)) : NaN);
 
 /**
- * Returns a key with its name and its commands.
+ * Creates a key with its name and its commands.
  * @param {string} name
  * @param {Key["key"]} key
  * @returns {Key}
@@ -86,7 +86,7 @@ export function namedKey(name, key) {
 }
 
 /**
- * Returns the named keys of a board by their names, in the order of the front panel. The switch at TEST is last.
+ * Returns the named keys of a board by name, in front-panel order. The button or switch at TEST comes last.
  * @param {import("../board/face.js").Face} face
  * @returns {Map<string, Key>}
  */
@@ -103,30 +103,30 @@ class TestReader {
   constructor(names) {
     this.names = names;
     this.keys = keysOf(names.face);
-    /** @type {Source} the text being read */
+    /** @type {Source} the current text */
     this.source = { name: "", text: "" };
-    /** The number of that text, from 1. */
+    /** The number of the current text, from 1. */
     this.textNumber = 0;
     /** @type {Test[]} */
     this.tests = [];
     /** @type {Fault[]} */
     this.faults = [];
-    /** @type {Map<string, Test>} for each saved state of this text, the test that saves it */
+    /** @type {Map<string, Test>} the tests that save states, by state name, in the current text */
     this.savedBy = new Map();
     /** @type {Map<string, Shared>} */
     this.shared = new Map();
-    /** @type {Shared | null} the shared steps being read, null in a test */
+    /** @type {Shared | null} the current shared steps; null in a test */
     this.sharing = null;
-    /** @type {Step[]} the list for the next step */
+    /** @type {Step[]} the list that receives the next step */
     this.steps = [];
-    /** @type {{ line: number, times: number, outer: Step[] }[]} the open repetitions, the outermost first */
+    /** @type {{ line: number, times: number, outer: Step[] }[]} the open repetitions, outermost first */
     this.repeats = [];
-    /** The number of executed lines in the test or the shared steps so far. */
+    /** The number of executed lines in the current test or shared steps so far. */
     this.lines = 0;
     this.hasBegun = false;
   }
 
-  /** @returns {Test} the test being read */
+  /** @returns {Test} the current test */
   get test() {
     return this.tests[this.tests.length - 1];
   }
@@ -149,7 +149,7 @@ class TestReader {
         if (!(fault instanceof BadLine)) throw fault;
         const column = fault.column < 0 ? -1 : fault.column + whole[at].length - whole[at].trimStart().length;
         this.addFault(at + 1, fault.message, Math.min(column, whole[at].trimEnd().length - 1));
-        // If a text does not begin like tests, one error is enough.
+        // If a text does not start like a test text, one error is sufficient.
         if (!this.hasBegun && /^[\t -~]*$/.test(lines[at])) return;
       }
     }
@@ -157,7 +157,7 @@ class TestReader {
     if (!this.hasBegun && this.faults.length === 0) this.addFault(1, say.NO_TEST);
   }
 
-  /** Reports an error if the texts have no test. */
+  /** Reports an error if the texts contain no test. */
   end() {
     if (this.tests.length === 0 && this.faults.length === 0) this.addFault(1, say.NO_TEST);
   }
@@ -172,8 +172,8 @@ class TestReader {
   }
 
   /**
-   * Returns a line without its comment. A comment mark has blanks around it. A mark in the name of a test is part of the name, and a mark
-   * that is the name of a key is that key.
+   * Returns a line without its comment. A comment mark needs blanks around it. A mark in the name of a test is part of the name. A mark that is the
+   * name of a key stands for that key.
    * @param {string} line
    */
   withoutComment(line) {
@@ -207,7 +207,7 @@ class TestReader {
     }
   }
 
-  /** Begins a test or shared steps, and ends the previous one. */
+  /** Starts a test or shared steps, and ends the previous ones. */
   begin() {
     this.closeRepeats();
     this.hasBegun = true;
@@ -242,7 +242,7 @@ class TestReader {
 
   // --- repetitions ---
 
-  /** Reports the repetitions without an end. */
+  /** Reports an error for each repetition without an end. */
   closeRepeats() {
     for (const { line } of this.repeats.splice(0)) this.addFault(line, say.NO_END);
   }
@@ -256,7 +256,7 @@ class TestReader {
   }
 
   /**
-   * Adds to the number of executed lines, as often as the open repetitions repeat them. Fails if there are too many.
+   * Adds to the number of executed lines, multiplied by the open repetitions. Fails if there are too many lines.
    * @param {number} more
    */
   addLines(more) {
@@ -293,7 +293,7 @@ class TestReader {
   }
 
   /**
-   * Parses `do`. It can use only shared steps that have ended, so shared steps never contain themselves.
+   * Parses `do`. Only completed shared steps are allowed, so that shared steps never contain themselves.
    * @param {string[]} words
    * @returns {Action}
    */
@@ -356,7 +356,7 @@ class TestReader {
   }
 
   /**
-   * Parses the names of keys. In `keys` a word that is not a name is read letter by letter.
+   * Parses key names. In a `keys` line, a word that is not a key name is split into letters.
    * @param {"press" | "release" | "keys"} kind
    * @param {string[]} words
    * @returns {Action}
@@ -372,8 +372,8 @@ class TestReader {
   }
 
   /**
-   * Parses a word that names a key by a value: `{r4}` for the key whose name is the value, `{r4:red,green}` for the key at that index.
-   * Returns null for any other word.
+   * Parses a word that selects a key by a value: `{r4}` for the key whose name is the value, or `{r4:red,green}` for the key at that index. Returns
+   * null for any other word.
    * @param {string} word
    * @returns {ChosenKey | null}
    */
@@ -382,16 +382,16 @@ class TestReader {
     if (inner === undefined) return null;
     const [, place, list] = /^([^:]*)(?::(.*))?$/.exec(inner) || ["", ""];
     const found = placeOf(place);
-    const spelled = found ? found.name : place.toLowerCase();
-    if (!/^(acc|cy|dcl|r\d+|(ram|st)\..+)$/.test(spelled) || list === "") return fail(say.CHOICE_FORM);
+    const placeName = found ? found.name : place.toLowerCase();
+    if (!/^(acc|cy|dcl|r\d+|(ram|st)\..+)$/.test(placeName) || list === "") return fail(say.CHOICE_FORM);
     const keys = list === undefined ? [] : list.split(",").map((name) => this.keys.get(name) || this.noKey(name, name));
     const { expression, fault } = expressionOf(place, this.names);
     const { places: [probe] } = expression || fail(fault);
-    return { word, place: spelled, probe, keys };
+    return { word, place: placeName, probe, keys };
   }
 
   /**
-   * Fails because a key does not exist.
+   * Fails because the key does not exist.
    * @param {string} name
    * @param {string} word the word that contains the name
    * @returns {never}
@@ -405,7 +405,7 @@ class TestReader {
   /**
    * Parses a condition.
    * @param {string} text
-   * @param {number} begin its column in the line
+   * @param {number} begin the column of the condition in the line
    */
   readCondition(text, begin) {
     const { condition, fault, column } = testConditionOf(text, this.names);
@@ -415,7 +415,7 @@ class TestReader {
   /**
    * Parses `until`.
    * @param {string} text the line
-   * @param {number} begin the column of its condition
+   * @param {number} begin the column of the condition
    * @returns {Action}
    */
   readUntil(text, begin) {
@@ -431,7 +431,7 @@ class TestReader {
   /**
    * Parses `set`. Fails if the board has no ROM at the address.
    * @param {string} text the text after `set`
-   * @param {number} begin its column in the line
+   * @param {number} begin the column of that text in the line
    */
   readSet(text, begin) {
     const { board, map } = this.names;
@@ -457,7 +457,7 @@ function readPace(words) {
 }
 
 /**
- * Returns the lines of steps, with the lines of shared steps in place of `do`.
+ * Returns the lines of steps. The lines of shared steps replace each `do` line.
  * @param {Step[]} steps
  * @returns {{ text: string, action: Action }[]}
  */
@@ -470,9 +470,9 @@ export function ownLines(steps) {
 }
 
 /**
- * Parses test texts, one after the other.
+ * Parses test texts in order.
  * @param {Source[]} sources
- * @param {Names} names the names in the board and the program
+ * @param {Names} names the names of the board and the program
  * @returns {TestText}
  */
 export function readSources(sources, names) {
@@ -485,7 +485,7 @@ export function readSources(sources, names) {
 /**
  * Parses one test text.
  * @param {string} text
- * @param {Names} names the names in the board and the program
+ * @param {Names} names the names of the board and the program
  */
 export function readTests(text, names) {
   return readSources([{ name: "", text }], names);

@@ -1,9 +1,9 @@
-// Suggestions for misspelled words.
+// Suggests corrections for misspelled words.
 
 import * as say from "../../words/text.js";
 
 /**
- * Returns the edit distance of two words: how many letters must be inserted, deleted, replaced, or swapped with their neighbour.
+ * Returns the edit distance of two words: the number of letters that must be inserted, deleted, replaced, or swapped with the next letter.
  * @param {string} one
  * @param {string} other
  */
@@ -23,7 +23,7 @@ export function editDistance(one, other) {
 }
 
 /**
- * Returns at most two words that are most similar to a misspelled word, or none if no word is similar.
+ * Returns the one or two words that are most similar to a misspelled word; an empty list if no word is similar.
  * @param {string} wanted
  * @param {Iterable<string>} words
  * @returns {string[]}
@@ -38,7 +38,7 @@ export function similarWords(wanted, words) {
 }
 
 /**
- * Returns a question that suggests words, or "" if there are none.
+ * Returns a question that suggests words; "" if there are none.
  * @param {string[]} words
  */
 export function suggestion(words) {

@@ -1,5 +1,4 @@
-// All errors in the texts of a board and a program, with their positions and messages. The page's editors and the language server show
-// them.
+// Finds all errors in the texts of a board and a program, with their positions and messages. The page's editors and the language server show them.
 
 import { faceFaults } from "../board/face.js";
 import { SourceMap } from "../machine/source_map.js";
@@ -15,20 +14,19 @@ import { alignedText, faultsOfLines, sentText } from "./text_fault.js";
  *
  * The queries to the bench.
  * @typedef {object} Asked
- * @property {(sent: string) => Promise<import("../bench/text_judgement.js").BoardError | null>} wiring resolves to the error in a board's
- * text, or to null
- * @property {(sent: string) => Promise<import("../bench/text_judgement.js").LineError[]>} errors resolves to the errors in a program's
- * lines
- * @property {(sent: string) => Promise<Refusal | null>} refuse resolves to the refusal if a program is loaded on the board, or to null
- * @property {(sent: string) => Promise<string[]>} map resolves to the answers to `map` for a program
- * @property {() => Promise<Set<number>>} roms resolves to the numbers of the board's ROMs
+ * @property {(sent: string) => Promise<import("../bench/text_judgement.js").BoardError | null>} wiring resolves to the error in a board text, or to
+ *   null
+ * @property {(sent: string) => Promise<import("../bench/text_judgement.js").LineError[]>} errors resolves to the errors in program lines
+ * @property {(sent: string) => Promise<Refusal | null>} refuse resolves to the refusal of a program on the board, or to null
+ * @property {(sent: string) => Promise<string[]>} map resolves to the `map` answers for a program
+ * @property {() => Promise<Set<number>>} roms resolves to the ROM numbers on the board
  */
 
-/** The highest number of a refusal of a text. */
+/** The highest refusal number for an error in a text. */
 const LAST_TEXT_REFUSAL = 42;
 
 /**
- * Returns a refusal if it is one of a text, otherwise null.
+ * Returns a refusal if it concerns a text, otherwise null.
  * @param {Refusal | null} refusal
  */
 export function refusalOfText(refusal) {
@@ -37,21 +35,20 @@ export function refusalOfText(refusal) {
 
 export class AllFaultsOfTexts {
   /**
-   * @param {Asked} asked
-   * @param {{ instructions: Map<string, Instruction>, tables: Map<string, Map<string, string>> }} manual the instructions, and for each
-   * table
-   *   of a board's text the values of its keys
+   * @param {Asked} queries
+   * @param {{ instructions: Map<string, Instruction>, tables: Map<string, Map<string, string>> }} manual the instructions, and the
+   *   descriptions of board text values, by table and key
    * @param {(number: number) => string} wordsOf returns the message of a refusal
    */
-  constructor(asked, { instructions, tables }, wordsOf) {
-    this.asked = asked;
+  constructor(queries, { instructions, tables }, wordsOf) {
+    this.asked = queries;
     this.instructions = instructions;
     this.tables = tables;
     this.wordsOf = wordsOf;
   }
 
   /**
-   * Resolves to the errors of a program, or to undefined if they are no longer wanted.
+   * Resolves to the errors in a program; to undefined if `isWanted` returns false meanwhile.
    * @param {string} text
    * @param {() => boolean} isWanted
    * @returns {Promise<AllFaults | undefined>}
@@ -66,14 +63,14 @@ export class AllFaultsOfTexts {
   }
 
   /**
-   * Resolves to the errors of a board, or to undefined if they are no longer wanted.
+   * Resolves to the errors in a board text; to undefined if `isWanted` returns false meanwhile.
    * @param {string} text
    * @param {() => boolean} isWanted
    * @returns {Promise<AllFaults | undefined>}
    */
   async ofBoard(text, isWanted) {
-    const unsent = faultsOfLines(text, "#");
-    if (unsent.length > 0) return { faults: unsent, areAll: true, rest: null };
+    const textFaults = faultsOfLines(text, "#");
+    if (textFaults.length > 0) return { faults: textFaults, areAll: true, rest: null };
     const error = await this.asked.wiring(sentText(text, "#"));
     if (!isWanted()) return undefined;
     if (!error) return { faults: [], areAll: true, rest: null };
@@ -82,7 +79,7 @@ export class AllFaultsOfTexts {
 }
 
 /**
- * Returns the errors in a board's comments, which describe the front panel. They do not prevent applying the board.
+ * Returns the errors in the comments that describe the front panel. These errors do not prevent applying the board.
  * @param {string} text
  * @returns {Fault[]}
  */

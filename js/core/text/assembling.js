@@ -1,4 +1,4 @@
-// Makes the texts that load bytes or a program into ROM and change nothing else, with as few commands as possible.
+// Creates the texts that load bytes or a program into ROM with as few commands as possible. Nothing else changes.
 
 import { counted, hex, upTo } from "../bench/numbers.js";
 import { PAGES, PAGE_BYTES } from "../bench/rom_bytes.js";
@@ -6,21 +6,21 @@ import { LONGEST_TEXT } from "./text_fault.js";
 import * as say from "../../words/text.js";
 
 /**
- * The size of a program in bytes, and the addresses outside the program at which ROM is not 0.
+ * The program size in bytes, and the addresses outside the program at which ROM is not 0.
  * @typedef {{ size: number, left: number[] }} Leftovers
  */
 
-/** The maximum of bytes in a line: a line has at most 255 characters. */
+/** The maximum number of bytes per line; a line has at most 255 characters. */
 const MAX_BYTES_IN_LINE = 60;
-/** The maximum of zeros in a line. */
+/** The maximum number of zeros per line. */
 const MAX_ZEROS_IN_LINE = 126;
 
-/** @type {(address: number) => number} returns the number of the ROM at an address */
+/** @type {(address: number) => number} returns the ROM number for an address */
 const pageOf = (address) => Math.floor(address / PAGE_BYTES);
 
 /**
  * Returns addresses as ranges of consecutive addresses.
- * @param {number[]} addresses in rising order
+ * @param {number[]} addresses the addresses in ascending order
  * @returns {{ from: number, count: number }[]}
  */
 function rangesOf(addresses) {
@@ -35,10 +35,10 @@ function rangesOf(addresses) {
 }
 
 /**
- * Returns statements that store bytes at an address and after it.
+ * Returns statements that store bytes from an address on.
  * @param {number} from
  * @param {number[]} bytes
- * @param {number} maxInLine the maximum of bytes in a line
+ * @param {number} maxInLine the maximum number of bytes per line
  */
 function statementsOf(from, bytes, maxInLine) {
   const lines = [`ORG 0x${hex(from, 3)}\n`];
@@ -47,21 +47,21 @@ function statementsOf(from, bytes, maxInLine) {
 }
 
 /**
- * Returns statements that store 0 at addresses, one text for each range.
- * @param {number[]} addresses in rising order
+ * Returns statements that store 0 at addresses, one text per range.
+ * @param {number[]} addresses the addresses in ascending order
  * @returns {string[]}
  */
 function clearingTexts(addresses) {
   return rangesOf(addresses).map(({ from, count }) => statementsOf(from, Array(count).fill(0), MAX_ZEROS_IN_LINE));
 }
 
-/** The room that each of several texts reserves for a byte in each ROM, in characters. */
+/** The number of characters that each of several texts reserves for one byte in each ROM. */
 const ROOM_FOR_ROMS = PAGES.length * statementsOf(0, [255], 1).length;
 
 /**
- * Returns statements for one byte, the last one, in each ROM that gets bytes, but none from a text's own lines.
+ * Returns statements for one byte (the last one) in each ROM that gets bytes from other texts, but not from this text.
  * @param {Int16Array} bytes
- * @param {Set<number>} pages the ROMs that get bytes from the text's own lines
+ * @param {Set<number>} pages the ROMs that get bytes from this text
  */
 function statementsForRoms(bytes, pages) {
   const lastOf = (/** @type {number} */ page) => {
@@ -74,9 +74,9 @@ function statementsForRoms(bytes, pages) {
 }
 
 /**
- * Returns the texts for `asm` that store bytes in ROM, each as long as possible. If there are several, each stores a byte in every ROM that
- * gets bytes. So if the board lacks a ROM, the bench rejects all of them.
- * @param {Int16Array} bytes the byte at each address, negative for none
+ * Returns the `asm` texts that store bytes in ROM, each as long as possible. If there are several texts, each of them stores a byte in every affected
+ * ROM. If one of these ROMs is missing, the bench therefore rejects all texts.
+ * @param {Int16Array} bytes the bytes by address; negative for no byte
  * @returns {string[]}
  */
 export function textsOfBytes(bytes) {
@@ -98,16 +98,16 @@ export function textsOfBytes(bytes) {
 }
 
 /**
- * Returns the texts for `asm` that load a program into ROM and store 0 at other addresses. It is one text if possible. Otherwise the last
- * text contains the program.
+ * Returns the `asm` texts that load a program into ROM and store 0 at other addresses. If possible, there is only one text. Otherwise the last text
+ * contains the program.
  * @param {string} program the text as sent to the bench
- * @param {number[]} addresses in rising order
+ * @param {number[]} addresses the addresses in ascending order
  * @returns {string[]}
  */
 export function programTexts(program, addresses) {
   const texts = [program];
   for (const piece of clearingTexts(addresses)) {
-    // The program's lines are first in their text, so that their numbers do not change.
+    // The program comes first in its text, so that its line numbers do not change.
     if (texts[0].length + piece.length <= LONGEST_TEXT) texts[0] += piece;
     else texts.unshift(piece);
   }
@@ -115,7 +115,7 @@ export function programTexts(program, addresses) {
 }
 
 /**
- * Returns the message after a program was assembled, about the bytes that stay in ROM outside it.
+ * Returns the message after a program was assembled, including the bytes outside it that stay in ROM.
  * @param {Leftovers} leftovers
  * @param {string} counter the program counter, as text
  */

@@ -1,11 +1,11 @@
-// Splits a line of a program's text into words, for colours, help and messages. Only the bench decides whether the line is valid.
+// Splits a program line into words for colours, help and messages. Only the bench decides whether the line is valid.
 
 /**
- * A word and its position in the line.
+ * A word and its range in the line.
  * @typedef {{ text: string, from: number, to: number }} Word
  *
- * The parts of a line. `label`: its label, or the name that it defines; `defines`: it defines a name by `=`; `head`: the first word of its
- * statement; `operands`: the operands, or the value of a definition; `comment`: the position of its comment.
+ * The parts of a line. `label`: the label, or the name that the line defines. `defines`: true if the line defines a name with `=`. `head`: the first
+ * word of the statement. `operands`: the operands, or the value of a definition. `comment`: the index at which the comment starts.
  * @typedef {{ label: Word | null, defines: boolean, head: Word | null, operands: Word[], comment: number }} Parts
  *
  * @typedef {"comment" | "label" | "instruction" | "directive" | "register" | "number" | "name" | "unknown"} Kind
@@ -20,7 +20,7 @@ export const NAME = /^[A-Za-z_][A-Za-z0-9_]*$/;
 export const MAX_NAME_LENGTH = 16;
 
 /**
- * Returns the word between two positions of a line, without the blanks around it, or null if there is none.
+ * Returns the word between two indexes of a line, without surrounding blanks; null if there is none.
  * @param {string} line
  * @param {number} from
  * @param {number} to
@@ -52,7 +52,7 @@ function operandsIn(line, from, to) {
   return words;
 }
 
-/** @type {Map<string, Parts>} a cache of lines, because a text is split again after each edit */
+/** @type {Map<string, Parts>} a cache of split lines, because each edit splits the whole text again */
 const cache = new Map();
 const MAX_CACHED = 8192;
 const MAX_CACHED_LENGTH = 255;
@@ -73,7 +73,7 @@ export function partsOf(line) {
 }
 
 /**
- * Returns the parts of a line, without the cache.
+ * Returns the parts of a line; does not use the cache.
  * @param {string} line
  * @returns {Parts}
  */
@@ -96,7 +96,7 @@ function splitLine(line) {
 }
 
 /**
- * Returns the kind of an operand, by its form.
+ * Returns the kind of an operand from its spelling.
  * @param {string} text
  * @returns {Kind}
  */
@@ -128,7 +128,7 @@ export function tokensOf(line, isInstruction) {
 }
 
 /**
- * Returns the names that a text defines, each with the number of its first line, from 1.
+ * Returns the names that a text defines, with the number of the first defining line, from 1.
  * @param {string[]} lines
  * @returns {Map<string, number>}
  */
@@ -142,7 +142,7 @@ export function namesOf(lines) {
 }
 
 /**
- * Returns the word of letters, digits and underscores at a position in a line, or null if there is none.
+ * Returns the word of letters, digits and underscores at an index in a line; null if there is none.
  * @param {string} line
  * @param {number} at
  * @returns {Word | null}

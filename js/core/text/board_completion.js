@@ -1,4 +1,4 @@
-// Completes a word in a board's text: a part with all its keys, a key, or a value that names a line of the board.
+// Completes a word in a board text: a part with all its keys, a key, or a value that names a signal line of the board.
 
 import { MAX_PARTS, boardLines } from "../bench/board_form.js";
 import { upTo } from "../bench/numbers.js";
@@ -14,11 +14,11 @@ import * as say from "../../words/text.js";
  * @typedef {import("../bench/board_form.js").BoardLine} BoardLine
  */
 
-/** The text before the caret in a value: its key, an open array, an open quote, and the value so far. */
+/** Matches the text before the caret in a value: the key, an open array, an open quote, and the value so far. */
 const VALUE = /(\w+)\s*=\s*(?:\[(?:[^\][\]"]|"[^"\n]*")*)?("?)([\w.]*)$/;
 
 /**
- * Returns the description of a line of the board.
+ * Describes a signal line of the board.
  * @param {BoardLine} line
  */
 function wordsOfLine({ name, kind, isInput }) {
@@ -27,10 +27,10 @@ function wordsOfLine({ name, kind, isInput }) {
   return kind === "ram" ? say.lineOfRam(third, second, first) : say.bitOfChain(second, first);
 }
 
-/** The maximum of characters before the caret that are searched. */
+/** The maximum number of characters to search before the caret. */
 const MAX_CHARACTERS_BEFORE = 2000;
 
-/** The parts of a board's text, as far as the text is valid. */
+/** The parts of a board text, as far as the text is valid. */
 class Parts {
   /** @param {string} text */
   constructor(text) {
@@ -45,7 +45,7 @@ class Parts {
   }
 
   /**
-   * Returns the possible values of a key. Names of lines and ports need quotes.
+   * Returns the possible values of a key. Names of signal lines and ports need quotes.
    * @param {string} table
    * @param {string} key
    * @returns {{ list: Fitting[], isQuoted: boolean }}
@@ -67,7 +67,7 @@ class Parts {
   }
 
   /**
-   * Returns each part of a board with all its keys, using the lines that the board has.
+   * Returns a template for each kind of part, with all its keys and with existing signal lines.
    * @returns {Fitting[]}
    */
   templates() {
@@ -101,11 +101,11 @@ function completeValue(text, at, value, { list, isQuoted }) {
 }
 
 /**
- * Returns the completions at a position in a board's text.
+ * Returns the completions at a position in a board text.
  * @param {string[]} lines
- * @param {number} line counts from 0
+ * @param {number} line the line number from 0
  * @param {number} at
- * @param {Map<string, Map<string, string>>} tables the values of the keys of each table
+ * @param {Map<string, Map<string, string>>} tables the keys and their values, by table
  * @returns {Completion}
  */
 export function completeBoard(lines, line, at, tables) {
@@ -115,7 +115,7 @@ export function completeBoard(lines, line, at, tables) {
   if (/^\s*\[+\w*$/.test(before)) return fitting(text, at, withoutDescription([...tables.keys()]));
   const table = tableAt(lines, line);
   const parts = new Parts(lines.map((each, number) => (number === line ? "" : each)).join("\n"));
-  // An array can begin some lines before this one.
+  // An array can start some lines above.
   const linesBefore = lines.slice(Math.max(0, line - 9), line).map((each) => each.slice(0, commentAt(each, "#")));
   const value = VALUE.exec([...linesBefore, before].join("\n").slice(-MAX_CHARACTERS_BEFORE));
   if (value && (before.includes(value[1]) || value[0].includes("["))) return completeValue(text, at, value, parts.values(table, value[1]));

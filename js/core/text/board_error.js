@@ -1,5 +1,5 @@
-// Describes the error that the bench reports in a board's text. The bench names the part, the reader of the text finds its position, and
-// the manual says what each key must be.
+// Describes the error that the bench reports for a board text. The bench names the part, the text reader finds its position, and the manual describes
+// the valid values of each key.
 
 import { KEYS, LINE_NAMES, MAX_PARTS, MAX_COLUMNS, BITS_PER_CHIP, RANGES, boardLines } from "../bench/board_form.js";
 import { similarWords, suggestion } from "./alike.js";
@@ -19,7 +19,7 @@ import * as say from "../../words/text.js";
  * @typedef {{ entry: Entry | null, key: Key | null }} WrongPart
  */
 
-/** The numbers of refusals of a board's text. */
+/** The refusal numbers for board texts. */
 const NOT_TOML = 20;
 const UNKNOWN_KEY = 21;
 const MISSING_KEY = 22;
@@ -28,11 +28,11 @@ const DUPLICATE = 24;
 const LACKS_LINE = 25;
 const WRONG_DIRECTION = 26;
 const TOO_MANY = 27;
-/** The keys whose values are lines of the board. */
+/** The keys whose values are signal lines. */
 const LINE_KEYS = ["clock", "data", "line", "columns"];
 
 /**
- * Returns the line that begins a table.
+ * Returns the header line of a table.
  * @param {string} kind
  */
 const headerOf = (kind) => (kind === "keys" ? "[keys]" : `[[${kind}]]`);
@@ -42,7 +42,7 @@ class BoardErrorText {
   /**
    * @param {BoardText} text
    * @param {BoardError} error
-   * @param {Map<string, Map<string, string>>} tables from the manual: for each table, the values of its keys
+   * @param {Map<string, Map<string, string>>} tables the manual's keys and their values, by table
    * @param {(number: number) => string} wordsOf returns the message of a refusal
    */
   constructor(text, error, tables, wordsOf) {
@@ -54,13 +54,13 @@ class BoardErrorText {
     this.lines = new Map(boardLines(this.parts).map((line) => [line.name, line]));
   }
 
-  /** The tables of the section with the error. */
+  /** The tables of the section that contains the error. */
   get entries() {
     const { section } = this.error;
     return this.text.entries.filter(({ table }) => table.replace(/[[\]]/g, "") === section);
   }
 
-  /** @returns {WrongPart} the part with the error */
+  /** @returns {WrongPart} the part that contains the error */
   wrongPart() {
     const { section, index, key: name } = this.error;
     const key = (/** @type {Key[]} */ keys) => keys.find((each) => each.name === name) || null;
@@ -85,7 +85,7 @@ class BoardErrorText {
     return place ? faultAt(number, place, words) : this.wholeLine(words);
   }
 
-  /** Returns the error in a text that is not TOML. */
+  /** Returns the error in a text that is not valid TOML. */
   tomlError() {
     const { number, line } = this.error;
     const found = this.text.faults.find((each) => each.line === line);
@@ -99,7 +99,7 @@ class BoardErrorText {
   }
 
   /**
-   * Returns the value of a key, or the wrong value among several columns.
+   * Returns the value of a key; for several columns, the wrong column.
    * @param {Key} key
    * @returns {Value}
    */
@@ -114,7 +114,7 @@ class BoardErrorText {
   }
 
   /**
-   * Returns the message of the error.
+   * Returns the error message.
    * @param {Entry | null} entry
    * @param {Key | null} key
    * @param {Value | null} value the wrong value
@@ -132,7 +132,7 @@ class BoardErrorText {
   }
 
   /**
-   * Returns a message that says what a key or a table must be.
+   * Returns a message that describes the valid values of a key or a table.
    * @param {Value | null} value
    */
   formMessage(value) {
@@ -148,7 +148,7 @@ class BoardErrorText {
   }
 
   /**
-   * Returns a message that says why the board lacks a line or a chain.
+   * Returns a message with the reason why the board does not have a line or chain.
    * @param {string} name
    */
   missingLine(name) {
@@ -163,7 +163,7 @@ class BoardErrorText {
   }
 
   /**
-   * Returns a message that says which bits of a chain the rows of the key matrix need.
+   * Returns a message with the chain bits that the key matrix rows need.
    * @param {Entry} entry
    */
   rowsNeed({ keys }) {
@@ -176,7 +176,7 @@ class BoardErrorText {
   }
 
   /**
-   * Returns the line of the first table with the same value.
+   * Returns the line number of the first table with the same value.
    * @param {Entry | null} entry
    * @param {Key} key
    */
@@ -187,7 +187,7 @@ class BoardErrorText {
   }
 
   /**
-   * Returns the error of a key or a table that boards do not have, with suggestions.
+   * Returns the error for an unknown key or table, with suggestions.
    * @param {Entry | null} entry
    * @param {Key | null} key
    * @returns {Fault}
@@ -197,15 +197,15 @@ class BoardErrorText {
     const known = section === "" ? Object.keys(KEYS) : KEYS[section];
     const similar = similarWords(name, known);
     const instead = suggestion(similar) || say.whichHas(known.join(", "));
-    const words = section === "" ? say.noPart(name, instead) : say.noKeyOf(name, section, instead);
+    const message = section === "" ? say.noPart(name, instead) : say.noKeyOf(name, section, instead);
     const place = key || entry;
-    const fault = place ? faultAt(UNKNOWN_KEY, place, words) : this.wholeLine(words);
+    const fault = place ? faultAt(UNKNOWN_KEY, place, message) : this.wholeLine(message);
     const cures = key ? similar : similar.map(headerOf);
     return cures.length > 0 && place ? { ...fault, cures } : fault;
   }
 
   /**
-   * Returns an error that covers the line that the bench names.
+   * Returns an error that covers the whole line named by the bench.
    * @param {string} words
    * @returns {Fault}
    */
@@ -217,10 +217,10 @@ class BoardErrorText {
 }
 
 /**
- * Returns an error that the bench reports in a board's text, with its position and message.
- * @param {string} text a text with the positions of the original
+ * Returns the error that the bench reports for a board text, with its position and message.
+ * @param {string} text the text, with the same positions as the original
  * @param {BoardError} error
- * @param {Map<string, Map<string, string>>} tables from the manual: for each table, the values of its keys
+ * @param {Map<string, Map<string, string>>} tables the manual's keys and their values, by table
  * @param {(number: number) => string} wordsOf returns the message of a refusal
  * @returns {Fault}
  */

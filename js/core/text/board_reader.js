@@ -1,5 +1,5 @@
-// Parses a board's text: TOML as boards use it, with the position of each key and value. It collects errors and continues after them. Only
-// the bench decides whether a text is valid; this explains why the bench rejects it.
+// Parses the TOML subset of board texts, with the position of each key and value. The parser collects errors and continues after them. Only the bench
+// decides whether a text is valid; this parser explains why the bench rejects a text.
 
 import { RANGES } from "../bench/board_form.js";
 import { tomlWords } from "./toml_words.js";
@@ -10,29 +10,28 @@ import * as say from "../../words/text.js";
  * @typedef {import("./toml_words.js").TomlWord} TomlWord
  * @typedef {string | number | boolean | Value[] | Entry} Inner
  *
- * The end of a word: its line, and the position after its last character.
+ * The end of a word: its line, and the index after its last character.
  * @typedef {{ line: number, to: number }} End
  *
- * A value with its position and its end. For an array or a table the position is that of the opening bracket. `whole` is false for a number
- * that is not an integer.
+ * A value with its position and end. The position of an array or table is its opening bracket. `whole` is false for a number that is not an integer.
  * @typedef {{ inner: Inner, whole: boolean, line: number, from: number, to: number, end: End }} Value
  * @typedef {{ name: string, line: number, from: number, to: number, value: Value }} Key
  *
- * A table with its position and its keys. Only a table that is written as a value has an end.
+ * A table with its position and its keys. Only an inline table has an end.
  * @typedef {{ table: string, line: number, from: number, to: number, keys: Key[], end?: End }} Entry
  *
- * The content of a text: its tables (`entries`), the keys before all tables (`keys`), those of them that are not tables (`others`), and the
- * errors.
+ * The contents of a text: its tables (`entries`), the keys before all tables (`keys`), those of these keys whose values are not tables (`others`),
+ * and the errors.
  * @typedef {{ entries: Entry[], others: Key[], keys: Key[], faults: Fault[] }} BoardText
  */
 
-/** The refusal of a text that is not TOML. */
+/** The refusal number for a text that is not TOML. */
 const NOT_TOML = 20;
-/** The maximum nesting of brackets and braces. A board needs three. */
+/** The maximum nesting depth of brackets and braces. A board needs three levels. */
 const MAX_DEPTH = 32;
 const INTEGER = /^[+-]?(0|[1-9](_?\d)*)$|^0x[0-9A-Fa-f](_?[0-9A-Fa-f])*$|^0o[0-7]+$|^0b[01]+$/;
 
-/** An error: a text is not TOML at a word. */
+/** The error for a word that is not valid TOML. */
 class NotToml extends Error {
   /**
    * @param {TomlWord} word
@@ -57,7 +56,7 @@ export class BoardReader {
     this.keys = [];
     /** @type {Fault[]} */
     this.faults = [];
-    /** @type {Entry | null} the table being read, null before all tables */
+    /** @type {Entry | null} the current table; null before the first table */
     this.open = null;
     /** The number of open brackets and braces. */
     this.depth = 0;
@@ -67,7 +66,7 @@ export class BoardReader {
     return this.words[this.at];
   }
 
-  /** @returns {End} the end of the last word that was read */
+  /** @returns {End} the end of the last word read */
   get lastEnd() {
     const { line, to } = this.words[this.at - 1];
     return { line, to };
@@ -79,37 +78,37 @@ export class BoardReader {
   }
 
   /**
-   * Reads a mark. Throws if the next word is not this mark.
+   * Consumes a mark. Throws if the next word is not this mark.
    * @param {string} mark
-   * @param {string} words the message
+   * @param {string} words the error message
    */
   take(mark, words) {
     if (!this.isMark(mark)) throw new NotToml(this.word, this.word.fault || words);
     this.at += 1;
   }
 
-  /** Reads the text. After an error it continues in the next line. */
+  /** Reads the text. After an error, it continues on the next line. */
   read() {
     while (this.at < this.words.length) {
-      const begun = this.at;
+      const startIndex = this.at;
       try {
         this.readStatement();
       } catch (fault) {
         if (!(fault instanceof NotToml)) throw fault;
         const { line, from, to } = fault.word;
         this.faults.push({ number: NOT_TOML, line, from, to, words: fault.message });
-        this.at = this.lineAfter(line, begun);
+        this.at = this.lineAfter(line, startIndex);
       }
     }
   }
 
   /**
-   * Returns the index of the first word after an erroneous line.
+   * Returns the index of the first word after a line with an error.
    * @param {number} line
-   * @param {number} begun the index of the first word of the erroneous statement
+   * @param {number} startIndex the index of the first word in the statement with the error
    */
-  lineAfter(line, begun) {
-    let at = begun;
+  lineAfter(line, startIndex) {
+    let at = startIndex;
     while (at < this.words.length && !(this.words[at].kind === "end" && this.words[at].line >= line)) at += 1;
     return at + 1;
   }
@@ -151,7 +150,7 @@ export class BoardReader {
   }
 
   /**
-   * Adds tables that are written as values. Returns false if the value is not a table or an array of tables.
+   * Adds inline tables. Returns false if the value is neither a table nor an array of tables.
    * @param {string} name
    * @param {Inner} inner
    */
@@ -178,7 +177,7 @@ export class BoardReader {
 
   /**
    * Reads a value.
-   * @param {string} key the name of its key, for messages
+   * @param {string} key the name of the key, for messages
    * @returns {Value}
    */
   readValue(key) {
@@ -210,7 +209,7 @@ export class BoardReader {
   }
 
   /**
-   * Returns the value of a string, a number or a boolean. Throws if it is neither.
+   * Returns the value of a string, number or boolean. Throws for any other word.
    * @param {string} kind
    * @param {string} text
    * @returns {Inner}
@@ -224,7 +223,7 @@ export class BoardReader {
     throw new NotToml(this.word, say.textForm(text));
   }
 
-  /** Skips the ends of lines. */
+  /** Skips line ends. */
   skipEnds() {
     while (this.at < this.words.length - 1 && this.word.kind === "end") this.at += 1;
   }
@@ -265,7 +264,7 @@ export class BoardReader {
 }
 
 /**
- * Parses a board's text.
+ * Parses a board text.
  * @param {string} text
  * @returns {BoardText}
  */
@@ -277,7 +276,7 @@ export function readBoardText(text) {
 }
 
 /**
- * Returns the ROMs, RAM banks and chains in a text. The numbers of chips are limited to what a board can have.
+ * Returns the ROMs, RAM banks and chains in a text. Chip counts are limited to the maximum of a board.
  * @param {Entry[]} entries
  */
 export function partsWithLines(entries) {

@@ -9,13 +9,13 @@ import { operandsOfForm } from "./program_words.js";
  * A completion: the word and its description.
  * @typedef {{ text: string, what: string }} Fitting
  *
- * The completions, and the characters of the line that they replace.
+ * The completions, and the range in the line that they replace.
  * @typedef {{ from: number, to: number, list: Fitting[] }} Completion
  */
 
-/** The maximum of completions in a list. */
+/** The maximum number of completions in a list. */
 const MAX_COMPLETIONS = 60;
-/** The gap between a form and its description. */
+/** The gap between an instruction form and its description. */
 const GAP = "   ";
 const REGISTERS = [...Array(16).keys()].map((number) => `R${number}`);
 const PAIRS = [...Array(8).keys()].map((number) => `P${number}`);
@@ -30,7 +30,7 @@ export function withoutDescription(words) {
 }
 
 /**
- * Returns the words that begin with the text before the caret, ignoring case.
+ * Returns the words that start with the text before the caret; the case is ignored.
  * @param {string} line
  * @param {number} at
  * @param {Fitting[]} words
@@ -39,16 +39,16 @@ export function withoutDescription(words) {
  */
 export function fitting(line, at, words, begins = /\w*$/) {
   const found = begins.exec(line.slice(0, at));
-  const begun = found ? found[0] : "";
-  const low = begun.toLowerCase();
-  const list = words.filter(({ text }) => text.toLowerCase().startsWith(low) && text !== begun).slice(0, MAX_COMPLETIONS);
-  return { from: at - begun.length, to: at, list };
+  const typed = found ? found[0] : "";
+  const low = typed.toLowerCase();
+  const list = words.filter(({ text }) => text.toLowerCase().startsWith(low) && text !== typed).slice(0, MAX_COMPLETIONS);
+  return { from: at - typed.length, to: at, list };
 }
 
 /**
  * Returns the completions at a position in a program.
  * @param {string[]} lines
- * @param {number} line counts from 0
+ * @param {number} line the line number from 0
  * @param {number} at
  * @param {Map<string, Instruction>} instructions
  * @returns {Completion}
@@ -58,7 +58,7 @@ export function completeProgram(lines, line, at, instructions) {
   const before = text.slice(0, at);
   const { head, comment } = partsOf(before);
   if (comment < before.length) return { from: at, to: at, list: [] };
-  // The line ends at the caret, so that the word being typed does not complete itself.
+  // The line is cut at the caret, so that the unfinished word does not complete itself.
   const names = namesOf(lines.map((each, number) => (number === line ? before : each)));
   if (!head || head.to === at) {
     const mnemonics = [...instructions].map(([name, { form, does }]) => ({ text: name, what: form.slice(name.length) + GAP + does }));

@@ -1,11 +1,10 @@
-// Makes foreign texts safe for a terminal. It escapes characters that would move the cursor, change the title or reverse the direction of a
-// line.
+// Makes foreign texts safe for a terminal. Escapes characters that could move the cursor, change the title, or reverse the writing direction.
 
 // eslint-disable-next-line no-control-regex
 const UNSAFE_CHARACTERS = /[\u0000-\u0008\u000b-\u001f\u007f-\u009f\u061c\u200e\u200f\u2028-\u202e\u2066-\u2069]/g;
 
 /**
- * Returns a text with control characters as `\x1B` or `\u202E`. Line feeds and tabs stay.
+ * Returns a text with control characters escaped as `\x1B` or `\u202E`. Line feeds and tabs stay.
  * @param {string} text
  */
 export function escaped(text) {

@@ -1,7 +1,7 @@
 // Wraps paragraphs to a width, between words.
 
 /**
- * Wraps a paragraph. A word that is longer than a line gets its own line.
+ * Wraps a paragraph. A word that is longer than the width gets its own line.
  * @param {string} text
  * @param {number} width
  * @param {string} [first] the prefix of the first line
@@ -19,11 +19,11 @@ export function folded(text, width, first = "", others = first) {
   return lines.join("\n");
 }
 
-/** The prefix of lines that are never wrapped, such as lines of programs and boards. */
+/** The prefix of lines that are never wrapped, such as program and board lines. */
 export const QUOTED = "    ";
 
 /**
- * Wraps the long lines of a message, and indents their continuations.
+ * Wraps the long lines of a message and indents the continuation lines.
  * @param {string} message
  * @param {number} width
  */

@@ -1,11 +1,11 @@
-// Finds the lines of a text that fold under a line: a part of a program after its label, a table of a board, a test, or comment lines.
+// Finds the foldable lines of a text: a program part under its label, a board table, a test, or comment lines.
 
 /**
- * A function that returns a line of the text, from 0, or undefined after the last line.
+ * A function that returns the line at a number from 0; undefined after the last line.
  * @typedef {(line: number) => string | undefined} LineAt
  *
- * The marks of the parts of a text. `mark` begins a comment, and `head` matches the first line of a part. `isNested`: a head directly
- * after a line of code belongs to the part around it, as the label of a loop belongs to its subroutine.
+ * The patterns for the parts of a text. `mark` starts a comment. `head` matches the first line of a part. `isNested`: true if a head directly after a
+ * code line belongs to the enclosing part, as a loop label belongs to its subroutine.
  * @typedef {{ mark: string, head: RegExp, isNested: boolean }} Parts
  */
 
@@ -31,7 +31,7 @@ function isComment(text, { mark }) {
 }
 
 /**
- * Returns whether a head begins an outer part: it is after a blank line or a comment, or parts cannot be nested.
+ * Returns whether a head starts an outer part. This is true after a blank line or a comment, or if parts cannot be nested.
  * @param {LineAt} lineAt
  * @param {number} line
  * @param {Parts} parts
@@ -46,19 +46,19 @@ function isOuter(lineAt, line, parts) {
  * @param {LineAt} lineAt
  * @param {number} line
  * @param {Parts} parts
- * @param {boolean} isOuterPart whether the part is an outer part
+ * @param {boolean} isOuterPart true for an outer part
  */
 function endsBefore(lineAt, line, parts, isOuterPart) {
   const text = lineAt(line) || "";
   if (parts.head.test(text)) return !isOuterPart || isOuter(lineAt, line, parts);
-  // A comment at the margin after a blank line belongs to the next part.
+  // An unindented comment after a blank line belongs to the next part.
   return text.startsWith(parts.mark) && isBlank(lineAt(line - 1));
 }
 
 /**
- * Returns the last line that folds under a line, or the line itself if none does.
+ * Returns the last line that folds under a line; the line itself if nothing folds under it.
  * @param {LineAt} lineAt
- * @param {number} line counts from 0
+ * @param {number} line the line number from 0
  * @param {Parts} parts
  */
 export function lastFolded(lineAt, line, parts) {
@@ -77,7 +77,7 @@ export function lastFolded(lineAt, line, parts) {
 }
 
 /**
- * Returns the innermost line under which a line folds, or that has lines to fold itself; -1 if there is none.
+ * Returns the innermost line under which a line folds, or the line itself if lines fold under it; -1 if there is none.
  * @param {LineAt} lineAt
  * @param {number} line
  * @param {Parts} parts

@@ -1,4 +1,4 @@
-// All errors of a program. The bench reports their lines and numbers; this finds the wrong words and characters.
+// Finds all errors in a program. The bench reports line numbers and refusal numbers; this module finds the wrong words and characters.
 
 import { namesOf, partsOf } from "./assembly.js";
 import { hex } from "../bench/numbers.js";
@@ -14,20 +14,19 @@ import * as say from "../../words/text.js";
  * @typedef {import("./program_words.js").Found} Found
  * @typedef {import("./text_fault.js").Fault} Fault
  *
- * The errors in the lines of a program. `areAll` is false if the bench has not checked all lines. `rest` is a refusal that names no line
- * (42).
+ * The errors in the lines of a program. `areAll` is false if the bench has not checked all lines. `rest` is a refusal without a line number (42).
  * @typedef {{ faults: Fault[], areAll: boolean, rest: Refusal | null }} AllFaults
  */
 
-/** The refusal of a program that does not fit the board's ROMs. */
+/** The refusal number for a program that does not fit into the ROMs of the board. */
 export const LACKS_ROM = 42;
 
 /**
- * Returns the error in a line, at the wrong word or at all code of the line.
- * @param {string} source the line
- * @param {number} at the number of the line
+ * Returns an error in a line. It covers the wrong word, or all code of the line.
+ * @param {string} source the text of the line
+ * @param {number} at the line number
  * @param {Found | null} found
- * @param {number} number the number of the refusal
+ * @param {number} number the refusal number
  * @param {(number: number) => string} wordsOf
  * @returns {Fault}
  */
@@ -40,8 +39,8 @@ function faultAt(source, at, found, number, wordsOf) {
 }
 
 /**
- * Returns an error that the bench reports in a line, with its position and message.
- * @param {string[]} lines the lines of the program
+ * Returns an error that the bench reports for a line, with its position and message.
+ * @param {string[]} lines the program lines
  * @param {import("../bench/text_judgement.js").LineError} error
  * @param {Facts} facts
  * @param {(number: number) => string} wordsOf returns the message of a refusal
@@ -53,33 +52,33 @@ export function errorOfLine(lines, { line, number }, facts, wordsOf) {
 }
 
 /**
- * Resolves to the errors of a program. Lines that cannot be sent to the bench are sent as empty lines.
+ * Resolves to the errors in a program. Lines that cannot be sent to the bench are replaced by empty lines.
  * @param {string} program
  * @param {Map<string, Instruction>} instructions
  * @param {(number: number) => string} wordsOf returns the message of a refusal
- * @param {Pick<import("./all_faults.js").Asked, "errors" | "refuse">} asked
+ * @param {Pick<import("./all_faults.js").Asked, "errors" | "refuse">} queries
  * @returns {Promise<AllFaults>}
  */
-export async function findProgramFaults(program, instructions, wordsOf, asked) {
-  const unsent = faultsOfLines(program, ";");
-  if (unsent.some(({ number }) => number === TEXT_TOO_LONG)) return { faults: unsent, areAll: false, rest: null };
+export async function findProgramFaults(program, instructions, wordsOf, queries) {
+  const textFaults = faultsOfLines(program, ";");
+  if (textFaults.some(({ number }) => number === TEXT_TOO_LONG)) return { faults: textFaults, areAll: false, rest: null };
   const lines = alignedText(program, ";").split("\n");
-  const unsentLines = new Set(unsent.map(({ line }) => line));
+  const unsentLines = new Set(textFaults.map(({ line }) => line));
   const sent = lines.map((line, at) => (unsentLines.has(at + 1) ? "" : sentLine(line, ";"))).join("\n");
-  const errors = await asked.errors(sent);
+  const errors = await queries.errors(sent);
   /** @type {Facts} */
   const facts = { instructions, names: namesOf(lines) };
   const found = errors.map((error) => errorOfLine(lines, error, facts, wordsOf));
-  const faults = [...unsent, ...found].sort((one, other) => one.line - other.line || one.from - other.from);
-  const rest = faults.length === 0 ? await asked.refuse(sent) : null;
+  const faults = [...textFaults, ...found].sort((one, other) => one.line - other.line || one.from - other.from);
+  const rest = faults.length === 0 ? await queries.refuse(sent) : null;
   return { faults, areAll: errors.length < MAX_ERRORS, rest };
 }
 
 /**
- * Returns an error for each ROM that the board lacks, at the first line of the program in that ROM.
- * @param {string[]} lines the lines of the program
+ * Returns an error for each missing ROM, at the first program line in that ROM.
+ * @param {string[]} lines the program lines
  * @param {import("../machine/source_map.js").SourceMap} map
- * @param {Set<number>} roms the numbers of the board's ROMs
+ * @param {Set<number>} roms the ROM numbers on the board
  * @returns {Fault[]}
  */
 export function lacksOfRom(lines, map, roms) {
@@ -91,14 +90,14 @@ export function lacksOfRom(lines, map, roms) {
     if (address === undefined) return;
     const chip = [Math.floor(address / 256), Math.floor((address + map.sizes[line] - 1) / 256)].find((each) => !roms.has(each));
     if (chip === undefined || faults.has(chip)) return;
-    const words = say.noRomForLine(chip, hex(address, 3));
-    faults.set(chip, faultAt(text, line, { word: null, words }, LACKS_ROM, () => words));
+    const message = say.noRomForLine(chip, hex(address, 3));
+    faults.set(chip, faultAt(text, line, { word: null, words: message }, LACKS_ROM, () => message));
   });
   return [...faults.values()];
 }
 
 /**
- * Returns whether each checked line of code has an error. Such a text is probably not a program.
+ * Returns whether every checked code line has an error. Such a text is probably not a program.
  * @param {string} program
  * @param {AllFaults} found
  */

@@ -1,18 +1,18 @@
-// Formats a program's text: labels at the margin, then columns of instructions, operands and comments. It changes only blanks, and only in
-// lines of a valid form, so the program keeps its bytes.
+// Formats a program: labels at the margin, then columns for instructions, operands and comments. Only blanks change, and only in lines with a valid
+// form, so the program keeps its bytes.
 
 import { MAX_LINE_LENGTH } from "../bench/inputs.js";
 import { LONGEST_KEPT, LONGEST_TEXT, sentText, trimBlanks } from "./text_fault.js";
 import * as say from "../../words/text.js";
 
 /**
- * The filling of gaps: blanks, or tabs as far as possible. A tab stop is at each multiple of `tabSize`.
+ * The gap style: blanks, or tabs where possible. Tab stops are at multiples of `tabSize`.
  * @typedef {{ tabSize: number, insertSpaces: boolean }} Layout
  *
- * The parts of a line: the name that it defines by `=` with its value, or a label and a statement. A missing part is "".
+ * The parts of a line: a name defined with `=` and its value, or a label and a statement. A missing part is "".
  * @typedef {{ name: string, value: string, label: string, head: string, operands: string, comment: string, indent: number }} CutLine
  *
- * A change: the new text, and the positions in the line that it replaces, from 0.
+ * A change: the new text, and the range in the line that it replaces (from 0).
  * @typedef {{ line: number, from: number, to: number, text: string }} Change
  */
 
@@ -20,17 +20,17 @@ import * as say from "../../words/text.js";
 const STATEMENT = 8;
 const OPERANDS = 12;
 const COMMENT = 24;
-/** A comment after long code begins at the next multiple of this column. */
-const STEP = 8;
-/** A comment without code is aligned with statements if its indentation is less than this, else with comments. */
-const HALF = 16;
+/** A comment after long code starts at the next multiple of COMMENT_STEP. */
+const COMMENT_STEP = 8;
+/** An indented comment without code is aligned with statements if its indentation is less than MIN_COMMENT_INDENT; otherwise with comments. */
+const MIN_COMMENT_INDENT = 16;
 const DEFINITION = /^([A-Za-z_]\w*)[ \t]*=[ \t]*(\w+)$/;
 const CODE = /^(?:([A-Za-z_]\w*)[ \t]*:[ \t]*)?(?:([A-Za-z]\w*)(?:[ \t]+(\w+(?:[ \t]*,[ \t]*\w+)*))?)?$/;
 
 /**
  * Returns the column after a text.
  * @param {string} text
- * @param {number} column the column of its beginning
+ * @param {number} column the column at which the text starts
  * @param {Layout} layout
  */
 function columnAfter(text, column, { tabSize }) {
@@ -53,9 +53,9 @@ function gap(from, to, { tabSize, insertSpaces }) {
 }
 
 /**
- * Splits a line into its parts. Returns null if its form is not valid.
+ * Splits a line into its parts. Returns null if the form of the line is invalid.
  * @param {string} line
- * @param {(word: string) => boolean} isHead returns whether a statement can begin with a word, given in upper case
+ * @param {(word: string) => boolean} isHead returns whether a statement can start with an upper-case word
  * @param {Layout} layout
  * @returns {CutLine | null}
  */
@@ -74,7 +74,7 @@ function splitLine(line, isHead, layout) {
 }
 
 /**
- * Returns for each definition the length of the longest name in its block of definitions, and 0 for any other line.
+ * Returns for each definition the length of the longest name in its block of definitions; 0 for any other line.
  * @param {(CutLine | null)[]} lines
  */
 function widthsOf(lines) {
@@ -87,7 +87,7 @@ function widthsOf(lines) {
 /**
  * Returns the formatted code of a line.
  * @param {CutLine} line
- * @param {number} width the length of the longest name in its block of definitions
+ * @param {number} width the length of the longest name in the block of definitions
  * @param {Layout} layout
  */
 function codeOf({ name, value, label, head, operands }, width, layout) {
@@ -104,20 +104,20 @@ function codeOf({ name, value, label, head, operands }, width, layout) {
 
 /**
  * Returns the column of a comment.
- * @param {number} end the end of the code before it, 0 for none
- * @param {number} indent the present column of the comment
- * @param {number} last the column of the comment in the previous line, 0 if that is not in a column of comments
+ * @param {number} end the end column of the code before the comment, 0 for none
+ * @param {number} indent the current column of the comment
+ * @param {number} last the column of the comment in the previous line, 0 if there is none in a comment column
  */
 function columnOfComment(end, indent, last) {
-  if (end > 0) return Math.max(COMMENT, Math.ceil((end + 2) / STEP) * STEP);
+  if (end > 0) return Math.max(COMMENT, Math.ceil((end + 2) / COMMENT_STEP) * COMMENT_STEP);
   if (indent === 0) return 0;
-  return indent < HALF ? STATEMENT : last || COMMENT;
+  return indent < MIN_COMMENT_INDENT ? STATEMENT : last || COMMENT;
 }
 
 /**
  * Returns the formatted lines of a program.
  * @param {string[]} lines
- * @param {(word: string) => boolean} isHead returns whether a statement can begin with a word, given in upper case
+ * @param {(word: string) => boolean} isHead returns whether a statement can start with an upper-case word
  * @param {Layout} layout
  * @returns {string[]}
  */
@@ -130,14 +130,14 @@ export function formattedLines(lines, isHead, layout) {
     const end = columnAfter(code, 0, layout);
     const column = line && line.comment ? columnOfComment(end, line.indent, last) : 0;
     last = column >= COMMENT ? column : 0;
-    // A line stays unchanged if formatting would make it too long to send.
+    // A line stays unchanged if its formatted code is too long to send.
     if (!line || code.length > MAX_LINE_LENGTH) return lines[at];
     return line.comment ? code + gap(end, column, layout) + line.comment : code;
   });
 }
 
 /**
- * Returns a message if the formatted text would be too long, or "".
+ * Returns a message if the formatted text is too long, or "".
  * @param {string[]} lines
  */
 export function faultOfLayout(lines) {
@@ -148,9 +148,9 @@ export function faultOfLayout(lines) {
 }
 
 /**
- * Returns the changes between two versions of a text, one for each changed line. A change omits the common prefix and suffix.
+ * Returns the changes between two versions of a text, one per changed line. A change omits the common prefix and suffix.
  * @param {string[]} before
- * @param {string[]} after the same number of lines
+ * @param {string[]} after the new lines, as many as the old lines
  * @returns {Change[]}
  */
 export function changesOf(before, after) {

@@ -1,4 +1,4 @@
-// Explains an error in a line of a program that the bench rejects: the wrong word, and what was expected.
+// Explains an error in a program line that the bench rejects: the wrong word, and the expected form.
 
 import { similarWords, suggestion } from "./alike.js";
 import { LAST_ADDRESS } from "../bench/numbers.js";
@@ -10,7 +10,7 @@ import * as say from "../../words/text.js";
  * @typedef {import("./assembly.js").Word} Word
  * @typedef {import("../help/manual.js").Instruction} Instruction
  *
- * The known words: the instructions by their mnemonics, and the names that the program defines, with their lines.
+ * The known words: the instructions by mnemonic, and the names that the program defines, with their line numbers.
  * @typedef {{ instructions: Map<string, Instruction>, names: Map<string, number> }} Facts
  *
  * The wrong word and a message. `cures` are replacements for the word that fix the error.
@@ -18,7 +18,7 @@ import * as say from "../../words/text.js";
  */
 
 /**
- * The kinds of operands, by their letters in the manual's table, with the maximum of each value.
+ * The operand kinds by the letters in the manual's table, with the maximum values.
  * @type {Record<string, { what: string, most: number }>}
  */
 const OPERANDS = {
@@ -31,15 +31,15 @@ const OPERANDS = {
 };
 
 /**
- * Returns the description of a kind of operand.
- * @param {string} kind its letters in the manual's table
+ * Returns the description of an operand kind.
+ * @param {string} kind the letters in the manual's table
  */
 export function wordsOfOperand(kind) {
   return OPERANDS[kind].what;
 }
 
 /**
- * Converts a number in the spelling of another assembler. Returns its spelling here and a message, or null for anything else.
+ * Converts a number from the spelling of another assembler. Returns the bench's spelling and a message; null for any other text.
  * @param {string} text
  * @returns {{ number: string, words: string } | null}
  */
@@ -58,7 +58,7 @@ function foreignNumber(text) {
 }
 
 /**
- * Returns a message about a number in the spelling of another assembler, or about an expression; "" for anything else.
+ * Returns a message about a number in the spelling of another assembler, or about an expression; "" for any other text.
  * @param {string} text
  */
 function wordsOfNumber(text) {
@@ -72,7 +72,7 @@ function wordsOfNumber(text) {
 }
 
 /**
- * Returns the spelling here of a number in the spelling of another assembler, or an empty list.
+ * Returns the bench's spelling of a number from another assembler; an empty list for any other text.
  * @param {string} text
  */
 function curesOfNumber(text) {
@@ -81,7 +81,7 @@ function curesOfNumber(text) {
 }
 
 /**
- * Returns a message about a word, with fixes if there are any.
+ * Returns a message about a word, with its fixes if there are any.
  * @param {Word | null} word
  * @param {string} words
  * @param {string[]} cures
@@ -92,7 +92,7 @@ function foundWith(word, words, cures) {
 }
 
 /**
- * Returns a message that says why a word cannot be a name, or "".
+ * Returns the reason why a word cannot be a name, or "".
  * @param {string} text
  * @param {Facts} facts
  */
@@ -106,9 +106,9 @@ function wordsOfName(text, { instructions }) {
 }
 
 /**
- * Returns the error in an operand, or null.
- * @param {string} head the instruction
- * @param {string} kind the letters of the operand in the manual's table
+ * Returns the error in an operand; null if there is none.
+ * @param {string} head the mnemonic or directive
+ * @param {string} kind the operand kind: the letters in the manual's table
  * @param {Word} word
  * @param {Facts} facts
  * @param {boolean} isFirst
@@ -128,8 +128,8 @@ function faultOfOperand(head, kind, word, facts, isFirst) {
 }
 
 /**
- * Returns the kinds of an instruction's operands.
- * @param {string} form `JCN c, t`
+ * Returns the operand kinds of an instruction.
+ * @param {string} form the form of the instruction, such as `JCN c, t`
  * @returns {string[]}
  */
 export function operandsOfForm(form) {
@@ -157,13 +157,13 @@ function faultOfHead({ label, operands }, head, { instructions }) {
   const isAlone = isName && operands.length === 0;
   const similar = other ? [] : similarWords(upper, [...instructions.keys(), ...DIRECTIVES]);
   const question = other ? `; ${other}?` : suggestion(similar);
-  const words = say.noInstruction(head.text, question || (isAlone ? say.labelForm(head.text) : ""));
+  const message = say.noInstruction(head.text, question || (isAlone ? say.labelForm(head.text) : ""));
   const alone = isAlone && !question ? [`${head.text}:`] : similar;
-  return foundWith(head, words, other ? other.split(" or ").filter((each) => /^[A-Z]+( \d+,?)?$/.test(each)).map(fixOf) : alone);
+  return foundWith(head, message, other ? other.split(" or ").filter((each) => /^[A-Z]+( \d+,?)?$/.test(each)).map(fixOf) : alone);
 }
 
 /**
- * Returns whether a statement can begin with a word.
+ * Returns whether a statement can start with a word.
  * @param {string} word
  * @param {Facts["instructions"]} instructions
  */
@@ -173,7 +173,7 @@ function isHead(word, instructions) {
 }
 
 /**
- * Returns the fix for an instruction of another assembler. A condition needs a comma before the address.
+ * Returns the fix for an instruction of another assembler. A JCN condition needs a comma before the address.
  * @param {string} other
  */
 function fixOf(other) {
@@ -181,7 +181,7 @@ function fixOf(other) {
 }
 
 /**
- * Returns the error in a directive, or null.
+ * Returns the error in a directive; null if there is none.
  * @param {Word} head
  * @param {Word[]} operands
  * @param {Facts} facts
@@ -192,15 +192,15 @@ function faultOfDirective(head, operands, facts) {
     const isNumber = operands.length === 1 && NUMBER.test(operands[0].text);
     if (isNumber) return null;
     const reason = operands[0] && !NAME.test(operands[0].text) ? wordsOfNumber(operands[0].text) : "";
-    const words = say.orgForm(reason && `; ${reason}`);
-    return foundWith(operands[0] || head, words, reason ? curesOfNumber(operands[0].text) : []);
+    const message = say.orgForm(reason && `; ${reason}`);
+    return foundWith(operands[0] || head, message, reason ? curesOfNumber(operands[0].text) : []);
   }
   if (operands.length === 0) return { word: head, words: say.DB_FORM };
   return operands.map((word) => faultOfOperand("DB", "b", word, facts, true)).find((found) => found !== null) || null;
 }
 
 /**
- * Returns the error in a line whose form the assembler does not know.
+ * Returns the error in a line with a form that the assembler does not accept.
  * @param {Parts} parts
  * @param {Facts} facts
  * @returns {Found | null}
@@ -211,8 +211,8 @@ function faultOfForm(parts, facts) {
   if (badName) return { word: label, words: badName };
   if (defines) {
     const reason = operands[0] ? wordsOfNumber(operands[0].text) : "";
-    const words = say.equalsForm(reason && `; ${reason}`);
-    return foundWith(operands[0] || label, words, reason ? curesOfNumber(operands[0].text) : []);
+    const message = say.equalsForm(reason && `; ${reason}`);
+    return foundWith(operands[0] || label, message, reason ? curesOfNumber(operands[0].text) : []);
   }
   if (!head) return { word: label, words: say.COLON_FORM };
   const upper = head.text.toUpperCase();
@@ -231,7 +231,7 @@ function faultOfForm(parts, facts) {
 }
 
 /**
- * Returns the error in a line with a value that is out of range.
+ * Returns the error in a line with an out-of-range value.
  * @param {Parts} parts
  * @param {Facts} facts
  * @returns {Found | null}
@@ -252,7 +252,7 @@ function faultOfValue({ head, operands, defines, label }, { instructions }) {
 }
 
 /**
- * Returns the last operand that is a name, or else the last operand.
+ * Returns the last operand that is a name. If there is none, returns the last operand.
  * @param {Parts} parts
  */
 function lastName({ operands }) {
@@ -260,7 +260,7 @@ function lastName({ operands }) {
 }
 
 /**
- * Returns the error in a line with a name that is not defined.
+ * Returns the error in a line with an undefined name.
  * @param {Parts} parts
  * @param {Facts} facts
  * @returns {Found | null}
@@ -275,9 +275,9 @@ function faultOfUnknown({ operands }, { names }) {
 }
 
 /**
- * Returns the error in a line, or null if the message of the refusal is sufficient.
+ * Returns the error in a line; null if the refusal message is sufficient.
  * @param {string} line
- * @param {number} number the number of the refusal
+ * @param {number} number the refusal number
  * @param {Facts} facts
  * @returns {Found | null}
  */

@@ -1,4 +1,4 @@
-// Help and completions for a text of properties, from the manual's tables and the names of the board and the program.
+// Help and completions for property texts, from the manual's tables and the names of the board and the program.
 
 import { withoutDescription } from "./completion.js";
 import { completeWord, conditionForms, descriptionIn, fittings, formsOfTables, wordsOfCondition, wordsUpTo } from "./test_words.js";
@@ -13,20 +13,20 @@ import * as say from "../../words/text.js";
  * @typedef {{ lines: Form[], conditions: Form[] }} PropertyForms
  */
 
-/** The sections of the manual with forms of properties. */
+/** The manual sections with property forms. */
 const SECTIONS = [say.MAY_CHANGE, say.MUST_HOLD];
-/** The words before a condition at the beginning of a line. */
+/** Matches the words before a condition at the start of a line. */
 const CONDITION_START = /^(never|always|reach)$/;
-/** The words of tests that properties cannot use. */
+/** The words of tests that are not allowed in properties. */
 const TEST_WORDS = new Set(["cycles", "printed", "test", "key"]);
 /** The words that can follow a condition. */
 const CONDITION_END = ["for", "only after"];
-/** The words that can follow a label at the beginning of a line, and those that can follow a second label. */
+/** The words that can follow a label at the start of a line, and the words that can follow a second label. */
 const AFTER_LABEL = ["to", say.ONCE_FOR_EACH_PRESS, "only after"];
 const AFTER_TARGET = ["within"];
 
 /**
- * Returns the manual's forms for lines of properties.
+ * Returns the manual's forms of property lines.
  * @param {ManualSection[]} manual
  * @returns {PropertyForms}
  */
@@ -36,17 +36,17 @@ export function propertyForms(manual) {
 }
 
 /**
- * Returns a first text of properties for a board.
+ * Returns an initial property text for a board.
  * @param {TestNames} names
  */
 export function firstProperties({ keys, lamps }) {
   const [lamp = "0"] = lamps;
-  const begun = `${say.FIRST_PROPERTIES}${keys.length === 0 ? "test\n" : ""}`;
-  return `${begun}wait 1 ms to 20 ms\nnote lamps\n\nreach lamp ${lamp} on\nreach lamp ${lamp} off\n`;
+  const firstLines = `${say.FIRST_PROPERTIES}${keys.length === 0 ? "test\n" : ""}`;
+  return `${firstLines}wait 1 ms to 20 ms\nnote lamps\n\nreach lamp ${lamp} on\nreach lamp ${lamp} off\n`;
 }
 
 /**
- * Returns the words of the condition in a line, or null if the line has none.
+ * Returns the words of the condition in a line; null if the line has none.
  * @param {string[]} words
  */
 function conditionOf(words) {
@@ -56,7 +56,7 @@ function conditionOf(words) {
 }
 
 /**
- * Returns the words that can follow other words in a line that begins with a label.
+ * Returns the words that can come next in a line that starts with a label.
  * @param {string[]} words
  */
 function wordsAfterLabel([, second, ...more]) {
@@ -65,16 +65,16 @@ function wordsAfterLabel([, second, ...more]) {
 }
 
 /**
- * Returns the words that can follow some words of a line.
+ * Returns the words that can come next in a line.
  * @param {string[]} before
- * @param {string} begun the word being typed
+ * @param {string} typed the unfinished word
  * @param {TestNames} names
  * @param {PropertyForms} forms
  * @returns {Fitting[]}
  */
-function wordsAfter(before, begun, names, { lines, conditions }) {
+function wordsAfter(before, typed, names, { lines, conditions }) {
   const labels = withoutDescription(names.labels.map((label) => `@${label}`));
-  if (begun.startsWith("@")) return labels;
+  if (typed.startsWith("@")) return labels;
   if (before.length === 0) return [...fittings(lines.filter(({ word }) => /^[a-z]+$/.test(word))), ...labels];
   const last = before[before.length - 1];
   if (before[0] === "press" || last === "press") return withoutDescription(names.keys);
@@ -85,22 +85,22 @@ function wordsAfter(before, begun, names, { lines, conditions }) {
 }
 
 /**
- * Returns the completions at a position in a text of properties.
+ * Returns the completions at a position in a property text.
  * @param {string[]} lines
- * @param {number} line counts from 0
+ * @param {number} line the line number from 0
  * @param {number} at
  * @param {TestNames} names
  * @param {PropertyForms} forms
  * @returns {Completion}
  */
 export function completeProperty(lines, line, at, names, forms) {
-  return completeWord(lines[line], at, (before, begun) => wordsAfter(before, begun, names, forms));
+  return completeWord(lines[line], at, (before, typed) => wordsAfter(before, typed, names, forms));
 }
 
 /**
  * Returns the help for the word at a position, or "".
  * @param {string[]} lines
- * @param {number} line counts from 0
+ * @param {number} line the line number from 0
  * @param {number} at
  * @param {PropertyForms} forms
  */

@@ -1,17 +1,17 @@
-// The references to a name in a program: its definition and its uses. Also checks a new name before renaming.
+// Finds the references to a program name: its definition and its uses. Also checks a new name before a renaming.
 
 import { DIRECTIVES, MAX_NAME_LENGTH, NAME, PAIR, REGISTER, namesOf, partsOf, wordAt } from "./assembly.js";
 import * as say from "../../words/text.js";
 
 /**
- * A reference: its line from 1, and the positions of its first character and after its last one.
+ * A reference: its line number from 1, and its column range.
  * @typedef {{ line: number, from: number, to: number, isDefinition: boolean }} Reference
  */
 
 /**
- * Returns the references to a name in a line, without its comment.
+ * Returns the references to a name in a line; the comment is ignored.
  * @param {string} text
- * @param {number} line counts from 1
+ * @param {number} line the line number from 1
  * @param {string} name
  * @returns {Reference[]}
  */
@@ -23,7 +23,7 @@ function referencesIn(text, line, name) {
 }
 
 /**
- * Returns all references to a name, in the order of the text.
+ * Returns all references to a name, in text order.
  * @param {string[]} lines
  * @param {string} name
  * @returns {Reference[]}
@@ -33,9 +33,9 @@ export function referencesOf(lines, name) {
 }
 
 /**
- * Returns the name at a position, or "" if the program does not define one there.
+ * Returns the name at a position; "" if the word at the position is not a name that the program defines.
  * @param {string[]} lines
- * @param {number} line counts from 0
+ * @param {number} line the line number from 0
  * @param {number} at
  */
 export function nameAt(lines, line, at) {
@@ -55,11 +55,11 @@ export function definitionOf(lines, name) {
 }
 
 /**
- * Returns a message that says why a name cannot be renamed, or "".
+ * Returns the reason why a name cannot be renamed, or "".
  * @param {string[]} lines
  * @param {string} name
  * @param {string} wanted the new name
- * @param {(word: string) => boolean} isInstruction receives a word in upper case
+ * @param {(word: string) => boolean} isInstruction returns whether an upper-case word is an instruction
  */
 export function faultOfRenaming(lines, name, wanted, isInstruction) {
   const upper = wanted.toUpperCase();

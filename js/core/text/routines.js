@@ -1,17 +1,17 @@
-// The routines of a program: the lines that each routine can reach, the routines that it calls by JMS, and its callers. A routine begins at
+// Finds the routines of a program: the lines that each routine can reach, the routines that it calls with JMS, and its callers. A routine starts at
 // the first statement, and at each label that a JMS names. A path ends at BBL, at JIN (its target is not in the text), at data and at ORG.
 
 import { namesOf, partsOf } from "./assembly.js";
 
 /**
- * A routine. `name` is its label, "" for none; `from` and `to` are the positions of the label in its line. `line` and `last` are its first
- * and its last line, from 0. No line between them belongs to another routine.
+ * A routine. `name` is its label, "" for none. `from` and `to` are the columns of the label. `line` and `last` are its first and last line, from 0.
+ * No line between them belongs to another routine.
  * @typedef {{ name: string, line: number, from: number, to: number, last: number }} Routine
  *
- * A statement: its first word in upper case, and the line of its target, -1 for none.
+ * A statement: its upper-case first word, and the line of its target, -1 for none.
  * @typedef {{ head: string, target: number }} Statement
  *
- * The position of the target in the line of a call.
+ * The line of a call, and the columns of the target in it.
  * @typedef {{ line: number, from: number, to: number }} CallPlace
  */
 
@@ -24,7 +24,7 @@ export class Routines {
     this.parts = lines.map(partsOf);
     this.names = namesOf(lines);
     this.statements = this.parts.map((parts) => this.statementOf(parts));
-    /** @type {Map<number, Set<number>>} for each routine, by its first line, the lines that it reaches */
+    /** @type {Map<number, Set<number>>} the lines that each routine reaches, by the first line of the routine */
     this.reached = new Map();
     this.routines = this.findRoutines();
   }
@@ -40,11 +40,11 @@ export class Routines {
     return { head: head.text.toUpperCase(), target: line === undefined || this.parts[line - 1].defines ? -1 : line - 1 };
   }
 
-  /** @returns {Routine[]} in the order of their lines */
+  /** @returns {Routine[]} the routines, in line order */
   findRoutines() {
     const first = this.statements.findIndex((statement) => statement !== null && statement.head !== "ORG");
-    const called = this.statements.map((statement) => (statement && statement.head === "JMS" ? statement.target : -1));
-    const begins = new Set([first, ...called].filter((line) => line >= 0));
+    const callTargets = this.statements.map((statement) => (statement && statement.head === "JMS" ? statement.target : -1));
+    const begins = new Set([first, ...callTargets].filter((line) => line >= 0));
     return [...begins].sort((one, other) => one - other).map((line) => {
       const { label, head } = this.parts[line];
       const { from, to } = label || head || { from: 0, to: 0 };
@@ -53,7 +53,7 @@ export class Routines {
   }
 
   /**
-   * Returns the line of the first statement at or after a line, or -1.
+   * Returns the line of the first statement at or after a line; -1 if there is none.
    * @param {number} line
    */
   statementFrom(line) {
@@ -73,7 +73,7 @@ export class Routines {
 
   /**
    * Returns the lines of the statements that a routine reaches.
-   * @param {number} begin its line
+   * @param {number} begin the first line of the routine
    * @returns {Set<number>}
    */
   linesOf(begin) {
@@ -93,7 +93,7 @@ export class Routines {
 
   /**
    * Returns the last line up to which all statements belong to a routine.
-   * @param {number} begin its line
+   * @param {number} begin the first line of the routine
    */
   lastOf(begin) {
     const reached = this.linesOf(begin);
@@ -103,18 +103,18 @@ export class Routines {
   }
 
   /**
-   * Returns the routine that begins at a line, or else a routine that reaches it, or null.
+   * Returns the routine that starts at a line. If there is none, returns a routine that reaches the line, or null.
    * @param {number} line
    */
   routineAt(line) {
     const first = this.routines.find((each) => each.line === line);
     const inside = this.routines.filter((each) => this.linesOf(each.line).has(line));
-    // If several routines reach the line, the nearest one above it is the best.
+    // If several routines reach the line, the nearest one above is used.
     return first || inside.filter((each) => each.line <= line).pop() || inside[0] || null;
   }
 
   /**
-   * Returns the routine that a label begins, whether it is called or not.
+   * Returns the routine that starts at a label, even if nothing calls it.
    * @param {string} name
    * @returns {Routine | null}
    */
@@ -144,7 +144,7 @@ export class Routines {
   }
 
   /**
-   * Returns the routines that a routine calls, each with the positions of the calls.
+   * Returns the routines that a routine calls, with the positions of the calls.
    * @param {Routine} routine
    * @returns {{ routine: Routine, places: CallPlace[] }[]}
    */
@@ -155,7 +155,7 @@ export class Routines {
   }
 
   /**
-   * Returns the routines that contain a line with a call: those that reach it, or else the routine of the nearest label above it.
+   * Returns the routines that contain a line with a call. These are the routines that reach the line, or else the routine of the nearest label above.
    * @param {number} line
    * @returns {Routine[]}
    */
@@ -168,7 +168,7 @@ export class Routines {
   }
 
   /**
-   * Returns the routines that call a routine, each with the positions of the calls.
+   * Returns the routines that call a routine, with the positions of the calls.
    * @param {Routine} routine
    * @returns {{ routine: Routine, places: CallPlace[] }[]}
    */
@@ -187,7 +187,7 @@ export class Routines {
   }
 
   /**
-   * Returns for each label how many calls and how many other uses it has.
+   * Returns the number of calls and of other uses for each label.
    * @returns {Map<string, { calls: number, others: number }>}
    */
   uses() {

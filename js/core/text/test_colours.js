@@ -1,15 +1,15 @@
-// The colours of texts of tests and properties.
+// Syntax colours for test and property texts.
 
 import { WORDS } from "../conditions/parser.js";
 
 /**
- * The style of a part of a line.
+ * The style of a range in a line.
  * @typedef {{ from: number, to: number, style: string }} Coloured
  */
 
 /**
- * A language: `first` matches the words that begin a line, and `others` are its other words. `named` is the word before a name that fills
- * the line. `whole` matches the first words of lines without comments. `isFree`: a line can begin with a condition.
+ * A language. `first` matches the words that can start a line. `others` are all other keywords. `named` is the word before a name that extends to the
+ * end of the line. `whole` matches the first words of lines without comments. `isFree` is true if a line can start with a condition.
  */
 const TESTS = {
   first: /^(test|steps|from|save|press|release|keys|pace|run|until|expect|mark|set|reset|do|repeat|end)$/,
@@ -28,7 +28,7 @@ const PROPERTIES = {
 };
 
 /**
- * Returns the style of a word, "" for none.
+ * Returns the style of a word; "" for none.
  * @param {string} word
  * @param {boolean} isFirst
  * @param {typeof TESTS} language
@@ -43,18 +43,18 @@ function styleOf(word, isFirst, { first, others, isFree }) {
 }
 
 /**
- * Returns whether a comment begins at a word.
- * @param {string} rest the line from this word on
- * @param {string} first the first word of the line, "" if it is this word
+ * Returns whether a comment starts at a word.
+ * @param {string} rest the rest of the line, starting at the word
+ * @param {string} first the first word of the line; "" if the word itself is the first one
  * @param {typeof TESTS} language
  */
 function isComment(rest, first, language) {
-  // After the names of keys, the mark can be the name of a key.
+  // After key names, the mark can itself be a key name.
   return /^[#;]/.test(rest) && (first === "" || (!language.whole.test(first) && /^[#;](\s|$)/.test(rest)));
 }
 
 /**
- * Returns the styles in a line.
+ * Returns the styled ranges of a line.
  * @param {string} line
  * @param {typeof TESTS} language
  */
@@ -73,7 +73,7 @@ function coloursOf(line, language) {
   return coloured;
 }
 
-/** For each kind of text, a function that returns the styles in a line. */
+/** The colouring functions by kind of text. Each function returns the styled ranges of a line. */
 export const COLOURS = {
   tests: (/** @type {string} */ line) => coloursOf(line, TESTS),
   properties: (/** @type {string} */ line) => coloursOf(line, PROPERTIES),

@@ -1,4 +1,4 @@
-// Help and completions for a text of tests, from the manual's tables and the names of the board and the program.
+// Help and completions for test texts, from the manual's tables and the names of the board and the program.
 
 import { piecesOf, plain } from "../help/manual.js";
 import { withoutDescription } from "./completion.js";
@@ -12,14 +12,14 @@ import * as say from "../../words/text.js";
  */
 
 /**
- * A form of a line or a condition, as the manual writes it, its first word, and its description.
+ * A form of a line or condition as written in the manual, with its first word and its description.
  * @typedef {{ word: string, form: string, does: string }} Form
  * @typedef {{ steps: Form[], conditions: Form[] }} TestForms
  */
 
 
 /**
- * Returns the forms in the rows of a table. A row can have several forms.
+ * Returns the forms in table rows. A row can contain several forms.
  * @param {string[][]} rows
  * @returns {Form[]}
  */
@@ -39,7 +39,7 @@ export function formsOfTables(manual, title) {
 }
 
 /**
- * Returns the manual's forms of conditions, including conditions that only some texts allow.
+ * Returns the manual's forms of conditions, including conditions that are allowed only in some texts.
  * @param {ManualSection[]} manual
  */
 export function conditionForms(manual) {
@@ -48,7 +48,7 @@ export function conditionForms(manual) {
 }
 
 /**
- * Returns the manual's forms for lines of tests.
+ * Returns the manual's forms of test lines.
  * @param {ManualSection[]} manual
  * @returns {TestForms}
  */
@@ -68,19 +68,19 @@ export function fittings(forms) {
 }
 
 /**
- * Returns the words that can follow other words in a line.
+ * Returns the words that can come next in a line.
  * @param {string[]} before
- * @param {string} begun the word being typed
+ * @param {string} typed the unfinished word
  * @param {TestNames} names
  * @param {TestForms} forms
  * @returns {Fitting[]}
  */
-function wordsAfter(before, begun, { keys, lamps, labels }, forms) {
+function wordsAfter(before, typed, { keys, lamps, labels }, forms) {
   const [first] = before;
   if (first === undefined) return fittings(forms.steps);
   if (first === "press" || first === "release" || first === "keys") return withoutDescription(keys);
   if (first !== "until" && first !== "expect") return [];
-  if (begun.startsWith("@")) return withoutDescription(labels.map((label) => `@${label}`));
+  if (typed.startsWith("@")) return withoutDescription(labels.map((label) => `@${label}`));
   return wordsOfCondition(before.slice(1), { keys, lamps, labels }, forms.conditions, ["within"]);
 }
 
@@ -88,11 +88,11 @@ function wordsAfter(before, begun, { keys, lamps, labels }, forms) {
 const CONJUNCTIONS = new Set(["and", "or", "&&", "||"]);
 
 /**
- * Returns the words that can be next in a condition.
- * @param {string[]} before its words so far
+ * Returns the words that can come next in a condition.
+ * @param {string[]} before the words of the condition so far
  * @param {TestNames} names
  * @param {Form[]} conditions
- * @param {string[]} after the words that can follow the condition
+ * @param {string[]} after the words that can follow a complete condition
  * @returns {Fitting[]}
  */
 export function wordsOfCondition(before, { keys, lamps, labels }, conditions, after) {
@@ -108,24 +108,24 @@ export function wordsOfCondition(before, { keys, lamps, labels }, conditions, af
 }
 
 /**
- * Returns the completions of the word being typed.
+ * Returns the completions of the unfinished word.
  * @param {string} line
  * @param {number} at
- * @param {(before: string[], begun: string) => Fitting[]} fitting returns the words that can follow other words
+ * @param {(before: string[], begun: string) => Fitting[]} fitting returns the words that can come next
  * @returns {Completion}
  */
 export function completeWord(line, at, fitting) {
   const before = line.slice(0, at);
   if (/^\s*[#;]/.test(before)) return { from: at, to: at, list: [] };
-  const begun = /\S*$/.exec(before) || [""];
-  const list = fitting(before.slice(0, at - begun[0].length).split(/\s+/).filter(Boolean), begun[0]);
-  return { from: at - begun[0].length, to: at, list: list.filter(({ text }) => text.startsWith(begun[0]) && text !== begun[0]) };
+  const typed = /\S*$/.exec(before) || [""];
+  const list = fitting(before.slice(0, at - typed[0].length).split(/\s+/).filter(Boolean), typed[0]);
+  return { from: at - typed[0].length, to: at, list: list.filter(({ text }) => text.startsWith(typed[0]) && text !== typed[0]) };
 }
 
 /**
- * Returns the completions at a position in a text of tests.
+ * Returns the completions at a position in a test text.
  * @param {string[]} lines
- * @param {number} line counts from 0
+ * @param {number} line the line number from 0
  * @param {number} at
  * @param {TestNames} names
  * @param {TestForms} forms
@@ -133,12 +133,12 @@ export function completeWord(line, at, fitting) {
  */
 export function completeTest(lines, line, at, names, forms) {
   const shared = lines.slice(0, line).flatMap((each) => (/^\s*steps\s+(\S+)\s*$/.exec(each) || []).slice(1));
-  return completeWord(lines[line], at, (before, begun) => (
-    before.length === 1 && before[0] === "do" ? withoutDescription(shared) : wordsAfter(before, begun, names, forms)));
+  return completeWord(lines[line], at, (before, typed) => (
+    before.length === 1 && before[0] === "do" ? withoutDescription(shared) : wordsAfter(before, typed, names, forms)));
 }
 
 /**
- * Returns the words of a line up to the word at a position. Returns none if there is no word at the position, or if the line is a comment.
+ * Returns the words of a line up to the word at a position. Returns an empty list if there is no word at the position, or if the line is a comment.
  * @param {string} line
  * @param {number} at
  */
@@ -150,19 +150,19 @@ export function wordsUpTo(line, at) {
 }
 
 /**
- * Returns the description of a word from forms, or "".
+ * Returns the description of a word from the forms, or "".
  * @param {Form[]} forms
  * @param {string} word
  */
 export function descriptionIn(forms, word) {
-  const known = forms.find((form) => form.word === word) || forms.find((form) => kindOf(form.word) === kindOf(word));
+  const known = forms.find((form) => form.word === word) || forms.find((form) => normalizedWord(form.word) === normalizedWord(word));
   return known ? `${known.form}: ${known.does}` : "";
 }
 
 /**
  * Returns the help for the word at a position, or "".
  * @param {string[]} lines
- * @param {number} line counts from 0
+ * @param {number} line the line number from 0
  * @param {number} at
  * @param {TestForms} forms
  */
@@ -175,10 +175,9 @@ export function helpForTest(lines, line, at, { steps, conditions }) {
 }
 
 /**
- * Returns a word with 0 in place of its numbers, and of the letters that the manual writes for numbers. So `ram.1.0x20` and `ram.B.S` are
- * equal.
+ * Replaces the numbers in a word by 0, and the letters that stand for numbers in the manual too. `ram.1.0x20` and `ram.B.S` therefore become equal.
  * @param {string} word
  */
-function kindOf(word) {
+function normalizedWord(word) {
   return word.replace(/^@.*/, "@").replace(/0x[0-9A-Fa-f]+|\d+|\b[A-Z]\b/g, "0");
 }

@@ -1,5 +1,5 @@
-// Converts a text to the form that is sent to the bench, and finds the lines that cannot be sent. Comments and indentation are not sent, so
-// comments can contain any character and take no room. In code, a character outside ASCII is an error.
+// Converts a text to the form that is sent to the bench, and finds lines that cannot be sent. Comments and indentation are not sent; comments can
+// therefore contain any character and do not count towards the length. In code, a non-ASCII character is an error.
 
 import { LINE_TOO_LONG, MAX_LINE_LENGTH, NOT_ASCII } from "../bench/inputs.js";
 import * as say from "../../words/text.js";
@@ -8,24 +8,24 @@ import * as say from "../../words/text.js";
  * A range of lines, counted from 1.
  * @typedef {{ from: number, to: number }} Lines
  *
- * An error: the number of its refusal (0 for none), its line from 1, the range of its characters, and its message. `cures` are replacements
- * for these characters that fix the error.
+ * An error: the refusal number (0 for none), the line number from 1, the column range, and the message. `cures` are replacements for that range that
+ * fix the error.
  * @typedef {{ number: number, line: number, from: number, to: number, words: string, cures?: string[] }} Fault
  *
- * The character that begins a comment, in a program and in a board's text.
+ * The character that starts a comment in a program (`;`) and in a board text (`#`).
  * @typedef {";" | "#"} CommentMark
  */
 
-/** The maximum length of a text that is sent, with a line feed for each line. */
+/** The maximum length of a sent text in characters, including one line feed per line. */
 export const LONGEST_TEXT = 16384;
 /** The maximum length of a text with comments and indentation, in characters. */
 export const LONGEST_KEPT = 65536;
-/** The refusal of a longer text. */
+/** The refusal number for a text that is too long. */
 export const TEXT_TOO_LONG = 13;
 
 /**
  * Returns an error at a position.
- * @param {number} number the number of the refusal
+ * @param {number} number the refusal number
  * @param {{ line: number, from: number, to: number }} place
  * @param {string} words
  * @returns {Fault}
@@ -35,7 +35,7 @@ export function faultAt(number, { line, from, to }, words) {
 }
 
 /**
- * Returns the position of a line's comment, or the line's length if it has none. In a board's text, a mark inside a string does not count.
+ * Returns the index at which the comment of a line starts; the line length if it has none. In a board text, a mark inside a string does not count.
  * @param {string} line
  * @param {CommentMark} mark
  */
@@ -48,7 +48,7 @@ export function commentAt(line, mark) {
 }
 
 /**
- * Returns lines as comments, or without comment marks if all of them are comments. Blank lines are unchanged.
+ * Comments lines out. If all lines are comments, removes the comment marks instead. Blank lines stay unchanged.
  * @param {string[]} lines
  * @param {CommentMark | string} mark
  */
@@ -59,7 +59,7 @@ export function commented(lines, mark) {
 }
 
 /**
- * Returns a line with a blank for each character outside ASCII in its comment, so that positions stay the same.
+ * Replaces each non-ASCII character in the comment of a line by a blank, so that positions stay the same.
  * @param {string} line
  * @param {CommentMark} mark
  */
@@ -81,7 +81,7 @@ export function trimBlanks(text) {
 }
 
 /**
- * Returns a line as it is sent. The result is never only a dot, which would end the text.
+ * Returns a line as it is sent. The result is never only a dot, because that would end the text.
  * @param {string} line
  * @param {CommentMark} mark
  */
@@ -98,13 +98,13 @@ export function sentLine(line, mark) {
 function changedLines(text, change) {
   if (text === "") return "";
   const lines = text.replace(/\r\n?/g, "\n").split("\n");
-  // A text can end with a line of blanks.
+  // The last line of a text can consist of blanks.
   if (lines[lines.length - 1] === "") lines.pop();
   return lines.map((line) => `${change(line)}\n`).join("");
 }
 
 /**
- * Returns a text without characters outside ASCII in comments. The positions of its characters stay the same, so errors can refer to them.
+ * Returns a text without non-ASCII characters in comments. Positions stay the same, so that errors can refer to them.
  * @param {string} text
  * @param {CommentMark} mark
  */
@@ -113,7 +113,7 @@ export function alignedText(text, mark) {
 }
 
 /**
- * Returns a text as it is sent. If a board's text has a multi-line string, blanks are kept, because they can belong to the string.
+ * Returns a text as it is sent. If a board text contains a multi-line string, blanks stay because they can belong to the string.
  * @param {string} text
  * @param {CommentMark} mark
  */
@@ -123,7 +123,7 @@ export function sentText(text, mark) {
 }
 
 /**
- * Returns a message about a character that is not allowed.
+ * Returns a message about an invalid character.
  * @param {string} character
  */
 function wordsOfCharacter(character) {
@@ -138,18 +138,18 @@ function wordsOfCharacter(character) {
 }
 
 /**
- * Returns the error in a line that cannot be sent, or null.
- * @param {string} line a line with the positions of the original
- * @param {string} sent the line as it would be sent
- * @param {number} at the number of the line
+ * Returns the error in a line that cannot be sent; null if it can be sent.
+ * @param {string} line the line, with the same positions as the original
+ * @param {string} sent the line as sent
+ * @param {number} at the line number
  * @returns {Fault | null}
  */
 function faultOfLine(line, sent, at) {
   const range = { line: at, from: 0, to: line.length };
   if (sent === ".") return { number: 0, ...range, words: say.DOT_ENDS };
   if (sent.length > MAX_LINE_LENGTH) {
-    const words = say.lineTooLong(MAX_LINE_LENGTH, sent.length);
-    return { number: LINE_TOO_LONG, ...range, from: line.indexOf(sent) + MAX_LINE_LENGTH, words };
+    const message = say.lineTooLong(MAX_LINE_LENGTH, sent.length);
+    return { number: LINE_TOO_LONG, ...range, from: line.indexOf(sent) + MAX_LINE_LENGTH, words: message };
   }
   const foreign = /[^\t -~]+/u.exec(line);
   if (!foreign) return null;
@@ -158,7 +158,7 @@ function faultOfLine(line, sent, at) {
 }
 
 /**
- * Returns whether all lines of a text can be sent. This fast check is enough for most texts.
+ * Returns whether all lines of a text can be sent. This fast check is sufficient for most texts.
  * @param {string} text
  * @param {string[]} sentLines
  */
@@ -167,7 +167,7 @@ function canBeSent(text, sentLines) {
 }
 
 /**
- * Returns the errors of lines that cannot be sent. If the text is too long, the last error is at the line where the maximum is reached.
+ * Returns the errors in lines that cannot be sent. If the text is too long, the last error is at the line that exceeds the maximum.
  * @param {string} text
  * @param {CommentMark} mark
  * @returns {Fault[]}
@@ -180,8 +180,8 @@ export function faultsOfLines(text, mark) {
   const faults = lines.map((line, at) => faultOfLine(line, sentLines[at], at + 1)).filter((fault) => fault !== null);
   if (sent.length > LONGEST_TEXT) {
     const last = sent.slice(0, LONGEST_TEXT).split("\n").length;
-    const words = say.textTooLong(LONGEST_TEXT.toLocaleString("en"), sent.length.toLocaleString("en"));
-    faults.push({ number: TEXT_TOO_LONG, line: last, from: 0, to: lines[last - 1].length, words });
+    const message = say.textTooLong(LONGEST_TEXT.toLocaleString("en"), sent.length.toLocaleString("en"));
+    faults.push({ number: TEXT_TOO_LONG, line: last, from: 0, to: lines[last - 1].length, words: message });
   }
   return /** @type {Fault[]} */ (faults);
 }

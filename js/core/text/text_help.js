@@ -22,7 +22,7 @@ export function wordsOfInstruction(instruction) {
 }
 
 /**
- * Returns the effect of an instruction. If the manual does not mention the carry, the text says that it stays unchanged.
+ * Returns the effect of an instruction. If the manual does not mention the carry, adds that the carry does not change.
  * @param {Instruction} instruction
  */
 export function doesOf({ does }) {
@@ -30,7 +30,7 @@ export function doesOf({ does }) {
 }
 
 /**
- * Returns the help for a register or a pair.
+ * Returns the help for a register or register pair.
  * @param {string} word
  */
 export function wordsOfRegister(word) {
@@ -41,7 +41,7 @@ export function wordsOfRegister(word) {
 
 /**
  * Returns the help for a directive, or "" for any other word.
- * @param {string} word in upper case
+ * @param {string} word the word in upper case
  */
 export function wordsOfDirective(word) {
   if (word === "ORG") return say.ORG_HELP;
@@ -51,7 +51,7 @@ export function wordsOfDirective(word) {
 /**
  * Returns the help for the word at a position in a program, or "".
  * @param {string[]} lines
- * @param {number} line counts from 0
+ * @param {number} line the line number from 0
  * @param {number} at
  * @param {Map<string, Instruction>} instructions
  * @param {(name: string) => string} meaningOf returns the meaning of a name, or ""
@@ -73,7 +73,7 @@ export function helpForProgram(lines, line, at, instructions, meaningOf) {
 }
 
 /**
- * Returns the tables of a board's text from the manual: for each table its keys, and for each key a description of its values.
+ * Returns the tables of a board text as described in the manual: the descriptions of values, by table and key.
  * @param {ManualSection[]} manual
  * @returns {Map<string, Map<string, string>>}
  */
@@ -92,10 +92,9 @@ export function boardTables(manual) {
 }
 
 /**
- * Returns the table that contains a line of a board's text, or "" before all tables. An open bracket after `columns =` does not begin a
- * table.
+ * Returns the table that contains a line of a board text; "" before all tables. An open bracket after `columns =` does not start a table.
  * @param {string[]} lines
- * @param {number} line counts from 0
+ * @param {number} line the line number from 0
  */
 export function tableAt(lines, line) {
   for (let at = line; at >= 0; at--) {
@@ -106,9 +105,9 @@ export function tableAt(lines, line) {
 }
 
 /**
- * Returns the help for the word at a position in a board's text, or "".
+ * Returns the help for the word at a position in a board text, or "".
  * @param {string[]} lines
- * @param {number} line counts from 0
+ * @param {number} line the line number from 0
  * @param {number} at
  * @param {Map<string, Map<string, string>>} tables
  */

@@ -1,9 +1,9 @@
-// Splits a TOML text into words with their positions. Invalid words are reported.
+// Splits a TOML text into words with their positions. Reports invalid words.
 
 import * as say from "../../words/text.js";
 
 /**
- * A word: a mark, a string without its quotes, a bare word, the end of a line, or an invalid word; then `fault` is the message.
+ * A word: a mark, a string without its quotes, a bare word, the end of a line, or an invalid word. `fault` is the error message for an invalid word.
  * @typedef {{ kind: "mark" | "string" | "bare" | "end" | "bad", text: string, line: number, from: number, to: number,
  *   fault: string }} TomlWord
  */
@@ -14,7 +14,7 @@ const BARE = /^[A-Za-z0-9_+:-]+(\.[A-Za-z0-9_+:-]+)*/;
 const STRING = /^"((?:\\.|[^"\\])*)"|^'([^']*)'/;
 
 /**
- * Returns the word of a line at an index.
+ * Returns the word at an index in a line.
  * @param {string} text
  * @param {number} line
  * @param {number} from
@@ -40,7 +40,7 @@ function wordFrom(text, line, from) {
 }
 
 /**
- * Returns the words of a text, with an "end" after each line.
+ * Returns the words of a text, with an "end" word after each line.
  * @param {string[]} lines
  * @returns {TomlWord[]}
  */

@@ -1,11 +1,11 @@
-// Counts of cycles for people: since a reset, since the last stop and between two marks, with the time that a real 4004 needs for them.
+// Counts cycles for the user: since a reset, since the last stop, and between two marks; each count has the time of a real 4004.
 
 import { counted } from "../bench/numbers.js";
 import { CYCLE_US } from "./mcs4_time.js";
 import * as say from "../../words/time.js";
 
 /**
- * The counts of a session: all cycles (`total`), and `total` at the last reset, at the beginning of the last run, and at up to two marks.
+ * The counts of a session: all cycles (`total`), and `total` at the last reset, at the start of the last run, and at up to two marks.
  * @typedef {{ total: number, reset: number, from: number, marks: number[] }} KeptCycles
  */
 
@@ -19,7 +19,7 @@ export function timeOfCycles(cycles) {
 }
 
 /**
- * Returns a count of cycles with its time: `538 cycles, 5.810 ms`.
+ * Formats a cycle count with its time: `538 cycles, 5.810 ms`.
  * @param {number} cycles
  */
 export function wordsOfCycles(cycles) {
@@ -27,19 +27,19 @@ export function wordsOfCycles(cycles) {
 }
 
 export class Cycles {
-  /** @param {KeptCycles} [kept] */
-  constructor(kept = NO_CYCLES) {
-    const { total, reset, from, marks } = kept;
+  /** @param {KeptCycles} [storedCounts] */
+  constructor(storedCounts = NO_CYCLES) {
+    const { total, reset, from, marks } = storedCounts;
     this.total = total;
     this.reset = reset;
     this.from = from;
     this.marks = marks;
-    /** True if time is paused: then the next cycles begin another run. */
+    /** True if time is paused; the next cycles then start another run. */
     this.isPaused = true;
   }
 
   /**
-   * Sets the bench's counts.
+   * Sets the cycle counts of the bench.
    * @param {{ total: number, reset: number }} counts
    */
   take({ total, reset }) {
@@ -51,17 +51,17 @@ export class Cycles {
     this.reset = reset;
   }
 
-  /** Notes that time is paused. */
+  /** Records that time is paused: the next cycles start another run. */
   stop() {
     this.isPaused = true;
   }
 
-  /** Sets the first mark, or the second one. A third mark replaces both. */
+  /** Sets the first or the second mark. A third mark replaces both. */
   mark() {
     this.marks = this.marks.length === 1 ? [...this.marks, this.total] : [this.total];
   }
 
-  /** The cycles since the reset, in the last run, and from the first mark to the second or to now (null without a mark). */
+  /** The cycles since the reset, in the last run, and from the first mark to the second mark or to now (null without a mark). */
   get counts() {
     const [first, second = this.total] = this.marks;
     return {

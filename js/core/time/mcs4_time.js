@@ -1,32 +1,32 @@
-// Durations: of the 4004, of a screen, of the eye and of keys. Each name has its unit.
+// Durations of the 4004, the screen, the eye and key presses. Each name contains its unit.
 
 /** The duration of a cycle in tenths of a microsecond: eight clock periods of 1.35 microseconds. */
 export const CYCLE_TENTHS_US = 108;
 export const CYCLE_US = CYCLE_TENTHS_US / 10;
-/** One division, so that the result is the double nearest to 0.0108. */
+/** The duration of a cycle in milliseconds. One division gives the double nearest to 0.0108. */
 export const CYCLE_MS = CYCLE_TENTHS_US / 10000;
-/** 92,592.6, rounded. */
+/** The number of cycles per second: 92,592.6, rounded. */
 export const CYCLES_PER_SECOND = 92593;
 
-/** A frame at 60 frames per second, and the whole cycles in it. */
+/** The duration of a frame at 60 frames per second, and the number of whole cycles in it. */
 export const FRAME_MS = 1000 / 60;
 export const FRAME_CYCLES = 1543;
 
-/** The time constant of the eye: after this time it perceives 1 - 1/e of a change. */
+/** The time constant of the eye: after this time, it perceives the fraction 1 - 1/e of a change. */
 export const EYE_MS = 30;
 export const EYE_CYCLES = 2778;
 
-/** On the page a key is down for at least 43 ms, and up for at least 22 ms. */
+/** The minimum times of a key on the page: 43 ms down, 22 ms up. */
 export const KEY_DOWN_CYCLES = 4000;
 export const KEY_UP_CYCLES = 2000;
-/** In tests and tools a key is down for 43 ms, and then up for 173 ms. A program that polls its keys detects each press. */
+/** The times of a key in tests and tools: 43 ms down, then 173 ms up. A program that polls its keys detects each press. */
 export const TOOL_KEY_DOWN_CYCLES = 4000;
 export const TOOL_KEY_UP_CYCLES = 16000;
-/** A script waits 22 ms before its first key. */
+/** The wait of a script before its first key: 22 ms. */
 export const BEFORE_KEYS_CYCLES = 2000;
 
 /**
- * Returns a time in cycles, rounded to the nearest cycle.
+ * Converts milliseconds to cycles, rounded to the nearest cycle.
  * @param {number} milliseconds
  */
 export function cyclesOfMs(milliseconds) {

@@ -1,21 +1,21 @@
-// The rate of cycles per second, measured over half a second.
+// Measures the rate of cycles per second, over half a second.
 
 /** The duration of a measurement, in milliseconds. */
 const INTERVAL = 500;
 
 export class Rate {
-  /** @param {number} now in milliseconds */
+  /** @param {number} now the current time in milliseconds */
   constructor(now) {
     this.since = now;
     this.cycles = 0;
-    /** Cycles per second, 0 before the first measurement. */
+    /** The number of cycles per second; 0 before the first measurement. */
     this.perSecond = 0;
   }
 
   /**
-   * Adds cycles. Returns whether `perSecond` has a new value.
+   * Adds cycles. Returns true if `perSecond` has a new value.
    * @param {number} cycles
-   * @param {number} now in milliseconds
+   * @param {number} now the current time in milliseconds
    */
   add(cycles, now) {
     this.cycles += cycles;

@@ -1,32 +1,32 @@
-// Real time: computes how many cycles are due. Time while the page was hidden, blocked or asleep does not count. A key press is simulated
-// early, and later frames make up for it.
+// Real time: computes the number of cycles that are due. Time during which the page was hidden, blocked or asleep does not count. A key press is
+// simulated early, and later frames make up for it.
 
 import { CYCLES_PER_SECOND, FRAME_MS } from "./mcs4_time.js";
 
-/** The maximum of cycles in a frame. A slow browser skips the others. */
+/** The maximum number of cycles in a frame. A slow browser skips further cycles. */
 export const MAX_DUE = 20000;
-/** The maximum that a key press is simulated early, in milliseconds: one frame, because lamps change only in frames. */
+/** The maximum time by which a key press is simulated early, in milliseconds: one frame, because lamps change only once per frame. */
 export const MAX_AHEAD = FRAME_MS;
-/** The gap between frames from which time was paused, in milliseconds. */
+/** The minimum gap between frames that counts as a pause, in milliseconds. */
 export const LONG_GAP = 1000;
 
 export class RealTime {
   /**
-   * Begins at a time with no cycles due.
-   * @param {number} now the clock of the frames, in milliseconds
-   * @param {number} wall the wall clock in milliseconds, which continues while a machine sleeps
+   * Starts at a time with no cycles due.
+   * @param {number} now the frame clock in milliseconds
+   * @param {number} wall the wall clock in milliseconds; it continues while the computer sleeps
    */
   constructor(now, wall) {
     this.lastFrame = now;
     this.lastWall = wall;
     this.wasHidden = false;
-    /** The cycles that are due; negative after an early key press. */
+    /** The number of cycles that are due; negative after an early key press. */
     this.owed = 0;
-    /** The cycles, or instructions, per second. */
+    /** The number of cycles (or instructions) per second. */
     this.perSecond = CYCLES_PER_SECOND;
   }
 
-  /** The time up to which cycles were simulated, by the clock of the frames. */
+  /** The time up to which cycles were simulated, on the frame clock. */
   get reached() {
     return this.lastFrame + (Math.max(0, -this.owed) * 1000) / this.perSecond;
   }
@@ -43,13 +43,13 @@ export class RealTime {
     this.owed = 0;
   }
 
-  /** Notes that the page is hidden. The next frame reports for how long. */
+  /** Records that the page is hidden. The next frame reports the length of the gap. */
   hide() {
     this.wasHidden = true;
   }
 
   /**
-   * Skips the time since the last frame if time was paused. Returns that gap in milliseconds, or null if there was none.
+   * Skips the time since the last frame if time was paused. Returns the gap in milliseconds; null if there was none.
    * @param {number} now
    * @param {number} wall
    * @returns {{ gap: number, wasHidden: boolean } | null}
@@ -64,9 +64,9 @@ export class RealTime {
   }
 
   /**
-   * Returns the cycles that are due, and counts them as done.
+   * Returns the number of due cycles and counts them as done.
    * @param {number} now
-   * @param {number} [ahead] how early to simulate, in milliseconds
+   * @param {number} [ahead] the time to simulate early, in milliseconds
    */
   due(now, ahead = 0) {
     this.owed += (Math.max(0, now - this.lastFrame) / 1000) * this.perSecond;

@@ -1,19 +1,19 @@
-// The durations of runs, from the bench's answers: their cycles, and the time that a 4004 needs for them.
+// Computes the durations of runs from the bench's answers: their cycles, and the time of a real 4004.
 
 import { readRun } from "../bench/answers.js";
 import { CYCLE_TENTHS_US } from "./mcs4_time.js";
 import * as say from "../../words/time.js";
 
 /**
- * A function that returns a text for the location at a program counter, which is given in hexadecimal digits.
+ * A function that describes the location at a program counter, given as hexadecimal digits.
  * @typedef {(counter: string) => string} PlaceOf
  *
- * The time of each run, with the location or the reason of its stop, and the total time. If there is an error, `words` is the message.
+ * The time of each run, with the location or reason of its stop, and the total time. If there is an error, `words` is the message.
  * @typedef {{ runs: string[], sum: string, words: string }} RunTimes
  */
 
-const REFUSED = /^no \d/;
-/** An answer with the program counter, to `regs` or `state`. */
+const REFUSAL = /^no \d/;
+/** Matches an answer to `regs` or `state`, and captures the program counter. */
 const COUNTER = /^(?:acc|state seq) .*?\bpc ([0-9A-F]+)/;
 
 /** @param {number} cycles */
@@ -23,10 +23,10 @@ function timeOf(cycles) {
 }
 
 /**
- * Returns the times of runs.
+ * Returns the time and the stop of each run in a range of answers. Any refusal in the range is an error.
  * @param {string[]} answers
- * @param {number} first the first answer to use, from 1
- * @param {number} last the last answer to use, 0 for the last one in the list
+ * @param {number} first the number of the first answer to use, from 1
+ * @param {number} last the number of the last answer to use; 0 for the end of the list
  * @param {PlaceOf | null} placeOf
  * @returns {RunTimes}
  */
@@ -40,7 +40,7 @@ export function runTimes(answers, first, last, placeOf) {
     const answer = answers[at - 1];
     if (answer.startsWith("ok ")) isOpen = false;
     if (at >= first && (at <= last || last === 0)) {
-      if (REFUSED.test(answer)) return wrong(say.isRefusal(at, answer));
+      if (REFUSAL.test(answer)) return wrong(say.isRefusal(at, answer));
       const run = readRun(answer);
       if (run) {
         cycles += run.cycles;

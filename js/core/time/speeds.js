@@ -1,9 +1,9 @@
-// The speeds of time: real time, a fraction of it, one instruction per second, or full speed.
+// The speeds of time: real time, a fraction of real time, one instruction per second, or full speed.
 
 import * as say from "../../words/time.js";
 
 /**
- * A speed. Time is slower than real time by the factor `slowdown`, or runs one instruction per second (`byInstruction`), or at full speed.
+ * A speed. Time is slower than real time by the factor `slowdown`. `byInstruction`: one instruction per second. `isFull`: full speed.
  * @typedef {{ id: string, words: string, slowdown: number, byInstruction: boolean, isFull: boolean }} Speed
  */
 
@@ -43,7 +43,7 @@ export function canFollowLine({ slowdown, byInstruction }) {
 }
 
 /**
- * Returns whether a click toggles a key, as while time is paused. At this speed the program is too slow to detect a short press.
+ * Returns whether a click toggles a key, as it does while time is paused. At such a speed the program is too slow to detect a short press.
  * @param {Speed} each
  */
 export function togglesKeys({ slowdown, byInstruction }) {

@@ -1,4 +1,4 @@
-// Moves to a goal, back and forward in time, with messages about them.
+// Moves to a goal, back and forward in time, and shows messages about the moves.
 
 import { wordsOfGone } from "../../words/stops.js";
 import * as say from "../../words/time.js";
@@ -17,17 +17,17 @@ import * as say from "../../words/time.js";
 /**
  * The callbacks of Travel.
  * @typedef {object} TravelCalls
- * @property {() => Promise<void>} stand Pauses time. Resolves when time is paused.
- * @property {() => { board: string, program: string, watched: string[] }} texts Returns the texts that define the names in conditions, and
- *   the watched values.
- * @property {(goal: Goal | null) => void} aim Stores the goal with the session during the search, and null after it.
- * @property {<Result extends ServedLines>(words: string, work: (ways: Ways) => Promise<Result>) => Promise<Result | null>} change Does
- *   work that changes the session, and saves and shows its result. `words` name the work while the user can cancel it. If it is cancelled
- *   or fails, it reports that and resolves to null.
- * @property {(goal: Goal) => void} runTo Starts time, which runs to a goal that the bench has.
- * @property {(tally: Tally) => void} counted Reports the work of breakpoints.
- * @property {(stop: Stop, goal: Goal) => string} reasonOf Returns the message that says why time stopped before a goal or at it.
- * @property {() => string} where Returns the program counter with its name and its source line, as text.
+ * @property {() => Promise<void>} stand Pauses time; resolves after time is paused.
+ * @property {() => { board: string, program: string, watched: string[] }} texts Returns the texts whose names conditions can use, and the watch
+ *   expressions.
+ * @property {(goal: Goal | null) => void} aim Stores the goal in the session during the search; null removes it.
+ * @property {<Result extends ServedLines>(words: string, work: (ways: Ways) => Promise<Result>) => Promise<Result | null>} change Does work that
+ *   changes the session; saves and shows the result. `words` describe the work while the user can cancel it. If the work is cancelled or fails,
+ *   reports that and resolves to null.
+ * @property {(goal: Goal) => void} runTo Starts time; it runs to the goal that the bench has stored.
+ * @property {(tally: Tally) => void} counted Reports breakpoint hits and log messages.
+ * @property {(stop: Stop, goal: Goal) => string} reasonOf Returns the message with the reason why time stopped.
+ * @property {() => string} where Returns the program counter with its name and source line as text.
  * @property {(id: number) => import("../debug/breakpoints.js").Breakpoint | undefined} breakpoint Returns the breakpoint with an id, or
  *   undefined.
  * @property {(words: string) => void} showMessage Shows a message in the status line.
@@ -44,7 +44,7 @@ export class Travel {
   }
 
   /**
-   * Runs until a goal is reached or something else stops time. A near goal is reached at once; otherwise time starts to run.
+   * Runs until a goal is reached or something else stops time. A near goal is reached at once. For any other goal, time starts to run.
    * @param {Goal} goal
    */
   async goOn(goal) {
@@ -64,13 +64,13 @@ export class Travel {
   async goBack(goal) {
     await this.calls.stand();
     if (goal.kind === "when") await this.bench.call("takeNames", [this.calls.texts()]);
-    const gone = await this.calls.change(say.REPEATING_PAST, (ways) => this.bench.call("goBack", [goal], ways));
-    if (gone) this.calls.showMessage(wordsOfGone(goal, gone, this.calls.where(), this.calls.breakpoint(gone.id)));
+    const result = await this.calls.change(say.REPEATING_PAST, (ways) => this.bench.call("goBack", [goal], ways));
+    if (result) this.calls.showMessage(wordsOfGone(goal, result, this.calls.where(), this.calls.breakpoint(result.id)));
   }
 
   async goForward() {
     await this.calls.stand();
-    const gone = await this.calls.change(say.GOING_FORWARD, () => this.bench.call("goForward", []));
-    if (gone) this.calls.showMessage(wordsOfGone({ kind: "forward" }, gone, this.calls.where()));
+    const result = await this.calls.change(say.GOING_FORWARD, () => this.bench.call("goForward", []));
+    if (result) this.calls.showMessage(wordsOfGone({ kind: "forward" }, result, this.calls.where()));
   }
 }

@@ -1,4 +1,4 @@
-// The part of a trace line before an instruction's effect: elapsed cycles, address, bytes and text. A label has its own line.
+// Builds the part of a trace line before the effect of an instruction: elapsed cycles, address, bytes and text. A label has its own line.
 
 import { hex } from "../bench/numbers.js";
 import { ADDRESSES } from "../bench/rom_bytes.js";
@@ -10,22 +10,22 @@ import { wordsOf } from "../engine/rom_codes.js";
  * @typedef {import("../engine/engine_host.js").State} State
  * @typedef {import("../machine/source_map.js").SourceMap} SourceMap
  *
- * The names of a program. `source` has its lines if the trace shows them; `before` is the number of lines before them in the file.
+ * The names of a program. `source` has the source lines if the trace shows them; `before` is the number of lines before them in the file.
  * @typedef {{ map: SourceMap, source: { lines: string[], before: number } | null }} TraceNames
  */
 
-/** The width of an instruction's text, without and with the source. */
+/** The width of the instruction text, without and with the source. */
 const WIDTH = 25;
 const SOURCE_WIDTH = 42;
 const TAB = 8;
-/** A listing line with JUN, JMS, JCN or ISZ, whose target is last. */
+/** Matches a listing line with JUN, JMS, JCN or ISZ; captures the text before the target, and the target. */
 const JUMP = /^(?=.{10}(?:JUN|JMS|JCN|ISZ) )(.{7}[^ ].*)0x([0-9A-F]{3})$/;
 const LAST_ADDRESS = ADDRESSES - 1;
-/** The range of the first byte in a listing line. */
+/** The columns of the first byte in a listing line. */
 const CODE_IN_LINE = /** @type {const} */ ([4, 6]);
 
 /**
- * Returns the start of a trace line: the cycles before an instruction.
+ * Returns the start of a trace line: the cycles before the instruction.
  * @param {number} cycles
  */
 function cyclesText(cycles) {
@@ -33,7 +33,7 @@ function cyclesText(cycles) {
 }
 
 /**
- * Returns a source line without its comment and with blanks for its tabs.
+ * Returns a source line without its comment, and with blanks instead of tabs.
  * @param {string} line
  */
 function codeOfLine(line) {
@@ -43,7 +43,7 @@ function codeOfLine(line) {
 }
 
 /**
- * The mnemonics of instructions of two bytes by their first digit, and functions that format their operands.
+ * The mnemonics of two-byte instructions by their first digit, with functions that format the operands.
  * @type {Record<number, [string, (operand: number, digits: string) => string]>}
  */
 const TWO_BYTE_INSTRUCTIONS = {
@@ -68,16 +68,16 @@ function wrappedText(code, second) {
 export class InstructionTexts {
   /** @param {TraceNames | null} names */
   constructor(names) {
-    /** The first bytes of the instructions whose texts are read. */
+    /** The first bytes of the instructions that have been read, by address. */
     this.codes = new Uint8Array(ADDRESSES);
     this.names = names;
     this.width = names && names.source ? SOURCE_WIDTH : WIDTH;
-    /** @type {Map<number, { label: string, text: string }>} the texts of instructions by their addresses */
+    /** @type {Map<number, { label: string, text: string }>} the instruction texts, by address */
     this.texts = new Map();
   }
 
   /**
-   * Reads the texts of the instructions at these addresses.
+   * Reads the texts of the instructions at some addresses.
    * @param {EngineHost} engine
    * @param {State} state
    * @param {number[]} addresses
@@ -95,9 +95,9 @@ export class InstructionTexts {
   }
 
   /**
-   * Returns the label line and the text of an instruction.
+   * Returns the label line and text of an instruction.
    * @param {number} address
-   * @param {string} listed its listing line
+   * @param {string} listed the listing line of the instruction
    */
   linesAt(address, listed) {
     const { codes, names } = this;
@@ -111,7 +111,7 @@ export class InstructionTexts {
   }
 
   /**
-   * Returns a listing line with the label of a jump's target in place of its address.
+   * Replaces the target address of a jump in a listing line by its label.
    * @param {string} text
    */
   withTarget(text) {
@@ -121,7 +121,7 @@ export class InstructionTexts {
   }
 
   /**
-   * Returns a listing line with the number and the text of its source line in place of the instruction.
+   * Replaces the instruction in a listing line by the number and text of its source line.
    * @param {string} text the listing line
    * @param {number} address
    */
@@ -134,8 +134,8 @@ export class InstructionTexts {
   }
 
   /**
-   * Returns the trace line of an instruction up to its effect, with its label line. `read` must have read the text.
-   * @param {number} cycles before the instruction
+   * Returns the trace line of an instruction up to its effect, preceded by its label line. `read` must have read the text before.
+   * @param {number} cycles the cycles before the instruction
    * @param {number} address
    */
   instructionLine(cycles, address) {
@@ -144,8 +144,8 @@ export class InstructionTexts {
   }
 
   /**
-   * Returns a trace line with other words in place of an instruction.
-   * @param {number} cycles before it
+   * Returns a trace line with other text instead of an instruction.
+   * @param {number} cycles the cycles before the line
    * @param {string} words
    */
   line(cycles, words) {

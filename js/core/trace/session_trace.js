@@ -1,4 +1,4 @@
-// Traces a session from its present state on, in pieces. Works on a copy of the state.
+// Traces a session from its current state on, in pieces. It works on a copy of the state.
 
 import { readBoard, readRun } from "../bench/answers.js";
 import { LONGEST_RUN } from "../engine/key_queue.js";
@@ -16,16 +16,16 @@ import * as say from "../../words/trace.js";
  * @typedef {() => Promise<any>} YieldToMessages
  */
 
-/** The cycles of the first piece, and of the others: a short first piece shows the first lines soon. */
+/** The length of the first piece, and of all other pieces, in cycles. A short first piece shows the first lines soon. */
 const FIRST_PIECE = 500;
 const PIECE = 10000;
 const NO_STOP = "end";
 
 /**
- * Runs a state. Returns the number of cycles run, and the reason for the stop, `end` if all cycles are run.
+ * Runs a state. Returns the number of cycles run, and the reason for the stop (`end` if all cycles ran).
  * @param {EngineHost} engine
- * @param {State} state receives the state after the run
- * @param {number} cycles the maximum
+ * @param {State} state the state; changed to the state after the run
+ * @param {number} cycles the maximum number of cycles
  * @param {YieldToMessages} yieldToMessages
  */
 async function runState(engine, state, cycles, yieldToMessages) {
@@ -54,7 +54,7 @@ export class SessionTrace {
   }
 
   /**
-   * Yields the lines of the next cycles. Ignores breakpoints and watches.
+   * Yields the trace lines of the next cycles. Breakpoints and watches are ignored.
    * @param {number} cycles
    * @param {TraceNames | null} names
    */
@@ -64,15 +64,15 @@ export class SessionTrace {
   }
 
   /**
-   * Yields the lines of the last instructions before the first stop.
-   * @param {number} count of the instructions
-   * @param {number} cycles the maximum up to the stop
+   * Yields the trace lines of the last instructions before the first stop.
+   * @param {number} count the number of instructions
+   * @param {number} cycles the maximum number of cycles up to the stop
    * @param {TraceNames | null} names
    */
   async* last(count, cycles, names) {
     const { engine, yieldToMessages } = this;
     const stop = await runState(engine, this.startState.slice(), cycles, yieldToMessages);
-    // An instruction takes at most two cycles, and the session can begin between the two.
+    // An instruction takes at most two cycles, and the session can start between them.
     const from = Math.max(0, stop.cycles - 2 * count - 2);
     const state = withoutStops(engine, this.startState);
     await runState(engine, state, from, yieldToMessages);
@@ -84,9 +84,9 @@ export class SessionTrace {
   }
 
   /**
-   * Yields the lines of a range of cycles. If the session stops, the last line is the instruction before which it stops.
-   * @param {State} state receives the state after the run
-   * @param {{ from: number, to: number, end: string }} range with the reason for the stop at its end
+   * Yields the trace lines of a range of cycles. If the session stops, the last line is the instruction at the stop.
+   * @param {State} state the state at the start of the range; changed to the state at its end
+   * @param {{ from: number, to: number, end: string }} range the range; `end` is the reason for the stop at its end
    * @param {TraceNames | null} names
    */
   async* lines(state, { from, to, end }, names) {

@@ -1,5 +1,5 @@
-// The lines of a trace: one for each instruction of a run, with its changes. They are made from the answers to the bench's queries `count`
-// and `trace`, which do not change the state.
+// Builds the lines of a trace: one line per instruction of a run, with its changes. They come from the answers to the queries `count` and `trace`,
+// which do not change the state.
 
 import { MOST_PLACES } from "../bench/inputs.js";
 import { valueIn } from "../bench/state_line.js";
@@ -17,18 +17,18 @@ import * as say from "../../words/trace.js";
  * @typedef {import("./instruction_texts.js").InstructionTexts} InstructionTexts
  * @typedef {import("./trace_places.js").TracePlace} TracePlace
  *
- * A group of places in one `trace` query: their current values, and the rows with new values by the cycle of the change.
+ * The places of one `trace` query: their current values, and the rows with new values by the cycle of the change.
  * @typedef {{ places: TracePlace[], values: string[], rows: Map<number, string> }} Group
  */
 
-/** The number of registers in the query with the counter, the accumulator and the carry. */
+/** The number of registers in the query with the program counter, the accumulator and the carry. */
 const SHOWN_REGISTERS = 13;
 const MAIN_PLACES = ["pc", "acc", "cy", ...upTo(SHOWN_REGISTERS).map((at) => `r${at}`)];
-/** The indices in a row of MAIN_PLACES, which is ` PPP A C R R ..`. */
+/** The character indexes in a row of MAIN_PLACES, which has the form ` PPP A C R R ..`. */
 const ROW_INDICES = { pc: 1, acc: 5, cy: 7, registers: 9 };
 
 /**
- * Returns the changes of registers between two rows as text.
+ * Returns the register changes between two rows as text.
  * @param {string} row
  * @param {string} before the previous row
  */
@@ -42,9 +42,9 @@ function changedRegisters(row, before) {
 }
 
 /**
- * Updates the values of a group from a row. Returns the changes as text.
+ * Updates the values of a group from a row; returns the changes as text.
  * @param {Group} group
- * @param {string | undefined} row undefined if nothing changes
+ * @param {string | undefined} row the row; undefined if nothing changes
  */
 function changesIn(group, row) {
   let changes = "";
@@ -72,9 +72,9 @@ export class TraceLines {
   }
 
   /**
-   * Returns the line for the second cycle of an instruction that began before the trace; none if there is no such cycle.
+   * Returns the line for the second cycle of an instruction that started before the trace; an empty list if there is none.
    * @param {State} state
-   * @param {number} elapsed the cycles before the line
+   * @param {number} elapsed the number of cycles before the line
    */
   secondCycle(state, elapsed) {
     const [answer] = this.engine.ask(state, "state\n").answers;
@@ -83,10 +83,10 @@ export class TraceLines {
   }
 
   /**
-   * Returns the lines of a run: one for each instruction, and one for each label.
+   * Returns the lines of a run: one line per instruction, and one line per label.
    * @param {State} state
-   * @param {number} cycles of the run; the bench limits them
-   * @param {number} elapsed the cycles before the run
+   * @param {number} cycles the length of the run in cycles; the bench has a maximum
+   * @param {number} elapsed the number of cycles before the run
    */
   runLines(state, cycles, elapsed) {
     const { engine, texts, board } = this;
@@ -106,8 +106,8 @@ export class TraceLines {
   /**
    * Merges the answers to the queries into lines.
    * @param {Group[]} groups
-   * @param {Trace} main the answer for MAIN_PLACES
-   * @param {{ elapsed: number, due: number }} from the cycles before the run, and the cycle in which its first instruction begins
+   * @param {Trace} main the trace of MAIN_PLACES
+   * @param {{ elapsed: number, due: number }} from the cycles before the run, and the cycle in which its first instruction starts
    */
   linesOf(groups, main, { elapsed, due }) {
     /** @type {string[]} */
@@ -122,7 +122,7 @@ export class TraceLines {
       lines.push(`${start}acc ${row[ROW_INDICES.acc]} cy ${row[ROW_INDICES.cy]}${changes && ` ${changes}`}`);
       nextCycle = at + cyclesOf(this.texts.codes[address]);
     };
-    // A jump to itself that changes nothing has no row: it repeats up to the next row.
+    // A jump to itself without any change has no row. Its line is repeated up to the next row.
     const repeatJump = (/** @type {number} */ to) => {
       while (nextCycle < to) addLine(nextCycle, parseInt(row.slice(ROW_INDICES.pc, ROW_INDICES.acc - 1), 16), row);
     };
@@ -138,7 +138,7 @@ export class TraceLines {
   /**
    * Returns the line of the next instruction up to its effect.
    * @param {State} state
-   * @param {number} elapsed the cycles before the instruction
+   * @param {number} elapsed the number of cycles before the instruction
    */
   next(state, elapsed) {
     const { engine, texts } = this;

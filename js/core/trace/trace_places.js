@@ -1,4 +1,4 @@
-// The places whose changes a trace shows, in the order of its lines.
+// The places whose changes a trace shows, in line order.
 
 import { hex, upTo } from "../bench/numbers.js";
 import { WRR } from "../engine/rom_codes.js";
@@ -6,10 +6,10 @@ import { WRR } from "../engine/rom_codes.js";
 /**
  * @typedef {import("../bench/answers.js").Board} Board
  *
- * A place in a `trace` query. `textOf` returns the text of a change to a new value; two values with the same text are not a change.
+ * A place in a `trace` query. `textOf` returns the text for a new value. Two values with the same text do not count as a change.
  * @typedef {{ name: string, textOf: (value: string) => string }} TracePlace
  *
- * Returns whether a run executes an instruction with this code.
+ * Returns whether a run executes an instruction with a given opcode.
  * @typedef {(code: number) => boolean} Executes
  */
 
@@ -19,7 +19,7 @@ const WMP = 0xE1;
 const WR0 = 0xE4;
 
 /**
- * Makes a place; its text is by default its name and value.
+ * Creates a place. By default, its text is its name and value.
  * @param {string} name
  * @param {(value: string) => string} [textOf]
  * @returns {TracePlace}
@@ -29,7 +29,7 @@ function place(name, textOf = (value) => ` ${name} ${value}`) {
 }
 
 /**
- * Returns the places of a RAM chip that the executed instructions can write.
+ * Returns the places of a RAM chip that the executed instructions can change.
  * @param {number} bank
  * @param {number} chip
  * @param {Executes} executes
@@ -43,7 +43,7 @@ function placesOfChip(bank, chip, executes) {
 }
 
 /**
- * Returns the output ports of the ROMs. Changes of inputs are left out because the program does not make them.
+ * Returns the output ports of the ROMs. Input changes are left out because the program does not cause them.
  * @param {Board} board
  */
 function placesOfRoms({ roms }) {
@@ -54,9 +54,9 @@ function placesOfRoms({ roms }) {
 }
 
 /**
- * Returns the places that the executed instructions can change.
+ * Returns all places that the executed instructions can change.
  * @param {Board} board
- * @param {number} register the first register that needs a place
+ * @param {number} register the number of the first register that needs a place
  * @param {Executes} executes
  * @returns {TracePlace[]}
  */
@@ -67,7 +67,7 @@ export function tracePlaces(board, register, executes) {
     place("ret", (value) => ` ret ${value.replace(/,/g, " ")}`),
     ...board.banks.flatMap(({ bank, chips }) => upTo(chips).flatMap((chip) => placesOfChip(bank, chip, executes))),
     ...(executes(WRR) ? placesOfRoms(board) : []),
-    // Any output port can clock a chain.
+    // Any output port can drive the clock of a chain.
     ...(executes(WMP) || executes(WRR) ? board.chains.map((_, at) => place(`chain${at}`)) : []),
     place("lamps", (value) => ` lamps ${value.replace(/^-$/, "")}`),
   ];

@@ -1,5 +1,5 @@
-// Decoders: rows that are computed from several lines of a recording. The decoder of a shift register (4003) shows the bit that each clock
-// shifts in, and the register's bits when it is at rest. The decoder of the key matrix shows the driven rows and the keys that answer.
+// Decoders: rows that are computed from several signal lines of a recording. The decoder of a shift register (4003) shows the bit that each clock
+// edge shifts in, and the register bits when the register is at rest. The decoder of the key matrix shows the driven rows and the pressed keys.
 
 import { countUpTo } from "./growing.js";
 import * as say from "../../words/waves.js";
@@ -10,10 +10,10 @@ import * as say from "../../words/waves.js";
  * @typedef {import("./wave_words.js").Base} Base
  */
 
-/** The cycles without a clock after which a register is at rest. */
+/** The number of cycles without a clock edge after which a register is at rest. */
 export const REST = 16;
 
-/** Values in the track of a shift register. A bit alternates between two codes, so that equal consecutive bits are two changes. */
+/** The values in the track of a shift register. Each bit value has two codes that alternate, so that two equal bits in a row are two changes. */
 const AT_REST = 0;
 const BIT = 2;
 const OTHER_BIT = 4;
@@ -26,8 +26,8 @@ export function isDecoder({ kind }) {
 }
 
 /**
- * Returns the moment of the last rising edge of a line up to a moment, or -1.
- * @param {Track} clock a line of one bit
+ * Returns the moment of the last rising edge of a line at or before a moment; -1 if there is none.
+ * @param {Track} clock the track of a one-bit line
  * @param {number} until
  */
 export function lastRise(clock, until) {
@@ -39,7 +39,8 @@ export function lastRise(clock, until) {
 
 /**
  * Extends the track of a shift register from a moment to the end of the recording.
- * @param {{ clock: Track, data: Track, rise: number }} from `rise` is the last rising edge of the clock up to `after`, or -1
+ * @param {{ clock: Track, data: Track, rise: number }} from the tracks of the register's lines; `rise` is the last rising clock edge up to `after`,
+ *   or -1
  * @param {Track} track
  * @param {number} after
  * @param {number} end
@@ -61,8 +62,8 @@ export function deriveShift({ clock, data, rise }, track, after, end) {
 }
 
 /**
- * Returns the bits of a register as text, the highest first. It uses BigInt because a register can have more than 53 bits.
- * @param {number[]} bits the lowest first
+ * Formats the bits of a register, highest bit first. BigInt is necessary because a register can have more than 53 bits.
+ * @param {number[]} bits the bits, lowest first
  * @param {Base} base
  */
 function textOfBits(bits, base) {
@@ -72,7 +73,7 @@ function textOfBits(bits, base) {
 }
 
 /**
- * Returns the text for a value in the track of a shift register: the bit that was shifted in, or the register's bits at rest.
+ * Returns the text for a value in the track of a shift register: the bit that was shifted in, or the register bits at rest.
  * @param {number} value
  * @param {number[]} bits
  * @param {Base} base
@@ -82,10 +83,10 @@ export function shiftText(value, bits, base) {
 }
 
 /**
- * Returns the indices of the bits that are 1, counted from `from`.
+ * Returns the indexes of the 1 bits in a range, counted from `from`.
  * @param {number} value
- * @param {number} from the first bit
- * @param {number} to the bit after the last one
+ * @param {number} from the number of the first bit
+ * @param {number} to the number of the bit after the range
  */
 function onesOf(value, from, to) {
   const found = [];
@@ -94,10 +95,9 @@ function onesOf(value, from, to) {
 }
 
 /**
- * Returns the driven rows, the columns that answer, and the names of the keys that answer. If several rows are driven, the keys are
- * unknown.
+ * Returns the driven rows, the columns with a pressed key, and the names of the pressed keys. If several rows are driven, the keys are unknown.
  * @param {WaveLine} line
- * @param {number} value a value in its track
+ * @param {number} value a value in the track of the key scan
  */
 export function scannedBy({ places, columns, width }, value) {
   const rows = onesOf(value, columns, width);

@@ -1,15 +1,15 @@
-// A queue of numbers in a typed array. Numbers are added at the end, and removed at both ends.
+// A number queue in a typed array. Numbers are added at the end and removed at both ends.
 
 /** @typedef {Uint16Array | Uint32Array | Float64Array} Numbers */
 
-/** The first capacity. */
+/** The initial capacity. */
 const FIRST_CAPACITY = 64;
-/** The maximum of unused elements at the beginning before the numbers are moved there. */
+/** The maximum number of unused elements at the start; more of them are removed by moving the numbers. */
 const MAX_UNUSED = 4096;
 
 /**
- * Returns how many numbers are at most `most`.
- * @param {ArrayLike<number>} numbers in rising order
+ * Returns the number of elements that are at most `most`.
+ * @param {ArrayLike<number>} numbers the numbers in ascending order
  * @param {number} most
  */
 export function countUpTo(numbers, most) {
@@ -24,7 +24,7 @@ export function countUpTo(numbers, most) {
 
 /** @template {Numbers} Kind */
 export class NumberQueue {
-  /** @param {Kind} numbers the first numbers; the array now belongs to the queue */
+  /** @param {Kind} numbers the initial numbers; the queue takes over the array */
   constructor(numbers) {
     this.numbers = numbers;
     this.from = 0;
@@ -35,7 +35,7 @@ export class NumberQueue {
     return this.to - this.from;
   }
 
-  /** The last number, -1 if there is none. */
+  /** The last number; -1 if the queue is empty. */
   get last() {
     return this.count > 0 ? this.numbers[this.to - 1] : -1;
   }
@@ -62,7 +62,7 @@ export class NumberQueue {
     this.to -= 1;
   }
 
-  /** @param {number} count how many numbers to remove at the beginning */
+  /** @param {number} count the count of numbers to remove at the start */
   drop(count) {
     this.from += count;
     if (this.from < MAX_UNUSED || this.from < this.count) return;
@@ -71,7 +71,7 @@ export class NumberQueue {
     this.from = 0;
   }
 
-  /** @param {number} count how many numbers to keep at the beginning */
+  /** @param {number} count the count of numbers to keep at the start */
   cut(count) {
     this.to = this.from + count;
   }
@@ -84,10 +84,10 @@ export class NumberQueue {
     return /** @type {Kind} */ (this.numbers.subarray(this.from, this.to));
   }
 
-  /** Returns a copy of the numbers, and removes them. */
+  /** Removes all numbers and returns a copy of them. */
   take() {
-    const taken = /** @type {Kind} */ (this.all.slice());
+    const numbers = /** @type {Kind} */ (this.all.slice());
     this.from = this.to = 0;
-    return taken;
+    return numbers;
   }
 }

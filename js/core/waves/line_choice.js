@@ -1,4 +1,4 @@
-// Finds the lines of a recording that the arguments of a command name.
+// Finds the lines of a recording for the arguments of a command.
 
 import { linesOfBoard, valueLine } from "./wave_lines.js";
 import * as say from "../../words/waves.js";
@@ -7,22 +7,22 @@ import * as say from "../../words/waves.js";
  * @typedef {import("../bench/answers.js").Board} Board
  * @typedef {import("./wave_lines.js").WaveLine} WaveLine
  *
- * The lines of a board with the requested values, and the indices of the requested lines in the order of the request.
+ * The lines of a board with the requested values, and the indexes of the requested lines in request order.
  * @typedef {{ lines: WaveLine[], chosen: number[] }} LineChoice
  */
 
-/** An error: a name does not match a line. */
+/** The error for a name that matches no line. */
 export class NoLine extends Error {}
 
-/** @type {(line: WaveLine) => boolean} returns whether a line is a bit of the board */
+/** @type {(line: WaveLine) => boolean} returns whether a line is a one-bit line of the board */
 const isBit = ({ kind }) => kind === "level" || kind === "key" || kind === "test";
-/** @type {(line: WaveLine) => boolean} returns whether a line is offered by its name, and can be requested by its group */
+/** @type {(line: WaveLine) => boolean} returns whether a line is offered by name and belongs to its requestable group */
 const isOffered = (line) => isBit(line) || line.kind === "pc" || line.kind === "label";
 
 /**
- * Returns the names of the lines of a board.
+ * Returns the names of the board's lines.
  * @param {Board} board
- * @param {string} text the board's text, which has names
+ * @param {string} text the board text, for the names
  * @param {boolean} hasLabels
  */
 export function offeredNames(board, text, hasLabels) {
@@ -30,9 +30,9 @@ export function offeredNames(board, text, hasLabels) {
 }
 
 /**
- * Returns the name of a lamp or a key without the names of the board, `lamp0` or `key2.3`, and "" for any other line.
+ * Returns the plain name of a lamp or key, `lamp0` or `key2.3`; "" for any other line.
  * @param {WaveLine} line
- * @param {number} number the number of the lamp
+ * @param {number} number the lamp number
  */
 function plainName({ group, places }, number) {
   if (group === "lamps") return `lamp${number}`;
@@ -40,7 +40,7 @@ function plainName({ group, places }, number) {
 }
 
 /**
- * Returns the indices of the lines that a word names: a single line, or all lines of a group.
+ * Returns the indexes of the lines for a word: a single line, or all lines of a group.
  * @param {WaveLine[]} lines
  * @param {string} word
  */
@@ -52,10 +52,10 @@ function lineIndices(lines, word) {
 }
 
 /**
- * Returns the lines that words name, or all bits of the board if there are no words. Throws a NoLine if a word names no line, or if a line
- * is named twice.
+ * Returns the lines for words; without words, all one-bit lines of the board. Throws a NoLine if a word matches no line, or if a line is requested
+ * twice.
  * @param {Board} board
- * @param {string} text the board's text, which has names
+ * @param {string} text the board text, for the names
  * @param {boolean} hasLabels
  * @param {string[]} words
  * @returns {LineChoice}

@@ -1,4 +1,4 @@
-// A recording that continues while time is running: its limits and its status.
+// A recording that continues while time runs: its limits and its status.
 
 import { Waves } from "./wave_recording.js";
 import { grouped } from "./wave_words.js";
@@ -9,14 +9,14 @@ import * as say from "../../words/waves.js";
  * @typedef {import("../engine/live_recorder.js").LivePart} LivePart
  * @typedef {import("../engine/wave_recorder.js").Recorded} Recorded
  *
- * The settings. `most`: the maximum length in cycles; `behind`: the number of these cycles after the trigger; `trigger`: its text, "" for
- * none; `stopsTime`: time stops at the end.
+ * The settings. `most`: the maximum length in cycles. `behind`: the number of these cycles after the trigger. `trigger`: the text of the trigger, ""
+ * for none. `stopsTime`: true if time stops at the end.
  * @typedef {{ most: number, behind: number, trigger: string, stopsTime: boolean }} LiveChoice
  */
 
 export class LiveWaves {
   /**
-   * @param {Recorded} recorded the beginning of the recording
+   * @param {Recorded} recorded the first part of the recording
    * @param {LiveChoice} choice
    */
   constructor(recorded, choice) {
@@ -30,7 +30,7 @@ export class LiveWaves {
     return this.over === "";
   }
 
-  /** @param {LivePart} part the part since the last one */
+  /** @param {LivePart} part the next part */
   take(part) {
     const { waves } = this;
     const { most, behind, trigger } = this.choice;
@@ -47,13 +47,13 @@ export class LiveWaves {
     this.over = "lost";
   }
 
-  /** The length of the recording as text; it changes with each part. */
+  /** The length of the recording as text. It changes with each part. */
   get kept() {
     const { waves } = this;
     return waves.cycles === 0 ? "" : wordsOfCycles(waves.span);
   }
 
-  /** The status of the recording as text; it changes rarely. */
+  /** The status of the recording as text. It changes rarely. */
   get words() {
     const { waves, triggered, over } = this;
     const { trigger } = this.choice;
@@ -61,7 +61,7 @@ export class LiveWaves {
     if (over === "trigger") return say.recorded(this.kept, triggerText);
     if (over !== "") return say.recordedUntil(this.kept || say.NOTHING, say.ENDS[over] || over, triggerText);
     if (triggered >= 0) return say.recordsAfter(triggerText);
-    const begun = waves.cycles === 0 ? say.RECORDS_SOON : say.RECORDS;
-    return `${begun}${trigger ? say.waitsFor(trigger) : ""}`;
+    const statusText = waves.cycles === 0 ? say.RECORDS_SOON : say.RECORDS;
+    return `${statusText}${trigger ? say.waitsFor(trigger) : ""}`;
   }
 }

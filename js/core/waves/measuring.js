@@ -1,4 +1,4 @@
-// Measures a line at a moment: how long it has its value, and the period of a bit.
+// Measures a signal line at a moment: how long it keeps its value, and the period of a one-bit line.
 
 import { wordsOfCycles } from "../time/cycles.js";
 import { CYCLE_US } from "../time/mcs4_time.js";
@@ -8,16 +8,16 @@ import * as say from "../../words/waves.js";
 /**
  * @typedef {import("./wave_recording.js").Waves} Waves
  *
- * The measurement: the line has its value from one moment to another. `isWhole`: both moments are changes of the line, not ends of the
- * recording. `period`: the cycles from the edge before the moment to the next edge in the same direction, 0 if there is none.
+ * A measurement: the line keeps its value from one moment to another. `isWhole`: both moments are changes of the line, not ends of the recording.
+ * `period`: the cycles from the edge before the moment to the next edge in the same direction, 0 if there is none.
  * @typedef {{ from: number, to: number, isWhole: boolean, period: number }} Measure
  */
 
-/** The significant digits of a frequency. */
+/** The number of significant digits of a frequency. */
 const DIGITS = 4;
 
 /**
- * Measures a line at a moment.
+ * Measures a signal line at a moment.
  * @param {Waves} waves
  * @param {number} line
  * @param {number} moment
@@ -32,7 +32,7 @@ export function measureAt(waves, line, moment) {
     period: before === undefined || again === undefined ? 0 : again - before };
 }
 
-/** @param {number} period in cycles */
+/** @param {number} period the period in cycles */
 export function frequencyText(period) {
   const hertz = (1e6 / CYCLE_US) / period;
   return hertz < 1000 ? say.inHertz(hertz.toPrecision(DIGITS)) : say.inKilohertz((hertz / 1000).toPrecision(DIGITS));
@@ -40,7 +40,7 @@ export function frequencyText(period) {
 
 /**
  * Returns the text of a measurement.
- * @param {string} value the value of the line, as text
+ * @param {string} value the value of the line as text
  * @param {Measure} measure
  */
 export function measureText(value, { from, to, isWhole, period }) {

@@ -1,8 +1,8 @@
-// An SVG file that is drawn like the context of a canvas. It has only the methods that waves need.
+// Draws an SVG file through the interface of a canvas context. It has only the methods that waves need.
 
-/** The width of each character in pixels: the font is monospaced. */
+/** The width of a character in pixels; the font is monospaced. */
 const CHARACTER = 7.25;
-/** @type {Record<string, string>} SVG's text anchors, by the values of a canvas's `textAlign` */
+/** @type {Record<string, string>} the SVG text anchors, by canvas `textAlign` */
 const ANCHORS = { left: "start", center: "middle", right: "end" };
 
 /** @param {number} number */
@@ -12,7 +12,7 @@ const rounded = (number) => String(Math.round(number * 100) / 100);
 const escaped = (text) => text.replace(/[&<>"]/g, (letter) => `&#${letter.charCodeAt(0)};`);
 
 /**
- * Returns the name and the attributes of an element, without brackets.
+ * Returns the name and attributes of an element, without angle brackets.
  * @param {string} name
  * @param {Record<string, string | number>} attributes
  */
@@ -21,10 +21,10 @@ function startTag(name, attributes) {
 }
 
 /**
- * Returns an element.
+ * Returns the source text of an SVG element. Without content, the element is self-closing.
  * @param {string} name
  * @param {Record<string, string | number>} attributes
- * @param {string} [content] its content, escaped
+ * @param {string} [content] the escaped content of the element
  */
 function tag(name, attributes, content) {
   return content === undefined ? `<${startTag(name, attributes)}/>` : `<${startTag(name, attributes)}>${content}</${name}>`;
@@ -34,7 +34,7 @@ export class SvgContext {
   /**
    * @param {number} width
    * @param {number} height
-   * @param {string} background the colour of the background
+   * @param {string} background the background colour
    */
   constructor(width, height, background) {
     this.size = [width, height];
@@ -101,7 +101,7 @@ export class SvgContext {
   /**
    * @param {string} text
    * @param {number} x
-   * @param {number} y the vertical centre of the text
+   * @param {number} y the y position of the text centre
    */
   fillText(text, x, y) {
     const attributes = { "dy": ".35em", "text-anchor": ANCHORS[this.textAlign], "fill": this.fillStyle };
@@ -118,7 +118,7 @@ export class SvgContext {
     this.dash = lengths.length === 0 ? {} : { "stroke-dasharray": lengths.join(" ") };
   }
 
-  /** The text of the file. */
+  /** The SVG text of the file. */
   get text() {
     const [width, height] = this.size;
     const attributes = { width, height, "font-family": "monospace", "font-size": 12 };

@@ -1,10 +1,10 @@
-// The values of a line in a recording: its first value, and each moment when it changed. The track of a single bit stores no values,
-// because a bit alternates.
+// The values of a signal line in a recording: the first value, and each moment at which the value changed. The track of a single bit stores no values
+// because the bit alternates.
 
 import { NumberQueue, countUpTo } from "./growing.js";
 
 /**
- * A track as a message contains it. `values` has the value after each change, null for a single bit.
+ * A track in a message. `values` are the values after each change; null for a single bit.
  * @typedef {{ first: number, moments: Uint32Array, values: Uint16Array | Float64Array | null }} TrackData
  */
 
@@ -12,7 +12,7 @@ import { NumberQueue, countUpTo } from "./growing.js";
 
 /**
  * Returns the track of a line that is always 0.
- * @param {number} width the number of bits in a value
+ * @param {number} width the width of the line in bits
  * @returns {TrackData}
  */
 export function emptyTrack(width) {
@@ -21,7 +21,7 @@ export function emptyTrack(width) {
 }
 
 export class Track {
-  /** @param {TrackData} data its arrays now belong to the track */
+  /** @param {TrackData} data the track data; the track takes over the arrays */
   constructor({ first, moments, values }) {
     this.first = first;
     this.moments = new NumberQueue(moments);
@@ -46,9 +46,9 @@ export class Track {
   }
 
   /**
-   * Sets the value from a moment on. Changes that cancel each other at the same moment are not stored.
+   * Sets the value from a moment on. Changes that cancel out at the same moment are not stored.
    * @param {number} value
-   * @param {number} moment not before the last change
+   * @param {number} moment the moment, not before the last change
    */
   set(value, moment) {
     if (value === this.now) return;
@@ -71,7 +71,7 @@ export class Track {
   }
 
   /**
-   * Moves the beginning to a moment, and drops earlier changes.
+   * Moves the start to a moment, and drops earlier changes.
    * @param {number} moment
    */
   beginAt(moment) {
@@ -93,7 +93,7 @@ export class Track {
   }
 
   /**
-   * Returns the track, and empties it. It continues with its last value.
+   * Returns the track data and empties the track. The track continues with its last value.
    * @returns {TrackData}
    */
   take() {

@@ -1,5 +1,5 @@
-// Parses the trigger of a recording: an edge of a line (`rom0.2 rises`, `lamp 3 falls`, `r5 changes`), or a condition that becomes true
-// (`r9 = 9`, `lamp 3 on`, `display 42`, `@LABEL`: conditions/condition_language.js).
+// Parses the trigger of a recording: an edge of a signal line (`rom0.2 rises`, `lamp 3 falls`, `r5 changes`), or a condition that becomes true (`r9 =
+// 9`, `lamp 3 on`, `display 42`, `@LABEL`: see conditions/condition_language.js).
 
 import { tracedConditionOf } from "../conditions/condition_language.js";
 import { isDecoder } from "./decoders.js";
@@ -11,13 +11,13 @@ import * as say from "../../words/waves.js";
  * @typedef {import("./wave_lines.js").WaveLine} WaveLine
  * @typedef {"rises" | "falls" | "changes"} Edge
  *
- * A trigger. For an edge, `members` are the indices of its lines. For a condition, `places` are the places of `trace` that it needs. If it
+ * A trigger. For an edge, `members` are the indexes of its lines. For a condition, `places` are the `trace` places that it needs. If the condition
  * depends only on the program counter, `address` is the value that makes it true, otherwise -1.
  * @typedef {{ edge: Edge | "", members: number[], places: string[], address: number, holds: (values: string[]) => boolean }} Trigger
  */
 
 const EDGE = /^(.*\S)\s+(rises|falls|changes)$/;
-/** The condition of a trigger at an edge, which is never true. */
+/** The condition of an edge trigger, which is never true. */
 const NEVER = () => false;
 
 /** @param {string} text */
@@ -26,7 +26,7 @@ export function plain(text) {
 }
 
 /**
- * Returns the index of the line that a text names, or -1: `rom0.2`, `rom0` (the port), `lamp 3`, `lamp minus`, `minus`, `key 7`, `r5`,
+ * Returns the index of the line with a name, or -1. Examples of names: `rom0.2`, `rom0` (the port), `lamp 3`, `lamp minus`, `minus`, `key 7`, `r5`,
  * `ram 0 0x12`.
  * @param {string} text
  * @param {WaveLine[]} lines
@@ -35,7 +35,7 @@ export function lineNamed(text, lines) {
   const wanted = plain(text);
   /** @type {(matches: (line: WaveLine) => boolean) => number} */
   const find = (matches) => lines.findIndex(matches);
-  const tries = [
+  const candidates = [
     find(({ name }) => plain(name) === wanted),
     find(({ name, kind }) => kind === "port" && plain(name.replace(/\[.*/, "")) === wanted),
     find(({ title, kind }) => title !== "" && kind !== "value" && plain(title) === wanted),
@@ -43,12 +43,12 @@ export function lineNamed(text, lines) {
   ];
   const lamp = /^lamp (\d+)$/.exec(wanted);
   const lamps = lines.findIndex(({ group }) => group === "lamps");
-  if (lamp && lamps >= 0 && lines[lamps + Number(lamp[1])]?.group === "lamps") tries.push(lamps + Number(lamp[1]));
-  return tries.find((line) => line >= 0) ?? -1;
+  if (lamp && lamps >= 0 && lines[lamps + Number(lamp[1])]?.group === "lamps") candidates.push(lamps + Number(lamp[1]));
+  return candidates.find((line) => line >= 0) ?? -1;
 }
 
 /**
- * Returns the name of the line in a text about an edge, or "" for any other text.
+ * Returns the line name in an edge text; "" for any other text.
  * @param {string} text
  */
 export function namedInEdge(text) {
@@ -57,7 +57,7 @@ export function namedInEdge(text) {
 }
 
 /**
- * Parses a trigger. An empty text is neither a trigger nor an error.
+ * Parses a trigger. For an empty text, returns neither a trigger nor an error.
  * @param {string} text
  * @param {WaveLine[]} lines
  * @param {Names} names
@@ -74,7 +74,7 @@ export function readTrigger(text, lines, names) {
 }
 
 /**
- * Returns the trigger at an edge, or the error.
+ * Returns an edge trigger, or an error.
  * @param {string} name
  * @param {Edge} edge
  * @param {WaveLine[]} lines

@@ -1,25 +1,24 @@
-// Writes a recording as a VCD file (IEEE 1364). The page and `mcs4 wave` write the same bytes for the same lines of a session.
+// Writes a recording as a VCD file (IEEE 1364). For the same lines of a session, the page and `mcs4 wave` write the same bytes.
 
 import { CYCLE_TENTHS_US, CYCLE_US } from "../time/mcs4_time.js";
 import { isDecoder } from "./decoders.js";
 
 /** @typedef {import("./wave_recording.js").Waves} Waves */
 
-/** The units of time in a cycle. A unit is 100 ns. */
+/** The number of time units per cycle. A unit is 100 ns. */
 const UNITS_PER_CYCLE = CYCLE_TENTHS_US;
-/** More than the maximum of lines in a recording. A change is encoded as one number: moment times MAX_LINES plus line. */
+/** A limit above the maximum number of lines in a recording. A change is encoded as one number: moment times MAX_LINES plus line. */
 const MAX_LINES = 8192;
-/** The maximum of lines in a part of the file. A long recording does not fit into a single string. */
+/** The maximum number of text lines per part of the file. A long recording does not fit into one string. */
 const PART_LINES = 100000;
 /**
- * The letters in codes of lines. None of them begins a value, so that a reader that skips an unknown kind of value reads the rest
- * correctly.
+ * The letters for line codes. No VCD value starts with one of them, so a reader that skips an unknown kind of value still reads the rest correctly.
  */
 const LETTERS = "ACDEFGHIJKLMNOPQSTUVWY";
 
 /**
- * Returns the short code of a line in the file.
- * @param {number} number counts from 0
+ * Returns the short code of a signal line in the file.
+ * @param {number} number the index of the line, from 0
  */
 function codeOf(number) {
   let text = "";
@@ -28,7 +27,7 @@ function codeOf(number) {
 }
 
 /**
- * Returns the type and the width of a line for its declaration in the file.
+ * Returns the VCD type and width of a line.
  * @param {Waves} waves
  * @param {number} line
  */
@@ -36,24 +35,24 @@ function kindOf({ lines }, line) {
   return lines[line].kind === "label" || isDecoder(lines[line]) ? "string 1" : `wire ${lines[line].width}`;
 }
 
-/** Writes a VCD file in parts, also while the recording grows. */
+/** Writes a VCD file in parts, even while the recording grows. */
 export class VcdText {
   /**
    * @param {Waves} waves
-   * @param {number[]} chosen the indices of the lines, in the order of the file
+   * @param {number[]} chosen the indexes of the lines, in file order
    */
   constructor(waves, chosen) {
     this.waves = waves;
     this.chosen = chosen;
     this.codes = chosen.map((_, at) => codeOf(at));
-    /** The beginning of the recording, which is time 0 in the file. */
+    /** The start of the recording, which is time 0 in the file. */
     this.begun = waves.from;
-    /** The last moment in the file so far. */
+    /** The last moment written to the file so far. */
     this.written = waves.from;
   }
 
   /**
-   * Returns the text for a line's value.
+   * Returns the text for the value of a line.
    * @param {number} index an index into the chosen lines
    * @param {number} value
    * @param {number} moment
@@ -69,7 +68,7 @@ export class VcdText {
     return `b${value.toString(2).padStart(width, "0")} ${this.codes[index]}`;
   }
 
-  /** Returns the header of the file, with the values at the beginning of the recording. */
+  /** Returns the header of the file, including the values at the start of the recording. */
   head() {
     const { waves, chosen, codes } = this;
     return `${[
@@ -115,7 +114,7 @@ export class VcdText {
 }
 
 /**
- * Returns the encoded changes of the chosen lines, ordered by moment and then by line.
+ * Returns the encoded changes of the chosen lines, sorted by moment and line.
  * @param {Waves} waves
  * @param {number[]} chosen
  */
@@ -135,7 +134,7 @@ function changesOf(waves, chosen) {
 /**
  * Yields the file of a complete recording in parts.
  * @param {Waves} waves
- * @param {number[]} chosen the indices of the lines, in the order of the file
+ * @param {number[]} chosen the indexes of the lines, in file order
  */
 export function* vcdParts(waves, chosen) {
   const text = new VcdText(waves, chosen);

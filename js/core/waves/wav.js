@@ -1,4 +1,4 @@
-// Writes the sound of a line as a WAV file: 16 bits, one channel, one sample for each cycle.
+// Writes the sound of a signal line as a WAV file: 16 bits, one channel, one sample per cycle.
 
 import { CYCLES_PER_SECOND } from "../time/mcs4_time.js";
 
@@ -6,15 +6,15 @@ import { CYCLES_PER_SECOND } from "../time/mcs4_time.js";
 const SAMPLE_BYTES = 2;
 const HEAD_BYTES = 44;
 const FORMAT_BYTES = 16;
-/** The sample for each level of the line. */
+/** The sample values for the two levels of the line. */
 const LEVELS = { high: 0x2020, low: -0x2020 };
-/** The offsets of names in the file's header. */
+/** The offsets of the names in the file header. */
 const LETTERS = { riff: 0, kind: 8, format: 12, data: 36 };
 const PCM = 1;
 const CHANNELS = 1;
 
 /**
- * Writes a name in ASCII.
+ * Writes an ASCII name.
  * @param {Uint8Array} bytes
  * @param {number} at
  * @param {string} letters
@@ -26,9 +26,9 @@ function putLetters(bytes, at, letters) {
 }
 
 /**
- * Returns the WAV file of a line.
- * @param {number} level the level at the beginning
- * @param {number[]} edges the cycles before each change
+ * Returns the WAV file for a signal line.
+ * @param {number} level the level at the start
+ * @param {number[]} edges the cycles before each edge
  * @param {number} cycles
  */
 export function wavOf(level, edges, cycles) {

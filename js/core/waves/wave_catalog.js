@@ -1,4 +1,4 @@
-// The lines that the user can choose for a recording, and the lines that are shown at first.
+// The lines that the user can choose for a recording, and the lines that are visible at first.
 
 import { isDecoder } from "./decoders.js";
 import { plain } from "./trigger.js";
@@ -11,23 +11,23 @@ import * as say from "../../words/waves.js";
  * @typedef {import("./wave_recording.js").Waves} Waves
  */
 
-/** The maximum of lines that are shown at first. */
+/** The maximum number of lines that are visible at first. */
 const MAX_FIRST_LINES = 16;
-/** The maximum of RAM nibbles that are listed at once. */
+/** The maximum number of RAM nibbles in a list. */
 const MAX_NIBBLES = 64;
 
 /**
  * Returns all lines that can be recorded on a board.
  * @param {Board} board
- * @param {string} text the board's text, which has names
+ * @param {string} text the board text, for the names
  */
 export function catalogOf(board, text) {
   return linesOfBoard(board, text, true, [...REGISTER_NAMES, ...characterNames(board)]);
 }
 
 /**
- * Returns the lines that are shown at first: the bits that change, the decoders that change, the program counter and the label. If no bit
- * changes, the first bits are shown.
+ * Returns the lines that are visible at first: the bits that change, the decoders that change, the program counter and the label. If no bit changes,
+ * the first bits are visible.
  * @param {Waves} waves
  */
 export function firstChoice(waves) {
@@ -49,7 +49,7 @@ export function valuesAmong(offered, chosen) {
 }
 
 /**
- * Returns the line whose name is a text, or else the lines with the text in their name, their title, or the title of their group.
+ * Returns the line with exactly this name. If there is none, returns the lines that contain the text in their name, title or group title.
  * @param {WaveLine[]} offered
  * @param {string} text
  */
@@ -61,12 +61,12 @@ function matchingLines(offered, text) {
 }
 
 /**
- * Returns the lines to list for a search text. RAM has many nibbles, so only some of those that match, and those that are chosen, are
- * listed.
+ * Returns the lines for a search text. Because RAM has many nibbles, the list contains the chosen nibbles and a limited number of other matching
+ * nibbles.
  * @param {WaveLine[]} offered
  * @param {string} text
  * @param {Set<string>} chosen
- * @returns {{ lines: WaveLine[], more: string }} `more` is a note about lines that are not listed
+ * @returns {{ lines: WaveLine[], more: string }} `more` is a note about unlisted lines
  */
 export function searchLines(offered, text, chosen) {
   const isAll = text.trim() === "";

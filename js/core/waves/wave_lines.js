@@ -1,5 +1,5 @@
-// The lines of a recording: the lines of a board, decoders, ports as numbers, and requested values, with their names and their places for
-// `trace`. The page and `mcs4 wave` have the same names in the same order.
+// The lines of a recording: the signal lines of a board, decoders, ports as numbers, and requested values, with their names and `trace` places. The
+// page and `mcs4 wave` use the same names in the same order.
 
 import { BITS_PER_CHIP } from "../bench/board_form.js";
 import { numberOf, upTo } from "../bench/numbers.js";
@@ -13,25 +13,24 @@ import * as say from "../../words/waves.js";
  * @typedef {import("../board/face.js").FaceText} FaceText
  * @typedef {"level" | "key" | "test" | "value" | "port" | "shift" | "scan" | "pc" | "label"} WaveKind
  *
- * A line of a recording. `title` is its name in the board's text, "" for none; `group` is its part of the board; `width` is its number of
- * bits.
+ * A line of a recording. `title` is its name in the board text, "" for none. `group` is its part of the board. `width` is its number of bits.
  *
- * `places` depends on the kind. Level: the line of the board. Key: its row and column. Value: the places of `trace` with its digits, the
- * highest first. Scan: the names of its keys, row by row.
+ * `places` depends on the kind. Level: the signal line of the board. Key: its row and column. Value: the `trace` places of its digits, highest digit
+ * first. Scan: the names of its keys, row by row.
  *
- * `members` are the indices of other lines. Port: its lines, the lowest first. Shift register: its clock, its data and its bits. Scan: its
- * columns and its rows; `columns` is the number of columns.
+ * `members` are the indexes of other lines. Port: its lines, lowest first. Shift register: its clock, its data and its bits. Scan: its columns and
+ * its rows; `columns` is the number of columns.
  * @typedef {{ name: string, title: string, group: string, kind: WaveKind, places: string[], members: number[], width: number,
  *   columns: number }} WaveLine
  */
 
-/** A name in the board's text that is valid in a VCD file. */
+/** Matches a name in the board text that is valid in a VCD file. */
 const PLAIN = /^[A-Za-z0-9_]+$/;
-/** The maximum of bits in a number, so that it is exact. */
+/** The maximum number of bits in a number, so that the number is exact. */
 const MAX_BITS = 50;
 
 /**
- * Returns a line with default members.
+ * Creates a line with default values.
  * @param {string} name
  * @param {string} group
  * @param {WaveKind} kind
@@ -43,7 +42,7 @@ function newLine(name, group, kind, rest = {}) {
 }
 
 /**
- * Returns the name and the title of a lamp or a key. A name in the board's text that is not valid in a VCD file becomes the title.
+ * Returns the name and title of a lamp or key. A name in the board text that is invalid in a VCD file becomes the title.
  * @param {string} group
  * @param {string} ending
  * @param {FaceText | undefined} faceText
@@ -54,7 +53,7 @@ function namesOf(group, ending, faceText) {
 }
 
 /**
- * Returns the lines of a port or a chain: `name.0`, `name.1` ..
+ * Returns the lines of a port or chain: `name.0`, `name.1` and so on.
  * @param {string} group
  * @param {number} count
  * @param {Face} face
@@ -67,7 +66,7 @@ function levels(group, count, face) {
 }
 
 /**
- * Returns the lines of a board's chips.
+ * Returns the lines of the chips on a board.
  * @param {Board} board
  * @param {Face} face
  */
@@ -103,7 +102,7 @@ function linesOfFront({ lamps, rows, columns }, face) {
 
 /**
  * Returns the ports and chains as numbers: bit k is line k.
- * @param {WaveLine[]} lines the lines of the board
+ * @param {WaveLine[]} lines the signal lines of the board
  * @param {Face} face
  */
 function portsOf(lines, face) {
@@ -120,9 +119,9 @@ function portsOf(lines, face) {
 }
 
 /**
- * Returns the decoders of a board: one for each chain of shift registers, and one for the key matrix.
+ * Returns the decoders of a board: one for each chain, and one for the key matrix.
  * @param {Board} board
- * @param {WaveLine[]} lines the lines of the board
+ * @param {WaveLine[]} lines the signal lines of the board
  * @param {Face} face
  */
 function decodersOf({ chains, matrix }, lines, face) {
@@ -145,7 +144,7 @@ function decodersOf({ chains, matrix }, lines, face) {
     { title: say.KEY_SCAN, places, members, width: members.length, columns: columns.length })];
 }
 
-/** A place that has a single value. */
+/** Matches a place with a single value. */
 const VALUE = /^(acc|cy|dcl|src|r\d+|p\d|(ram|st)\..*)$/;
 const DIGIT_WIDTH = 4;
 const PAIR_WIDTH = 8;
@@ -153,7 +152,7 @@ const PAIR_WIDTH = 8;
 const WIDTHS = { cy: 1, dcl: 3, src: 8 };
 
 /**
- * Returns a requested value by its name: a register, a pair, a RAM nibble or a status nibble. Returns null if the board lacks it.
+ * Returns the line for a requested value: a register, a pair, a RAM nibble or a status nibble. Returns null if the board does not have it.
  * @param {string} text
  * @param {Board} board
  * @returns {WaveLine | null}
@@ -174,7 +173,7 @@ export function valueLine(text, board) {
 export const REGISTER_NAMES = ["acc", "cy", ...upTo(16).map((at) => `r${at}`), ...upTo(8).map((at) => `p${at}`), "dcl", "src"];
 
 /**
- * Returns the names of all nibbles in a board's RAM.
+ * Returns the names of all RAM nibbles on a board.
  * @param {Board} board
  */
 export function characterNames({ banks }) {
@@ -185,10 +184,10 @@ export function characterNames({ banks }) {
 }
 
 /**
- * Returns the lines of a board in this order: ROMs, RAM chips, chains, lamps, keys, TEST, ports as numbers, decoders, requested values, the
- * program counter, and, if the labels of the program are known, the label.
+ * Returns the lines of a board in this order: ROMs, RAM chips, chains, lamps, keys, TEST, ports as numbers, decoders, requested values, the program
+ * counter, and the label if the program labels are known.
  * @param {Board} board
- * @param {string} text the board's text, which has names
+ * @param {string} text the board text, for the names
  * @param {boolean} hasLabels
  * @param {string[]} [values] the names of the requested values
  * @returns {WaveLine[]}
@@ -203,7 +202,7 @@ export function linesOfBoard(board, text, hasLabels, values = []) {
 }
 
 /**
- * Returns whether a line is drawn as boxes with its values: all lines but single bits are.
+ * Returns whether a line is drawn as boxes with values. This is true for all lines except single bits.
  * @param {WaveLine} line
  */
 export function isText({ kind, width }) {

@@ -8,7 +8,7 @@ import { SourceMap } from "../machine/source_map.js";
  */
 
 /**
- * Returns the program of a recording from the map of its source.
+ * Returns the program of a recording, built from the source map.
  * @param {SourceMap} map
  * @param {string} text
  * @returns {RecordedProgram}
@@ -19,7 +19,7 @@ export function programInWaves(map, text) {
 }
 
 /**
- * Returns the program of a recording, or null if the source is not the program in ROM.
+ * Returns the program of a recording; null if the source is not the program in ROM.
  * @param {Checked} checked
  * @param {string} text
  * @returns {RecordedProgram | null}

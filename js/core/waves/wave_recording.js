@@ -1,5 +1,5 @@
-// A recording for the page: the value of each line at a moment, its changes, and the instruction at a moment. A recording of running time
-// grows at its end and drops its beginning.
+// A recording for the page: the value of each line at a moment, its changes, and the instruction at a moment. A recording of running time grows at
+// its end and drops its start.
 
 import { ADDRESSES } from "../bench/rom_bytes.js";
 import { deriveShift, lastRise, scanText, shiftText } from "./decoders.js";
@@ -13,17 +13,17 @@ import { valueText } from "./wave_words.js";
  * @typedef {import("./wave_lines.js").WaveLine} WaveLine
  * @typedef {import("./wave_words.js").Base} Base
  *
- * The instruction at a moment: its address, its line of the listing, and its source line with its number (0 for none). `isSecond`: the
- * moment is the second cycle of an instruction. `isEnd`: it is the next instruction, at the end of the recording.
+ * The instruction at a moment: its address, its listing line, and its source line with the line number (0 for none). `isSecond`: the moment is the
+ * second cycle of an instruction. `isEnd`: it is the next instruction, at the end of the recording.
  * @typedef {{ address: number, listed: string, line: number, source: string, isSecond: boolean, isEnd: boolean }} Instruction
  */
 
-/** The kinds of lines that are computed from other lines, or from the instructions. */
+/** The kinds of lines that are computed from other lines or from the instructions. */
 const DERIVED = new Set(["pc", "label", "port", "shift", "scan"]);
 
 /**
- * Returns for each address the index of the label at it or nearest below it, -1 for none.
- * @param {{ address: number }[]} labels by rising address
+ * Returns for each address the index of the nearest label at or below it, -1 for none.
+ * @param {{ address: number }[]} labels the labels in ascending address order
  */
 function labelsBelow(labels) {
   const below = new Int16Array(ADDRESSES);
@@ -36,9 +36,9 @@ function labelsBelow(labels) {
 }
 
 export class Waves {
-  /** @param {Recorded} recorded its arrays now belong to this object */
+  /** @param {Recorded} recorded the recording; this object takes over the arrays */
   constructor({ from, cycles, isStuck, isOwed, lines, tracks, moments, counters, listing, program }) {
-    /** The moments where the recording begins and ends. */
+    /** The moments at which the recording starts and ends. */
     this.from = from;
     this.cycles = cycles;
     this.isStuck = isStuck;
@@ -51,11 +51,11 @@ export class Waves {
     this.program = program;
     this.sources = program ? program.text.split("\n") : [];
     this.below = labelsBelow(program ? program.labels : []);
-    /** @type {Map<number, Track>} the computed tracks that were requested so far */
+    /** @type {Map<number, Track>} the computed tracks so far, by line */
     this.derived = new Map();
-    /** @type {Map<number, number>} for each shift register, the last rising edge of its clock before the recording begins */
+    /** @type {Map<number, number>} the last rising clock edges before the start of the recording, by shift register line */
     this.rises = new Map();
-    /** @type {Base} the base for showing numbers */
+    /** @type {Base} the number base for display */
     this.base = "hex";
   }
 
@@ -75,7 +75,7 @@ export class Waves {
     this.cycles = cycles;
     this.isStuck = isStuck;
     for (const [line, track] of this.derived) {
-      // The part can change the value at the moment where it begins.
+      // The part can change the value at the moment at which it starts.
       track.endAt(before - 1);
       this.derive(line, track, before - 1);
     }
@@ -94,7 +94,7 @@ export class Waves {
     this.counters.push(counter);
   }
 
-  /** @param {number} moment the new beginning; earlier parts are dropped */
+  /** @param {number} moment the new start; earlier parts are dropped */
   beginAt(moment) {
     if (moment <= this.from) return;
     this.from = moment;
@@ -120,7 +120,7 @@ export class Waves {
   // --- values ---
 
   /**
-   * Returns the track of a line. Computes it at the first request.
+   * Returns the track of a line. A computed track is computed on first use.
    * @param {number} line
    * @returns {Track}
    */
@@ -137,8 +137,8 @@ export class Waves {
   }
 
   /**
-   * Returns the value of a computed line: of a port from its lines, of the program counter and the label from the instructions. A shift
-   * register is at rest at the beginning.
+   * Returns the value of a computed line: a port from its lines; the program counter and the label from the instructions. At the start, a shift
+   * register is at rest.
    * @param {number} line
    * @param {number} moment
    */
@@ -174,7 +174,7 @@ export class Waves {
   }
 
   /**
-   * Returns the last rising edge of a shift register's clock up to a moment, or -1.
+   * Returns the last rising clock edge of a shift register at or before a moment; -1 if there is none.
    * @param {number} line
    * @param {number} moment
    */
@@ -184,7 +184,7 @@ export class Waves {
   }
 
   /**
-   * Extends the track of a port or a key scan, whose value consists of its members' bits.
+   * Extends the track of a port or key scan. Its value consists of the bits of its member lines.
    * @param {Track[]} members
    * @param {Track} track
    * @param {number} after
@@ -208,7 +208,7 @@ export class Waves {
   }
 
   /**
-   * Returns the moments when a line changed.
+   * Returns the moments at which a line changed.
    * @param {number} line
    */
   changesOf(line) {
@@ -225,7 +225,7 @@ export class Waves {
   }
 
   /**
-   * Returns the index of the last instruction that began at a moment or before it.
+   * Returns the index of the last instruction that started at or before a moment.
    * @param {number} moment
    */
   sampleAt(moment) {
@@ -238,7 +238,7 @@ export class Waves {
   }
 
   /**
-   * Returns the label at the program counter or nearest below it, "" for none.
+   * Returns the nearest label at or below the program counter; "" for none.
    * @param {number} moment
    */
   labelAt(moment) {
@@ -262,7 +262,7 @@ export class Waves {
   }
 
   /**
-   * Returns the next change of a line after a moment, or undefined.
+   * Returns the next change of a line after a moment; undefined if there is none.
    * @param {number} line
    * @param {number} moment
    * @returns {number | undefined}
@@ -273,7 +273,7 @@ export class Waves {
   }
 
   /**
-   * Returns the last change of a line before a moment, or undefined.
+   * Returns the last change of a line before a moment; undefined if there is none.
    * @param {number} line
    * @param {number} moment
    * @returns {number | undefined}

@@ -1,5 +1,4 @@
-// The arrangement of the rows of waves: their order, their titles and colours, and their groups. It is stored by the names of the lines, so
-// that it applies to later recordings.
+// The arrangement of wave rows: their order, titles, colours and groups. It is stored by line name, so that it also applies to later recordings.
 
 /**
  * @typedef {import("./wave_lines.js").WaveLine} WaveLine
@@ -7,17 +6,17 @@
  * @typedef {{ title?: string, colour?: RowColour | "", group?: string }} RowLook
  * @typedef {{ order: string[], looks: Record<string, RowLook>, folded: string[] }} KeptRows
  *
- * A row: a line by its index and name, or the heading of a group, with the index -1. `title` is the displayed text.
+ * A row: a line with its index and name, or a group heading with index -1. `title` is the displayed text.
  * @typedef {{ line: number, name: string, title: string, colour: RowColour | "", group: string, isFolded: boolean }} WaveRow
  */
 
 export const ROW_COLOURS = /** @type {const} */ (["red", "amber", "green", "blue", "violet"]);
 
 export class WaveRows {
-  /** @param {Partial<KeptRows>} [kept] */
-  constructor(kept = {}) {
-    const { order = [], looks = {}, folded = [] } = kept;
-    /** The names of lines in the order of their rows, as far as the user has changed it. */
+  /** @param {Partial<KeptRows>} [storedRows] */
+  constructor(storedRows = {}) {
+    const { order = [], looks = {}, folded = [] } = storedRows;
+    /** The line names in row order, as far as the user has changed the order. */
     this.order = order;
     this.looks = new Map(Object.entries(looks));
     this.folded = new Set(folded);
@@ -42,7 +41,7 @@ export class WaveRows {
   }
 
   /**
-   * Changes the look of a line's row.
+   * Changes the look of a row.
    * @param {string} name the name of the line
    * @param {RowLook} look the changed properties
    */
@@ -51,8 +50,8 @@ export class WaveRows {
   }
 
   /**
-   * Returns names in the order of their rows. A name that is not in the stored order follows its predecessor on the board.
-   * @param {string[]} names in the order of the board
+   * Returns names in row order. A name that is not in the stored order follows its predecessor on the board.
+   * @param {string[]} names the line names in board order
    */
   ordered(names) {
     const wanted = new Set(names);
@@ -61,7 +60,7 @@ export class WaveRows {
     names.forEach((name, at) => {
       if (!placed.has(name)) found.splice(at === 0 ? 0 : found.indexOf(names[at - 1]) + 1, 0, name);
     });
-    // The rows of a group follow the first of them.
+    // The rows of a group follow its first row.
     const groups = [...new Set(found.map((name) => this.groupOf(name) || ` ${name}`))];
     const members = new Map(groups.map((group) => [group, /** @type {string[]} */ ([])]));
     for (const name of found) (members.get(this.groupOf(name) || ` ${name}`) || []).push(name);
@@ -69,9 +68,9 @@ export class WaveRows {
   }
 
   /**
-   * Returns the rows of the lines that are shown.
+   * Returns the rows of the visible lines.
    * @param {WaveLine[]} lines all lines of the recording
-   * @param {number[]} chosen the indices of the visible lines
+   * @param {number[]} chosen the indexes of the visible lines
    * @returns {WaveRow[]}
    */
   arrange(lines, chosen) {
@@ -90,9 +89,9 @@ export class WaveRows {
   }
 
   /**
-   * Moves a row, or a group by its heading, to the position of another row. A row that moves into a group joins it.
+   * Moves a row (or a whole group, by its heading) to the position of another row. A row that moves into a group joins the group.
    * @param {WaveRow[]} rows
-   * @param {string[]} names the names of all visible lines, in the order of their rows
+   * @param {string[]} names the names of all visible lines, in row order
    * @param {number} at
    * @param {number} to
    */
@@ -112,7 +111,7 @@ export class WaveRows {
     this.order = [...otherNames, ...this.order.filter((name) => !otherNames.includes(name))];
   }
 
-  /** @param {string} group the group to fold or to unfold */
+  /** @param {string} group the group to fold or unfold */
   fold(group) {
     if (!this.folded.delete(group)) this.folded.add(group);
   }

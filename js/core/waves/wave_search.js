@@ -1,4 +1,4 @@
-// Searches a recording for a value or an edge: `9` of the marked line, `r5 = 9`, `rom0 != 0`, `lamp15 rises`, `@LABEL`.
+// Searches a recording for a value or an edge: `9` on the marked line, `r5 = 9`, `rom0 != 0`, `lamp15 rises`, `@LABEL`.
 
 import { numberOf } from "../bench/numbers.js";
 import { isDecoder, scannedBy } from "./decoders.js";
@@ -9,8 +9,8 @@ import * as say from "../../words/waves.js";
 /**
  * @typedef {import("./wave_recording.js").Waves} Waves
  *
- * A search: the index of a line, and a function that returns whether a value matches. If `each` is true, each change to a matching value is
- * a match. Otherwise it is one only if the value before did not match.
+ * A search: the index of a line, and a function that tests a value. If `each` is true, every change to a matching value is a match. Otherwise a
+ * change is a match only if the previous value did not match.
  * @typedef {{ line: number, matches: (value: number) => boolean, each: boolean }} Search
  */
 
@@ -24,7 +24,7 @@ const COMPARISONS = {
 const EDGES = { rises: (value) => value === 1, falls: (value) => value === 0, changes: () => true };
 
 /**
- * Returns an error.
+ * Creates an error result.
  * @param {string} fault
  * @returns {{ search: null, fault: string }}
  */
@@ -33,7 +33,7 @@ function searchError(fault) {
 }
 
 /**
- * Returns the address of a label and its value in the track of the label, or null.
+ * Returns the address of a label, and its value in the label track; null if the label does not exist.
  * @param {Waves} waves
  * @param {string} name
  */
@@ -43,10 +43,10 @@ function labelOf(waves, name) {
 }
 
 /**
- * Parses a search. If the text has an error, `fault` is the message.
+ * Parses a search text. If the text has an error, `fault` is the message.
  * @param {string} text
  * @param {Waves} waves
- * @param {number} marked the index of the marked line, -1 for none
+ * @param {number} marked the index of the marked line; -1 for none
  * @returns {{ search: Search | null, fault: string }}
  */
 export function readSearch(text, waves, marked) {
@@ -65,7 +65,7 @@ export function readSearch(text, waves, marked) {
 }
 
 /**
- * Returns the index of the line with a name, or of the marked line if there is no name. If there is no such line, `fault` is the message.
+ * Returns the index of the line with a name; without a name, the marked line. If there is no such line, `fault` is the message.
  * @param {string} name
  * @param {Waves} waves
  * @param {number} marked
@@ -77,7 +77,7 @@ function lineOf(name, waves, marked) {
 }
 
 /**
- * Returns the search for an edge.
+ * Returns the search for an edge, or an error.
  * @param {string | undefined} name
  * @param {string} edge
  * @param {Waves} waves
@@ -93,7 +93,7 @@ function readEdge(name, edge, waves, marked) {
 }
 
 /**
- * Returns the search for a value.
+ * Returns the search for a value, or an error.
  * @param {string} name
  * @param {string} sign the comparison operator
  * @param {string} value
@@ -103,7 +103,7 @@ function readEdge(name, edge, waves, marked) {
 function readValue(name, sign, value, waves, marked) {
   const { line, fault } = lineOf(name, waves, marked);
   if (fault) return searchError(fault);
-  const { kind, width, name: called } = waves.lines[line];
+  const { kind, width, name: lineName } = waves.lines[line];
   if (isDecoder(waves.lines[line])) return readDecoded(waves.lines[line], line, sign, value);
   const label = kind === "label" || kind === "pc" ? labelOf(waves, value.replace(/^@/, "")) : null;
   const binary = /^0b([01]+)$/i.exec(value);
@@ -111,14 +111,14 @@ function readValue(name, sign, value, waves, marked) {
   if (kind === "label" && !label) return searchError(say.noLabel(value));
   if (Number.isNaN(number)) return searchError(say.noNumber(value, say.SEARCH_FORMS));
   const most = 2 ** width - 1;
-  if (kind !== "label" && number > most) return searchError(say.hasBits(called, width, most));
+  if (kind !== "label" && number > most) return searchError(say.hasBits(lineName, width, most));
   return { search: { line, matches: (/** @type {number} */ is) => COMPARISONS[sign](is, number), each: false }, fault: "" };
 }
 
 /**
- * Returns the search for a key in a key scan.
+ * Returns the search for a key in a key scan, or an error.
  * @param {import("./wave_lines.js").WaveLine} decoder
- * @param {number} line its index
+ * @param {number} line the index of the key scan line
  * @param {string} sign
  * @param {string} key
  * @returns {{ search: Search | null, fault: string }}
@@ -129,7 +129,7 @@ function readDecoded(decoder, line, sign, key) {
 }
 
 /**
- * Returns the moment of the next match after a moment, or of the previous match before it; -1 if there is none.
+ * Returns the moment of the next match after a moment, or of the last match before it; -1 if there is none.
  * @param {Waves} waves
  * @param {Search} search
  * @param {number} moment
@@ -142,6 +142,6 @@ export function find(waves, { line, matches, each }, moment, isForward) {
   for (let at = isForward ? countUpTo(changes, moment) : countUpTo(changes, moment - 1) - 1; at >= 0 && at < changes.length; at += by) {
     if (matches(track.valueAfter(at + 1)) && (each || !matches(track.valueAfter(at)))) return changes[at];
   }
-  // The first value of the recording can match, too.
+  // The first value of the recording can also match.
   return !isForward && !each && moment > waves.from && matches(track.first) ? waves.from : -1;
 }

@@ -1,16 +1,16 @@
-// The visible part of a recording, and the positions of the two cursors, as moments in cycles.
+// The visible part of a recording, and the positions of the two cursors. All moments are in cycles.
 
-/** The minimum of visible cycles. */
+/** The minimum number of visible cycles. */
 const MIN_CYCLES = 10;
-/** The visible cycles of a recording in progress. */
+/** The number of visible cycles of a recording in progress. */
 const DEFAULT_CYCLES = 20000;
-/** The distance in pixels within which a click selects an edge. */
+/** The maximum distance from an edge at which a click selects the edge, in pixels. */
 const NEAR_PIXELS = 7;
 
 /** @typedef {import("./wave_recording.js").Waves} Waves */
 
 /**
- * Returns a number limited to a range.
+ * Limits a number to a range.
  * @param {number} number
  * @param {number} min
  * @param {number} max
@@ -22,14 +22,14 @@ function clamp(number, min, max) {
 export class WaveWindow {
   /**
    * @param {number} end the end of the recording
-   * @param {number} [begin] its beginning
+   * @param {number} [begin] the start of the recording
    */
   constructor(end, begin = 0) {
     this.begin = begin;
     this.end = end;
     this.from = begin;
     this.span = Math.max(1, end - begin);
-    /** The width in pixels. */
+    /** The width of the view in pixels. */
     this.width = 1;
     this.cursors = [begin, begin];
     /** The index of the cursor that the user moves. */
@@ -49,7 +49,7 @@ export class WaveWindow {
     return this.cursors[this.active];
   }
 
-  /** The cycles between the cursors. */
+  /** The number of cycles between the cursors. */
   get between() {
     return Math.abs(this.cursors[1] - this.cursors[0]);
   }
@@ -65,7 +65,7 @@ export class WaveWindow {
   }
 
   /**
-   * Zooms in by a factor, or out by a factor below 1. The position of a moment on the screen does not change.
+   * Zooms in by a factor; a factor below 1 zooms out. The given moment keeps its position on the screen.
    * @param {number} factor
    * @param {number} moment
    */
@@ -81,8 +81,8 @@ export class WaveWindow {
   }
 
   /**
-   * Follows a recording that grows at its end and drops its beginning. If the visible part or a cursor is at the end, it moves with the
-   * end. A short recording stays completely visible.
+   * Follows a recording that grows at its end and drops its start. If the visible part or a cursor is at the end, it moves with the end. A short
+   * recording stays completely visible.
    * @param {number} begin
    * @param {number} end
    */
@@ -96,13 +96,13 @@ export class WaveWindow {
     this.goTo(wasAtEnd ? end - this.span : this.from);
   }
 
-  /** Shows a complete recording, unless the user has chosen a part of it. */
+  /** Shows a complete recording, unless the user has selected a part of it. */
   fit() {
     if (this.to >= this.end && this.span >= Math.min(DEFAULT_CYCLES, this.length)) this.showAll();
   }
 
   /**
-   * Moves cursor A to a moment, and shows the part around it.
+   * Moves cursor A to a moment, and shows the part around the moment.
    * @param {number} moment
    */
   showAround(moment) {
@@ -112,7 +112,7 @@ export class WaveWindow {
   }
 
   /**
-   * Moves the cursors to two moments, unless the user has moved one away from the end.
+   * Moves the cursors to two moments, unless the user has already moved a cursor away from the end.
    * @param {number} first
    * @param {number} second
    */
@@ -128,7 +128,7 @@ export class WaveWindow {
   }
 
   /**
-   * Moves the active cursor, and scrolls if necessary to make it visible.
+   * Moves the active cursor. Scrolls if the cursor would not be visible.
    * @param {number} moment
    */
   move(moment) {
@@ -138,10 +138,10 @@ export class WaveWindow {
   }
 
   /**
-   * Returns the moment at a horizontal position: a near edge of a line, or else the cycle at the position.
+   * Returns the moment at a horizontal position: the nearest edge of a line if one is close, otherwise the cycle at the position.
    * @param {number} x
    * @param {Waves} waves
-   * @param {number} line its index, -1 for none
+   * @param {number} line the index of the line; -1 for none
    */
   momentAt(x, waves, line) {
     const cycle = clamp(Math.floor(this.cyclesAt(x)), this.begin, this.end);
@@ -154,9 +154,9 @@ export class WaveWindow {
 }
 
 /**
- * Returns the moments of the ticks above the waves, far enough apart for their numbers.
+ * Returns the moments of the ticks above the waves. The distance between ticks leaves enough room for their numbers.
  * @param {WaveWindow} view
- * @param {number} room the width of a number in pixels
+ * @param {number} room the required width per number in pixels
  */
 export function ticksOf(view, room) {
   const least = (room / view.width) * view.span;

@@ -1,4 +1,4 @@
-// Texts about recordings, and parsing of the number of cycles to record.
+// Texts about recordings, and the parser for the number of cycles to record.
 
 import { counted, parseCount } from "../bench/numbers.js";
 import { timeOfCycles, wordsOfCycles } from "../time/cycles.js";
@@ -14,9 +14,9 @@ import * as say from "../../words/waves.js";
 export const MAX_CYCLES = 10000000;
 
 /**
- * Returns a value as text.
+ * Formats a value.
  * @param {number} value
- * @param {number} width its number of bits
+ * @param {number} width the width of the value in bits
  * @param {Base} base
  */
 export function valueText(value, width, base) {
@@ -25,7 +25,7 @@ export function valueText(value, width, base) {
   return value.toString(16).toUpperCase().padStart(Math.ceil(width / 4), "0");
 }
 
-/** @param {number} number to write with a comma between groups of three digits */
+/** @param {number} number the number; formatted with a comma between groups of three digits */
 export function grouped(number) {
   return String(number).replace(/\B(?=(\d{3})+$)/g, ",");
 }
@@ -36,7 +36,7 @@ export function cyclesText(cycles) {
 }
 
 /**
- * Returns the text about the cycles between the two cursors.
+ * Describes the cycles between the two cursors.
  * @param {number} cycles
  */
 export function betweenText(cycles) {
@@ -52,7 +52,7 @@ export function instructionText({ listed, line, source, isSecond, isEnd }) {
 }
 
 /**
- * Returns the text about a cursor: its moment, and the instruction at that moment.
+ * Describes a cursor: its moment, and the instruction at that moment.
  * @param {string} name
  * @param {number} moment
  * @param {Waves} waves
@@ -62,10 +62,10 @@ export function cursorText(name, moment, waves) {
 }
 
 /**
- * Returns the text about a cursor for screen readers, with the value of the marked line.
+ * Describes a cursor for screen readers, including the value of the marked line.
  * @param {number} moment
  * @param {Waves} waves
- * @param {number} line its index, -1 for none
+ * @param {number} line the index of the marked line; -1 for none
  */
 export function spokenText(moment, waves, line) {
   const value = line < 0 ? "" : say.valueIs(waves.lines[line].name, waves.valueAt(line, moment));
@@ -73,10 +73,10 @@ export function spokenText(moment, waves, line) {
 }
 
 /**
- * Returns the text about the length of a recording.
+ * Describes the length of a recording.
  * @param {Pick<Waves, "span" | "isStuck">} waves
- * @param {number} wanted the number of cycles that was requested
- * @param {boolean} isBefore whether the recording is of the past
+ * @param {number} wanted the requested number of cycles
+ * @param {boolean} isBefore true for a recording of the past
  */
 export function recordedText({ span, isStuck }, wanted, isBefore) {
   if (span === 0 && isBefore) return say.NOTHING_BEFORE;
@@ -86,7 +86,7 @@ export function recordedText({ span, isStuck }, wanted, isBefore) {
 }
 
 /**
- * Returns the number of cycles in a text, or 0 if it is not from 1 to the maximum.
+ * Parses a number of cycles; returns 0 if it is not from 1 to MAX_CYCLES.
  * @param {string} text
  */
 export function readCycles(text) {
