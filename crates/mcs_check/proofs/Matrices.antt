@@ -1,5 +1,5 @@
 -- The size of a key matrix on a sound board, and the bits of a value.
-use Rattle.std.proofs.Common.{◌≡◌, ◌<◌, ◌≤◌, ◌+◌, ◌^◌, ◌%◌, ℕ, Bool, true, not, Some, None, Option, ap, sym, ◌∙◌, subst, arith, nat_lt, nat_le, length, ◌&&◌, lit<, false}
+use Rattle.std.proofs.Common.{◌≡◌, ◌<◌, ◌≤◌, ◌+◌, ◌^◌, ◌%◌, ℕ, Bool, true, not, Some, None, Option, ap, subst, arith, nat_lt, nat_le, length, ◌&&◌, lit<, false}
 use Rattle.std.proofs.Math.Nat.{div-eq_of_lt, pow-le-pow_right}
 use Rattle.std.proofs.lemmas.Bool.{and_parts, leb-true, ltb-true, not-false}
 use Rattle.mcs_nibble.specs.Bits.{bit_of}

@@ -12,7 +12,7 @@ use Rattle.mcs_drive.specs.declared.marks.Mark.{Mark}
 use Rattle.mcs_drive.specs.Driven.{Levels, FitBoard, under as under_machine, cycled as cycled_machine}
 use Rattle.mcs_drive.specs.Asking.{asks, answer_to, plain as plain_machine}
 use Rattle.mcs_drive.specs.Marks.{port_shows, shows}
-use Rattle.mcs_drive.specs.Tracked.{Counts, Observer, Tracked, counts_after, machine_in, under, plain, cycled, after_cycles, is_asking, answer, marks_after, next_op, opens_at, progress, seen_reading, shows_next}
+use Rattle.mcs_drive.specs.Tracked.{Observer, Tracked, counts_after, machine_in, under, plain, cycled, after_cycles, is_asking, answer, marks_after, next_op, opens_at, progress, seen_reading, shows_next}
 use Rattle.mcs_drive.specs.Leading.{Ignores, LeadsTo}
 use Rattle.mcs_drive.proofs.Commuting.{at_levels}
 use Rattle.mcs_drive.proofs.Seeing.{none-shown, reading-levels, some_shown}

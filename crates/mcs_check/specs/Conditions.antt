@@ -4,7 +4,6 @@
 use Rattle.std.specs.Prelude.{ℕ, ◌+◌, ◌%◌, List, [], ◌∷◌, ◌-◌, Bool, true, not, ◌&&◌, nat_le, if◌then◌else◌}
 use Rattle.mcs_nibble.specs.Bits.{bit_of}
 use Rattle.mcs_drive.specs.declared.marks.Mark.{Mark}
-use Rattle.mcs_drive.specs.Leading.{Ignores}
 use Rattle.mcs_drive.specs.Tracked.{Observer, Tracked}
 use Rattle.mcs_check.specs.declared.cells.CellList.TheVariants.{Counters}
 use Rattle.mcs_check.specs.declared.conditions.Comparison.{Comparison}
@@ -44,10 +43,6 @@ are_met t (c ∷ cs) = is_met t c && are_met t cs
 abbrev pub keeps_to : List (List Condition) → Tracked → Bool
 keeps_to [] t = true
 keeps_to (cs ∷ nevers) t = not (are_met t cs) && keeps_to nevers t
-
--- conditions do not depend on the input levels
-abbrev pub ConditionsIgnoreLevels : Type 0
-ConditionsIgnoreLevels = (nevers : List (List Condition)) → Ignores (keeps_to nevers)
 
 -- an observer whose stopwatch begins when all conditions of a list in `begins` are met, and ends when
 -- all conditions of a list in `ends` are met. Its condition holds when all conditions of a list in

@@ -28,7 +28,7 @@ pub use cells::{Cell, CellList, layout_of};
 pub use checking::{Outcome, check_all};
 pub use common_mistakes::Mistakes;
 pub use conditions::{Comparison, Condition, Conjunction, Part, keeps_to};
-pub use laws::{agreeing_same, conditions_ignore_levels};
+pub use laws::agreeing_same;
 pub use marks::{Marks, add_opening};
 pub use mcs_drive::Mark;
 pub use packing::keys_decide;

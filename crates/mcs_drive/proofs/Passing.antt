@@ -1,5 +1,5 @@
 -- Marks that an observer has seen were passed.
-use Rattle.std.proofs.Common.{◌≡◌, ℕ, zero, suc, ◌+◌, ◌-◌, ◌<◌, ◌≤◌, Bool, true, false, not, cond, ◌&&◌, List, [], ◌∷◌, ◌++◌, Option, Some, None, inl, inr, length, get_or, nat_lt, slice_get, take, refl, sym, ap, ◌∙◌, subst, arith, add-one}
+use Rattle.std.proofs.Common.{◌≡◌, ℕ, zero, suc, ◌+◌, ◌-◌, ◌<◌, ◌≤◌, Bool, true, false, cond, ◌&&◌, List, [], ◌∷◌, ◌++◌, Option, Some, None, inl, inr, length, nat_lt, slice_get, take, refl, sym, ap, ◌∙◌, subst, arith, add-one}
 use Rattle.std.proofs.Math.Seq.{take-suc}
 use Rattle.std.proofs.lemmas.Bool.{and_cases, cases_lt, le-ltb, lt-ltb, ltb-false, not-true}
 use Rattle.std.proofs.lemmas.List.{take_all}
@@ -12,7 +12,6 @@ use Rattle.mcs_drive.specs.Driven.{Levels, FitBoard}
 use Rattle.mcs_drive.specs.Marks.{IsAtMark, Passes, shows}
 use Rattle.mcs_drive.specs.Opening.{BecomesTrue, is_open_in_turn}
 use Rattle.mcs_drive.specs.Tracked.{Observer, Tracked, Holds, driven, marks_after, next_op, opens_at, progress, shows_next, under}
-use Rattle.mcs_drive.proofs.Commuting.{at_levels}
 use Rattle.mcs_drive.proofs.Seeing.{some_shown}
 use Rattle.mcs_drive.proofs.Showing.{shown-level}
 use Rattle.mcs_drive.proofs.Stations.{cycle-board}

@@ -5,7 +5,6 @@ use Rattle.mcs_model.specs.declared.regs.Regs.{Regs}
 use Rattle.mcs_model.specs.BenchState.{new_regs}
 use Rattle.mcs_model.specs.Bus.{BusState}
 use Rattle.mcs_drive.specs.declared.marks.Mark.{Mark}
-use Rattle.mcs_drive.specs.Leading.{Ignores}
 use Rattle.mcs_drive.specs.Opening.{is_open_in_turn}
 use Rattle.mcs_drive.specs.Tracked.{Observer, Tracked, no_observer, without_calls}
 use Rattle.mcs_check.specs.declared.checking.Outcome.{Outcome}
@@ -14,6 +13,7 @@ use Rattle.mcs_check.specs.declared.conditions.Condition.{Condition}
 use Rattle.mcs_check.specs.Conditions.{keeps_to, observer_of}
 use Rattle.mcs_check.specs.Promised.{IsProved}
 use Rattle.mcs_prove.specs.Given.{IsGiven, IsProvedOf, machine_given}
+use Rattle.mcs_prove.proofs.Ignoring.{conditions-ignore}
 use Rattle.mcs_prove.specs.declared.fault.Refusal.{Refusal}
 use Rattle.mcs_prove.specs.Questions.{Asked, IsAnswerTo, IsKeptOf, asked_by, is_kept, is_opened, is_posed, is_timed, is_timed_with, observer_asked}
 
@@ -36,9 +36,9 @@ proved-of board program w p q cpu rig found g new same h = record {
 -- ---- marks
 
 -- conditions that open are met in turn, whatever the levels are
-pub in-turn : (opens : List (List Condition)) (marks : List Mark) (s : Tracked) → Ignores (keeps_to opens) →
+pub in-turn : (opens : List (List Condition)) (marks : List Mark) (s : Tracked) →
     not (not (keeps_to opens s) && nat_lt s.2.seen (length marks)) ≡ is_open_in_turn (observer_of [] [] opens marks) s
-in-turn opens marks s ignores = ap (λ (b : Bool). not (not b && nat_lt s.2.seen (length marks))) (ignores s)
+in-turn opens marks s = ap (λ (b : Bool). not (not b && nat_lt s.2.seen (length marks))) (conditions-ignore opens s)
 
 -- ---- a question without a stopwatch and without marks
 

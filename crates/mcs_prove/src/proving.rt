@@ -10,7 +10,7 @@ use crate::fault::Refusal;
 use crate::machine::rig_given;
 use mcs_asm::{AsmFault, FaultKind, assemble};
 use mcs_board::BenchRig;
-use mcs_check::{Aim, Condition, Conjunction, Cycles, Marks, Outcome, Replica, add_limit, add_opening, check_all, conditions_ignore_levels};
+use mcs_check::{Aim, Condition, Conjunction, Cycles, Marks, Outcome, Replica, add_limit, add_opening, check_all};
 use mcs_cpu4004::Cpu;
 use mcs_search::MOST;
 use mcs_sets::check_by_sets;
@@ -105,7 +105,6 @@ fn nevers_of(
 {
     let mut made = with_limit(alloc, nevers, limit)?;
     add_opening(alloc, &mut made, opens, marks)?;
-    conditions_ignore_levels();
     Ok(made)
 }
 

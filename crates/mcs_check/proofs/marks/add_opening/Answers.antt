@@ -1,8 +1,8 @@
-use Rattle.std.proofs.Common.{◌≡◌, ◌<◌, ◌∙◌, ◌++◌, ◌∷◌, [], ℕ, List, length, get_or, take, sym, ap, subst, arith}
+use Rattle.std.proofs.Common.{◌≡◌, ◌<◌, ◌∙◌, ◌++◌, ◌∷◌, [], ℕ, List, length, get_or, ap, arith}
 use Rattle.std.proofs.lemmas.List.{get_or_default, take_all}
 use Rattle.mcs_check.specs.declared.conditions.Condition.{Condition}
 use Rattle.mcs_check.specs.declared.conditions.Condition.TheVariants.{Compare}
-use Rattle.mcs_check.specs.Conditions.{keeps_to, sees_fewer}
+use Rattle.mcs_check.specs.Conditions.{sees_fewer}
 use Rattle.mcs_check.proofs.Opening.{opened-more, opened-none, opened-unmarked, opens_in_turn}
 use Rattle.mcs_check.proofs.marks.add_opening.Goals as goal
 

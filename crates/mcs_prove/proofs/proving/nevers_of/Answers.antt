@@ -12,4 +12,4 @@ returns c = λ s.
     let marks = c.args.marks.now in
     c.in_ok-add_opening.ensures s
     ∙ ap (λ (b : Bool). b && not (not (keeps_to opens s) && nat_lt s.2.seen (length marks))) (c.in_ok-made.ensures s)
-    ∙ ap (λ (b : Bool). (keeps_to nevers s && is_within c.args.limit s) && b) (in-turn opens marks s (c.conditions_ignore_levels.ensures opens))
+    ∙ ap (λ (b : Bool). (keeps_to nevers s && is_within c.args.limit s) && b) (in-turn opens marks s)

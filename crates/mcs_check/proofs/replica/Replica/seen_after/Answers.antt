@@ -1,4 +1,4 @@
-use Rattle.std.proofs.Common.{◌≡◌, ◌∙◌, ◌+◌, ℕ, Bool, true, false, not, length, sym, ap}
+use Rattle.std.proofs.Common.{◌≡◌, ◌∙◌, ◌+◌, ℕ, true, false, not, length, sym, ap}
 use Rattle.mcs_drive.specs.Tracked.{marks_after, opens_at}
 use Rattle.mcs_check.specs.Conditions.{observer_in}
 use Rattle.mcs_check.proofs.Ignoring.{conditions-ignore}

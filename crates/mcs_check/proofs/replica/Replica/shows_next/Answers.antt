@@ -1,4 +1,4 @@
-use Rattle.std.proofs.Common.{◌≡◌, ◌∙◌, ℕ, None, Some, length, slice_get, sym, ap, arith}
+use Rattle.std.proofs.Common.{◌≡◌, ◌∙◌, None, Some, length, slice_get, sym, ap, arith}
 use Rattle.mcs_drive.specs.Marks.{port_shows}
 use Rattle.mcs_drive.specs.Tracked.{Tracked, progress}
 use Rattle.mcs_check.specs.Conditions.{observer_in}
