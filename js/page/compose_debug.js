@@ -1,5 +1,5 @@
-// Creates the debugger's parts: breakpoints, steps back and forward, and values. The callbacks passed here connect each of them to the page's other
-// parts.
+// Creates the debugger's parts: breakpoints, steps back and forward, and values. The callbacks passed here connect each of them to the
+// page's other parts.
 
 import { Cancelled, WorkerDied } from "../core/bench/faults.js";
 import { hex } from "../core/bench/numbers.js";

@@ -1,4 +1,5 @@
-// Creates the parts that run the board, serve lines and save the session. The callbacks passed here connect each of them to the page's other parts.
+// Creates the parts that run the board, serve lines and save the session. The callbacks passed here connect each of them to the page's
+// other parts.
 
 import { wordsOfAddress, wordsOfWhen } from "../words/stops.js";
 import { Serving } from "./lines/serving.js";

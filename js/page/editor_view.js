@@ -1,5 +1,6 @@
 // The board view of the editor extension: lamps, displays and keys, drawn by the page's own views. The extension sends changes
-// (adapter/shown_board.js) and receives key presses. editors/vsix bundles this module into one script. The HTML is in editors/vscode/board_view.html.
+// (adapter/shown_board.js) and receives key presses. editors/vsix bundles this module into one script. The HTML is in
+// editors/vscode/board_view.html.
 
 import { readBoard } from "../core/bench/answers.js";
 import { keyOfKeyboard } from "../core/board/board_keys.js";
@@ -34,7 +35,9 @@ const pressing = new Pressing({
     return keyOfKeyboard(front.keys, event.key);
   },
 });
-/** The front panel. It shows the perceived brightness of lamps while time is running, and their state at that instant while time is paused. */
+/**
+ * The front panel. It shows the perceived brightness of lamps while time is running, and their state at that instant while time is paused.
+ */
 const front = new FrontView((node, key) => pressing.listen(node, key), () => {});
 /** The printer view. The debug adapter keeps the printout from the moment the board was drawn. */
 const printer = new PrinterView({ printOn: () => {}, clear: () => editor.postMessage({ isTorn: true }) });

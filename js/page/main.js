@@ -20,12 +20,13 @@ import * as say from "../words/page.js";
  * @typedef {import("../core/engine/examples.js").Example} Example
  * @typedef {import("./session/store.js").SessionStore} SessionStore
  * @typedef {import("../core/help/manual.js").ManualSection} ManualSection
- * @typedef {{ refusals: Record<string, string>, examples: Example[], manual: ManualSection[] }} Data The data that page/build embeds in the page.
+ * @typedef {{ refusals: Record<string, string>, examples: Example[], manual: ManualSection[] }} Data The data that page/build embeds in the
+ *   page.
  */
 
 /**
- * A WebAssembly module with one `memory.fill` instruction. A browser accepts this module only if it supports bulk memory, which the bench's module
- * needs.
+ * A WebAssembly module with one `memory.fill` instruction. A browser accepts this module only if it supports bulk memory, which the bench's
+ * module needs.
  */
 const BULK_MEMORY_TRIAL = Uint8Array.of(0, 97, 115, 109, 1, 0, 0, 0, 1, 4, 1, 96, 0, 0, 3, 2, 1, 0, 5, 3, 1, 0, 1, 10, 13, 1, 11, 0,
   65, 0, 65, 0, 65, 0, 252, 11, 0, 11);

@@ -19,8 +19,8 @@ import * as say from "../words/page.js";
  * @property {() => void} stopClock Stops the page's clock without a request to the worker.
  * @property {(words: string) => void} halted Shows that time is paused, and the reason.
  * @property {(frame: Frame) => void} ran Shows the last frame of a run before the error.
- * @property {(record: SessionRecord) => Promise<void>} openAgain Opens a session in a new worker and shows the session. Rejects if the new worker
- *   fails, too.
+ * @property {(record: SessionRecord) => Promise<void>} openAgain Opens a session in a new worker and shows the session. Rejects if the new
+ *   worker fails, too.
  */
 
 export class Recovery {

@@ -33,17 +33,18 @@ import * as say from "../words/page.js";
  * @property {() => boolean} isFast Returns true if the speed is too high for the disassembly to follow each instruction.
  * @property {() => boolean} isWiringShown Returns true if the Wiring tab's picture is in front.
  * @property {(lines: string) => Promise<string[]>} ask Resolves to the bench's answers to queries.
- * @property {(line: string) => Promise<string | null>} act Serves a line. Resolves to its answer, or to null after a failure. A failure has already
- *   been reported.
+ * @property {(line: string) => Promise<string | null>} act Serves a line. Resolves to its answer, or to null after a failure. A failure has
+ *   already been reported.
  * @property {(number: number) => string} wordsOfRefusal Returns the message of a refusal.
  * @property {(name: string) => string} explain Returns the description of a place, or of a name in the program.
  * @property {(counter: number) => void} isAt Shows the program counter's line in the source.
  * @property {(breakpoints: string[]) => void} breakAt Passes on the addresses of the bench's breakpoints, each as three hexadecimal digits.
  * @property {(address: number) => void} toggleBreakpoint Sets or removes the breakpoint at an address.
  * @property {(address: number) => void} wentTo Shows an address in the source after the disassembly has moved to it.
- * @property {(face: string, number: number) => void} watchLamps Asks the bench to measure lamp duty cycles for a front panel, by its text and number.
- * @property {(cycles: number) => number} timeOf Returns the duration of a number of cycles in milliseconds at the current speed; Infinity at full
- *   speed.
+ * @property {(face: string, number: number) => void} watchLamps Asks the bench to measure lamp duty cycles for a front panel, by its text
+ *   and number.
+ * @property {(cycles: number) => number} timeOf Returns the duration of a number of cycles in milliseconds at the current speed; Infinity
+ *   at full speed.
  * @property {(fault: unknown) => void} failed Reports an error that a call threw.
  */
 

@@ -4,8 +4,8 @@ import { EYE_CYCLES, EYE_MS } from "../core/time/mcs4_time.js";
 import { didYouMean } from "./text.js";
 
 /**
- * The help of a command: a short summary, its text, its options by their long names, examples with their effects, and the meaning of each exit
- * status. Blank lines in the text separate paragraphs; other line breaks are ignored.
+ * The help of a command: a short summary, its text, its options by their long names, examples with their effects, and the meaning of each
+ * exit status. Blank lines in the text separate paragraphs; other line breaks are ignored.
  * @typedef {{ summary: string, text: string, options: Record<string, string>, examples: [string, string][],
  *   status: string[] }} CommandWords
  */

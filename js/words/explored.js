@@ -63,8 +63,8 @@ export function markOfReport(report) {
 }
 
 /**
- * Returns the mark in front of a property. While the search is running, the mark is "open" for a goal that has not been reached, and for a property
- * that has not been checked.
+ * Returns the mark in front of a property. While the search is running, the mark is "open" for a goal that has not been reached, and for a
+ * property that has not been checked.
  * @param {PropertyResult} property
  * @param {boolean} goesOn true if the search is running
  */
@@ -87,7 +87,8 @@ export function wordsOfProperty(property, report) {
 }
 
 /**
- * Returns the program's coverage: the coverage of its instructions and of its branch directions, each with a text, and the lines that never ran.
+ * Returns the program's coverage: the coverage of its instructions and of its branch directions, each with a text, and the lines that never
+ * ran.
  * @param {Report} report
  */
 export function coverageOf({ covered, instructions }) {

@@ -1,5 +1,5 @@
-// Texts of the page's commands: their names, their groups, and the reasons why a command cannot run now. Also the texts of the command palette and
-// the key list.
+// Texts of the page's commands: their names, their groups, and the reasons why a command cannot run now. Also the texts of the command
+// palette and the key list.
 
 /** The groups of commands, in display order. */
 export const GROUPS = {
@@ -169,7 +169,9 @@ export const TIPS = {
 };
 
 // --- commands/empty_panels.js ---
-/** @type {Record<string, { words: string, button: string }>} the text and the button label of an empty panel, by the id of the panel's list */
+/**
+ * @type {Record<string, { words: string, button: string }>} the text and the button label of an empty panel, by the id of the panel's list
+ */
 export const EMPTY = {
   "watched-list": { words: "Named values.", button: "Add a watch" },
   "breakpoint-list": { words: "", button: "Set at cursor" },

@@ -82,8 +82,8 @@ function whyNot(goal, why) {
 }
 
 /**
- * Returns the message about a place's last change: the values, the instruction or session line that changed it, and the time. Returns "" if the board
- * does not have the place.
+ * Returns the message about a place's last change: the values, the instruction or session line that changed it, and the time. Returns "" if
+ * the board does not have the place.
  * @param {string} name the name of the place
  * @param {import("../core/debug/debugger.js").LastChange} change
  * @param {SourceMap | null} map the program in ROM

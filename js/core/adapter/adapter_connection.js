@@ -75,7 +75,8 @@ export class AdapterConnection extends MessageStream {
   }
 
   /**
-   * Returns the error message for a request that arrives before `initialize`, or for a second `initialize`. Returns "" if it can be served now.
+   * Returns the error message for a request that arrives before `initialize`, or for a second `initialize`. Returns "" if it can be served
+   * now.
    * @param {string} command
    */
   orderError(command) {
@@ -122,8 +123,8 @@ export class AdapterConnection extends MessageStream {
   }
 
   /**
-   * Serves the request `cancel`. A queued request is rejected at once. A running request gets a cancel flag and ends later. Nothing happens if the
-   * request already has its response.
+   * Serves the request `cancel`. A queued request is rejected at once. A running request gets a cancel flag and ends later. Nothing happens
+   * if the request already has its response.
    * @param {any} args
    */
   cancel(args) {

@@ -197,8 +197,8 @@ export class QueryHandlers {
   }
 
   /**
-   * Returns the completions for the word at the end of a line, and the typed start of this word. After `press`, `release` and `keys`, the completions
-   * are keys. After `lamp`, they are lamps. Elsewhere they are names and condition words, plus commands at the start of a line.
+   * Returns the completions for the word at the end of a line, and the typed start of this word. After `press`, `release` and `keys`, the
+   * completions are keys. After `lamp`, they are lamps. Elsewhere they are names and condition words, plus commands at the start of a line.
    * @param {string} before
    * @returns {{ words: string[], word: string }}
    */
@@ -266,8 +266,8 @@ function nameInFormat(name, isHex) {
 }
 
 /**
- * Returns the calls that start at or after an address. The scan ends at an instruction that never continues with the next one, at an instruction
- * without a source line, or after MAX_SCANNED instructions.
+ * Returns the calls that start at or after an address. The scan ends at an instruction that never continues with the next one, at an
+ * instruction without a source line, or after MAX_SCANNED instructions.
  * @param {import("../debug/debug_session.js").DebugSession} session
  * @param {number} from
  */

@@ -19,8 +19,8 @@ import { stopsEachTime } from "../../words/machine.js";
  * @typedef {import("../debug/debug_session.js").DebugSession} DebugSession
  * @typedef {import("../debug/common_mistakes.js").Kind} MistakeKind
  *
- * A requested breakpoint. `address` is -1 if no instruction was found. `from` is the number of the first hit that stops. `note` is the text to log.
- * `words` is the error message, "" if the breakpoint can be set.
+ * A requested breakpoint. `address` is -1 if no instruction was found. `from` is the number of the first hit that stops. `note` is the text
+ * to log. `words` is the error message, "" if the breakpoint can be set.
  * @typedef {{ id: number, line: number, address: number, condition: string, from: number, note: string, words: string }} Wanted
  *
  * A breakpoint in a response; `line` counts from 1.
@@ -59,8 +59,8 @@ function commonFieldsOf(item) {
 }
 
 /**
- * Returns the address of a reference plus an offset, and an error message. Without an error, the message is ""; if the reference has no address, the
- * address is -1.
+ * Returns the address of a reference plus an offset, and an error message. Without an error, the message is ""; if the reference has no
+ * address, the address is -1.
  * @param {string} reference
  * @param {number} offset
  * @param {(reference: string) => number} addressOf
@@ -209,8 +209,8 @@ export class ClientBreakpoints {
   }
 
   /**
-   * Returns the client's id for the breakpoint that stopped the machine, and the stop reason in the protocol. The id is 0 if the client did not set
-   * the breakpoint.
+   * Returns the client's id for the breakpoint that stopped the machine, and the stop reason in the protocol. The id is 0 if the client did
+   * not set the breakpoint.
    * @param {number} id the breakpoint id in the debugger's list
    */
   stoppedBreakpoint(id) {
@@ -258,8 +258,8 @@ export class ClientBreakpoints {
   }
 
   /**
-   * Sets the watches of the session. Up to MAX_WATCHES RAM characters without a condition are watched by the bench; the debugger detects all other
-   * changes itself. Returns error messages by data breakpoint id.
+   * Sets the watches of the session. Up to MAX_WATCHES RAM characters without a condition are watched by the bench; the debugger detects
+   * all other changes itself. Returns error messages by data breakpoint id.
    */
   async applyData() {
     const { session, otherWatches } = this;
@@ -288,8 +288,8 @@ export class ClientBreakpoints {
   }
 
   /**
-   * Sets the mistakes at which the debugger stops. If a filter condition has an error, the filter stops each time. Returns the response for each
-   * filter.
+   * Sets the mistakes at which the debugger stops. If a filter condition has an error, the filter stops each time. Returns the response for
+   * each filter.
    */
   applyFilters() {
     const { session, faults } = this;

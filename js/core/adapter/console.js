@@ -1,4 +1,5 @@
-// Serves the lines that users type in the debug console: bench lines with labels as addresses, key names, moves without a button, and expressions.
+// Serves the lines that users type in the debug console: bench lines with labels as addresses, key names, moves without a button, and
+// expressions.
 
 import { ANSWER_FORMS, isQuery } from "../bench/answer_table.js";
 import { readRun, refusalOf } from "../bench/answers.js";
@@ -21,8 +22,8 @@ import { noKey } from "../../words/testing.js";
  * The result of a line: the text to show, whether the machine changed, and a move that begins after the text is shown (null for none).
  * @typedef {{ words: string, changes: boolean, move: (() => void) | null }} LineResult
  *
- * A callback between pieces of work. It receives the number of processed characters. If it returns false, the work is cancelled and no line has an
- * effect.
+ * A callback between pieces of work. It receives the number of processed characters. If it returns false, the work is cancelled and no line
+ * has an effect.
  * @typedef {(done: number) => Promise<boolean>} MayContinue
  */
 

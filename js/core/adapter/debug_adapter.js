@@ -1,5 +1,5 @@
-// The debug adapter: an editor launches a program on a board, or opens a session file. The editor then sets breakpoints, runs forward and back, and
-// shows the machine state. The page uses the same debugger (debug/debug_session.js).
+// The debug adapter: an editor launches a program on a board, or opens a session file. The editor then sets breakpoints, runs forward and
+// back, and shows the machine state. The page uses the same debugger (debug/debug_session.js).
 //
 //     const adapter = new DebugAdapter(new AdapterConnection(write), engine, dataOfPage, host);   (launching.js describes a host)
 //     connection.take(bytes) ..; await adapter.leave() once the client has closed the connection
@@ -77,7 +77,8 @@ export class DebugAdapter {
   /**
    * @param {AdapterConnection} connection
    * @param {import("../engine/engine_host.js").EngineHost} engine
-   * @param {{ refusals: Record<string, string>, manual: import("../help/manual.js").ManualSection[] }} data the refusal texts and the manual
+   * @param {{ refusals: Record<string, string>, manual: import("../help/manual.js").ManualSection[] }} data the refusal texts and the
+   *   manual
    * @param {Host & { end: (status: number) => void }} host
    */
   constructor(connection, engine, { refusals, manual }, host) {
@@ -196,8 +197,8 @@ export class DebugAdapter {
   }
 
   /**
-   * Serves the request `restart`. A session that saves to its file is reset. Any other session is launched again from the current source files or
-   * session file.
+   * Serves the request `restart`. A session that saves to its file is reset. Any other session is launched again from the current source
+   * files or session file.
    * @param {any} args
    */
   async restart(args) {

@@ -1,5 +1,5 @@
-// Runs the debugged session: one move at a time, divided into pieces. Other work waits for the end of a piece. The machine reports and saves each
-// stop.
+// Runs the debugged session: one move at a time, divided into pieces. Other work waits for the end of a piece. The machine reports and
+// saves each stop.
 
 import { Cancelled } from "../bench/faults.js";
 import { wordsOfCycles } from "../time/cycles.js";

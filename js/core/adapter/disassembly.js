@@ -8,7 +8,8 @@ import { MAX_LISTED } from "../bench/rom_bytes.js";
  * @typedef {import("../debug/debug_session.js").DebugSession} DebugSession
  * @typedef {import("../bench/answers.js").Listed} Listed
  *
- * An instruction row. The address can be outside ROM. `bytes` is hexadecimal. `line` is the source line (0 for none), `name` the label ("" for none).
+ * An instruction row. The address can be outside ROM. `bytes` is hexadecimal. `line` is the source line (0 for none), `name` the label (""
+ * for none).
  * @typedef {{ address: number, bytes: string, words: string, line: number, name: string }} Row
  */
 
@@ -33,8 +34,8 @@ function instructionsIn(session, from, to) {
 }
 
 /**
- * Returns `count` rows. The first row is `offset` instructions after the one at `address`; a negative offset counts back. Rows outside ROM have only
- * an address; before ROM it is negative.
+ * Returns `count` rows. The first row is `offset` instructions after the one at `address`; a negative offset counts back. Rows outside ROM
+ * have only an address; before ROM it is negative.
  * @param {DebugSession} session
  * @param {number} address
  * @param {number} offset

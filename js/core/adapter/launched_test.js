@@ -1,5 +1,5 @@
-// Debugging of a test. First the test runs. Then its commands rebuild a session, so that time can go back from the failure or the end to the start of
-// the test.
+// Debugging of a test. First the test runs. Then its commands rebuild a session, so that time can go back from the failure or the end to
+// the start of the test.
 
 import { DebugSession } from "../debug/debug_session.js";
 import { LONGEST_RUN } from "../engine/key_queue.js";

@@ -1,5 +1,5 @@
-// Creates the session for `launch` and `attach`. `launch` creates a session in memory from the texts of a board and a program, or opens or creates a
-// session file. `attach` opens an existing session file. It works on a copy unless `write` is true.
+// Creates the session for `launch` and `attach`. `launch` creates a session in memory from the texts of a board and a program, or opens or
+// creates a session file. `attach` opens an existing session file. It works on a copy unless `write` is true.
 
 import { refusalOf } from "../bench/answers.js";
 import { BenchRefusal } from "../bench/faults.js";
@@ -36,8 +36,8 @@ import { leadsOut } from "../../words/server.js";
  *   open: (name: string) => Promise<OpenFile>, make: (name: string) => Promise<OpenFile>,
  *   readSession: (name: string) => Promise<Uint8Array>, pause: () => Promise<void> }} Host
  *
- * The result of a launch or attach. `program` is a file name, "" if the text was disassembled from ROM. `nameOf` returns the absolute name of a file.
- * `test` is the debugged test, null for none; `note` is the test result.
+ * The result of a launch or attach. `program` is a file name, "" if the text was disassembled from ROM. `nameOf` returns the absolute name
+ * of a file. `test` is the debugged test, null for none; `note` is the test result.
  * @typedef {{ session: DebugSession, writer: SessionWriter | null, program: string, board: string, stopsOnEntry: boolean,
  *   isDebugged: boolean, isRealTime: boolean, isAttached: boolean, args: any, nameOf: (name: string) => string, test: TestFiles | null,
  *   note: string }} Launched

@@ -114,7 +114,8 @@ export function readMemory(args, session, addressOf) {
 }
 
 /**
- * Serves the request `writeMemory`: writes all bytes, or none if the bench rejects one. With `allowPartial`, it skips bytes outside the range.
+ * Serves the request `writeMemory`: writes all bytes, or none if the bench rejects one. With `allowPartial`, it skips bytes outside the
+ * range.
  * @param {any} args
  * @param {DebugSession} session
  * @param {(reference: string) => number} addressOf

@@ -1,5 +1,5 @@
-// The number format of responses. By default, machine values are hexadecimal and sums are decimal. With `format.hex`, a client selects one base for
-// all numbers.
+// The number format of responses. By default, machine values are hexadecimal and sums are decimal. With `format.hex`, a client selects one
+// base for all numbers.
 
 import { fieldOf } from "../server/framing.js";
 import { fail, flagOf } from "./dap_protocol.js";

@@ -1,4 +1,5 @@
-// Reports the progress of long work to clients that support it (`progressStart`, `progressUpdate`, `progressEnd`). The user can stop the work.
+// Reports the progress of long work to clients that support it (`progressStart`, `progressUpdate`, `progressEnd`). The user can stop the
+// work.
 
 import { AdapterError } from "./dap_protocol.js";
 import * as say from "../../words/adapter.js";

@@ -1,5 +1,5 @@
-// Saves a session in memory to its file. The program that has the file open (`mcs4 open FILE`) receives the new lines of the session. If the new
-// lines do not continue the history of the file (after going back), the file is replaced, and the program continues with it.
+// Saves a session in memory to its file. The program that has the file open (`mcs4 open FILE`) receives the new lines of the session. If
+// the new lines do not continue the history of the file (after going back), the file is replaced, and the program continues with it.
 
 import { refusalOf } from "../bench/answers.js";
 import { joinLines } from "../bench/inputs.js";
@@ -10,8 +10,9 @@ import * as say from "../../words/adapter.js";
  * @typedef {import("../engine/worker_session.js").WorkerSession} WorkerSession
  * @typedef {import("../engine/timeline.js").Segment} Segment
  *
- * A program with an open session file. `ask` sends lines and returns their `count` answers. `replace` replaces the file with a session that has these
- * bytes and has served these lines. If `check` throws, or the file cannot be replaced, `replace` throws and the file does not change.
+ * A program with an open session file. `ask` sends lines and returns their `count` answers. `replace` replaces the file with a session that
+ * has these bytes and has served these lines. If `check` throws, or the file cannot be replaced, `replace` throws and the file does not
+ * change.
  * @typedef {{ bytes: Uint8Array, ask: (lines: string, count: number) => Promise<string[]>,
  *   replace: (bytes: Uint8Array, lines: string, count: number, check: (answers: string[]) => void) => Promise<void>,
  *   end: () => Promise<void> }} OpenFile

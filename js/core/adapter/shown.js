@@ -26,8 +26,8 @@ export class ShownText {
   }
 
   /**
-   * Returns the display text and the names of the other lamps that are on. Without a display, returns the marks of all lamps and the names of those
-   * that are on. A multiplexed display shows the digits that a person perceives.
+   * Returns the display text and the names of the other lamps that are on. Without a display, returns the marks of all lamps and the names
+   * of those that are on. A multiplexed display shows the digits that a person perceives.
    */
   now() {
     const { marks } = this;

@@ -1,5 +1,5 @@
-// Sends the front panel of a board to an editor that draws it (editor_view.js): the board and its text once, and lamps, keys and TEST when they
-// change. Also moves the keys that the user presses in the drawing.
+// Sends the front panel of a board to an editor that draws it (editor_view.js): the board and its text once, and lamps, keys and TEST when
+// they change. Also moves the keys that the user presses in the drawing.
 
 import { readBoard } from "../bench/answers.js";
 import { SnapshotReader } from "../bench/snapshot.js";

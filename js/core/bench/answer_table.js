@@ -1,12 +1,12 @@
-// The answer format of each input line, and the lines that open a text. Both come from the table tools/lib/answers.txt; its header explains the
-// columns.
+// The answer format of each input line, and the lines that open a text. Both come from the table tools/lib/answers.txt; its header explains
+// the columns.
 
 import table from "#answer-table";
 
 /**
- * An input line and its answer format, by the first word of the line. `opensText`: a text follows the line. `isQuery`: the line changes nothing.
- * `first`: the pattern of the first answer line. `further`: the pattern of the other answer lines, null if there are none. `count`: the number of
- * further lines, in the notation of the table.
+ * An input line and its answer format, by the first word of the line. `opensText`: a text follows the line. `isQuery`: the line changes
+ * nothing. `first`: the pattern of the first answer line. `further`: the pattern of the other answer lines, null if there are none.
+ * `count`: the number of further lines, in the notation of the table.
  * @typedef {{ opensText: boolean, isQuery: boolean, first: RegExp, further: RegExp | null, count: string }} Form
  */
 

@@ -30,8 +30,8 @@ function canBeginAnswer({ kind, line }, answer) {
 }
 
 /**
- * Returns the number of lines in the complete answer to an input. If the first line states a count, the result includes lines that are missing at the
- * end of `answers`.
+ * Returns the number of lines in the complete answer to an input. If the first line states a count, the result includes lines that are
+ * missing at the end of `answers`.
  * @param {Input} input
  * @param {string[]} answers
  * @param {number} from

@@ -22,8 +22,8 @@ import { isListingLine } from "./answer_table.js";
  */
 
 /**
- * Parses a refusal. Returns its number and its line number (0 if it has none); null for any other answer. The refusal of a board also names a part,
- * which is ignored.
+ * Parses a refusal. Returns its number and its line number (0 if it has none); null for any other answer. The refusal of a board also names
+ * a part, which is ignored.
  * @param {string} answer
  * @returns {Refusal | null}
  */

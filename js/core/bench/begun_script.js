@@ -10,8 +10,8 @@ import * as say from "../../words/bench.js";
  * @typedef {import("../engine/engine_host.js").EngineHost} EngineHost
  * @typedef {import("../engine/engine_host.js").State} State
  *
- * The number of script lines that a session has received. If the session did not start with the script, `words` is an error message, and `differing`
- * lists answers that differ: `<` marks the answers of the session, `>` those of the script.
+ * The number of script lines that a session has received. If the session did not start with the script, `words` is an error message, and
+ * `differing` lists answers that differ: `<` marks the answers of the session, `>` those of the script.
  * @typedef {{ lines: number, words: string, differing: string[] }} BegunScript
  */
 
@@ -35,8 +35,8 @@ function splitState(answers) {
 }
 
 /**
- * Returns the first lines that differ, marked `<` or `>`. If the lists differ in length, returns the lines between the common prefix and the common
- * suffix.
+ * Returns the first lines that differ, marked `<` or `>`. If the lists differ in length, returns the lines between the common prefix and
+ * the common suffix.
  * @param {string[]} actual
  * @param {string[]} expected
  */

@@ -1,4 +1,5 @@
-// The page's access to the bench: sends requests to the worker and receives replies. A worker that stops answering is terminated and replaced.
+// The page's access to the bench: sends requests to the worker and receives replies. A worker that stops answering is terminated and
+// replaced.
 
 import { WorkerDied, unpackFault } from "./faults.js";
 

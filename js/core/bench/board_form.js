@@ -1,5 +1,5 @@
-// The format of a board text, defined once for the page: the keys of each part, their ranges, the maximum number of parts, and the lines of each
-// part. Only the bench decides whether a board is valid; a unit test compares each limit with the bench.
+// The format of a board text, defined once for the page: the keys of each part, their ranges, the maximum number of parts, and the lines of
+// each part. Only the bench decides whether a board is valid; a unit test compares each limit with the bench.
 
 import { upTo } from "./numbers.js";
 

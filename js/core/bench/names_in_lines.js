@@ -1,5 +1,5 @@
-// Replaces names in lines: `@NAME` becomes the value of that program name, and `set PLACE = VALUE` becomes the lines that set the place. Texts inside
-// the lines do not change.
+// Replaces names in lines: `@NAME` becomes the value of that program name, and `set PLACE = VALUE` becomes the lines that set the place.
+// Texts inside the lines do not change.
 
 import { readSetting } from "../conditions/setting.js";
 import { opensText, withoutReturn } from "./inputs.js";
@@ -10,7 +10,8 @@ import { inColumn } from "../../words/conditions.js";
 /**
  * @typedef {import("../machine/source_map.js").SourceMap} SourceMap
  *
- * The lines after the replacement. If a name is wrong, `words` is the first error message and `line` its line number; otherwise they are "" and 0.
+ * The lines after the replacement. If a name is wrong, `words` is the first error message and `line` its line number; otherwise they are ""
+ * and 0.
  * @typedef {{ lines: string, words: string, line: number }} Put
  */
 

@@ -1,5 +1,5 @@
-// Runs long work in a separate worker, so that the session worker stays responsive. The separate worker exists only during the work. Stopping the
-// work terminates the worker at once.
+// Runs long work in a separate worker, so that the session worker stays responsive. The separate worker exists only during the work.
+// Stopping the work terminates the worker at once.
 
 import { WorkerDied } from "./faults.js";
 

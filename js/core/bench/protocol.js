@@ -6,17 +6,17 @@
  * @typedef {import("./faults.js").PackedFault} PackedFault
  * @typedef {import("./run_log.js").RanEntry} RanEntry
  *
- * A session state for the page. `snapshot`: the answers of the snapshot queries. `file`: the bytes of the session file (transferred). `board`: the
- * answer to `board`, null if unchanged. `total`: all cycles. `reset`: the cycles up to the last reset. `future`: the number of possible steps
- * forward. `past`: the additions to the past since the last report. `waves`: the recording since the last report, null if recording is off.
- * `printed`: the printer data, null if unchanged. `waiting`: key changes that are queued for later.
+ * A session state for the page. `snapshot`: the answers of the snapshot queries. `file`: the bytes of the session file (transferred).
+ * `board`: the answer to `board`, null if unchanged. `total`: all cycles. `reset`: the cycles up to the last reset. `future`: the number of
+ * possible steps forward. `past`: the additions to the past since the last report. `waves`: the recording since the last report, null if
+ * recording is off. `printed`: the printer data, null if unchanged. `waiting`: key changes that are queued for later.
  * @typedef {{ snapshot: string[], file: ArrayBuffer, board: string[] | null, total: number, reset: number, future: number,
  *   past: import("../engine/timeline.js").News, waves: import("../engine/live_recorder.js").LivePart | null,
  *   printed: import("../engine/printing.js").Printed | null, waiting: import("../engine/key_queue.js").Change[] }} Shown
  *
- * The result of a piece of running time. `ran`: the lines that ran. `end`: the answer that ended the run early, or "". `stop`: the reason why time
- * stopped, or null. `tally`: breakpoint hits and log messages. `litShares`, `heard`, `warmed`: lamp brightness, sound and RAM changes; each is null
- * if the page does not show it.
+ * The result of a piece of running time. `ran`: the lines that ran. `end`: the answer that ended the run early, or "". `stop`: the reason
+ * why time stopped, or null. `tally`: breakpoint hits and log messages. `litShares`, `heard`, `warmed`: lamp brightness, sound and RAM
+ * changes; each is null if the page does not show it.
  * @typedef {{ ran: RanEntry[], cycles: number, end: string, changesKeys: boolean, stop: Stop | null, tally: Tally,
  *   litShares: import("../engine/brightness_meter.js").LitShares | null, heard: import("../engine/sounding.js").Heard | null,
  *   warmed: import("../engine/heating.js").PassedHeat | null } & Shown} Frame

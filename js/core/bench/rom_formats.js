@@ -1,5 +1,5 @@
-// Reads ROM images in the S-record format and the BNPF format; customers sent 4001 masks to Intel in BNPF. Writes BNPF. Detects the image format from
-// the first bytes and the file name.
+// Reads ROM images in the S-record format and the BNPF format; customers sent 4001 masks to Intel in BNPF. Writes BNPF. Detects the image
+// format from the first bytes and the file name.
 
 import { hex } from "./numbers.js";
 import { ImageBytes, NotARecord, NotAnImage, readLines } from "./rom_image.js";
@@ -69,8 +69,8 @@ function beginsWord(line, at) {
 }
 
 /**
- * Parses BNPF; returns the image bytes. A word is `B`, eight letters `P` (1) or `N` (0) with the highest bit first, and `F`. A word can continue on
- * the next line. Text between words is ignored.
+ * Parses BNPF; returns the image bytes. A word is `B`, eight letters `P` (1) or `N` (0) with the highest bit first, and `F`. A word can
+ * continue on the next line. Text between words is ignored.
  * @param {string} text
  * @param {number} [from] the address of the first word
  */

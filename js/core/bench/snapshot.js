@@ -36,8 +36,8 @@ export function snapshotOf(inputs, answers) {
 const NO_PARTS = { registers: "", test: "", ports: "", keys: "", lamps: "", breaks: "", watches: "" };
 
 /**
- * Reads snapshots and returns the changes between them. Front-panel changes are read from each snapshot. The other parts are read only from drawn
- * snapshots.
+ * Reads snapshots and returns the changes between them. Front-panel changes are read from each snapshot. The other parts are read only from
+ * drawn snapshots.
  */
 export class SnapshotReader {
   constructor() {

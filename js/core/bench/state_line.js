@@ -6,8 +6,8 @@ import { readRegisters } from "./answers.js";
  * @typedef {import("./answers.js").Ports} Ports
  * @typedef {import("./answers.js").Registers} Registers
  *
- * The parts of the line as unparsed text. An unchanged part is not parsed again. `registers` also contains the TEST level, and `ports` also contains
- * the pressed keys.
+ * The parts of the line as unparsed text. An unchanged part is not parsed again. `registers` also contains the TEST level, and `ports` also
+ * contains the pressed keys.
  * @typedef {{ registers: string, test: string, ports: string, keys: string, lamps: string, breaks: string, watches: string }} StateParts
  */
 

@@ -9,8 +9,8 @@ import * as say from "../../words/board.js";
  *
  * @typedef {import("./key_place.js").Key} Key
  *
- * A key of the board, or the button or switch at the TEST pin. `words` is its description. `isNamed` is true if the front panel defines its legend.
- * `letter` is the keyboard character that presses it, "" for none.
+ * A key of the board, or the button or switch at the TEST pin. `words` is its description. `isNamed` is true if the front panel defines its
+ * legend. `letter` is the keyboard character that presses it, "" for none.
  * @typedef {{ key: Key, legend: string, words: string, isNamed: boolean, isSwitch: boolean, letter: string }} BoardKey
  */
 

@@ -1,5 +1,5 @@
-// Computes the perceived brightness of the lamps. A steady lamp is on or off at once. The brightness of a flickering lamp follows its duty cycle.
-// Earlier light fades with the persistence of vision (`EYE_MS`).
+// Computes the perceived brightness of the lamps. A steady lamp is on or off at once. The brightness of a flickering lamp follows its duty
+// cycle. Earlier light fades with the persistence of vision (`EYE_MS`).
 
 import { fittingGroups, isScanned } from "./face_board.js";
 import { NOT_LIT, isLit } from "./digit_patterns.js";
@@ -42,9 +42,9 @@ export function levelOf(duty) {
 }
 
 /**
- * Decides whether a lamp or display is steady. It is steady if it has not changed for the persistence of vision, or if the current rest is more than
- * twice the longest rest in the current series of changes. A single change is therefore perceived at once. Bits that shift in are perceived at the
- * end of the shift. A flickering lamp is never steady.
+ * Decides whether a lamp or display is steady. It is steady if it has not changed for the persistence of vision, or if the current rest is
+ * more than twice the longest rest in the current series of changes. A single change is therefore perceived at once. Bits that shift in are
+ * perceived at the end of the shift. A flickering lamp is never steady.
  */
 class Stillness {
   constructor() {

@@ -64,7 +64,8 @@ function valueAt(marks, at) {
 }
 
 /**
- * Returns the pattern of each digit at one instant. A BCD display without multiplexing blanks leading zeros and a point after the last digit.
+ * Returns the pattern of each digit at one instant. A BCD display without multiplexing blanks leading zeros and a point after the last
+ * digit.
  * @param {Group} display
  * @param {string} marks one mark per lamp, `*` if the lamp is on
  * @returns {number[]}

@@ -16,7 +16,8 @@ export class DisplayText {
   }
 
   /**
-   * Returns the number on the displays and the names of the other lamps that are on. If the lamp `minus` is on, a minus precedes the number.
+   * Returns the number on the displays and the names of the other lamps that are on. If the lamp `minus` is on, a minus precedes the
+   * number.
    * @param {string} marks one mark per lamp, `*` if the lamp is on
    */
   read(marks) {

@@ -1,4 +1,5 @@
-// Parses the front panel of a board: the names, colours and positions in the comments of the board text. tools/lib/face.txt defines the syntax.
+// Parses the front panel of a board: the names, colours and positions in the comments of the board text. tools/lib/face.txt defines the
+// syntax.
 
 import { COLOURS, fitsHead, fitsWords, headOf, isNumber, limit, messageOf, sizeOf, wordsOf } from "./face_words.js";
 import { matrixKey, textOfKey } from "./key_place.js";
@@ -12,10 +13,10 @@ import * as say from "../../words/board.js";
  * @typedef {{ text: string, line: number }} FaceText a name or a colour, and its line number
  * @typedef {{ row: number, column: number, lamp: number, line: number }} GridLamp
  *
- * A group of lamps that starts at lamp `first`: a display, a die, a bar or a matrix. In a display, each row is a digit, with four or seven columns
- * and one more for a decimal point. If `by` is -1, each lamp of the group has its own line. Otherwise the group is multiplexed: it has one board lamp
- * per column, and one board lamp per row, starting at lamp `by`. A lamp of the group is on while the board lamps for its row and its column are both
- * on.
+ * A group of lamps that starts at lamp `first`: a display, a die, a bar or a matrix. In a display, each row is a digit, with four or seven
+ * columns and one more for a decimal point. If `by` is -1, each lamp of the group has its own line. Otherwise the group is multiplexed: it
+ * has one board lamp per column, and one board lamp per row, starting at lamp `by`. A lamp of the group is on while the board lamps for its
+ * row and its column are both on.
  * @typedef {{ kind: string, first: number, rows: number, columns: number, by: number, line: number }} Group
  *
  * The `button` or `switch` at the TEST pin. `level` is the TEST level while it is pressed.

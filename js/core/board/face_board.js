@@ -1,4 +1,5 @@
-// Compares a front panel with its board: finds parts that the board does not have, and looks up the groups, names and colours of existing lamps.
+// Compares a front panel with its board: finds parts that the board does not have, and looks up the groups, names and colours of existing
+// lamps.
 
 import { sortedByLine } from "./face.js";
 import { KINDS, messageOf } from "./face_words.js";

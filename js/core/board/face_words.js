@@ -4,9 +4,10 @@
 import table from "#face-table";
 
 /**
- * A kind of line. `head`: the form of the text between the first word and the colon (`N`, `N to N`, `place`, `line`, or `-` for none). `counts`: true
- * if the words count towards the limit. `isRefused`: true if names or displays depend on the line. `size`: the meaning of the numbers. `words`: the
- * pattern of the text after the colon, null for any text. `form` and `other`: the messages for a wrong head and for wrong words.
+ * A kind of line. `head`: the form of the text between the first word and the colon (`N`, `N to N`, `place`, `line`, or `-` for none).
+ * `counts`: true if the words count towards the limit. `isRefused`: true if names or displays depend on the line. `size`: the meaning of
+ * the numbers. `words`: the pattern of the text after the colon, null for any text. `form` and `other`: the messages for a wrong head and
+ * for wrong words.
  * @typedef {{ head: string, counts: boolean, isRefused: boolean, size: string, words: RegExp | null, form: string, other: string }} Kind
  */
 
@@ -94,8 +95,8 @@ export function fitsWords({ words: expression }, words) {
 }
 
 /**
- * Parses the size of a group. Returns its rows and columns, and the first lamp that scans it (-1 for a group without multiplexing). Returns null if
- * the words are not a size.
+ * Parses the size of a group. Returns its rows and columns, and the first lamp that scans it (-1 for a group without multiplexing). Returns
+ * null if the words are not a size.
  * @param {Kind} kind
  * @param {string[]} words
  */

@@ -1,5 +1,5 @@
-// Predicts which keys will be pressed after all pending changes: changes in transit to the worker, and changes in the worker's queue. Without the
-// prediction, a key that is pressed twice in quick succession could stay down.
+// Predicts which keys will be pressed after all pending changes: changes in transit to the worker, and changes in the worker's queue.
+// Without the prediction, a key that is pressed twice in quick succession could stay down.
 
 import { isSameKey } from "./key_place.js";
 

@@ -1,5 +1,5 @@
-// Computes wire routes in the wiring diagram. A wire runs straight to its pin. If a part is in the way, the wire runs through the gap above or below
-// that part. After the user moves parts, a wire can run from right to left. This module does not draw.
+// Computes wire routes in the wiring diagram. A wire runs straight to its pin. If a part is in the way, the wire runs through the gap above
+// or below that part. After the user moves parts, a wire can run from right to left. This module does not draw.
 
 /**
  * @typedef {import("./wiring.js").Point} Point
@@ -114,8 +114,8 @@ function turningRoute({ from, to }, y, left, right) {
 }
 
 /**
- * Returns the curves of a wire that turns near its pins. The wire leaves to the right and arrives from the left. Between the two turns it can run
- * from right to left.
+ * Returns the curves of a wire that turns near its pins. The wire leaves to the right and arrives from the left. Between the two turns it
+ * can run from right to left.
  * @param {Ends} ends
  * @param {number} y the y coordinate of the horizontal section
  * @returns {Curve[]}

@@ -6,8 +6,8 @@ import { isLit } from "./digit_patterns.js";
 /**
  * @typedef {import("./brightness.js").Brightness} Brightness
  *
- * A lamp. `isLit` returns whether the lamp is on at one instant, from a text with one mark per lamp. `part` returns the duty cycle. `isOn` returns
- * whether the lamp is perceived as on.
+ * A lamp. `isLit` returns whether the lamp is on at one instant, from a text with one mark per lamp. `part` returns the duty cycle. `isOn`
+ * returns whether the lamp is perceived as on.
  * @typedef {{ isLit: (marks: string) => boolean, part: (brightness: Brightness) => number,
  *   isOn: (brightness: Brightness) => boolean }} SeenLamp
  */

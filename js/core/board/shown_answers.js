@@ -1,5 +1,5 @@
-// Converts answers about lamps to display text. An answer to `lamps` gives the text at one instant. An answer to `trace` with `lamps` as its only
-// place gives the perceived text over the traced time.
+// Converts answers about lamps to display text. An answer to `lamps` gives the text at one instant. An answer to `trace` with `lamps` as
+// its only place gives the perceived text over the traced time.
 
 import { SeenText, hasScannedDisplay } from "../engine/seen_text.js";
 import { DisplayText, wholeText } from "./display_text.js";
@@ -48,7 +48,8 @@ class ShownAnswers {
    * Converts the answer that starts at an index.
    * @param {string[]} answers
    * @param {number} at the index
-   * @returns {{ text: string, words: string, count: number }} `count` is the number of lines in the answer, 0 if the answer is not about lamps
+   * @returns {{ text: string, words: string, count: number }} `count` is the number of lines in the answer, 0 if the answer is not about
+   *   lamps
    */
   read(answers, at) {
     const failed = (/** @type {string} */ words) => ({ text: "", words, count: 1 });

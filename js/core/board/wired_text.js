@@ -1,5 +1,5 @@
-// Finds the text of the wired board. The comments of that text define the front panel, even if the text in the editor has changed since. The session
-// stores the text because the bench does not.
+// Finds the text of the wired board. The comments of that text define the front panel, even if the text in the editor has changed since.
+// The session stores the text because the bench does not.
 
 import { BoardDraft } from "../drawing/board_draft.js";
 import { sentText } from "../text/text_fault.js";

@@ -1,5 +1,5 @@
-// Computes the layout of the wiring diagram: the parts of a board with their pins and positions, and the wires between pins. This module does not
-// draw.
+// Computes the layout of the wiring diagram: the parts of a board with their pins and positions, and the wires between pins. This module
+// does not draw.
 
 import { BITS_PER_CHIP } from "../bench/board_form.js";
 import * as say from "../../words/board.js";
@@ -9,13 +9,14 @@ import * as say from "../../words/board.js";
  * @typedef {import("./face.js").TestPin} TestPin
  * @typedef {{ place: string, name: string }} Buzzer
  *
- * A pin of a part. `line` is the signal line at the pin ("" for the TEST pin). For a port pin or a chain bit, `id` is the name of the line; otherwise
- * it names the function: `clock 0`, `data 0`, `row 1`, `column 2`, `lamp 3` or `buzzer 0`. `colour` is the lamp colour. `number` is the pin number on
- * the 16-pin chip package.
+ * A pin of a part. `line` is the signal line at the pin ("" for the TEST pin). For a port pin or a chain bit, `id` is the name of the line;
+ * otherwise it names the function: `clock 0`, `data 0`, `row 1`, `column 2`, `lamp 3` or `buzzer 0`. `colour` is the lamp colour. `number`
+ * is the pin number on the 16-pin chip package.
  * @typedef {{ id: string, line: string, label: string, colour?: string, number?: number, x: number, y: number }} Pin
  * @typedef {Omit<Pin, "x" | "y">} PinToPut
  *
- * A part. `id` is its name (`rom 1`, `ram 0.2`, `chain 0`, `keys`, `lamps`, `test`, `buzzer` or `processor`). `says` are its description lines.
+ * A part. `id` is its name (`rom 1`, `ram 0.2`, `chain 0`, `keys`, `lamps`, `test`, `buzzer` or `processor`). `says` are its description
+ * lines.
  * @typedef {{ id: string, kind: string, title: string, x: number, y: number, width: number, height: number, pins: Pin[],
  *   says: string[] }} Part
  *
@@ -23,7 +24,8 @@ import * as say from "../../words/board.js";
  * @typedef {{ line: string, from: Pin, to: Pin }} Wire
  * @typedef {{ parts: Part[], wires: Wire[], width: number, height: number }} Picture
  *
- * The front-panel parts in the diagram. `names` and `colours` are those of the lamps, "" for none. `test` is the button or switch at the TEST pin.
+ * The front-panel parts in the diagram. `names` and `colours` are those of the lamps, "" for none. `test` is the button or switch at the
+ * TEST pin.
  * @typedef {{ names: string[], colours: string[], test: TestPin | null, buzzer: Buzzer | null }} Appearance
  *
  * @typedef {{ x: number, y: number }} Point

@@ -1,11 +1,11 @@
-// Compiles conditions (docs/MANUAL.md, "Conditions"). Conditions can contain front-panel names and program names. A compiled condition lists the
-// places that it depends on. Its method `holds` evaluates it on the bench's answers about these places.
+// Compiles conditions (docs/MANUAL.md, "Conditions"). Conditions can contain front-panel names and program names. A compiled condition
+// lists the places that it depends on. Its method `holds` evaluates it on the bench's answers about these places.
 //
 //     const { condition, fault } = conditionOf("lamp open on and (r9 >= 8 or cy = 1)", { face, board, map });
 //     if (condition) .. `trace 1000 ${condition.places.join(" ")}` ..; condition.holds(valuesOf(row))
 //
-// `places` has at most 16 different entries: places that `trace` reports, and STATE_PLACES, which `state` reports (probes.js queries both). `values`
-// are the reported values in the same order. `fault` is an error message, and `column` is the error's column, from 0.
+// `places` has at most 16 different entries: places that `trace` reports, and STATE_PLACES, which `state` reports (probes.js queries both).
+// `values` are the reported values in the same order. `fault` is an error message, and `column` is the error's column, from 0.
 //
 // There are three kinds of conditions:
 // - conditionOf: the condition of a breakpoint;
@@ -25,23 +25,23 @@ import * as say from "../../words/conditions.js";
  * @typedef {import("../machine/source_map.js").SourceMap} SourceMap
  * @typedef {import("./parser.js").ConditionNode} ConditionNode
  *
- * The names that a condition can use: the names of the front panel, the board (from the answer to `board`), the program names, and the watch names
- * with their expressions.
+ * The names that a condition can use: the names of the front panel, the board (from the answer to `board`), the program names, and the
+ * watch names with their expressions.
  * @typedef {{ face: Face, board: Board, map: Pick<SourceMap, "names" | "nameOf"> | null, watched?: Map<string, string> }} Names
  *
- * Values that `trace` does not report. `test`, `owed` and `keys` are in the spelling of `state`. `cycles` counts from the last mark in a test. `seen`
- * is the answer about the perceived lamps. `printed` holds the printed words.
+ * Values that `trace` does not report. `test`, `owed` and `keys` are in the spelling of `state`. `cycles` counts from the last mark in a
+ * test. `seen` is the answer about the perceived lamps. `printed` holds the printed words.
  * @typedef {{ test: string, owed: string, keys: string, cycles: number, seen: string[], printed: string[] }} Beside
  *
- * A compiled condition. `explain` returns "" if the condition is true, otherwise a message with the actual and the required values. `negation` is the
- * text of the opposite condition. `needs` lists the fields of `Beside` that the condition uses. `address` is the address in a condition `pc =
- * ADDRESS`, otherwise -1.
+ * A compiled condition. `explain` returns "" if the condition is true, otherwise a message with the actual and the required values.
+ * `negation` is the text of the opposite condition. `needs` lists the fields of `Beside` that the condition uses. `address` is the address
+ * in a condition `pc = ADDRESS`, otherwise -1.
  * @typedef {{ text: string, negation: string, places: string[], holds: (values: string[], beside?: Beside) => boolean, explain: (values:
  * string[], beside?: Beside) => string, needs: string[], address: number }} Condition
  * @typedef {{ condition: Condition, fault: "", column: -1 } | { condition: null, fault: string, column: number }} ReadCondition
  *
- * A compiled value or condition. `textOf` returns its value as text: a place as `trace` spells it, any other value in decimal, a condition as `true`
- * or `false`. `number` returns the numeric value; it is null for a condition.
+ * A compiled value or condition. `textOf` returns its value as text: a place as `trace` spells it, any other value in decimal, a condition
+ * as `true` or `false`. `number` returns the numeric value; it is null for a condition.
  * @typedef {{ places: string[], textOf: (values: string[]) => string, number: ((values: string[]) => number) | null }} Expression
  * @typedef {{ expression: Expression, fault: "", column: -1 } | { expression: null, fault: string, column: number }} ReadExpression
  */

@@ -1,4 +1,5 @@
-// Parses durations in tests: `538`, `538 cycles`, `54 us`, `20 ms` or `1.5 s`. The blank before the unit is optional for `us`, `ms` and `s`.
+// Parses durations in tests: `538`, `538 cycles`, `54 us`, `20 ms` or `1.5 s`. The blank before the unit is optional for `us`, `ms` and
+// `s`.
 
 import { cyclesOfMs } from "../time/mcs4_time.js";
 

@@ -1,5 +1,5 @@
-// Compiles conditions that start with a keyword: `lamps`, `display` and `printed` for the front panel, `cycles`, and `chain0` for the bits of a
-// chain. Also compiles conditions on the program counter. The parser has already split them into words.
+// Compiles conditions that start with a keyword: `lamps`, `display` and `printed` for the front panel, `cycles`, and `chain0` for the bits
+// of a chain. Also compiles conditions on the program counter. The parser has already split them into words.
 
 import { hex, upTo } from "../bench/numbers.js";
 import { DisplayText } from "../board/display_text.js";
@@ -17,8 +17,8 @@ import * as say from "../../words/conditions.js";
  * @typedef {import("./meaning.js").Meaning} Meaning
  * @typedef {import("./values.js").Looked} Looked
  *
- * The parts of a keyword condition. `what` names the measured value; `isMany` is true if that name is plural. `want` is the text of the required
- * value. `measure` returns the text of the actual value, `matches` compares it, and `remark` returns an addition to the message.
+ * The parts of a keyword condition. `what` names the measured value; `isMany` is true if that name is plural. `want` is the text of the
+ * required value. `measure` returns the text of the actual value, `matches` compares it, and `remark` returns an addition to the message.
  * @typedef {{ what: string, want: string, isMany?: boolean, measure: (values: string[], beside: Beside) => string,
  *   matches: (is: string, beside: Beside) => boolean, remark?: (is: string) => string, address?: number }} Asked
  */
@@ -62,8 +62,8 @@ function isDisplayLamp(at, { face }) {
 }
 
 /**
- * Compiles `lamps` with a pattern of `*` (on), `.` (off) and `?` (any), or with the names of all lamps that must be on. With names, unnamed display
- * lamps are ignored.
+ * Compiles `lamps` with a pattern of `*` (on), `.` (off) and `?` (any), or with the names of all lamps that must be on. With names, unnamed
+ * display lamps are ignored.
  * @param {string[]} words
  * @param {Names} names
  * @param {Looked} dependencies
@@ -89,8 +89,8 @@ export function lampsMeaning(words, names, dependencies) {
 }
 
 /**
- * Compiles `display 42` for the number on the display, or `display 0 overflow` for the number and lamp names as `mcs4 display` prints them. For
- * multiplexed digits, the perceived number counts.
+ * Compiles `display 42` for the number on the display, or `display 0 overflow` for the number and lamp names as `mcs4 display` prints them.
+ * For multiplexed digits, the perceived number counts.
  * @param {string[]} words
  * @param {Names} names
  * @param {Looked} dependencies

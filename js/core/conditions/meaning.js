@@ -1,5 +1,5 @@
-// Compiles a condition's syntax tree, for a board and a program, into functions that evaluate it on the bench's answers. Collects the places that the
-// condition depends on. This module does not simulate the machine.
+// Compiles a condition's syntax tree, for a board and a program, into functions that evaluate it on the bench's answers. Collects the
+// places that the condition depends on. This module does not simulate the machine.
 
 import { chainMeaning, counterMeaning, cyclesMeaning, displayMeaning, lampsMeaning, printedMeaning } from "./forms.js";
 import { fail } from "./scanner.js";
@@ -85,7 +85,8 @@ function compareMeaning({ sign, left, right }, names, dependencies) {
 }
 
 /**
- * Compiles a place followed by its value, such as `r0 5`. Several values after a RAM character apply to that character and the following ones.
+ * Compiles a place followed by its value, such as `r0 5`. Several values after a RAM character apply to that character and the following
+ * ones.
  * @param {HoldsNode} node
  * @param {Names} names
  * @param {Looked} dependencies
@@ -93,7 +94,9 @@ function compareMeaning({ sign, left, right }, names, dependencies) {
  */
 function holdsMeaning({ place, values, text, column }, names, dependencies) {
   const [first] = values;
-  if (values.length === 1) return compareMeaning({ kind: "compare", sign: "=", left: place, right: first, text, column }, names, dependencies);
+  if (values.length === 1) {
+    return compareMeaning({ kind: "compare", sign: "=", left: place, right: first, text, column }, names, dependencies);
+  }
   const characters = characterValues(place, values.length, names, dependencies);
   const wanted = values.map((value, at) => {
     const each = valueIn(value, names, dependencies);

@@ -1,5 +1,5 @@
-// Parses conditions (docs/MANUAL.md, "Conditions") into a syntax tree. Each node has its text and column. Most names are resolved later. Names of
-// lamps and keys can contain any character, so the parser itself must recognise them.
+// Parses conditions (docs/MANUAL.md, "Conditions") into a syntax tree. Each node has its text and column. Most names are resolved later.
+// Names of lamps and keys can contain any character, so the parser itself must recognise them.
 //
 //     condition  = and { or and }      and = not { and not }      not = { "not" } ( lamps | .. | value [ sign value ] )
 //     value      = operand { ("+" | "-" | "&") operand }          operand = number | name | place | "(" value ")"
@@ -11,16 +11,16 @@ import * as say from "../../words/conditions.js";
  * @typedef {import("./scanner.js").Token} Token
  * @typedef {"=" | "!=" | "<" | "<=" | ">" | ">="} Sign
  *
- * A value. `name`: a named value or a place; `way` is the direction after a port. `lamp`, `key`: a lamp or key with its name. `sum`: the sum,
- * difference or bitwise AND of two values.
+ * A value. `name`: a named value or a place; `way` is the direction after a port. `lamp`, `key`: a lamp or key with its name. `sum`: the
+ * sum, difference or bitwise AND of two values.
  * @typedef {{ kind: "number", value: number, text: string, column: number }} NumberNode
  * @typedef {{ kind: "name", text: string, way: "" | "in" | "out", column: number }} NameNode
  * @typedef {{ kind: "lamp" | "key", text: string, column: number }} PanelNode
  * @typedef {{ kind: "sum", sign: "+" | "-" | "&", left: ValueNode, right: ValueNode, text: string, column: number }} SumNode
  * @typedef {NumberNode | NameNode | PanelNode | SumNode} ValueNode
  *
- * A condition. `form`: a keyword (`lamps`, `display`, `printed`, `cycles` or a chain) with the words after it. `holds`: a place with its required
- * values. `panel`: `lamp NAME on` or `key NAME down`. `at`: `at LABEL`.
+ * A condition. `form`: a keyword (`lamps`, `display`, `printed`, `cycles` or a chain) with the words after it. `holds`: a place with its
+ * required values. `panel`: `lamp NAME on` or `key NAME down`. `at`: `at LABEL`.
  * @typedef {{ kind: "or" | "and", parts: ConditionNode[], text: string, column: number }} JoinedNode
  * @typedef {{ kind: "not", part: ConditionNode, text: string, column: number }} NotNode
  * @typedef {{ kind: "compare", sign: Sign, left: ValueNode, right: ValueNode, text: string, column: number }} CompareNode
@@ -357,8 +357,8 @@ class Parser {
   // --- Keywords followed by names ---
 
   /**
-   * Parses `lamp NAME on` or `key NAME down`. Without `on` or `down`, the result is a value. Returns null if the word `lamp` or `key` is itself a
-   * program name before an operator.
+   * Parses `lamp NAME on` or `key NAME down`. Without `on` or `down`, the result is a value. Returns null if the word `lamp` or `key` is
+   * itself a program name before an operator.
    * @param {Token} token
    * @param {"lamp" | "key"} what
    * @returns {Node | null}

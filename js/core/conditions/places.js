@@ -1,5 +1,5 @@
-// Parses place names: a register, a register pair, a RAM character, a line, a port, a chain or the lamps. If a place has several spellings, it is
-// shown in the spelling of `trace`. Each place lists the `trace` places that report its value on a board.
+// Parses place names: a register, a register pair, a RAM character, a line, a port, a chain or the lamps. If a place has several spellings,
+// it is shown in the spelling of `trace`. Each place lists the `trace` places that report its value on a board.
 
 import { BITS_PER_CHIP } from "../bench/board_form.js";
 import { LAST_ADDRESS, hex, numberOf, upTo } from "../bench/numbers.js";
@@ -7,9 +7,9 @@ import { LAST_ADDRESS, hex, numberOf, upTo } from "../bench/numbers.js";
 /**
  * @typedef {import("../bench/answers.js").Board} Board
  *
- * A place. `name` is its displayed name. `probesOn` returns the `trace` places that report its value; an empty list if the board does not have the
- * place. `value` returns its value in the spelling of `trace`, and `number` its value as a number. `most` returns its maximum, -1 if the value is not
- * a number.
+ * A place. `name` is its displayed name. `probesOn` returns the `trace` places that report its value; an empty list if the board does not
+ * have the place. `value` returns its value in the spelling of `trace`, and `number` its value as a number. `most` returns its maximum, -1
+ * if the value is not a number.
  * @typedef {{ name: string, most: (board: Board) => number, probesOn: (board: Board) => string[], value: (answers: string[]) => string,
  * number: (answers: string[]) => number }} Place
  */
@@ -162,8 +162,8 @@ export function placeOf(text) {
 }
 
 /**
- * Returns the accumulator for `A`, which the bench does not accept as its name; null for any other word. Callers first try all other meanings of the
- * word, such as a watch name.
+ * Returns the accumulator for `A`, which the bench does not accept as its name; null for any other word. Callers first try all other
+ * meanings of the word, such as a watch name.
  * @param {string} text
  */
 export function placeByAlias(text) {

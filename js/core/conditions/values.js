@@ -1,5 +1,5 @@
-// Compiles the values in a condition: numbers, places, sums, program names, watch names and front-panel names. A compiled value is computed from the
-// bench's answers about its places.
+// Compiles the values in a condition: numbers, places, sums, program names, watch names and front-panel names. A compiled value is computed
+// from the bench's answers about its places.
 
 import { keysOf, pinOf } from "../explore/explored_inputs.js";
 import { similarWords } from "../text/alike.js";
@@ -14,8 +14,8 @@ import * as say from "../../words/conditions.js";
  * @typedef {import("./parser.js").NameNode} NameNode
  * @typedef {import("./parser.js").SumNode} SumNode
  *
- * A compiled value. `name` is its displayed name. `most` is its maximum, Infinity if unknown. `isConstant` is true if the value depends on no place.
- * `read` returns the value as a number, and `textOf` as displayed text.
+ * A compiled value. `name` is its displayed name. `most` is its maximum, Infinity if unknown. `isConstant` is true if the value depends on
+ * no place. `read` returns the value as a number, and `textOf` as displayed text.
  * @typedef {{ name: string, most: number, isConstant: boolean, read: (values: string[]) => number, textOf?: (values: string[]) => string }}
  *   Value
  *
@@ -187,8 +187,8 @@ function placeValue(place, { board }, dependencies) {
 }
 
 /**
- * Returns the value of a port with a direction. `rom1 in` is the value that RDR reads; an output line reads as the bit in the mask. `rom1 out` and
- * `ram0.1 out` are the port latch, with 0 for input lines.
+ * Returns the value of a port with a direction. `rom1 in` is the value that RDR reads; an output line reads as the bit in the mask. `rom1
+ * out` and `ram0.1 out` are the port latch, with 0 for input lines.
  * @param {NameNode} node
  * @param {Names} names
  * @param {Looked} dependencies

@@ -1,5 +1,5 @@
-// Looks ahead: finds the number of cycles until a goal is reached, with queries or on a temporary copy of the session. The session itself does not
-// change, even if the page is closed during the search. Afterwards, the session runs for that number of cycles.
+// Looks ahead: finds the number of cycles until a goal is reached, with queries or on a temporary copy of the session. The session itself
+// does not change, even if the page is closed during the search. Afterwards, the session runs for that number of cycles.
 
 import { Cancelled } from "../bench/faults.js";
 import { LONGEST_RUN } from "../engine/key_queue.js";
@@ -50,8 +50,8 @@ function foundIn(answers, watcher) {
  * @param {Engine} engine
  * @param {Uint8Array} file the session file; not changed
  * @param {Goal} goal
- * @param {(done: number) => Promise<boolean>} shouldContinue called after each piece with the number of cycles searched. If it returns false,
- *   `searchGoal` throws `Cancelled`
+ * @param {(done: number) => Promise<boolean>} shouldContinue called after each piece with the number of cycles searched. If it returns
+ *   false, `searchGoal` throws `Cancelled`
  * @param {number} maxCycles the maximum number of cycles to search
  * @param {() => Uint8Array} [codes] returns the contents of ROM
  * @returns {Promise<Found>}

@@ -1,5 +1,5 @@
-// Soft breakpoints. A soft breakpoint does not stop at every arrival: it has a condition, a hit count, or a note that is logged instead of a stop.
-// Arrivals are found in advance on a copy of the session. The copy stops at each arrival and reports the places in the conditions.
+// Soft breakpoints. A soft breakpoint does not stop at every arrival: it has a condition, a hit count, or a note that is logged instead of
+// a stop. Arrivals are found in advance on a copy of the session. The copy stops at each arrival and reports the places in the conditions.
 
 import { Probes } from "../conditions/probes.js";
 import { Answers } from "../engine/tracing.js";
@@ -9,16 +9,16 @@ import { cyclesOfLine } from "./ahead.js";
  * @typedef {import("../engine/engine_host.js").EngineHost} Engine
  * @typedef {import("../engine/key_queue.js").PlannedLine} PlannedLine
  *
- * A compiled soft breakpoint. `from` is the number of the first hit that stops. `holds` evaluates the condition on the values of `places`. `words`
- * returns the note text for these values; it is null for a breakpoint that stops.
+ * A compiled soft breakpoint. `from` is the number of the first hit that stops. `holds` evaluates the condition on the values of `places`.
+ * `words` returns the note text for these values; it is null for a breakpoint that stops.
  * @typedef {{ id: number, address: number, from: number, hits: number, places: string[], holds: (values: string[]) => boolean,
  *   words: ((values: string[]) => string) | null }} SoftBreakpoint
  *
  * @typedef {{ id: number, cycles: number, words: string }} Logged a logged note: its breakpoint, the cycles before it, and its text
  *
- * The result of looking ahead. `cycles`: the cycles before the first stop, -1 for no stop. `id`: the breakpoint or watch that stops. `hits`: the hits
- * by breakpoint. `notes`: the last logged notes; `noted`: the number of all logged notes. `why`: "watch" if a change of a place stops; `change`
- * describes that change. `changes`: the counted changes by watch (data_watches.js).
+ * The result of looking ahead. `cycles`: the cycles before the first stop, -1 for no stop. `id`: the breakpoint or watch that stops.
+ * `hits`: the hits by breakpoint. `notes`: the last logged notes; `noted`: the number of all logged notes. `why`: "watch" if a change of a
+ * place stops; `change` describes that change. `changes`: the counted changes by watch (data_watches.js).
  * @typedef {{ cycles: number, id: number, hits: Map<number, number>, notes: Logged[], noted: number, why: "break" | "watch",
  *   change: string, changes: Map<number, number> }} Seen
  */

@@ -1,5 +1,5 @@
-// Manages the breakpoints of the current session: a list that moves with the source text, and the bench's breakpoints, which follow the list.
-// Breakpoints that only the bench has are added to the list, for example from a typed `break` or from a session file written by mcs4.
+// Manages the breakpoints of the current session: a list that moves with the source text, and the bench's breakpoints, which follow the
+// list. Breakpoints that only the bench has are added to the list, for example from a typed `break` or from a session file written by mcs4.
 
 import { BreakpointList, MAX_BREAKPOINTS, MOST_ON, instructionOfAddress, instructionOfLine } from "./breakpoints.js";
 import { isSoft } from "./soft_breakpoints.js";
@@ -17,8 +17,8 @@ import * as say from "../../words/debug.js";
 /**
  * The callbacks of the keeper.
  * @typedef {object} KeeperCalls
- * @property {(placed: Placed[]) => Promise<[number, string][]>} set Replaces all breakpoints of the bench. Resolves to the ids and error messages of
- *   the breakpoints that cannot be compiled.
+ * @property {(placed: Placed[]) => Promise<[number, string][]>} set Replaces all breakpoints of the bench. Resolves to the ids and error
+ *   messages of the breakpoints that cannot be compiled.
  * @property {() => void} changed Handles a change of the list or of its error messages.
  * @property {() => void} counted Handles a change of hit counts only.
  * @property {() => void} touched Handles a change by the user; the list must be saved.
@@ -64,10 +64,11 @@ export class BreakpointKeeper {
   // --- Reports from other parts of the page ---
 
   /**
-   * Switches to another session. The stored list of that session is reused if it equals the saved one: only the stored list can restore breakpoints
-   * on undo.
+   * Switches to another session. The stored list of that session is reused if it equals the saved one: only the stored list can restore
+   * breakpoints on undo.
    * @param {string} id the session id
-   * @param {KeptBreakpoint[] | undefined} savedBreakpoints the saved breakpoints; if undefined, the breakpoints of the session file are used
+   * @param {KeptBreakpoint[] | undefined} savedBreakpoints the saved breakpoints; if undefined, the breakpoints of the session file are
+   *   used
    */
   open(id, savedBreakpoints) {
     const old = this.lists.get(id);

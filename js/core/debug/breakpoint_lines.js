@@ -1,4 +1,5 @@
-// Reads and writes breakpoints as project lines: `break line 14 at 0x00F off from 5 if "r4 = 7" log "R4 is {r4}"`. Default values are omitted.
+// Reads and writes breakpoints as project lines: `break line 14 at 0x00F off from 5 if "r4 = 7" log "R4 is {r4}"`. Default values are
+// omitted.
 
 import { hex } from "../bench/numbers.js";
 import { MAX_BREAKPOINTS } from "./breakpoints.js";

@@ -1,5 +1,5 @@
-// The list of breakpoints. A breakpoint belongs to a source line and moves with that line. If the source is the program in ROM, each breakpoint also
-// has an address. A breakpoint outside the source has only an address.
+// The list of breakpoints. A breakpoint belongs to a source line and moves with that line. If the source is the program in ROM, each
+// breakpoint also has an address. A breakpoint outside the source has only an address.
 
 import * as say from "../../words/debug.js";
 
@@ -7,8 +7,8 @@ import * as say from "../../words/debug.js";
  * @typedef {import("../machine/source_map.js").SourceMap} SourceMap
  * @typedef {import("./soft_breakpoints.js").Placed} Placed
  *
- * A breakpoint. `line` counts from 1; it is 0 if the breakpoint has no line. `address` is the last known address, -1 if there was none. `isOn` is
- * true if the breakpoint is enabled. The other fields are those of `Placed`.
+ * A breakpoint. `line` counts from 1; it is 0 if the breakpoint has no line. `address` is the last known address, -1 if there was none.
+ * `isOn` is true if the breakpoint is enabled. The other fields are those of `Placed`.
  * @typedef {{ id: number, line: number, address: number, isOn: boolean, condition: string, from: number, note: string, hits: number }}
  *   Breakpoint
  * @typedef {Omit<Breakpoint, "id" | "hits">} KeptBreakpoint a breakpoint in a saved session or project
@@ -38,7 +38,8 @@ export class BreakpointList {
     /** @type {Breakpoint[]} sorted by line; breakpoints without a line are last */
     this.all = savedBreakpoints.map((each) => this.make(each));
     /**
-     * @type {{ text: string, breakpoint: Breakpoint }[]} the breakpoints that were deleted with their lines, and the texts of the lines, newest last
+     * @type {{ text: string, breakpoint: Breakpoint }[]} the breakpoints that were deleted with their lines, and the texts of the lines,
+     *   newest last
      */
     this.deleted = [];
     /** @type {Map<string, Breakpoint[]>} the breakpoints of replaced texts, by text, newest last */
@@ -125,8 +126,8 @@ export class BreakpointList {
   }
 
   /**
-   * Handles the replacement of the whole text. Stores the breakpoints of the old text. If the new text was in the editor before, restores its
-   * breakpoints and returns true; otherwise returns false.
+   * Handles the replacement of the whole text. Stores the breakpoints of the old text. If the new text was in the editor before, restores
+   * its breakpoints and returns true; otherwise returns false.
    * @param {Edit} edit
    */
   replaceText({ removed = [], text }) {
@@ -188,7 +189,8 @@ export class BreakpointList {
   }
 
   /**
-   * Detaches breakpoints with an address from their lines, after another text has replaced the whole text. Returns whether there are any breakpoints.
+   * Detaches breakpoints with an address from their lines, after another text has replaced the whole text. Returns whether there are any
+   * breakpoints.
    */
   detachAll() {
     this.all = this.all.map((each) => (each.address >= 0 ? { ...each, line: 0 } : each));
@@ -226,7 +228,8 @@ export class BreakpointList {
   }
 
   /**
-   * Computes the addresses of all breakpoints, after the text became the program in ROM. Returns a message about each breakpoint that moved.
+   * Computes the addresses of all breakpoints, after the text became the program in ROM. Returns a message about each breakpoint that
+   * moved.
    * @param {SourceMap} map
    */
   locate(map) {
@@ -293,8 +296,9 @@ function countEqualLines(oldLines, newLines, max, isAtEnd) {
 }
 
 /**
- * Returns the first and last line that an edit replaces, from 1, and the number of new lines. Equal lines at the start and the end are excluded. Text
- * inserted at the start of a line counts as before that line. `isOther` is true if the edit replaces the whole text with a completely different text.
+ * Returns the first and last line that an edit replaces, from 1, and the number of new lines. Equal lines at the start and the end are
+ * excluded. Text inserted at the start of a line counts as before that line. `isOther` is true if the edit replaces the whole text with a
+ * completely different text.
  * @param {Edit} edit
  */
 function replacedLines({ from, to, text, removed = Array(to.line - from.line + 1).fill("\n"), isWhole = false }) {
@@ -309,8 +313,8 @@ function replacedLines({ from, to, text, removed = Array(to.line - from.line + 1
 }
 
 /**
- * Returns the line and address of the instruction on a line, or of the next instruction. `words` is a message if the result is another line. If no
- * instruction follows, the address is -1.
+ * Returns the line and address of the instruction on a line, or of the next instruction. `words` is a message if the result is another
+ * line. If no instruction follows, the address is -1.
  * @param {number} line
  * @param {SourceMap} map
  */
@@ -328,8 +332,8 @@ export function instructionOfLine(line, map) {
 }
 
 /**
- * Returns the line of the instruction at an address. For the second byte of an instruction, returns the next instruction with a message, or the same
- * instruction if none follows.
+ * Returns the line of the instruction at an address. For the second byte of an instruction, returns the next instruction with a message, or
+ * the same instruction if none follows.
  * @param {number} address
  * @param {SourceMap} map
  */

@@ -6,8 +6,8 @@
 // - an instruction at an address outside the program text;
 // - an SRC that was sent for another instruction.
 //
-// Before each run, this module asks the bench what the run will do. It does not simulate instructions. selected.js knows which instructions use the
-// selection by SRC.
+// Before each run, this module asks the bench what the run will do. It does not simulate instructions. selected.js knows which instructions
+// use the selection by SRC.
 //
 //     const mistakes = new CommonMistakes(session);
 //     mistakes.begin();                                  before time runs; each kind is then reported once
@@ -30,8 +30,8 @@ import * as say from "../../words/debug.js";
  * @typedef {import("../engine/worker_session.js").WorkerSession} WorkerSession
  * @typedef {"calls" | "return" | "lines" | "chip" | "bytes" | "source"} Kind
  *
- * A mistake: the address of the instruction, the cycles before the instruction, and a description. `isAgain` is true if a mistake of the same kind
- * was reported before.
+ * A mistake: the address of the instruction, the cycles before the instruction, and a description. `isAgain` is true if a mistake of the
+ * same kind was reported before.
  * @typedef {{ kind: Kind, address: number, cycles: number, words: string, isAgain?: boolean }} CommonMistake
  * @typedef {import("../conditions/condition_language.js").Condition} Condition
  * @typedef {{ faults: CommonMistake[], stop: number }} Looked
@@ -39,14 +39,17 @@ import * as say from "../../words/debug.js";
 
 const KIND_COUNT = Object.keys(say.KINDS).length;
 /**
- * The number of cycles that are fully checked after time starts and after each key change: half a second of a real 4004. Later, only samples are
- * checked.
+ * The number of cycles that are fully checked after time starts and after each key change: half a second of a real 4004. Later, only
+ * samples are checked.
  */
 const CHECKED_CYCLES = 50000;
 /** One of SAMPLE_INTERVAL calls of `look` checks a sample of SAMPLE_CYCLES cycles. */
 const SAMPLE_INTERVAL = 16;
 const SAMPLE_CYCLES = 2000;
-/** The maximum number of cycles that one call of `look` checks. Lines at full speed have more cycles; a check of all cycles would be too slow. */
+/**
+ * The maximum number of cycles that one call of `look` checks. Lines at full speed have more cycles; a check of all cycles would be too
+ * slow.
+ */
 export const MAX_CYCLES_PER_CALL = 10000;
 
 /** @type {Looked} */
@@ -127,8 +130,8 @@ export class CommonMistakes {
   }
 
   /**
-   * Returns the number of cycles to check in the next lines. All cycles are checked soon after time starts, soon after a key change, and if mistakes
-   * stop time, up to a maximum at full speed. Otherwise only samples are checked: a check executes each cycle three more times.
+   * Returns the number of cycles to check in the next lines. All cycles are checked soon after time starts, soon after a key change, and if
+   * mistakes stop time, up to a maximum at full speed. Otherwise only samples are checked: a check executes each cycle three more times.
    * @param {PlannedLine[]} planned
    */
   cyclesToCheck(planned) {

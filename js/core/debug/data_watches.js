@@ -1,5 +1,6 @@
-// Data watches: a change of a place stops time. The place is a register, a port, the lamps, a chain, or a RAM character that the bench itself cannot
-// watch, for example because the watch has a condition. Changes are found in advance with queries. The session file contains no data watch.
+// Data watches: a change of a place stops time. The place is a register, a port, the lamps, a chain, or a RAM character that the bench
+// itself cannot watch, for example because the watch has a condition. Changes are found in advance with queries. The session file contains
+// no data watch.
 
 import { readBoard } from "../bench/answers.js";
 import { MOST_PLACES } from "../bench/inputs.js";
@@ -19,15 +20,15 @@ import { changedFrom, CHANGES_ALWAYS } from "../../words/debug.js";
  * @typedef {import("../engine/engine_host.js").EngineHost} Engine
  * @typedef {import("../engine/key_queue.js").PlannedLine} PlannedLine
  *
- * A requested watch. `name`: the name of the place. `condition`: a change counts only if the condition is true, "" for none. `from`: the number of
- * the first counted change that stops.
+ * A requested watch. `name`: the name of the place. `condition`: a change counts only if the condition is true, "" for none. `from`: the
+ * number of the first counted change that stops.
  * @typedef {{ id: number, name: string, condition: string, from: number }} WantedWatch
  *
  * A compiled watch. `probes`: the `trace` places that report the value. `hits`: the number of counted changes so far.
  * @typedef {{ id: number, place: Place, probes: string[], condition: Condition | null, from: number, hits: number }} DataWatch
  *
- * The first change that stops: the cycles before the change (-1 for no change), the id of the watch, and a description. `hits` are the counted
- * changes by watch.
+ * The first change that stops: the cycles before the change (-1 for no change), the id of the watch, and a description. `hits` are the
+ * counted changes by watch.
  * @typedef {{ cycles: number, id: number, change: string, hits: Map<number, number> }} SeenChange
  */
 
@@ -228,8 +229,8 @@ function partsOf(planned) {
 }
 
 /**
- * All stops that are found in advance: soft breakpoints (arrivals.js) and data watches. The earliest stop ends the run. This class has the same
- * interface as `Arrivals`.
+ * All stops that are found in advance: soft breakpoints (arrivals.js) and data watches. The earliest stop ends the run. This class has the
+ * same interface as `Arrivals`.
  */
 export class SoftStops {
   /**

@@ -1,4 +1,5 @@
-// A session in memory with its debugger, the program's source lines, and breakpoints on these lines. Used by an editor, the prompt and tests.
+// A session in memory with its debugger, the program's source lines, and breakpoints on these lines. Used by an editor, the prompt and
+// tests.
 //
 //     const engine = await Engine.load(bytes of the module);         (engine/engine.js)
 //     const session = new DebugSession(engine, { board, program });  both are texts; `file` instead of them: the bytes of a session file
@@ -9,8 +10,8 @@
 //     await session.into(); await session.back({ kind: "instruction" }); session.forward();
 //     await session.setProgram(text);                                assembles another text; breakpoints move with their lines
 //
-// Nothing here follows real time. `go` runs as fast as possible, in pieces, and calls `shouldContinue` between pieces. Nothing is written to disk:
-// `session.file` holds the bytes of the session file.
+// Nothing here follows real time. `go` runs as fast as possible, in pieces, and calls `shouldContinue` between pieces. Nothing is written
+// to disk: `session.file` holds the bytes of the session file.
 
 import { readBoard, readRegisters, readRun, refusalOf } from "../bench/answers.js";
 import { Face } from "../board/face.js";
@@ -102,8 +103,8 @@ export class DebugSession {
   }
 
   /**
-   * Assembles another text into ROM; the rest of the machine does not change. Resolves to the refusal if the bench rejects the text, otherwise to
-   * null.
+   * Assembles another text into ROM; the rest of the machine does not change. Resolves to the refusal if the bench rejects the text,
+   * otherwise to null.
    * @param {string} program
    * @returns {Promise<Refusal | null>}
    */
@@ -118,8 +119,8 @@ export class DebugSession {
   }
 
   /**
-   * Sets the breakpoints of the list in the debugger. Resolves to `moved`, messages about the breakpoints that moved to another instruction, and to
-   * `faults`, the ids and error messages of breakpoints that cannot be compiled.
+   * Sets the breakpoints of the list in the debugger. Resolves to `moved`, messages about the breakpoints that moved to another
+   * instruction, and to `faults`, the ids and error messages of breakpoints that cannot be compiled.
    */
   async applyBreakpoints() {
     const { session } = this.debugger;
@@ -241,8 +242,8 @@ export class DebugSession {
   /**
    * Serves typed lines. A run in them ends at its first breakpoint. `words` is a message if a breakpoint ended the last line, otherwise "".
    * @param {string} lines
-   * @param {(done: number) => Promise<boolean>} [shouldContinue] called with the number of processed characters. If it returns false, no line takes
-   *   effect
+   * @param {(done: number) => Promise<boolean>} [shouldContinue] called with the number of processed characters. If it returns false, no
+   *   line takes effect
    */
   async serve(lines, shouldContinue = always) {
     const { result, typed: { id, why, change, cut, cycles, tally } } = await this.debugger.serveTyped(lines, shouldContinue);

@@ -1,5 +1,5 @@
-// The debugger of a session: breakpoints, moves to a goal, stop reasons, values, and moves back in time. It runs in the page's worker and in Node.
-// All its reports come from answers of the bench. It adds only runs and breakpoints to the session.
+// The debugger of a session: breakpoints, moves to a goal, stop reasons, values, and moves back in time. It runs in the page's worker and
+// in Node. All its reports come from answers of the bench. It adds only runs and breakpoints to the session.
 //
 //     const session = new WorkerSession(engine, file);               (debug_session.js does this, and also stores the source)
 //     const debug = new Debugger(session);
@@ -8,9 +8,9 @@
 //     while (debug.isMoving) { const { stop } = debug.advance(FRAME_CYCLES); if (stop) .. }    for a goal that is not near
 //     debug.values(["r4", "lamps"]); await debug.goBack({ kind: "instruction" }, shouldContinue); debug.goForward();
 //
-// A move has a goal (goals.js). The debugger reaches a near goal at once. For any other goal, `isMoving` is true until `advance` reports a stop or
-// the caller calls `drop`. A breakpoint that always stops is set in the bench (`break`). Breakpoints with a condition, a hit count or a note are
-// found in advance (arrivals.js); the session file does not contain them.
+// A move has a goal (goals.js). The debugger reaches a near goal at once. For any other goal, `isMoving` is true until `advance` reports a
+// stop or the caller calls `drop`. A breakpoint that always stops is set in the bench (`break`). Breakpoints with a condition, a hit count
+// or a note are found in advance (arrivals.js); the session file does not contain them.
 
 import { readBoard, readRun } from "../bench/answers.js";
 import { hex } from "../bench/numbers.js";
@@ -49,17 +49,17 @@ import { CommonMistakes } from "./common_mistakes.js";
  * @typedef {import("../engine/worker_session.js").LinesResult} LinesResult
  * @typedef {import("../engine/worker_session.js").WorkerSession} WorkerSession
  *
- * A callback after each piece of work. It returns true to continue. `done` is the number of cycles searched or run so far. `tally` is the tally of
- * the last piece of a run.
+ * A callback after each piece of work. It returns true to continue. `done` is the number of cycles searched or run so far. `tally` is the
+ * tally of the last piece of a run.
  * @typedef {(done: number, tally?: Tally) => Promise<boolean>} GoesOn
  *
- * A stop. `why`: "goal", the word that ended the run ("break", "watch", "code"), a refusal, "usual" for a common mistake, or "recorded" for the end
- * of a recording. `id`: the breakpoint or data watch, 0 for none. `change`: a description of the watched change. `cycles`: the cycles since the start
- * of the move or run. `returns`: true if a return reached the goal.
+ * A stop. `why`: "goal", the word that ended the run ("break", "watch", "code"), a refusal, "usual" for a common mistake, or "recorded" for
+ * the end of a recording. `id`: the breakpoint or data watch, 0 for none. `change`: a description of the watched change. `cycles`: the
+ * cycles since the start of the move or run. `returns`: true if a return reached the goal.
  * @typedef {{ why: string, id: number, cycles: number, returns: boolean, change?: string }} Stop
  *
- * The events since the last report. `hits`: pairs of a breakpoint id and its number of hits. `notes`: the logged notes. `noted`: the number of all
- * notes, including those beyond the limit. `usual`: the common mistakes (common_mistakes.js).
+ * The events since the last report. `hits`: pairs of a breakpoint id and its number of hits. `notes`: the logged notes. `noted`: the number
+ * of all notes, including those beyond the limit. `usual`: the common mistakes (common_mistakes.js).
  * @typedef {{ hits: [number, number][], notes: Logged[], noted: number, usual: CommonMistake[] }} Tally
  *
  * The result of typed lines. If a breakpoint ended the last line, `id` is its id and `cut` is the line; otherwise they are 0 and "".
@@ -134,8 +134,8 @@ export class Debugger {
   // --- Breakpoints ---
 
   /**
-   * Sets the breakpoints, at most one per address. Returns the lines that set the always-stopping ones in the bench; the caller sends these lines.
-   * Also returns the ids and error messages of breakpoints that cannot be compiled; these always stop.
+   * Sets the breakpoints, at most one per address. Returns the lines that set the always-stopping ones in the bench; the caller sends these
+   * lines. Also returns the ids and error messages of breakpoints that cannot be compiled; these always stop.
    * @param {Placed[]} placed the enabled breakpoints
    * @param {Names} names
    * @returns {{ lines: string, faults: [number, string][] }}
@@ -163,7 +163,8 @@ export class Debugger {
   }
 
   /**
-   * Sets the data watches. The RAM characters that the bench watches stay watched. Returns error messages for impossible watches, by watch id.
+   * Sets the data watches. The RAM characters that the bench watches stay watched. Returns error messages for impossible watches, by watch
+   * id.
    * @param {WantedWatch[]} wanted
    * @param {Names} names
    */
@@ -226,7 +227,10 @@ export class Debugger {
     return { ...frame, stop, tally: { ...this.tallyOf(seen, stop, before), usual: [...this.takeLate(), ...usual.faults] } };
   }
 
-  /** Checks the last lines for mistakes if `advance` has not done so. The session's second file (`next`) still has the state before these lines. */
+  /**
+   * Checks the last lines for mistakes if `advance` has not done so. The session's second file (`next`) still has the state before these
+   * lines.
+   */
   lookBack() {
     const { unlooked } = this;
     this.unlooked = null;
@@ -449,8 +453,8 @@ export class Debugger {
   }
 
   /**
-   * Finds the last change of a place without going there. Resolves to the number of cycles since the change, and the address of the instruction that
-   * made the change (-1 if a typed line made it).
+   * Finds the last change of a place without going there. Resolves to the number of cycles since the change, and the address of the
+   * instruction that made the change (-1 if a typed line made it).
    * @param {string} place
    * @param {(done?: number) => Promise<boolean>} shouldContinue
    * @returns {Promise<LastChange>}

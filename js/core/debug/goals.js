@@ -1,5 +1,5 @@
-// The goals of moves, and a watcher for each goal. A watcher detects that a run reaches the goal. Most watchers ask the bench before a run what the
-// run will do.
+// The goals of moves, and a watcher for each goal. A watcher detects that a run reaches the goal. Most watchers ask the bench before a run
+// what the run will do.
 
 import { readBoard, readCounter, readRegisters } from "../bench/answers.js";
 import { placeOf } from "../conditions/places.js";
@@ -15,18 +15,19 @@ import { becomesTrue } from "./becoming.js";
  * @typedef {import("../engine/tracing.js").Traced} Traced
  * @typedef {import("./becoming.js").Asked} Asked
  *
- * A goal. `over`: the next instruction, or the return from the subroutine that it calls. `out`: the return from the current subroutine. `here`: an
- * address. `count`: a number of instructions. `change`: a change of a place. `when`: a condition becomes true; `asked` is the compiled condition.
+ * A goal. `over`: the next instruction, or the return from the subroutine that it calls. `out`: the return from the current subroutine.
+ * `here`: an address. `count`: a number of instructions. `change`: a change of a place. `when`: a condition becomes true; `asked` is the
+ * compiled condition.
  * @typedef {{ kind: "over" } | { kind: "out" } | { kind: "here", address: number } | { kind: "count", count: number } | { kind: "change",
  * place: string } | { kind: "when", condition: string, asked?: Asked }} Goal
  *
- * The result of a search. `cycles`: the cycles up to the goal or an earlier stop. `end`: the word that ended the run early; "bound" if the search
- * found nothing; "lacks" if the place is not on the board; "outside" if no subroutine is open.
+ * The result of a search. `cycles`: the cycles up to the goal or an earlier stop. `end`: the word that ended the run early; "bound" if the
+ * search found nothing; "lacks" if the place is not on the board; "outside" if no subroutine is open.
  * @typedef {{ cycles: number, isReached: boolean, end: string }} Found
  *
- * The watcher of a goal. `first`: a line to send once before all runs, or "". `most`: returns the maximum length of the next run in cycles. `before`:
- * returns the queries before a run. `after`: the queries after a run. `take`: reads the answers to the queries and the run, and returns the result.
- * `returns`: true if a return reaches the goal.
+ * The watcher of a goal. `first`: a line to send once before all runs, or "". `most`: returns the maximum length of the next run in cycles.
+ * `before`: returns the queries before a run. `after`: the queries after a run. `take`: reads the answers to the queries and the run, and
+ * returns the result. `returns`: true if a return reaches the goal.
  * @typedef {{ first: string, most: () => number, before: (cycles: number) => string, after: string,
  *   take: (answers: Answers) => Found, returns: boolean }} Watcher
  */
@@ -137,8 +138,8 @@ function countWatcher(count, isOwed) {
 }
 
 /**
- * Returns a watcher that sets a breakpoint at an address in the searched copy. If the bench has no room for another breakpoint, returns a watcher
- * that examines all instructions.
+ * Returns a watcher that sets a breakpoint at an address in the searched copy. If the bench has no room for another breakpoint, returns a
+ * watcher that examines all instructions.
  * @param {Engine} engine
  * @param {Uint8Array} file
  * @param {number} address

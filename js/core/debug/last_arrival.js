@@ -1,5 +1,5 @@
-// Finds the last arrival at a breakpoint before the present, the last change of a watched place, or the last call of an open subroutine. The past is
-// replayed in blocks on a copy that has the current breakpoints. Breakpoints with a note do not stop. Hit counts are ignored.
+// Finds the last arrival at a breakpoint before the present, the last change of a watched place, or the last call of an open subroutine.
+// The past is replayed in blocks on a copy that has the current breakpoints. Breakpoints with a note do not stop. Hit counts are ignored.
 
 import { readMarks, watchedPlaces } from "../bench/answers.js";
 import { aim, changeFinder, lastInPast } from "../engine/going_back.js";
@@ -46,7 +46,8 @@ class LastArrival {
   begin({ file, count }) {
     const { engine, arrivals } = this;
     const [breaks, watches] = engine.ask(file, "breaks\nwatches\n").answers.map(readMarks);
-    const removalLines = [...breaks.map((each) => `unbreak 0x${each}\n`), ...watches.map((each) => `unwatch ${each.replace(".", " 0x")}\n`)];
+    const removalLines = [
+      ...breaks.map((each) => `unbreak 0x${each}\n`), ...watches.map((each) => `unwatch ${each.replace(".", " 0x")}\n`)];
     this.copy = file.slice();
     engine.serve(this.copy, removalLines.join("") + arrivals.first, this.copy);
     this.total = count.total;

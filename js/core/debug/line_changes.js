@@ -1,4 +1,5 @@
-// At each pause, collects the changes that the last source line made in one step. A step is one instruction, or a call that was stepped over.
+// At each pause, collects the changes that the last source line made in one step. A step is one instruction, or a call that was stepped
+// over.
 //
 //     const changes = new LineChanges();
 //     changes.addPause(standing, cycles, map);   at a pause; `cycles` is the cycle count

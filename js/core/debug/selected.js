@@ -1,5 +1,5 @@
-// Tracks the selection by SRC, and finds mistakes in instructions that use it: the selected port or chip is missing, or the last SRC was sent for
-// another instruction.
+// Tracks the selection by SRC, and finds mistakes in instructions that use it: the selected port or chip is missing, or the last SRC was
+// sent for another instruction.
 
 import { hex, numberOf } from "../bench/numbers.js";
 import { itemsOf, valueIn } from "../bench/state_line.js";

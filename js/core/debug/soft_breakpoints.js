@@ -9,8 +9,8 @@ import * as say from "../../words/debug.js";
  * @typedef {import("./arrivals.js").SoftBreakpoint} SoftBreakpoint
  * @typedef {import("../conditions/condition_language.js").Names} Names
  *
- * A breakpoint at an address. `condition`: the text of the condition, "" for none. `from`: the number of the first hit that stops; 1 means every hit.
- * `note`: a text that is logged instead of a stop, with values in braces, "" for none. `hits`: the hit count.
+ * A breakpoint at an address. `condition`: the text of the condition, "" for none. `from`: the number of the first hit that stops; 1 means
+ * every hit. `note`: a text that is logged instead of a stop, with values in braces, "" for none. `hits`: the hit count.
  * @typedef {{ id: number, address: number, condition: string, from: number, note: string, hits: number }} Placed
  * @typedef {{ places: string[], words: (values: string[]) => string }} Note a compiled note: `words` returns the text for the values of
  *   `places`
@@ -42,8 +42,8 @@ function compileBraces(text, names) {
 }
 
 /**
- * Compiles a note such as `digit {r4}, lamps {lamps}, next {r4 + 1}`. Values replace the braces. `fault` is an error message with its column in the
- * note, or "".
+ * Compiles a note such as `digit {r4}, lamps {lamps}, next {r4 + 1}`. Values replace the braces. `fault` is an error message with its
+ * column in the note, or "".
  * @param {string} text
  * @param {Names} names
  * @returns {{ note: Note, fault: string }}

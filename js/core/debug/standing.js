@@ -1,5 +1,5 @@
-// The machine state in a snapshot: registers, RAM, ports, and the selection by SRC. The snapshot holds the answers to `state` and to `ram B` for each
-// bank. RAM is parsed on first use.
+// The machine state in a snapshot: registers, RAM, ports, and the selection by SRC. The snapshot holds the answers to `state` and to `ram
+// B` for each bank. RAM is parsed on first use.
 
 import { readRam } from "../bench/answers.js";
 import { hex } from "../bench/numbers.js";

@@ -1,4 +1,5 @@
-// Computes the values of places from a snapshot, as `trace` and `state` spell them. Expressions can then be evaluated without a query to the bench.
+// Computes the values of places from a snapshot, as `trace` and `state` spell them. Expressions can then be evaluated without a query to
+// the bench.
 
 import { itemsOf } from "../bench/state_line.js";
 import { hex, numberOf, upTo } from "../bench/numbers.js";

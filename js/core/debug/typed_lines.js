@@ -1,5 +1,5 @@
-// Plans typed lines before they are served, so that a `run` in them also ends at soft breakpoints. A copy of the session serves the lines first. If a
-// run reaches a soft breakpoint, the plan shortens the run to the cycles up to that breakpoint.
+// Plans typed lines before they are served, so that a `run` in them also ends at soft breakpoints. A copy of the session serves the lines
+// first. If a run reaches a soft breakpoint, the plan shortens the run to the cycles up to that breakpoint.
 
 import { readRun } from "../bench/answers.js";
 import { Cancelled } from "../bench/faults.js";
@@ -13,8 +13,8 @@ import { LONGEST_RUN } from "../engine/key_queue.js";
  * @typedef {import("./data_watches.js").SoftStops} SoftStops
  * @typedef {import("./arrivals.js").Seen} Seen
  *
- * The plan. `lines`: the lines to serve. `runs`: the breakpoint events of each run, and the cycles before the run. If a breakpoint ends the last
- * line, `id` is its id, `cut` is the typed line, and `why` and `change` are those of `Seen`; otherwise `id` is 0 and the texts are "".
+ * The plan. `lines`: the lines to serve. `runs`: the breakpoint events of each run, and the cycles before the run. If a breakpoint ends the
+ * last line, `id` is its id, `cut` is the typed line, and `why` and `change` are those of `Seen`; otherwise `id` is 0 and the texts are "".
  * @typedef {{ lines: string, runs: { seen: Seen, done: number }[], id: number, cut: string, why: string, change: string }} Planned
  */
 

@@ -1,5 +1,5 @@
-// Describes the current value of a word in the source: a register, a register pair, the RAM character that an instruction uses, a number or a label.
-// A description is a list of pieces: texts, and values that the user can edit.
+// Describes the current value of a word in the source: a register, a register pair, the RAM character that an instruction uses, a number or
+// a label. A description is a list of pieces: texts, and values that the user can edit.
 //
 //     pieces(valuesAt("        SRC P2", 13, standing, names))     "P2 = 60: R4 6, R5 0; selects ROM 6, and of bank 0 chip 1, .."
 
@@ -16,8 +16,8 @@ import * as say from "../../words/debug.js";
  * @typedef {{ place: string, name: string, value: string }} Value
  * @typedef {string | Value} Piece
  *
- * The program in ROM. `nameOf` returns the value and description of a name. `doesOf` returns the description of an instruction; "" for any other
- * word.
+ * The program in ROM. `nameOf` returns the value and description of a name. `doesOf` returns the description of an instruction; "" for any
+ * other word.
  * @typedef {{ value: number, isLabel: boolean, words: string }} Named
  * @typedef {{ nameOf: (name: string) => Named | undefined, doesOf: (word: string) => string }} Program
  */

@@ -17,8 +17,8 @@ import * as say from "../../words/debug.js";
  * @typedef {import("./value_words.js").Piece} Piece
  * @typedef {import("../conditions/condition_language.js").Names} Names
  *
- * A watch expression. `text` is its saved text. `value` is the expression without the name. `place` is the place of a RAM or status character, "" for
- * any other expression. `pieces` returns the current value.
+ * A watch expression. `text` is its saved text. `value` is the expression without the name. `place` is the place of a RAM or status
+ * character, "" for any other expression. `pieces` returns the current value.
  * @typedef {{ name: string, text: string, place: string, value: string, pieces: Reader }} Watched
  * @typedef {(standing: MachineState, names: Names) => Piece[]} Reader
  */

@@ -1,5 +1,5 @@
-// Translates an action in the board drawing to edits of the board text, or to a message if the action is impossible. Only the bench decides whether
-// the resulting text is valid.
+// Translates an action in the board drawing to edits of the board text, or to a message if the action is impossible. Only the bench decides
+// whether the resulting text is valid.
 
 import { boardLines } from "../bench/board_form.js";
 import { counted } from "../bench/numbers.js";
@@ -25,7 +25,8 @@ import * as say from "../../words/drawing.js";
  * - `chips`, `rows`: sets the number of chips in a chain, or the number of key rows
  * - `column`: adds a key column
  * - `delete`, `copy`: deletes a part, or adds a copy of it
- * - `name`: names a part, a key (`key ROW COLUMN`), the board (`title`) or the button or switch at the TEST pin (`test`); "" removes the name
+ * - `name`: names a part, a key (`key ROW COLUMN`), the board (`title`) or the button or switch at the TEST pin (`test`); "" removes the
+ * name
  * - `colour`: sets the lamp colour; "" for the default colour
  * @typedef {{ kind: "add", part: Shelved, line?: string, digits?: number } | { kind: "wire", line: string, target: string }
  *   | { kind: "port", line: string, as: string } | { kind: "chips", chain: number, chips: number } | { kind: "rows", rows: number }
@@ -35,8 +36,8 @@ import * as say from "../../words/drawing.js";
  *   | "buzzer"} Shelved a part on the shelf: `rom` has outputs, `inputs` is a ROM with inputs, `digit` and `segments` are displays with
  *   BCD digits or seven segments, and `scanned` is a multiplexed display
  *
- * The result of an action: the successive edits, the text after all edits, the affected part, a message (`words`), and the numbers of deleted chains.
- * If the action is impossible, `refusal` is a message and there are no edits; otherwise it is "".
+ * The result of an action: the successive edits, the text after all edits, the affected part, a message (`words`), and the numbers of
+ * deleted chains. If the action is impossible, `refusal` is a message and there are no edits; otherwise it is "".
  * @typedef {{ edits: TextEdit[], text: string, part: string, words: string, goneChains: number[], refusal: string }} Result
  */
 

@@ -1,5 +1,6 @@
-// Parses the board text in the editor: its parts, their positions in the text, and the board that it describes. Only the bench decides whether a text
-// is valid. The page compares the bench's answer to `board` with `boardAnswers`. The page edits the text only if both are equal.
+// Parses the board text in the editor: its parts, their positions in the text, and the board that it describes. Only the bench decides
+// whether a text is valid. The page compares the bench's answer to `board` with `boardAnswers`. The page edits the text only if both are
+// equal.
 
 import { readBoard } from "../bench/answers.js";
 import { KEYS, KINDS } from "../bench/board_form.js";

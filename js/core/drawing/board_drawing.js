@@ -1,5 +1,5 @@
-// The state of the board editor, without the DOM: the selection, an unfinished wire, and the actions. Before the board text is edited, the bench
-// checks the result of the action. The drawing shows the bench's answer.
+// The state of the board editor, without the DOM: the selection, an unfinished wire, and the actions. Before the board text is edited, the
+// bench checks the result of the action. The drawing shows the bench's answer.
 
 import { readBoard, refusalOf } from "../bench/answers.js";
 import { boardLines } from "../bench/board_form.js";
@@ -18,10 +18,10 @@ import * as say from "../../words/drawing.js";
  * @typedef {import("./acts.js").Shelved} Shelved
  * @typedef {import("./text_edits.js").TextEdit} TextEdit
  *
- * The state for the view. `board` and `face`: the board of the text and its front panel. `isWired`: true if the session has the same board. `fault`:
- * the message if the board cannot be drawn, or "". `shelf`: the parts on the shelf; each has a message if it cannot be added now, or "". `chosen` and
- * `fields`: the selection and its fields. `begun`: the start pin of an unfinished wire, or "". `ends`: the possible end pins of the wire. `said`: the
- * last message.
+ * The state for the view. `board` and `face`: the board of the text and its front panel. `isWired`: true if the session has the same board.
+ * `fault`: the message if the board cannot be drawn, or "". `shelf`: the parts on the shelf; each has a message if it cannot be added now,
+ * or "". `chosen` and `fields`: the selection and its fields. `begun`: the start pin of an unfinished wire, or "". `ends`: the possible end
+ * pins of the wire. `said`: the last message.
  * @typedef {{ board: Board, face: Face, isWired: boolean, fault: string, shelf: Map<Shelved, string>, chosen: string,
  *   fields: import("./fields.js").Fields, begun: string, ends: Set<string>, said: string }} Shown
  */
@@ -179,8 +179,8 @@ export class Drawing {
   }
 
   /**
-   * Handles a click, tap or Enter on a part or pin. If an unfinished wire can end at the pin, the wire ends there. Otherwise the part or pin is
-   * selected, and a wire begins at the pin.
+   * Handles a click, tap or Enter on a part or pin. If an unfinished wire can end at the pin, the wire ends there. Otherwise the part or
+   * pin is selected, and a wire begins at the pin.
    * @param {string} name
    */
   pressed(name) {

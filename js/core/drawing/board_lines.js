@@ -1,5 +1,6 @@
-// The signal lines of a board, the inputs that use them, and the allowed wires between lines and inputs. The bench decides what is allowed; a unit
-// test compares each pair of a line and an input with the bench. A buzzer exists only on the front panel; it uses a line in the same way as a lamp.
+// The signal lines of a board, the inputs that use them, and the allowed wires between lines and inputs. The bench decides what is allowed;
+// a unit test compares each pair of a line and an input with the bench. A buzzer exists only on the front panel; it uses a line in the same
+// way as a lamp.
 
 import { BITS_PER_CHIP, boardLines } from "../bench/board_form.js";
 import { upTo } from "../bench/numbers.js";

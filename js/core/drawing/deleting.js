@@ -1,4 +1,5 @@
-// Deletes parts from a board. Parts that depend on them are also deleted, such as the lamps of a deleted chain. All other parts keep their wires.
+// Deletes parts from a board. Parts that depend on them are also deleted, such as the lamps of a deleted chain. All other parts keep their
+// wires.
 
 import { counted } from "../bench/numbers.js";
 import { Face } from "../board/face.js";
@@ -220,8 +221,8 @@ function addDeletedRam({ banks }, deletedParts, ram) {
 }
 
 /**
- * Deletes a part: `rom 1`, `ram 0.1`, `chain 0`, `keys`, `row 1` (the last row), `column 2`, `lamp 3`, `lamps`, `test` or `buzzer`. Returns a
- * description of the dependent parts that were also deleted, "" if there are none.
+ * Deletes a part: `rom 1`, `ram 0.1`, `chain 0`, `keys`, `row 1` (the last row), `column 2`, `lamp 3`, `lamps`, `test` or `buzzer`. Returns
+ * a description of the dependent parts that were also deleted, "" if there are none.
  * @param {Sketch} sketch
  * @param {string} part
  */

@@ -30,7 +30,8 @@ export function wordOf(name) {
 }
 
 /**
- * Sets the name or colour of a lamp. The edit changes the list that contains the lamp, extends the list that ends before the lamp, or adds a line.
+ * Sets the name or colour of a lamp. The edit changes the list that contains the lamp, extends the list that ends before the lamp, or adds
+ * a line.
  * @param {BoardDraft} draft
  * @param {"lamp" | "colour"} kind
  * @param {number} lamp
@@ -170,7 +171,8 @@ export function renumberLamps(draft, deleted) {
 function renumberList(draft, line, deleted, numberOf) {
   const first = headNumber(line);
   const isGroup = line.kind !== "lamp" && line.kind !== "colour";
-  const remaining = isGroup ? [...(deleted.has(first) ? [] : [first])] : line.words.map((_, at) => first + at).filter((lamp) => !deleted.has(lamp));
+  const remaining = isGroup ? [...(deleted.has(first) ? [] : [first])]
+    : line.words.map((_, at) => first + at).filter((lamp) => !deleted.has(lamp));
   if (remaining.length === 0) return [removeFaceLine(draft, line)];
   const head = setWord(/** @type {import("./face_lines.js").FaceWord} */ (line.first), String(numberOf(remaining[0])));
   if (!isGroup) return [...head, ...removeWords(line, (at) => deleted.has(first + at))];

@@ -8,8 +8,9 @@ import { removeLines } from "./part_edits.js";
  * @typedef {import("./text_edits.js").TextEdit} TextEdit
  * @typedef {{ text: string, from: number, to: number }} FaceWord
  *
- * A front-panel line. `line`: the line number in the text. `kind`: the first word. `first` and `last`: the words before the colon, `N` or `N to N`,
- * null for none. `words`: the words after the colon. `end`: the offset at which the line ends. All offsets count from the start of the text.
+ * A front-panel line. `line`: the line number in the text. `kind`: the first word. `first` and `last`: the words before the colon, `N` or
+ * `N to N`, null for none. `words`: the words after the colon. `end`: the offset at which the line ends. All offsets count from the start
+ * of the text.
  * @typedef {{ line: number, kind: string, first: FaceWord | null, last: FaceWord | null, words: FaceWord[], end: number }} FaceLine
  */
 
@@ -56,8 +57,8 @@ export function headNumber({ first }) {
 }
 
 /**
- * Adds a line after the last line of its kind. If there is none, adds it after the last front-panel line; without a front panel, after the comment at
- * the top of the text.
+ * Adds a line after the last line of its kind. If there is none, adds it after the last front-panel line; without a front panel, after the
+ * comment at the top of the text.
  * @param {BoardDraft} draft
  * @param {string} kind
  * @param {string} text

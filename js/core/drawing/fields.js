@@ -1,4 +1,5 @@
-// The form fields for the selected part or pin, such as its name, colour, wires, and number of chips. Each field returns the action for a new value.
+// The form fields for the selected part or pin, such as its name, colour, wires, and number of chips. Each field returns the action for a
+// new value.
 
 import { upTo } from "../bench/numbers.js";
 import { COLOURS } from "../board/face_words.js";

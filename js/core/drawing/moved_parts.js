@@ -1,5 +1,5 @@
-// The positions of parts that the user dragged in the drawing. When a chain is deleted, later chains get new numbers; their positions move to the new
-// numbers. Undo restores the positions together with the text.
+// The positions of parts that the user dragged in the drawing. When a chain is deleted, later chains get new numbers; their positions move
+// to the new numbers. Undo restores the positions together with the text.
 
 /**
  * @typedef {import("../board/wiring.js").Moved} Moved

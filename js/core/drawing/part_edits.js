@@ -103,7 +103,8 @@ function tokensAround(draft, from, to) {
 }
 
 /**
- * Adds an element at the end of an array. The element gets a new line if the earlier elements are on separate lines, or if the last line is full.
+ * Adds an element at the end of an array. The element gets a new line if the earlier elements are on separate lines, or if the last line is
+ * full.
  * @param {BoardDraft} draft
  * @param {Value} array
  * @param {string} element

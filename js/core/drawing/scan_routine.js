@@ -7,8 +7,8 @@ import * as say from "../../words/key_scan.js";
  * @typedef {import("../bench/answers.js").Board} Board
  * @typedef {import("../bench/answers.js").Matrix} Matrix
  *
- * The port of a signal line. `bank`: the bank that DCL selects, -1 for a ROM. `source`: the SRC byte that selects the port. `write`: the instruction
- * that writes to the port. `title`: the name of the port. `bit`: the bit value of the line.
+ * The port of a signal line. `bank`: the bank that DCL selects, -1 for a ROM. `source`: the SRC byte that selects the port. `write`: the
+ * instruction that writes to the port. `title`: the name of the port. `bit`: the bit value of the line.
  * @typedef {{ bank: number, source: number, write: string, title: string, bit: number }} Port
  *
  * A source line: its label ("" for none), its instruction with operands, and its comment.
@@ -153,8 +153,8 @@ function headerLines({ chain, first, rows, columns }, clock, data, labels) {
 }
 
 /**
- * Returns the source of the routine. If the text has no instructions, a program that calls the routine precedes it. Returns "" for a board without
- * keys.
+ * Returns the source of the routine. If the text has no instructions, a program that calls the routine precedes it. Returns "" for a board
+ * without keys.
  * @param {Board} board
  * @param {string} text the source that will contain the routine
  */
@@ -183,8 +183,8 @@ export function keyScanOf({ matrix, chains }, text) {
 }
 
 /**
- * Returns the edit that inserts a routine into a text, with blank lines around it. The routine goes after the caret line, or to the end if there is
- * no caret.
+ * Returns the edit that inserts a routine into a text, with blank lines around it. The routine goes after the caret line, or to the end if
+ * there is no caret.
  * @param {string} text
  * @param {number} line the caret line, 0 for none
  * @param {string} code the routine

@@ -1,5 +1,5 @@
-// Text edits. Each edit replaces a range of characters. A list of edits is applied in order: each edit applies to the text that the earlier edits
-// produced.
+// Text edits. Each edit replaces a range of characters. A list of edits is applied in order: each edit applies to the text that the earlier
+// edits produced.
 
 /**
  * An edit: `insert` replaces the characters from offset `from` up to offset `to`.
@@ -34,8 +34,8 @@ export function inverseEdits(text, edits) {
 }
 
 /**
- * Converts edits whose offsets all refer to the same text into successive edits. The edit with the last offset comes first, so that the other offsets
- * stay valid. If ranges overlap, each character is deleted once.
+ * Converts edits whose offsets all refer to the same text into successive edits. The edit with the last offset comes first, so that the
+ * other offsets stay valid. If ranges overlap, each character is deleted once.
  * @param {TextEdit[]} edits
  * @returns {TextEdit[]}
  */

@@ -9,8 +9,8 @@ import { Answers } from "./tracing.js";
  * A line to send. `change` is null for a run; for any other line it is the change that the line makes.
  * @typedef {{ line: string, change: object | null }} SentLine
  *
- * An asker sends queries before each run. `queries` returns the query lines for a run of `cycles` cycles. `count` is the number of queries; each
- * query has an answer like that of `trace`. `seesChanges` is true if the asker also needs the state after each key change.
+ * An asker sends queries before each run. `queries` returns the query lines for a run of `cycles` cycles. `count` is the number of queries;
+ * each query has an answer like that of `trace`. `seesChanges` is true if the asker also needs the state after each key change.
  * @typedef {{ queries: (cycles: number) => string, count: number, seesChanges: boolean }} Asker
  */
 
@@ -28,8 +28,8 @@ export function linesWithQueries(planned, askers) {
 }
 
 /**
- * Splits the answers of a call. `answers` are the answers to the planned lines and to all later lines. `askerAnswers` has one list for each asker;
- * the list contains the answers to the asker's queries for each planned line.
+ * Splits the answers of a call. `answers` are the answers to the planned lines and to all later lines. `askerAnswers` has one list for each
+ * asker; the list contains the answers to the asker's queries for each planned line.
  * @param {SentLine[]} planned
  * @param {Asker[]} askers
  * @param {string[]} allAnswers

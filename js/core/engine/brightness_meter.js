@@ -1,5 +1,5 @@
-// Measures the duty cycle of each lamp, the patterns of each digit, and the times of their changes while time runs. The measurement comes from the
-// answers to a `trace` before each run.
+// Measures the duty cycle of each lamp, the patterns of each digit, and the times of their changes while time runs. The measurement comes
+// from the answers to a `trace` before each run.
 
 import { patternsAt, NOT_LIT, isLit } from "../board/digit_patterns.js";
 import { fittingGroups, isScanned } from "../board/face_board.js";
@@ -9,17 +9,17 @@ import { Answers, readTraced } from "./tracing.js";
  * @typedef {import("../board/face.js").Face} Face
  * @typedef {import("../board/face.js").Group} Group
  *
- * The changes within an interval: the cycles before the first change, the longest time between two changes, and the time since the last change. Null
- * if nothing changed.
+ * The changes within an interval: the cycles before the first change, the longest time between two changes, and the time since the last
+ * change. Null if nothing changed.
  * @typedef {{ first: number, longest: number, rest: number } | null} Moved
  *
- * The contents of a display. `patterns` are those at the end of the interval. If they changed, `shown` lists the patterns of each digit with their
- * durations in cycles.
+ * The contents of a display. `patterns` are those at the end of the interval. If they changed, `shown` lists the patterns of each digit
+ * with their durations in cycles.
  * @typedef {{ patterns: number[], moved: Moved, shown: [number, number][][] }} ShownDisplay
  *
- * The light during an interval. `face`: the page's number of the front panel. `marks`: the lamps that are on at the end. `lamps`: the number of
- * cycles for which each lamp was on. `moved`: the changes of each lamp. `scanned`: for each multiplexed group except displays, the cycles of its
- * lamps, row by row.
+ * The light during an interval. `face`: the page's number of the front panel. `marks`: the lamps that are on at the end. `lamps`: the
+ * number of cycles for which each lamp was on. `moved`: the changes of each lamp. `scanned`: for each multiplexed group except displays,
+ * the cycles of its lamps, row by row.
  * @typedef {{ face: number, cycles: number, marks: string, lamps: number[], moved: Moved[], displays: ShownDisplay[],
  *   scanned: number[][] }} LitShares
  */

@@ -1,5 +1,5 @@
-// The proved WebAssembly module and its calls. A call takes the bytes of a session file and lines, and returns answers and new bytes. The module
-// stores no session: the caller owns the file bytes.
+// The proved WebAssembly module and its calls. A call takes the bytes of a session file and lines, and returns answers and new bytes. The
+// module stores no session: the caller owns the file bytes.
 
 import { BenchRefusal, BenchTrap, NO_MEMORY } from "../bench/faults.js";
 
@@ -140,7 +140,8 @@ export class Engine {
   }
 
   /**
-   * Calls the module; returns whether the call succeeded. After a trap, the memory of the instance is unreliable, so a new instance replaces it.
+   * Calls the module; returns whether the call succeeded. After a trap, the memory of the instance is unreliable, so a new instance
+   * replaces it.
    * @param {(calls: Calls) => number} act
    */
   call(act) {

@@ -1,9 +1,9 @@
-// The interface of a host that runs sessions for the bench. A host takes a state and lines, and returns answers and the next state. There are two
-// hosts: the module (engine.js) and the native program (js/node/native_engine.mjs). js/test/engine_hosts.test.js tests both hosts.
+// The interface of a host that runs sessions for the bench. A host takes a state and lines, and returns answers and the next state. There
+// are two hosts: the module (engine.js) and the native program (js/node/native_engine.mjs). js/test/engine_hosts.test.js tests both hosts.
 
 /**
- * The state of a session. Only the host that created a state can interpret its bytes. A copy of the bytes is the same state. All states of a host
- * have the same length.
+ * The state of a session. Only the host that created a state can interpret its bytes. A copy of the bytes is the same state. All states of
+ * a host have the same length.
  * @typedef {Uint8Array} State
  *
  * @typedef {import("./engine.js").Served} Served

@@ -3,8 +3,9 @@
 import { sentText } from "../text/text_fault.js";
 
 /**
- * An example. `lines` are for the user to send; without lines, time runs at once. `tests` and `properties` belong to the program. `project` is the
- * text of a project file, or "". If an example has a project file, its session comes from that file and starts paused. help/story.js reads `story`.
+ * An example. `lines` are for the user to send; without lines, time runs at once. `tests` and `properties` belong to the program. `project`
+ * is the text of a project file, or "". If an example has a project file, its session comes from that file and starts paused. help/story.js
+ * reads `story`.
  * @typedef {{ name: string, title: string, board: string, program: string, tests: string, properties: string, lines: string,
  *   project: string, story?: string }} Example
  */

@@ -17,8 +17,8 @@ const MAX_BATCH = 8000000;
 const HIDDEN_REPORT_INTERVAL = 1000;
 
 /**
- * Returns an empty report. `end` is the answer that ended the run early, `stop` the reason why time stopped, and `tally` the breakpoint events.
- * Light, sound and RAM changes are not measured at full speed.
+ * Returns an empty report. `end` is the answer that ended the run early, `stop` the reason why time stopped, and `tally` the breakpoint
+ * events. Light, sound and RAM changes are not measured at full speed.
  * @returns {Omit<DebugFrame, "ran">}
  */
 function emptyFrame() {

@@ -1,5 +1,5 @@
-// The targets of a move back: the last stop, the start of the last instruction, the moment before the last change of a place, and the last arrival at
-// a breakpoint (last_arrival.js).
+// The targets of a move back: the last stop, the start of the last instruction, the moment before the last change of a place, and the last
+// arrival at a breakpoint (last_arrival.js).
 
 import { readBoard, readCounter } from "../bench/answers.js";
 import { Cancelled } from "../bench/faults.js";
@@ -18,20 +18,21 @@ import { cyclesOf, piecesOf, unitsBetween } from "./units.js";
  * @typedef {import("./timeline.js").Timeline} Timeline
  * @typedef {import("./units.js").Unit} Unit
  *
- * The target of a move back. "arrival": a breakpoint, or the moment before a change of a watched value or of `place` ("" for none). "when": the
- * moment before a condition becomes true; `asked` is the compiled condition. "call": the call of an open subroutine, identified by the address of its
- * JMS and the return addresses before it.
+ * The target of a move back. "arrival": a breakpoint, or the moment before a change of a watched value or of `place` ("" for none). "when":
+ * the moment before a condition becomes true; `asked` is the compiled condition. "call": the call of an open subroutine, identified by the
+ * address of its JMS and the return addresses before it.
  * @typedef {{ kind: "stop" } | { kind: "instruction" } | { kind: "change", place: string } | { kind: "arrival", place: string } | { kind:
  * "when", condition: string, asked?: import("../debug/becoming.js").Asked } | { kind: "call", call: number, returns: string[] }} BackGoal
  *
- * The result of a search of the past. `moment` is null if nothing was found; `why` then gives the reason: the past is too short, or the board does
- * not have the place. For a change: its place, the old and the new value, and the command that made it ("" for an instruction). For an arrival, `end`
- * is its kind: a breakpoint (with its `id`), a change, or the start of the stored past. `present` is the session at that moment, if known.
+ * The result of a search of the past. `moment` is null if nothing was found; `why` then gives the reason: the past is too short, or the
+ * board does not have the place. For a change: its place, the old and the new value, and the command that made it ("" for an instruction).
+ * For an arrival, `end` is its kind: a breakpoint (with its `id`), a change, or the start of the stored past. `present` is the session at
+ * that moment, if known.
  * @typedef {{ moment: Moment | null, why: "" | "short" | "lacks", place: string, from: string, to: string, line: string, end: "" | "break"
  * | "change" | "beginning", id: number, present: import("./timeline.js").Present | null }} Aim
  *
- * A search of the past. `begin` sets the start session. `among` replays consecutive units on the file of that session, and returns the last match in
- * the units.
+ * A search of the past. `begin` sets the start session. `among` replays consecutive units on the file of that session, and returns the last
+ * match in the units.
  * @typedef {{ begin: (present: import("./timeline.js").Present) => void, among: (units: Unit[]) => Aim | null }} Finder
  */
 

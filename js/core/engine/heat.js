@@ -1,5 +1,5 @@
-// The heat map: the number of recent changes of each RAM nibble, and the time and cause of the last change. A copy replays the past, and the bench
-// forecasts the changes of each unit. A write of the same value is not a change.
+// The heat map: the number of recent changes of each RAM nibble, and the time and cause of the last change. A copy replays the past, and
+// the bench forecasts the changes of each unit. A write of the same value is not a change.
 
 import { Cancelled } from "../bench/faults.js";
 import { hex, upTo } from "../bench/numbers.js";
@@ -18,8 +18,8 @@ import { cyclesOf, piecesOf, splitUnits, unitsBetween } from "./units.js";
  * @typedef {import("./timeline.js").Timeline} Timeline
  * @typedef {import("./units.js").Unit} Unit
  *
- * A changed place, by its `poke` name, with its number of changes. For the last change: the cycles since then, and the address of the instruction
- * that made it; or -1 and the command.
+ * A changed place, by its `poke` name, with its number of changes. For the last change: the cycles since then, and the address of the
+ * instruction that made it; or -1 and the command.
  * @typedef {{ place: string, count: number, ago: number, address: number, line: string }} Heated
  *
  * The changes in the last cycles. `cycles` is less than requested if the past is shorter.
@@ -27,7 +27,10 @@ import { cyclesOf, piecesOf, splitUnits, unitsBetween } from "./units.js";
  */
 
 const REGISTERS = 4;
-/** The number of place groups per RAM chip. A group fits into one `trace`: the nibbles of a register, or the status characters of all registers. */
+/**
+ * The number of place groups per RAM chip. A group fits into one `trace`: the nibbles of a register, or the status characters of all
+ * registers.
+ */
 export const GROUPS_OF_CHIP = REGISTERS + 1;
 
 /**

@@ -1,5 +1,5 @@
-// Reports the RAM nibbles that change while time runs, from the answers to a `trace` before each run. It watches one chip at a time, so that the work
-// per frame does not grow with the number of chips.
+// Reports the RAM nibbles that change while time runs, from the answers to a `trace` before each run. It watches one chip at a time, so
+// that the work per frame does not grow with the number of chips.
 
 import { ChangeCounter, GROUPS_OF_CHIP, nibbleGroups } from "./heat.js";
 import { Answers, readTraced } from "./tracing.js";

@@ -1,5 +1,5 @@
-// Key changes that wait for their time. A program polls the keys only from time to time. Therefore each key stays down, and then up, long enough for
-// the program to notice even a short press.
+// Key changes that wait for their time. A program polls the keys only from time to time. Therefore each key stays down, and then up, long
+// enough for the program to notice even a short press.
 
 import { isSameKey, lineOfKey } from "../board/key_place.js";
 import { KEY_DOWN_CYCLES, KEY_UP_CYCLES } from "../time/mcs4_time.js";

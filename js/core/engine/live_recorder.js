@@ -1,5 +1,5 @@
-// Records the signal lines of a board while time runs. Before each run, the recorder asks the bench for a forecast in the same call. It changes the
-// course of time only to stop it at the end of a triggered recording. The page fetches the recording in parts.
+// Records the signal lines of a board while time runs. Before each run, the recorder asks the bench for a forecast in the same call. It
+// changes the course of time only to stop it at the end of a triggered recording. The page fetches the recording in parts.
 
 import { readBoard, readRun } from "../bench/answers.js";
 import { ADDRESSES } from "../bench/rom_bytes.js";
@@ -22,8 +22,8 @@ import { RECORDED_CYCLES, RECORDED_UNITS } from "./pieces.js";
  * Settings: the number of cycles to record after the trigger, and whether time stops at the end.
  * @typedef {{ behind: number, stopsTime: boolean }} LiveWanted
  *
- * A part of a recording. `triggered`: the moment of the trigger, -1 before the trigger. `over`: the reason why the recording ended, "" while it
- * continues: "hand", "trigger", "board", "program", "back", "lines", "long".
+ * A part of a recording. `triggered`: the moment of the trigger, -1 before the trigger. `over`: the reason why the recording ended, ""
+ * while it continues: "hand", "trigger", "board", "program", "back", "lines", "long".
  * @typedef {RecordedPart & { triggered: number, over: string }} LivePart
  */
 
@@ -201,8 +201,8 @@ export class LiveRecorder {
   }
 
   /**
-   * Ends the recording if it is complete. Returns the number of cycles after `startMoment` at which time must stop, or -1 if time continues.
-   * Time stops at the next instruction.
+   * Ends the recording if it is complete. Returns the number of cycles after `startMoment` at which time must stop, or -1 if time
+   * continues. Time stops at the next instruction.
    * @param {number} startMoment
    * @param {number} counted the number of instructions before `startMoment`
    */

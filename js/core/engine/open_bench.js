@@ -21,8 +21,8 @@ import { differenceOf, readProgram } from "./program_check.js";
  * @typedef {import("../debug/debugger.js").Debugger} Debugger
  * @typedef {import("./engine.js").Engine} Engine
  *
- * The texts that name the lines of a recording. `values` are the names of values to record in addition to the board lines. `watched` are the watch
- * expressions.
+ * The texts that name the lines of a recording. `values` are the names of values to record in addition to the board lines. `watched` are
+ * the watch expressions.
  * @typedef {{ board: string, program: string, values?: string[], watched?: string[] }} WaveTexts
  *
  * A callback of long work. It receives the progress and resolves to true if the work continues.
@@ -170,8 +170,8 @@ export class OpenBench {
   }
 
   /**
-   * Runs a batch at full speed. Returns the report, or null if no report is due. A report needs a buffer that the page has returned; this limits the
-   * number of unprocessed reports.
+   * Runs a batch at full speed. Returns the report, or null if no report is due. A report needs a buffer that the page has returned; this
+   * limits the number of unprocessed reports.
    * @returns {Frame | null}
    */
   batch() {

@@ -7,8 +7,8 @@ import { Answers, readTraced } from "./tracing.js";
  * @typedef {import("./tracing.js").Trace} Trace
  * @typedef {import("./units.js").Unit} Unit
  *
- * A change in a group of values: the rows before and after the change, the unit, and the cycles of the unit before the change. `address` is the
- * address of the instruction that made the change; it is -1 if the command `line` made it.
+ * A change in a group of values: the rows before and after the change, the unit, and the cycles of the unit before the change. `address` is
+ * the address of the instruction that made the change; it is -1 if the command `line` made it.
  * @typedef {{ group: number, before: string, after: string, unit: Unit, cycles: number, address: number, line: string }} PastChange
  */
 
@@ -38,7 +38,8 @@ function tracesOf(engine, file, units, groups) {
  * @param {Uint8Array} file
  * @param {Unit[]} units
  * @param {string[][]} groups the places to watch, in groups that fit into one `trace`
- * @param {(change: PastChange) => void} see called for each change: first for all changes of the first group in order, then for the next group
+ * @param {(change: PastChange) => void} see called for each change: first for all changes of the first group in order, then for the next
+ *   group
  */
 export function changesIn(engine, file, units, groups, see) {
   const traces = tracesOf(engine, file, units, groups);

@@ -1,5 +1,5 @@
-// Collects the codes that a program sends to the printer, from the answers to a `trace` before each run. Each code is stored with its cycle. The
-// printout therefore depends only on the session, and a move back in time removes the later codes.
+// Collects the codes that a program sends to the printer, from the answers to a `trace` before each run. Each code is stored with its
+// cycle. The printout therefore depends only on the session, and a move back in time removes the later codes.
 
 import { linesWithQueries, splitAnswers, repeatedLine } from "./asking.js";
 import { RECORDED_CYCLES, RECORDED_UNITS } from "./pieces.js";

@@ -22,8 +22,8 @@ import { LONGEST_TEXT, TEXT_TOO_LONG } from "../text/text_fault.js";
 export const ALL_ROMS = `wire\n${PAGES.map((chip) => `[[rom]]\nchip = ${chip}\nport = "0000"\n`).join("")}.\n`;
 
 /**
- * Returns the reason why a text cannot be sent to the bench, or null. Either the text is too long, or one of its lines is only a dot and would end
- * the text. The second reason has no refusal number, so `number` is 0.
+ * Returns the reason why a text cannot be sent to the bench, or null. Either the text is too long, or one of its lines is only a dot and
+ * would end the text. The second reason has no refusal number, so `number` is 0.
  * @param {string} text
  * @returns {Refusal | null}
  */

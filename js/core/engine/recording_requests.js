@@ -33,8 +33,8 @@ export class RecordingRequests {
   }
 
   /**
-   * Starts a recording that continues until it is ended. Later parts arrive in `waves` of the shown states. If the trigger has an error, nothing is
-   * recorded and `fault` is the message.
+   * Starts a recording that continues until it is ended. Later parts arrive in `waves` of the shown states. If the trigger has an error,
+   * nothing is recorded and `fault` is the message.
    * @param {WaveTexts} texts
    * @param {{ trigger: string } & LiveWanted} wanted
    * @returns {{ recorded: Recorded | null, fault: string }}

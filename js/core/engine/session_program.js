@@ -13,8 +13,8 @@ import { readProgram } from "./program_check.js";
  * The first difference between ROM and the program: the address, the byte in ROM, the source line, and the byte that the line produces.
  * @typedef {{ address: string, is: string, line: number, makes: string }} OtherByte
  *
- * The program of a session, as described by its text. `faults` are the errors in the text, `other` is a difference from ROM, and `map` is the source
- * map.
+ * The program of a session, as described by its text. `faults` are the errors in the text, `other` is a difference from ROM, and `map` is
+ * the source map.
  * @typedef {{ faults: TextFault[], other: OtherByte | null, map: SourceMap }} SessionProgram
  */
 

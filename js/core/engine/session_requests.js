@@ -36,8 +36,8 @@ export class SessionRequests {
   }
 
   /**
-   * Restores the past that the page stored before it opened the session. Returns the number of used entries in the last segment; -1 if the past does
-   * not belong to this session.
+   * Restores the past that the page stored before it opened the session. Returns the number of used entries in the last segment; -1 if the
+   * past does not belong to this session.
    * @param {import("./timeline.js").Recalled[]} segments
    */
   recall(segments) {

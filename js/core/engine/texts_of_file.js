@@ -1,5 +1,5 @@
-// Creates source texts for a session file, which stores neither comments nor names. If an example has the same board or program, its texts are used.
-// Otherwise the board text comes from the bench's answers, and the program is disassembled from ROM.
+// Creates source texts for a session file, which stores neither comments nor names. If an example has the same board or program, its texts
+// are used. Otherwise the board text comes from the bench's answers, and the program is disassembled from ROM.
 
 import { readListing } from "../bench/answers.js";
 import { linesOfExample } from "./examples.js";

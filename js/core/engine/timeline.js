@@ -1,6 +1,7 @@
-// The past of a session, for moves back in time: the session file at some moments, and the accepted commands after each of these moments. To compute
-// a past state, a copy of such a file runs the commands again. When the past becomes long, segments with stops are stored longest. The past is in the
-// memory of this worker. The page receives the additions (session/kept_past.js), and restores the past after a reload.
+// The past of a session, for moves back in time: the session file at some moments, and the accepted commands after each of these moments.
+// To compute a past state, a copy of such a file runs the commands again. When the past becomes long, segments with stops are stored
+// longest. The past is in the memory of this worker. The page receives the additions (session/kept_past.js), and restores the past after a
+// reload.
 
 import { Cancelled } from "../bench/faults.js";
 import { withoutSeq } from "../bench/state_line.js";
@@ -13,8 +14,8 @@ import { CycleCount } from "./accepted.js";
  * A command. `isStop` is true if time was paused before the command.
  * @typedef {{ line: string, cycles: number, resets: boolean, isStop: boolean }} Entry
  *
- * A part of the past: the file and the cycle count at its start, and the commands after that. `letters` is the total length of the command lines in
- * characters. `follows` is true if the segment starts where the previous segment ends.
+ * A part of the past: the file and the cycle count at its start, and the commands after that. `letters` is the total length of the command
+ * lines in characters. `follows` is true if the segment starts where the previous segment ends.
  * @typedef {{ file: Uint8Array, count: CycleCount, entries: Entry[], cycles: number, letters: number, follows: boolean, marks: Mark[] }}
  * Segment
  *
@@ -47,7 +48,10 @@ const MARK_CYCLES = 250000;
 export const MAX_FORWARD = 64;
 /** The maximum length of a replayed command, in characters. After a longer command, a new segment starts. */
 const MAX_LINE_LENGTH = 20000;
-/** The maximum number of end points that `recall` tries. Several end points can have the same cycle count, because some commands take no cycles. */
+/**
+ * The maximum number of end points that `recall` tries. Several end points can have the same cycle count, because some commands take no
+ * cycles.
+ */
 const MAX_TRIES = 8;
 /** The limits of a piece that is replayed in one call. */
 const PIECE_CYCLES = 1000000;
@@ -74,8 +78,8 @@ export class Timeline {
   }
 
   /**
-   * Restores the past before the first segment, as stored by the page. If the stored past is newer than the session, its later entries are dropped.
-   * Returns the number of entries used from the last segment, or -1 if this past does not lead to the first segment.
+   * Restores the past before the first segment, as stored by the page. If the stored past is newer than the session, its later entries are
+   * dropped. Returns the number of entries used from the last segment, or -1 if this past does not lead to the first segment.
    * @param {Engine} engine
    * @param {Recalled[]} recalled consecutive segments
    */
@@ -191,8 +195,8 @@ export class Timeline {
   }
 
   /**
-   * Returns the moment `back` cycles before another moment. Commands without cycles at that moment are already done. Returns null if the past is too
-   * short.
+   * Returns the moment `back` cycles before another moment. Commands without cycles at that moment are already done. Returns null if the
+   * past is too short.
    * @param {number} back 1 or more
    * @param {Moment} [from]
    * @returns {Moment | null}

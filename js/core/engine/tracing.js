@@ -3,7 +3,8 @@
 import { readRun } from "../bench/answers.js";
 
 /**
- * A traced instruction: the cycles before it, its address, and the row of watched values after it. Each value in a row is preceded by a blank.
+ * A traced instruction: the cycles before it, its address, and the row of watched values after it. Each value in a row is preceded by a
+ * blank.
  * @typedef {{ cycles: number, address: number, row: string }} Traced
  *
  * The counts of an instruction: how often it started, and how often it jumped (-1 if it cannot jump).

@@ -28,7 +28,8 @@ export class TravelRequests {
   }
 
   /**
-   * Moves to a goal or an earlier stop. If neither is within `most` cycles, the session does not change, and running time continues towards the goal.
+   * Moves to a goal or an earlier stop. If neither is within `most` cycles, the session does not change, and running time continues towards
+   * the goal.
    * @param {Goal} goal
    * @param {number} [most]
    * @returns {Promise<ReachedLines>}

@@ -1,4 +1,5 @@
-// Records the signal lines of a board over time, in the worker. It runs a copy of a session, and asks the bench for a forecast before each run.
+// Records the signal lines of a board over time, in the worker. It runs a copy of a session, and asks the bench for a forecast before each
+// run.
 
 import { readBoard } from "../bench/answers.js";
 import { Cancelled } from "../bench/faults.js";
@@ -21,8 +22,8 @@ import { withoutStops } from "./without_stops.js";
  * The program in ROM: its text, the source lines by address (0 for none), and its labels in ascending address order.
  * @typedef {{ text: string, lines: Uint16Array, labels: { address: number, name: string }[] }} RecordedProgram
  *
- * A recording in a message, or the next part of one. A moment is a number of cycles since the start. The value at a moment is the value after that
- * many cycles.
+ * A recording in a message, or the next part of one. A moment is a number of cycles since the start. The value at a moment is the value
+ * after that many cycles.
  * - `from`, `cycles`: the moments at which the part starts and ends;
  * - `isStuck`: true if the next opcode is not an instruction;
  * - `tracks`: the signal lines over time;
@@ -34,8 +35,8 @@ import { withoutStops } from "./without_stops.js";
  * A complete recording with its signal lines. `program` is null if the text is not the program in ROM.
  * @typedef {RecordedPart & { lines: WaveLine[], program: RecordedProgram | null }} Recorded
  *
- * The texts for a recording: the board text for names, the program in ROM, and the names of registers and RAM nibbles to record in addition to the
- * board lines.
+ * The texts for a recording: the board text for names, the program in ROM, and the names of registers and RAM nibbles to record in addition
+ * to the board lines.
  * @typedef {{ board: string, program: RecordedProgram | null, values: string[] }} Texts
  *
  * A callback that receives the number of completed cycles, and resolves to true to continue.
@@ -119,8 +120,8 @@ export async function recordAfter(engine, file, cycles, texts, goesOn) {
 }
 
 /**
- * Returns the start of a recording of the past: the moment `cycles` cycles ago, or the start of the past. If the board changed after that moment, the
- * recording starts after the change.
+ * Returns the start of a recording of the past: the moment `cycles` cycles ago, or the start of the past. If the board changed after that
+ * moment, the recording starts after the change.
  * @param {Timeline} timeline
  * @param {number} cycles
  * @returns {Moment}
@@ -153,7 +154,8 @@ function unitsFrom(timeline, from) {
 }
 
 /**
- * Records the last cycles before the present, as far as the past reaches. For this, a copy runs the cycles and all commands between them again.
+ * Records the last cycles before the present, as far as the past reaches. For this, a copy runs the cycles and all commands between them
+ * again.
  * @param {Engine} engine
  * @param {Timeline} timeline
  * @param {number} cycles

@@ -1,5 +1,5 @@
-// Records the signal lines of a board piece by piece for a file that is written at the same time. Only one piece is in memory, even for a long
-// recording.
+// Records the signal lines of a board piece by piece for a file that is written at the same time. Only one piece is in memory, even for a
+// long recording.
 
 import { Waves } from "../waves/wave_recording.js";
 import { Answers } from "./tracing.js";

@@ -41,8 +41,8 @@ function digitAt(line, at) {
 }
 
 /**
- * Returns the `trace` place that reports a board line, and a function that reads the line from the value. A port reports a digit whose bit k is line
- * k. A chain reports its bits.
+ * Returns the `trace` place that reports a board line, and a function that reads the line from the value. A port reports a digit whose bit
+ * k is line k. A chain reports its bits.
  * @param {string} line `rom0.3`, `ram0.1.3`, `chain0.5`
  */
 function placeOfLevel(line) {
@@ -194,7 +194,8 @@ export class WaveTaking {
   }
 
   /**
-   * Reads an instruction line such as `5 00A`. A frame has more than a thousand such lines, so this method parses them character by character.
+   * Reads an instruction line such as `5 00A`. A frame has more than a thousand such lines, so this method parses them character by
+   * character.
    * @param {string} line
    */
   takeBegun(line) {

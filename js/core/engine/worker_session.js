@@ -1,5 +1,5 @@
-// The session in the worker: the bytes of its file, the waiting key changes, and the calls on them. A call either succeeds completely, or throws and
-// changes nothing.
+// The session in the worker: the bytes of its file, the waiting key changes, and the calls on them. A call either succeeds completely, or
+// throws and changes nothing.
 
 import { CycleCount, acceptedOf } from "./accepted.js";
 import { linesWithQueries, splitAnswers } from "./asking.js";
@@ -34,12 +34,13 @@ import { SEGMENT_ENTRIES, Timeline } from "./timeline.js";
  * An input, the number of lines in its text, and its answer lines.
  * @typedef {{ line: string, textLines: number, answers: string[] }} Answered
  *
- * The result of served lines: the last inputs, the first answer, the shell's final status, and whether the lines can have changed ROM or the board.
+ * The result of served lines: the last inputs, the first answer, the shell's final status, and whether the lines can have changed ROM or
+ * the board.
  * @typedef {{ entries: Answered[], first: string, status: number, touchesRom: boolean, wires: boolean }} LinesResult
  * @typedef {LinesResult & { snapshot: string[] }} ResultAndSnapshot
  *
- * The result of a run. `end` is the answer that ended the run early, or "". `litShares`, `heard` and `warmed` are lamp brightness, sound and RAM
- * changes; each is null if not requested.
+ * The result of a run. `end` is the answer that ended the run early, or "". `litShares`, `heard` and `warmed` are lamp brightness, sound
+ * and RAM changes; each is null if not requested.
  * @typedef {{ ran: RanEntry[], cycles: number, end: string, changesKeys: boolean, snapshot: string[], litShares: LitShares | null, heard:
  * Heard | null, warmed: PassedHeat | null }} Frame
  */
@@ -195,8 +196,8 @@ export class WorkerSession {
   }
 
   /**
-   * Changes breakpoints after a move in time. The changes become part of the past only with the next command, so that a move forward is still
-   * possible.
+   * Changes breakpoints after a move in time. The changes become part of the past only with the next command, so that a move forward is
+   * still possible.
    * @param {string} lines commands that change breakpoints
    */
   changeBreaks(lines) {
@@ -206,8 +207,8 @@ export class WorkerSession {
   }
 
   /**
-   * Serves lines up to the first run that stops early, or up to a refusal. One call serves all lines. If an answer shows such an end, the result is
-   * discarded, and another call serves only the lines up to that end.
+   * Serves lines up to the first run that stops early, or up to a refusal. One call serves all lines. If an answer shows such an end, the
+   * result is discarded, and another call serves only the lines up to that end.
    * @param {PlannedLine[]} planned
    */
   servePlanned(planned) {
@@ -285,7 +286,8 @@ export class WorkerSession {
   /**
    * Serves lines piece by piece, either all or none: nothing changes if a piece fails or the work is cancelled.
    * @param {string} lines
-   * @param {(done: number) => Promise<boolean>} goesOn called after each piece with the number of processed characters; resolves to true to continue
+   * @param {(done: number) => Promise<boolean>} goesOn called after each piece with the number of processed characters; resolves to true to
+   *   continue
    * @returns {Promise<ResultAndSnapshot>}
    */
   async serve(lines, goesOn) {

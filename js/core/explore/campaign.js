@@ -1,5 +1,5 @@
-// Parses a properties text: the inputs, the definition of new states, and the properties. The manual describes its lines ("Looking for what breaks
-// it").
+// Parses a properties text: the inputs, the definition of new states, and the properties. The manual describes its lines ("Looking for what
+// breaks it").
 
 import { LONGEST_RUN } from "../engine/key_queue.js";
 import { hasScannedDisplay } from "../engine/seen_text.js";
@@ -26,8 +26,9 @@ import { noKey } from "../../words/testing.js";
  * @typedef {{ inputs: Input[], together: number, canReset: boolean, shortest: number, longest: number, held: number, apart: number, begin:
  * number, down: number, up: number, notes: string[], properties: Property[], command: string, from: From | null, before: string[], calls: {
  * least: number, most: number } }} Campaign `shortest` and `longest` are waits, `held` is the longest press, `apart` the shortest release,
- * `begin` is the time at which the judging of properties starts, `down` and `up` are the press and release times for a model, all in cycles.
- * `notes` are `trace` places. `before` are the test lines that lead to the start, and `calls` the range of the number of open calls there
+ * `begin` is the time at which the judging of properties starts, `down` and `up` are the press and release times for a model, all in
+ * cycles. `notes` are `trace` places. `before` are the test lines that lead to the start, and `calls` the range of the number of open calls
+ * there
  *
  * A test state to start from, the file that saves it ("" for the tests next to the properties), and the line that names it.
  * @typedef {{ state: string, file: string, line: number }} From

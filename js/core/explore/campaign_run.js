@@ -73,7 +73,8 @@ export class CampaignRun {
     this.spent = { search: 0, proof: 0, model: 0 };
     /** The number of the property that is a model; -1 if there is no model to ask. */
     this.modelled = modelCommand ? campaign.properties.findIndex(({ form }) => form === "model") : -1;
-    this.model = modelCommand && this.modelled >= 0 ? new Model(subject, campaign, this.search.start, modelCommand, randomFrom(seed)) : null;
+    this.model = modelCommand && this.modelled >= 0
+      ? new Model(subject, campaign, this.search.start, modelCommand, randomFrom(seed)) : null;
     /** @type {(Found | null)[]} */
     this.found = campaign.properties.map(() => null);
     this.unconfirmed = campaign.properties.map(() => 0);

@@ -1,5 +1,5 @@
-// A second pass over a walk for data that its snapshots do not report: the executed code and the open calls. Both are counted; this takes a fraction
-// of the time of watching. The property memories follow from the counts and the snapshots, if their forms remember nothing else.
+// A second pass over a walk for data that its snapshots do not report: the executed code and the open calls. Both are counted; this takes a
+// fraction of the time of watching. The property memories follow from the counts and the snapshots, if their forms remember nothing else.
 
 import { isCall, isReturn } from "../engine/rom_codes.js";
 import { PlaceValues } from "./place_questions.js";
@@ -17,8 +17,8 @@ const NOT_HOLDING = [-1];
 const FORMS = new Set(["code", "never", "always", "never for", "reach", "reach at", "model", "calls", "returns"]);
 
 /**
- * Returns whether the memories of these properties follow from snapshots and counts. `holds` tells after which steps the conditions are true. Only
- * watching shows since when a condition has been true.
+ * Returns whether the memories of these properties follow from snapshots and counts. `holds` tells after which steps the conditions are
+ * true. Only watching shows since when a condition has been true.
  * @param {Property[]} properties
  * @param {number[]} open the numbers of the open properties
  * @param {boolean[][]} holds true if the condition is true after a step, by step and property

@@ -98,7 +98,9 @@ export class Exploring {
     const found = [];
     while (found.length === 0 && !run.isDone && performance.now() < end) {
       const counterexample = await run.goOn(SLICE);
-      if (counterexample && counterexample.find) found.push({ property: counterexample.property, file: run.sessionOf(counterexample.find) });
+      if (counterexample && counterexample.find) {
+        found.push({ property: counterexample.property, file: run.sessionOf(counterexample.find) });
+      }
     }
     return { report: this.report(), found, isDone: run.isDone };
   }

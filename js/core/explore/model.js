@@ -1,6 +1,6 @@
-// A model: an external command that computes the text that the display must show. It receives one line per key sequence: the key names, separated by
-// blanks. It prints one line per sequence: the display text after these keys; an empty line means no opinion. Each sequence starts from the start
-// state, with the key times of the properties.
+// A model: an external command that computes the text that the display must show. It receives one line per key sequence: the key names,
+// separated by blanks. It prints one line per sequence: the display text after these keys; an empty line means no opinion. Each sequence
+// starts from the start state, with the key times of the properties.
 
 import { readMarks } from "../bench/answers.js";
 import { DisplayText } from "../board/display_text.js";

@@ -91,7 +91,8 @@ export class PlaceValues extends Answers {
   }
 
   /**
-   * Returns the current values of all places, and the values after each instruction that changes them, with the cycles before the instruction.
+   * Returns the current values of all places, and the values after each instruction that changes them, with the cycles before the
+   * instruction.
    * @param {Places} places
    * @returns {{ values: string[], changes: Change[] }}
    */

@@ -1,5 +1,5 @@
-// A proof before the search: a property that is proved for all inputs needs no search. For a share of the time, the prover is asked about the
-// properties that it can decide. The bound on the number of states doubles. The search continues with the remaining properties.
+// A proof before the search: a property that is proved for all inputs needs no search. For a share of the time, the prover is asked about
+// the properties that it can decide. The bound on the number of states doubles. The search continues with the remaining properties.
 
 import { allMistakes } from "../prove/mistakes.js";
 import { askedOf, boundsUpTo, isAskedAlone, jointQuestion, mistakeQuestion, questionText, readAnswer } from "../prove/question.js";
@@ -31,7 +31,10 @@ export class ProofFirst {
     this.states = campaign.properties.map(() => 0);
     const alone = this.left > 0 ? questionsOf(subject, campaign) : [];
     const joint = alone.filter(({ properties: [at], question }) => !isAskedAlone(campaign.properties[at], question));
-    /** @type {Asked[]} the remaining questions; the first one can combine others, which are asked separately if the combination does not hold */
+    /**
+     * @type {Asked[]} the remaining questions; the first one can combine others, which are asked separately if the combination does not
+     * hold
+     */
     this.questions = joint.length > 1 ? [joinQuestions(joint), ...alone] : alone;
     this.bounds = boundsUpTo(MAX_BOUND, FIRST_BOUND);
     /** The number of questions asked with the current bound. */

@@ -1,5 +1,5 @@
-// Reads the current values of places with the cheapest bench queries: `lamps`, `regs`, `state` and `ram` report most of the places that `trace`
-// reports, without a copy of the bench. The values are spelled exactly as in `trace`.
+// Reads the current values of places with the cheapest bench queries: `lamps`, `regs`, `state` and `ram` report most of the places that
+// `trace` reports, without a copy of the bench. The values are spelled exactly as in `trace`.
 
 import { numberOf } from "../bench/numbers.js";
 import { Places } from "./place_questions.js";
@@ -8,8 +8,8 @@ import { Places } from "./place_questions.js";
  * @typedef {import("../bench/answers.js").Board} Board
  * @typedef {import("./place_questions.js").PlaceValues} PlaceValues
  *
- * The position of a value: the query, the index of the answer line, the first character, and the number of characters. If the answer has words of
- * varying length, `after` is the word before the value. If `length` is 0, the value extends to the end of the line.
+ * The position of a value: the query, the index of the answer line, the first character, and the number of characters. If the answer has
+ * words of varying length, `after` is the word before the value. If `length` is 0, the value extends to the end of the line.
  * @typedef {{ question: string, line: number, after: string, from: number, length: number }} Spot
  */
 

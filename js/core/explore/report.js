@@ -14,9 +14,9 @@ import { neverReached, proved } from "../../words/prove.js";
  * A counterexample: its test, its number of steps, its cycles, and the seed of the search that found it.
  * @typedef {{ test: string, steps: number, cycles: number, seed: number }} Found
  *
- * A property in a report. `isSkipped`: it is a model whose command was not run. `applied`: it was checked. `states`: the number of states in the
- * proof for all inputs, otherwise 0. `leftOut`: the guards that the proof leaves out. `chains`: the number of key sequences for which the model
- * was asked.
+ * A property in a report. `isSkipped`: it is a model whose command was not run. `applied`: it was checked. `states`: the number of states
+ * in the proof for all inputs, otherwise 0. `leftOut`: the guards that the proof leaves out. `chains`: the number of key sequences for
+ * which the model was asked.
  * @typedef {{ text: string, line: number, isGoal: boolean, isSkipped: boolean, applied: boolean, states: number, leftOut: string,
  *   chains: number, found: Found | null }} PropertyResult
  *

@@ -1,6 +1,6 @@
-// The search: walks that start at stored states. For most walks, only a snapshot after each change is read. If a walk shows something new, its code
-// is counted. A walk is watched instruction by instruction if it executes code for the first time, if a property needs more data, or if a property
-// seems violated. A sample of the other walks is also watched.
+// The search: walks that start at stored states. For most walks, only a snapshot after each change is read. If a walk shows something new,
+// its code is counted. A walk is watched instruction by instruction if it executes code for the first time, if a property needs more data,
+// or if a property seems violated. A sample of the other walks is also watched.
 
 import { countWalk, followsFromLooks } from "./counting.js";
 import { Coverage } from "./search_coverage.js";
@@ -151,8 +151,8 @@ export class Search {
   }
 
   /**
-   * Repeats a walk up to its last new state; the rest has already been examined. If counting is sufficient, the walk is only counted. If it executes
-   * code for the first time, it is watched.
+   * Repeats a walk up to its last new state; the rest has already been examined. If counting is sufficient, the walk is only counted. If it
+   * executes code for the first time, it is watched.
    * @param {import("./watching.js").Start} start
    * @param {WalkStep[]} steps
    * @param {number[]} newSteps the steps that show something new; the steps that execute code for the first time are added
@@ -216,8 +216,8 @@ export class Search {
   }
 
   /**
-   * Returns the labels at which a property can be violated independently of earlier events. A run stops at these labels. The maximum is 32, the limit
-   * of the bench.
+   * Returns the labels at which a property can be violated independently of earlier events. A run stops at these labels. The maximum is 32,
+   * the limit of the bench.
    * @returns {number[]}
    */
   get stops() {
@@ -344,7 +344,9 @@ function stopsAtLabel({ form, guards }) {
   return guards.length === 0 && (form === "at" || form === "reach at" || form === "never");
 }
 
-/** The property states as far as snapshots show them. For a label, they show how often the counter reached it during a wait, but not when. */
+/**
+ * The property states as far as snapshots show them. For a label, they show how often the counter reached it during a wait, but not when.
+ */
 class ApparentState {
   /**
    * @param {Search} search

@@ -127,8 +127,8 @@ export class Shortening {
   }
 
   /**
-   * Removes everything before a moment at which no input is down. The program's own activity then has another phase, so the next wait is also tried
-   * with additional cycles.
+   * Removes everything before a moment at which no input is down. The program's own activity then has another phase, so the next wait is
+   * also tried with additional cycles.
    */
   async beginLater() {
     const { campaign, steps } = this;

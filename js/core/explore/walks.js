@@ -56,8 +56,8 @@ function chooseWait({ shortest, longest }, random) {
 }
 
 /**
- * Returns the next step. `down` are the inputs that are down, and `since` the cycles since the last change of each input. A key that reaches the
- * maximum hold time goes up.
+ * Returns the next step. `down` are the inputs that are down, and `since` the cycles since the last change of each input. A key that
+ * reaches the maximum hold time goes up.
  * @param {Campaign} campaign
  * @param {number[]} down
  * @param {number[]} since

@@ -1,5 +1,5 @@
-// Watches a walk instruction by instruction: traces the places of its properties, counts its instructions, and reports the events to the properties
-// in time order. Walks that show something new are watched, and a sample of the other walks.
+// Watches a walk instruction by instruction: traces the places of its properties, counts its instructions, and reports the events to the
+// properties in time order. Walks that show something new are watched, and a sample of the other walks.
 
 import { cyclesOf, isCall, isReturn } from "../engine/rom_codes.js";
 import { readTraced } from "../engine/tracing.js";
@@ -22,8 +22,8 @@ import { downAfter, lineOf } from "./walks.js";
  * The violation of a property, or the reaching of a goal: the property number, the time, and the number of steps that had started.
  * @typedef {{ property: number, time: number, step: number }} Broken
  *
- * The state after a step: the time, the inputs that are down, and the memory of each property. `isNew` is true if the step executed code for the
- * first time.
+ * The state after a step: the time, the inputs that are down, and the memory of each property. `isNew` is true if the step executed code
+ * for the first time.
  * @typedef {{ time: number, down: number[], memories: number[][], isNew: boolean }} After
  *
  * The answers about one step. `list` has all its instructions, or null if they were not queried.
@@ -134,8 +134,8 @@ export class Watcher {
   }
 
   /**
-   * Returns whether all instructions of a step must be queried. This is necessary if the counter reaches a label of a property, or if no trace line
-   * shows a call or return because the return addresses stay the same.
+   * Returns whether all instructions of a step must be queried. This is necessary if the counter reaches a label of a property, or if no
+   * trace line shows a call or return because the return addresses stay the same.
    * @param {StepReport} report
    * @param {boolean} asksCalls
    */

@@ -48,7 +48,8 @@ export function rowsOf(manual, title) {
 }
 
 /**
- * Searches the manual for words and ignores case. Returns the sections whose titles contain all words, and the matching rows of the other sections.
+ * Searches the manual for words and ignores case. Returns the sections whose titles contain all words, and the matching rows of the other
+ * sections.
  * @param {ManualSection[]} manual
  * @param {string} wanted the words to search for
  * @returns {ManualSection[]}

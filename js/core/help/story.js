@@ -1,5 +1,5 @@
-// Parses the story of an example: a text in steps, with links that are actions on the page. The first line is `# TITLE`. Each step starts with `##
-// TITLE`. Blank lines separate paragraphs. `[WORDS](ACT)` is a link. The actions are:
+// Parses the story of an example: a text in steps, with links that are actions on the page. The first line is `# TITLE`. Each step starts
+// with `## TITLE`. Blank lines separate paragraphs. `[WORDS](ACT)` is a link. The actions are:
 //
 //     run, stop, back, forward                runs time; pauses it; goes back to the previous stop; goes forward
 //     go to LABEL, run to LABEL               shows a line of the program; runs time to a line

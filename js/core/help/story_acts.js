@@ -18,8 +18,8 @@ import * as say from "../../words/help.js";
  * @property {() => BoardKey[]} keys Returns the keys of the displayed board.
  * @property {() => void} run Runs time without a goal.
  * @property {() => Promise<void>} stand Pauses time; resolves after time is paused.
- * @property {(goal: Goal) => Promise<void>} goOn Runs time to a goal. Resolves when time reaches a near goal; for a distant goal, when time runs
- *   towards it.
+ * @property {(goal: Goal) => Promise<void>} goOn Runs time to a goal. Resolves when time reaches a near goal; for a distant goal, when time
+ *   runs towards it.
  * @property {(goal: BackGoal) => Promise<void>} goBack Goes back to a goal; resolves when the session is at the goal.
  * @property {() => Promise<void>} goForward Returns to the state before the last move back.
  * @property {(address: number) => void} goTo Shows an address in the source and in the listing.

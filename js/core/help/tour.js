@@ -16,8 +16,8 @@ import * as say from "../../words/help.js";
  * The control that a step highlights: the assemble button, a key, the margin of the source, or a RAM character.
  * @typedef {"send" | "key" | "margin" | "ram"} Target
  *
- * A step: its title, its paragraphs, the program to type ("" for no change), the highlighted control, and a function that returns whether the step is
- * done.
+ * A step: its title, its paragraphs, the program to type ("" for no change), the highlighted control, and a function that returns whether
+ * the step is done.
  * @typedef {{ title: string, words: (string | Part[])[], program: string, target?: Target,
  *   isDone: (state: TourState) => boolean }} TourStep
  */

@@ -1,5 +1,5 @@
-// Evaluates expressions in the syntax of Intel's assembler and of the AS macro assembler: names, numbers, parentheses and the operators + - * / and
-// &. The prefixes < and > select the low and the high byte. $ and * stand for the address of the line.
+// Evaluates expressions in the syntax of Intel's assembler and of the AS macro assembler: names, numbers, parentheses and the operators + -
+// * / and &. The prefixes < and > select the low and the high byte. $ and * stand for the address of the line.
 
 import { capitals } from "./source_lines.js";
 import * as say from "../../words/import.js";

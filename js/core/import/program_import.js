@@ -1,5 +1,5 @@
-// Converts a program in the syntax of Intel's assembler or of the AS macro assembler to the bench's syntax, line by line. Repeated passes compute the
-// values of names. The last pass writes the lines.
+// Converts a program in the syntax of Intel's assembler or of the AS macro assembler to the bench's syntax, line by line. Repeated passes
+// compute the values of names. The last pass writes the lines.
 
 import { LAST_ADDRESS, hex } from "../bench/numbers.js";
 import { MAX_NAME_LENGTH } from "../text/assembly.js";
@@ -17,8 +17,8 @@ import * as say from "../../words/import.js";
  * An error in a line; `line` counts from 1.
  * @typedef {{ line: number, words: string }} ImportFault
  *
- * The rules for an operand value. `from` and `to` are its range. `modulus` is the modulus for negative numbers, 0 if they are not allowed. `isNumber`
- * is true if a name must be replaced by its value.
+ * The rules for an operand value. `from` and `to` are its range. `modulus` is the modulus for negative numbers, 0 if they are not allowed.
+ * `isNumber` is true if a name must be replaced by its value.
  * @typedef {{ from?: number, to: number, modulus?: number, isNumber?: boolean }} OperandRules
  */
 

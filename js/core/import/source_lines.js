@@ -1,8 +1,9 @@
-// Splits source lines in the syntax of Intel's assembler or of the AS macro assembler. (text/assembly.js splits lines in the bench's syntax.)
+// Splits source lines in the syntax of Intel's assembler or of the AS macro assembler. (text/assembly.js splits lines in the bench's
+// syntax.)
 
 /**
- * A line: its label, its upper-case mnemonic or directive (`word`), the text of its operands, and its comment. `word` is always EQU for a definition.
- * `isLong` is true if the line is too long to be split.
+ * A line: its label, its upper-case mnemonic or directive (`word`), the text of its operands, and its comment. `word` is always EQU for a
+ * definition. `isLong` is true if the line is too long to be split.
  * @typedef {{ text: string, label: string, word: string, operand: string, comment: string, isLong: boolean }} SourceLine
  *
  * @typedef {"register" | "pair" | "digit" | "byte" | "target" | "condition"} OperandKind

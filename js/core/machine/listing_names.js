@@ -7,8 +7,8 @@ import { wordsOfLine } from "../../words/stops.js";
  * @typedef {import("../bench/answers.js").Listed} Listed
  * @typedef {import("./source_map.js").SourceMap} SourceMap
  *
- * The fields of a listing line. `first` is its address and `second` the address of its second byte ("" for none). `bytes` holds address and bytes as
- * in the answer. `labels` are the labels at its address. `source` is its source line ("" for none).
+ * The fields of a listing line. `first` is its address and `second` the address of its second byte ("" for none). `bytes` holds address and
+ * bytes as in the answer. `labels` are the labels at its address. `source` is its source line ("" for none).
  * @typedef {{ address: number, first: string, second: string, bytes: string, labels: string, instruction: string, source: string }}
  *   NamedLine
  */

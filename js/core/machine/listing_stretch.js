@@ -1,5 +1,5 @@
-// Finds start addresses for a listing, and cuts out the visible lines. The bench disassembles from the first byte on. Therefore a listing is aligned
-// with the program only if one of its lines starts at a known instruction start.
+// Finds start addresses for a listing, and cuts out the visible lines. The bench disassembles from the first byte on. Therefore a listing
+// is aligned with the program only if one of its lines starts at a known instruction start.
 
 import { upTo } from "../bench/numbers.js";
 import { ADDRESSES, MAX_LISTED } from "../bench/rom_bytes.js";
@@ -7,13 +7,14 @@ import { ADDRESSES, MAX_LISTED } from "../bench/rom_bytes.js";
 /**
  * @typedef {import("../bench/answers.js").Listed} Listed
  *
- * The visible part of a listing. Its first line is the first line at or after `from`. If `anchor` is not null, a line must start at that address.
+ * The visible part of a listing. Its first line is the first line at or after `from`. If `anchor` is not null, a line must start at that
+ * address.
  * @typedef {{ from: number, anchor: number | null }} Goal
  */
 
 /**
- * A disassembly becomes aligned after a few instructions, so the listing starts some bytes early. If it is still misaligned, the next try starts one
- * byte later.
+ * A disassembly becomes aligned after a few instructions, so the listing starts some bytes early. If it is still misaligned, the next try
+ * starts one byte later.
  */
 const BYTES_BEFORE = 12;
 const MAX_TRIES = 4;

@@ -1,4 +1,5 @@
-// Creates the listing of a program in the format of assemblers: each source line with its address and bytes, followed by the names with their values.
+// Creates the listing of a program in the format of assemblers: each source line with its address and bytes, followed by the names with
+// their values.
 
 import { hex, upTo } from "../bench/numbers.js";
 

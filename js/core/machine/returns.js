@@ -1,5 +1,5 @@
-// Describes the return addresses in the stack. The stack also contains stale entries. A call stores the address after its JMS, so an entry without a
-// preceding JMS is stale.
+// Describes the return addresses in the stack. The stack also contains stale entries. A call stores the address after its JMS, so an entry
+// without a preceding JMS is stale.
 
 import { LAST_ADDRESS } from "../bench/numbers.js";
 import * as say from "../../words/machine.js";

@@ -126,8 +126,8 @@ export class SourceMap {
   }
 
   /**
-   * Returns the name of an address: its label, such as `put`, or the nearest label below it with an offset, such as `put + 2`. The bytes between must
-   * be contiguous. Returns "" if there is no name.
+   * Returns the name of an address: its label, such as `put`, or the nearest label below it with an offset, such as `put + 2`. The bytes
+   * between must be contiguous. Returns "" if there is no name.
    * @param {number} address
    */
   nameOf(address) {

@@ -1,5 +1,5 @@
-// Links the source and the machine. While the source is the program in ROM, the editor marks the next line, and addresses have names. The check is
-// repeated after each possible change of the source or ROM.
+// Links the source and the machine. While the source is the program in ROM, the editor marks the next line, and addresses have names. The
+// check is repeated after each possible change of the source or ROM.
 
 import { hex } from "../bench/numbers.js";
 import { SourceMap } from "./source_map.js";
@@ -8,8 +8,8 @@ import * as say from "../../words/machine.js";
 /**
  * @typedef {import("../engine/program_check.js").Checked} Checked
  *
- * The source editor. `showNext` marks the next line, 0 for none. `showAddresses` shows the addresses of the lines, "" for none. `reveal` scrolls to a
- * line.
+ * The source editor. `showNext` marks the next line, 0 for none. `showAddresses` shows the addresses of the lines, "" for none. `reveal`
+ * scrolls to a line.
  * @typedef {{ showNext: (line: number) => void, showAddresses: (addresses: string[]) => void,
  *   reveal: (line: number) => void }} SourceEditor
  */
@@ -18,7 +18,8 @@ import * as say from "../../words/machine.js";
  * The callbacks of SourceSync.
  * @typedef {object} SyncCalls
  * @property {() => string} text Returns the source as sent to the bench.
- * @property {(text: string) => Promise<Checked>} check Resolves to the `map` answer for a source or its refusal, and the first difference from ROM.
+ * @property {(text: string) => Promise<Checked>} check Resolves to the `map` answer for a source or its refusal, and the first difference
+ *   from ROM.
  * @property {(map: SourceMap | null, words: string) => void} changed Handles a change of the program in ROM. `map` is null if the source is
  * not that program; then `words` is the message.
  * @property {(number: number) => string} wordsOfRefusal Returns the message of a refusal.
@@ -128,7 +129,8 @@ export class SourceSync {
 
   /** Waits until the current source has been checked. */
   async fresh() {
-    // A newer check invalidates the result of an older one. If each caller started a check, none would ever finish, so all callers share one check.
+    // A newer check invalidates the result of an older one. If each caller started a check, none would ever finish, so all callers share
+    // one check.
     while (this.calls.text() !== this.text || !this.checked) {
       this.pendingCheck = this.pendingCheck || this.check().finally(() => {
         this.pendingCheck = null;

@@ -1,4 +1,5 @@
-// Provides the values of words in the source while time is paused, and the changes made by the last executed lines. Both come from the last snapshot.
+// Provides the values of words in the source while time is paused, and the changes made by the last executed lines. Both come from the last
+// snapshot.
 
 import { LineChanges } from "../debug/line_changes.js";
 import { MachineState } from "../debug/standing.js";
@@ -12,7 +13,8 @@ import { valuesAt } from "../debug/value_words.js";
 /**
  * The page's callbacks for values in the source.
  * @typedef {object} ValuesOwnCalls
- * @property {() => import("./source_map.js").SourceMap | null} map Returns the source map of the program in ROM; null if the source is not in ROM.
+ * @property {() => import("./source_map.js").SourceMap | null} map Returns the source map of the program in ROM; null if the source is not
+ *   in ROM.
  * @property {(lines: ReadonlyMap<number, string>) => void} showLines Shows the changes at the end of each line; line numbers count from 1.
  * @property {() => void} showWatched Updates the watch values.
  * @property {() => string[]} snapshot Returns the answers of the last snapshot.

@@ -28,8 +28,8 @@ function levelOf(number, most) {
 }
 
 /**
- * Returns the heat levels of all changed places, from 1 to MAX_HEAT_LEVEL. The place that changed most often, or most recently, has the highest
- * level.
+ * Returns the heat levels of all changed places, from 1 to MAX_HEAT_LEVEL. The place that changed most often, or most recently, has the
+ * highest level.
  * @param {Heat} heat
  * @param {HeatKind} kind
  * @returns {Map<string, number>}

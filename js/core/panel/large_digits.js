@@ -16,7 +16,8 @@ function characterRows(character) {
   if (character === ".") return [...Array(LARGE_ROWS - 1).fill("  "), "# "];
   const pattern = patternOf(character);
   const across = (/** @type {string} */ letter) => (hasSegment(pattern, letter) ? " ###  " : BLANK.repeat(6));
-  const sides = (/** @type {string} */ letters) => `${[...letters].map((letter) => (hasSegment(pattern, letter) ? "#" : BLANK)).join("   ")} `;
+  const sides = (/** @type {string} */ letters) => (
+    `${[...letters].map((letter) => (hasSegment(pattern, letter) ? "#" : BLANK)).join("   ")} `);
   return [across("a"), sides("fb"), across("g"), sides("ec"), across("d")];
 }
 

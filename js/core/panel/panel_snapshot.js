@@ -1,5 +1,5 @@
-// A session snapshot for the panel, built from the answers to queries: registers, keys, RAM, lamp brightness, and the instructions near the program
-// counter.
+// A session snapshot for the panel, built from the answers to queries: registers, keys, RAM, lamp brightness, and the instructions near the
+// program counter.
 
 import { readRam } from "../bench/answers.js";
 import { joinLines, matchAnswers, readInputs } from "../bench/inputs.js";

@@ -1,6 +1,6 @@
-// Builds the rows of the panel screen. The top rows show the session and its time, the display, the registers, and the source at the program counter.
-// Below, RAM, the front panel and the listing are side by side. The last rows are a message and the help for keys. A row consists of text pieces. The
-// piece of a lamp has its colour and brightness level. js/node/panel_terminal.mjs positions the rows.
+// Builds the rows of the panel screen. The top rows show the session and its time, the display, the registers, and the source at the
+// program counter. Below, RAM, the front panel and the listing are side by side. The last rows are a message and the help for keys. A row
+// consists of text pieces. The piece of a lamp has its colour and brightness level. js/node/panel_terminal.mjs positions the rows.
 
 import { hex, upTo } from "../bench/numbers.js";
 import { printoutLines } from "../board/strip.js";
@@ -176,7 +176,8 @@ export class Screen {
   }
 
   /**
-   * Returns a listing row, with marks for the program counter and a breakpoint. If a source line starts at the address, the row shows the source.
+   * Returns a listing row, with marks for the program counter and a breakpoint. If a source line starts at the address, the row shows the
+   * source.
    * @param {number} at
    */
   listingText(at) {
@@ -241,8 +242,8 @@ function testName({ name }) {
 }
 
 /**
- * Returns the label of a key: its name, and the character that presses it if this differs from the name. For an unnamed key, returns only the
- * character.
+ * Returns the label of a key: its name, and the character that presses it if this differs from the name. For an unnamed key, returns only
+ * the character.
  * @param {BoardKey} key
  */
 function labelOf({ legend, letter, isNamed }) {

@@ -1,5 +1,5 @@
-// The panel of a session in a terminal. Time runs as fast as on a real 4004, or is paused. Typed keys press the keys of the board. The panel only
-// sends lines to a session. screen.js converts its state to rows of characters.
+// The panel of a session in a terminal. Time runs as fast as on a real 4004, or is paused. Typed keys press the keys of the board. The
+// panel only sends lines to a session. screen.js converts its state to rows of characters.
 
 import { refusalOf, readRun } from "../bench/answers.js";
 import { joinLines } from "../bench/inputs.js";
@@ -31,8 +31,8 @@ import * as say from "../../words/panel.js";
  * The source of the program in ROM: its source map, its lines, and the number of lines before them in the file.
  * @typedef {{ map: SourceMap, lines: string[], before: number }} PanelSource
  *
- * The subject of the panel: the session name, the board and its front panel, the program (null if unknown), and the messages for refusal numbers.
- * `isPaused` is true if time is paused at the start. `note` is the first message.
+ * The subject of the panel: the session name, the board and its front panel, the program (null if unknown), and the messages for refusal
+ * numbers. `isPaused` is true if time is paused at the start. `note` is the first message.
  * @typedef {{ name: string, board: Board, face: Face, source: PanelSource | null, wordsOfRefusal: (number: number) => string,
  *   isPaused: boolean, note: string }} PanelSubject
  */

@@ -1,5 +1,5 @@
-// The prompt of `mcs4 new` and `mcs4 open`. The host serves the bench lines. The prompt adds texts from files, help, completion, and explanations of
-// rejected lines.
+// The prompt of `mcs4 new` and `mcs4 open`. The host serves the bench lines. The prompt adds texts from files, help, completion, and
+// explanations of rejected lines.
 //
 //     const prompt = new SessionPrompt(calls);
 //     await prompt.take("press 3 9"); prompt.label; prompt.isEnded; await prompt.complete("pr");
@@ -37,8 +37,8 @@ import * as say from "../../words/session_prompt.js";
  * @property {(words: string) => void} complain Prints a message on standard error.
  * @property {(name: string) => string} read Returns the text of a file; throws an error with the reason if it cannot be read.
  * @property {(begin: string) => string[]} files Returns the file names that start with a prefix.
- * @property {(word: TextWord, text: string, board: string) => Promise<TextError[]>} errorsOf Resolves to all errors in a rejected text. For a
- *   program, `board` is the board text.
+ * @property {(word: TextWord, text: string, board: string) => Promise<TextError[]>} errorsOf Resolves to all errors in a rejected text. For
+ *   a program, `board` is the board text.
  * @property {(number: number) => string} wordsOf Returns the message of a refusal.
  * @property {() => ManualSection[]} manual Returns the sections of the manual, with their tables.
  */

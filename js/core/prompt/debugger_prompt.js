@@ -1,5 +1,5 @@
-// The debugger at a prompt: each line is a command. Output goes to `print`, errors go to `complain`. The prompt uses the same debugger as the page
-// (debug/), on a session in memory. At each stop, the session is saved to its file.
+// The debugger at a prompt: each line is a command. Output goes to `print`, errors go to `complain`. The prompt uses the same debugger as
+// the page (debug/), on a session in memory. At each stop, the session is saved to its file.
 //
 //     const prompt = new Prompt(launched, dataOfPage, { print, complain, pause, source, isByHand });   (adapter/launching.js launches)
 //     await prompt.begin(); await prompt.take("break show"); prompt.isEnded; prompt.complete("br")
@@ -44,8 +44,8 @@ import { stoppedAt } from "../../words/stops.js";
  * @property {(name: string, text: string) => void} write Writes a text to a file; throws an error with the reason if it cannot be written.
  * @property {(begin: string) => string[]} files Returns the file names that start with a prefix.
  * @property {boolean} isByHand True if a user at a terminal can interrupt an endless run.
- * @property {{ toggle: () => string, turn: (isOn: boolean) => string } | null} view Shows or hides the view (view.js); null without a terminal. Each
- *   function returns an error message, or "".
+ * @property {{ toggle: () => string, turn: (isOn: boolean) => string } | null} view Shows or hides the view (view.js); null without a
+ *   terminal. Each function returns an error message, or "".
  */
 
 /** The maximum length of a move in a script, in cycles: 18 minutes on a real board. */
@@ -70,7 +70,8 @@ class ReportedError extends Error {}
 export class Prompt {
   /**
    * @param {Launched} launched
-   * @param {{ refusals: Record<string, string>, manual: import("../help/manual.js").ManualSection[] }} data the refusal texts and the manual
+   * @param {{ refusals: Record<string, string>, manual: import("../help/manual.js").ManualSection[] }} data the refusal texts and the
+   *   manual
    * @param {PromptCalls} calls
    */
   constructor(launched, { refusals, manual }, calls) {
@@ -200,8 +201,8 @@ export class Prompt {
   }
 
   /**
-   * Runs the commands of the breakpoint that stopped the last line. A command that moves time ends the list; the commands of its stop run next.
-   * Returns false if a command is rejected.
+   * Runs the commands of the breakpoint that stopped the last line. A command that moves time ends the list; the commands of its stop run
+   * next. Returns false if a command is rejected.
    */
   async runCommands() {
     let stops = 0;

@@ -12,7 +12,9 @@ import * as say from "../../words/prompt.js";
  * @typedef {import("../adapter/expression_values.js").ExpressionContext} ExpressionContext
  */
 
-/** @type {(base: number, mark: string) => (value: number) => string} creates a formatter for a number base, with a prefix before the digits */
+/**
+ * @type {(base: number, mark: string) => (value: number) => string} creates a formatter for a number base, with a prefix before the digits
+ */
 const digits = (base, mark) => (value) => `${value < 0 ? "-" : ""}${mark}${Math.abs(value).toString(base).toUpperCase()}`;
 /** @type {Record<string, (value: number, session: DebugSession) => string>} */
 const FORMATS = {

@@ -18,8 +18,8 @@ function nextOpcode(session) {
 }
 
 /**
- * Steps back over an instruction. If the instruction is the return of a subroutine, goes back to the call. Finds the call by the changes of the
- * return addresses.
+ * Steps back over an instruction. If the instruction is the return of a subroutine, goes back to the call. Finds the call by the changes of
+ * the return addresses.
  * @param {DebugSession} session
  * @param {GoesOn} goesOn
  */

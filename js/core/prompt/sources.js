@@ -3,8 +3,8 @@
 import * as say from "../../words/session_prompt.js";
 
 /**
- * The prompt that serves the lines. `take` returns false if a line is rejected. `drop` discards unfinished input and returns a message about it, or
- * "".
+ * The prompt that serves the lines. `take` returns false if a line is rejected. `drop` discards unfinished input and returns a message
+ * about it, or "".
  * @typedef {{ isEnded: boolean, take: (line: string) => Promise<boolean>, drop: () => string }} LineServer
  */
 

@@ -1,4 +1,5 @@
-// The prompt commands for additional breakpoint actions: temporary breakpoints, ignored hits, and commands at a stop. One command saves the list.
+// The prompt commands for additional breakpoint actions: temporary breakpoints, ignored hits, and commands at a stop. One command saves the
+// list.
 
 import { hex } from "../bench/numbers.js";
 import { LAST_BREAKPOINT } from "./breakpoint_commands.js";

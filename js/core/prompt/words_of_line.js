@@ -77,7 +77,8 @@ export function cyclesIn(text) {
 }
 
 /**
- * Returns the text if it is a condition; "" if it is a program location (a line, an address or a label). Fails if the condition has an error.
+ * Returns the text if it is a condition; "" if it is a program location (a line, an address or a label). Fails if the condition has an
+ * error.
  * @param {string} text
  * @param {DebugSession} session
  */

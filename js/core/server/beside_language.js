@@ -30,8 +30,8 @@ const KEYWORD_COMPLETION = 14;
 const VALUE_COMPLETION = 12;
 
 /**
- * Returns an error with its range: the word at its column, or the whole line if the column is unknown. If the range shows the column, the column is
- * removed from the message.
+ * Returns an error with its range: the word at its column, or the whole line if the column is unknown. If the range shows the column, the
+ * column is removed from the message.
  * @param {string[]} lines
  * @param {{ line: number, column: number, words: string }} fault the line counts from 1, the column from 0; the column is -1 if unknown
  * @returns {ShownFault}

@@ -98,7 +98,8 @@ export class BoardReferences {
   }
 
   /**
-   * Returns the hover text for a value that is a line name: the line, its lamp, and the location of its chip. Returns "" for any other value.
+   * Returns the hover text for a value that is a line name: the line, its lamp, and the location of its chip. Returns "" for any other
+   * value.
    * @param {KeyedValue} value
    * @param {import("../board/face.js").Face} face
    */

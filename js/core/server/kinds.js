@@ -9,8 +9,8 @@ import * as say from "../../words/server.js";
  * @typedef {import("./open_text.js").OpenText} OpenText
  * @typedef {import("../text/text_fault.js").Fault} Fault
  *
- * Returns the text of a file. Returns null if the file cannot be read or is outside `folder`, the folder of the project that names the file ("" for
- * none).
+ * Returns the text of a file. Returns null if the file cannot be read or is outside `folder`, the folder of the project that names the file
+ * ("" for none).
  * @typedef {(uri: string, folder: string) => string | null} TextOf
  *
  * The URIs of a project folder and its files.
@@ -85,7 +85,8 @@ export function faultsOfProject(uri, text, textOf) {
 }
 
 /**
- * Finds the project of a text: the nearest folder with a valid project file, upwards from the folder of the text. Returns null if there is none.
+ * Finds the project of a text: the nearest folder with a valid project file, upwards from the folder of the text. Returns null if there is
+ * none.
  * @param {string} uri
  * @param {TextOf} textOf
  * @returns {Project | null}
@@ -127,8 +128,8 @@ export function boardFor(uri, textOf) {
 }
 
 /**
- * Finds the files that a test or property file depends on: the files of its project; or else `board.toml` and the program of the same name in its
- * folder. `tests` are the test files of the project up to this file.
+ * Finds the files that a test or property file depends on: the files of its project; or else `board.toml` and the program of the same name
+ * in its folder. `tests` are the test files of the project up to this file.
  * @param {string} uri
  * @param {TextOf} textOf
  * @returns {Dependencies}

@@ -1,4 +1,5 @@
-// The interface of a language: the requests that an editor can send about its texts. A language implements only the methods that it supports.
+// The interface of a language: the requests that an editor can send about its texts. A language implements only the methods that it
+// supports.
 
 /**
  * @typedef {import("../text/completion.js").Completion} Completion
@@ -33,8 +34,8 @@
  *
  * @typedef {object} Language
  * @property {Parts} parts the parts of a text that fold
- * @property {(open: OpenText, isWanted: () => boolean) => Promise<FoundFaults | undefined>} faults resolves to undefined if `isWanted` returns false
- *   meanwhile
+ * @property {(open: OpenText, isWanted: () => boolean) => Promise<FoundFaults | undefined>} faults resolves to undefined if `isWanted`
+ *   returns false meanwhile
  * @property {(open: OpenText, position: Position) => Hover | null} [hover]
  * @property {(open: OpenText, position: Position) => Range | Location | null} [definition] returns a range for a target in the same text
  * @property {(open: OpenText, position: Position, withDefinition: boolean) => Range[]} [references]

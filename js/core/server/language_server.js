@@ -1,5 +1,5 @@
-// The language server for programs, boards, tests, properties and project files. It stores the open texts, serves requests about them, and reports
-// their errors after each edit.
+// The language server for programs, boards, tests, properties and project files. It stores the open texts, serves requests about them, and
+// reports their errors after each edit.
 
 import { boardTables } from "../text/text_help.js";
 import { Words } from "../bench/words.js";
@@ -32,8 +32,8 @@ import * as say from "../../words/server.js";
  * The functions of the host: `readFile` returns the text of a file, `pause` yields to other tasks.
  * @typedef {{ readFile: import("./kinds.js").TextOf, pause: () => Promise<void> }} Host
  *
- * An open text with its errors and diagnostics. `checkedEdits` is the number of edits at the last completed check, -1 for none. `check` resolves at
- * the end of the last check.
+ * An open text with its errors and diagnostics. `checkedEdits` is the number of edits at the last completed check, -1 for none. `check`
+ * resolves at the end of the last check.
  * @typedef {{ open: OpenText, faults: ShownFault[], diagnostics: Diagnostic[], checkedEdits: number, check: Promise<void> }} CheckedText
  */
 
@@ -41,7 +41,8 @@ export class LanguageServer {
   /**
    * @param {Connection} connection
    * @param {import("../engine/engine_host.js").EngineHost} engine
-   * @param {{ refusals: Record<string, string>, manual: import("../help/manual.js").ManualSection[] }} data the refusal texts and the manual
+   * @param {{ refusals: Record<string, string>, manual: import("../help/manual.js").ManualSection[] }} data the refusal texts and the
+   *   manual
    * @param {Host} host
    */
   constructor(connection, engine, { refusals, manual }, host) {

@@ -4,8 +4,8 @@ import { fieldOf } from "./framing.js";
 import * as say from "../../words/server.js";
 
 /**
- * @typedef {{ line: number, character: number }} Position a position; both numbers count from 0, and `character` counts UTF-16 code units like
- *   JavaScript
+ * @typedef {{ line: number, character: number }} Position a position; both numbers count from 0, and `character` counts UTF-16 code units
+ *   like JavaScript
  * @typedef {{ start: Position, end: Position }} Range
  * @typedef {{ range: Range, newText: string }} TextEdit
  * @typedef {{ uri: string, range: Range }} Location

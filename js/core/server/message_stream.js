@@ -1,5 +1,5 @@
-// The base class for the connections of the language server and the debug adapter. It splits the stream into messages, and reports stream errors to
-// the client. Subclasses serve the messages.
+// The base class for the connections of the language server and the debug adapter. It splits the stream into messages, and reports stream
+// errors to the client. Subclasses serve the messages.
 
 import { MessageReader, StreamLost, framed } from "./framing.js";
 import { messageTooLong } from "../../words/server.js";

@@ -38,7 +38,8 @@ function conditionsFor(before, { instructions, conditions }) {
 }
 
 /**
- * Returns whether the caret is in the operands of a statement. A typed blank triggers completion only there, so that indentation does not trigger it.
+ * Returns whether the caret is in the operands of a statement. A typed blank triggers completion only there, so that indentation does not
+ * trigger it.
  * @param {string} before the line up to the caret
  */
 function isInOperands(before) {

@@ -13,8 +13,8 @@ import * as say from "../../words/server.js";
  * @typedef {import("./language.js").Hover} Hover
  * @typedef {import("./lsp_protocol.js").Position} Position
  *
- * The context of a hover: the manual's instructions and JCN conditions, the meanings and values of names, and the address of a line as text ("" if
- * unknown).
+ * The context of a hover: the manual's instructions and JCN conditions, the meanings and values of names, and the address of a line as text
+ * ("" if unknown).
  * @typedef {{ instructions: Map<string, Instruction>, conditions: Map<number, string>, meaningOf: (name: string) => string,
  *   valueOf: (name: string) => number | undefined, wordsOfLine: (line: number) => string }} HoverContext
  */

@@ -1,5 +1,5 @@
-// The handlers of all requests, by method name. They check the parameters, call the language of the text, and convert its answer to the protocol's
-// format.
+// The handlers of all requests, by method name. They check the parameters, call the language of the text, and convert its answer to the
+// protocol's format.
 
 import { capabilitiesFor, clientOf, RUN_TEST } from "./capabilities.js";
 import { codeLensOf } from "./code_lens.js";

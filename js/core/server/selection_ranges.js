@@ -1,5 +1,5 @@
-// Selection ranges: the steps by which a selection grows. The steps are the word, larger parts of its line, the line, the folding ranges around it,
-// and the whole text.
+// Selection ranges: the steps by which a selection grows. The steps are the word, larger parts of its line, the line, the folding ranges
+// around it, and the whole text.
 
 import { wordAt } from "../text/assembly.js";
 import { foldsOf } from "./folding_ranges.js";

@@ -25,8 +25,8 @@ export function colouredWords(lines, colours) {
 }
 
 /**
- * Encodes each word as five numbers: the line distance to the previous word, the column distance to the previous word in the same line, the length,
- * the type, and the modifiers.
+ * Encodes each word as five numbers: the line distance to the previous word, the column distance to the previous word in the same line, the
+ * length, the type, and the modifiers.
  * @param {ColouredWord[]} words
  * @returns {number[]}
  */

@@ -11,8 +11,8 @@ import { fileNameOf } from "./beside_language.js";
 const MAX_NAMES = 512;
 
 /**
- * Returns whether a name matches a query; the case is ignored. A one-word name must contain the letters of the query in order. A name with several
- * words must contain the whole query.
+ * Returns whether a name matches a query; the case is ignored. A one-word name must contain the letters of the query in order. A name with
+ * several words must contain the whole query.
  * @param {string} name
  * @param {string} query
  */

@@ -1,5 +1,5 @@
-// The picture of an example in the gallery: a small front panel, drawn from the board text. Only the program determines which lamps are on. The
-// picture shows the first lamp of each colour as on, and sample digits on a display.
+// The picture of an example in the gallery: a small front panel, drawn from the board text. Only the program determines which lamps are on.
+// The picture shows the first lamp of each colour as on, and sample digits on a display.
 
 import { partLines } from "../bench/part_lines.js";
 import { Face } from "../board/face.js";

@@ -1,5 +1,5 @@
-// Determines the contents of a file that the user chooses or drops: a project, a session, a board, a program, tests, properties, bench lines, or a
-// ROM image. The first bytes decide, then the file name, then the text.
+// Determines the contents of a file that the user chooses or drops: a project, a session, a board, a program, tests, properties, bench
+// lines, or a ROM image. The first bytes decide, then the file name, then the text.
 
 import { readInputs } from "../bench/inputs.js";
 import { PROJECT_FILE } from "../project/project_toml.js";
@@ -10,8 +10,8 @@ import { isProject } from "./project_file.js";
 import * as say from "../../words/session.js";
 
 /**
- * The texts in a file; null for a missing kind. `lines` are the other bench lines. `isGuess` is true if neither the name nor the text shows that the
- * file is a program.
+ * The texts in a file; null for a missing kind. `lines` are the other bench lines. `isGuess` is true if neither the name nor the text shows
+ * that the file is a program.
  * @typedef {{ board: string | null, program: string | null, tests: string | null, properties: string | null, lines: string,
  *   isGuess?: boolean }} FileTexts
  *

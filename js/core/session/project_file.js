@@ -1,5 +1,5 @@
-// Reads and writes project files. A project file is one text file with the session file, its name and the editor texts. The manual ("A project file")
-// describes its lines. project_parts.js writes the same parts as files in a folder.
+// Reads and writes project files. A project file is one text file with the session file, its name and the editor texts. The manual ("A
+// project file") describes its lines. project_parts.js writes the same parts as files in a folder.
 
 import { checksum } from "./checksum.js";
 import { shortName } from "./names.js";
@@ -189,8 +189,8 @@ function checkWhole(text) {
 }
 
 /**
- * Reads the lines before the first text: the name, the breakpoints and the watch expressions. `unended` are the texts that do not end with a line
- * feed.
+ * Reads the lines before the first text: the name, the breakpoints and the watch expressions. `unended` are the texts that do not end with
+ * a line feed.
  * @param {Lines} lines
  */
 function readHead(lines) {

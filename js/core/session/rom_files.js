@@ -11,8 +11,8 @@ import * as say from "../../words/session.js";
  * The callbacks of RomFiles.
  * @typedef {object} RomCalls
  * @property {(lines: string) => Promise<string[]>} ask Resolves to the bench's answers to queries.
- * @property {(lines: string) => Promise<string | null>} act Serves lines that change the session. Resolves to the first answer. If the call fails,
- *   reports the error and resolves to null.
+ * @property {(lines: string) => Promise<string | null>} act Serves lines that change the session. Resolves to the first answer. If the call
+ *   fails, reports the error and resolves to null.
  * @property {() => Promise<void>} stop Pauses time; resolves after time is paused.
  */
 

@@ -1,5 +1,6 @@
-// Counts the work of test runs, with the bench's forecasts (`count`, `trace`) before each run: how often each instruction starts and jumps, its
-// cycles, the duration of each call, and the time from a key press to a lamp change. The subclasses count less, for tools that print no profile.
+// Counts the work of test runs, with the bench's forecasts (`count`, `trace`) before each run: how often each instruction starts and jumps,
+// its cycles, the duration of each call, and the time from a key press to a lamp change. The subclasses count less, for tools that print no
+// profile.
 
 import { ADDRESSES } from "../bench/rom_bytes.js";
 import { readTraced } from "../engine/tracing.js";
@@ -12,8 +13,8 @@ import { cyclesOf, isCall, isReturn, targetOf } from "../engine/rom_codes.js";
  * The calls of a routine: their number, their cycles including nested calls, and the length of the longest call in cycles.
  * @typedef {{ times: number, withCalls: number, longest: number }} Calls
  *
- * The presses of a key: their number, and the number of presses that changed a lamp. `first` is the longest time from a press to the first lamp
- * change. `last` is the longest time to the last lamp change before the next press. Times are in cycles.
+ * The presses of a key: their number, and the number of presses that changed a lamp. `first` is the longest time from a press to the first
+ * lamp change. `last` is the longest time to the last lamp change before the next press. Times are in cycles.
  * @typedef {{ presses: number, answered: number, first: number, last: number }} KeyTimes
  *
  * A call in progress: the address of the routine, and the time of the call in cycles.
@@ -121,8 +122,8 @@ export class Account {
   }
 
   /**
-   * Counts the end of the innermost call. Of recursive calls, only the outermost one counts. If the test ends during the JMS, the call counts 0
-   * cycles.
+   * Counts the end of the innermost call. Of recursive calls, only the outermost one counts. If the test ends during the JMS, the call
+   * counts 0 cycles.
    * @param {number} time
    */
   leave(time) {

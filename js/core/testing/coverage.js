@@ -17,8 +17,8 @@ import * as say from "../../words/testing.js";
  * A label that a JMS calls, and how often its instruction ran.
  * @typedef {{ label: string, line: number, count: number }} Subroutine
  *
- * The coverage of a program. `instructions` and `ways` are the total numbers of instructions and branch directions. `run` and `waysRun` are the
- * numbers that were executed.
+ * The coverage of a program. `instructions` and `ways` are the total numbers of instructions and branch directions. `run` and `waysRun` are
+ * the numbers that were executed.
  * @typedef {{ lines: Covered[], instructions: number, run: number, ways: number, waysRun: number, never: Stretch[],
  *   subroutines: Subroutine[] }} Coverage
  */

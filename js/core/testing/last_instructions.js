@@ -1,4 +1,5 @@
-// The last instructions of a session under test, one line each, as in a trace. For this, a copy of an earlier state runs the last cycles again.
+// The last instructions of a session under test, one line each, as in a trace. For this, a copy of an earlier state runs the last cycles
+// again.
 
 import { runLines } from "../engine/key_queue.js";
 import { InstructionTexts } from "../trace/instruction_texts.js";

@@ -1,4 +1,5 @@
-// Finds the label that a session under test passed last, and the time. For this, it repeats the whole test in pieces, and counts each piece.
+// Finds the label that a session under test passed last, and the time. For this, it repeats the whole test in pieces, and counts each
+// piece.
 
 import { LONGEST_RUN } from "../engine/key_queue.js";
 import { Answers, readTraced } from "../engine/tracing.js";
@@ -56,8 +57,8 @@ export function lastPassed({ engine, begun, actions }, addresses) {
 }
 
 /**
- * Describes the last label that was passed, after a condition did not become true in time. If the condition is an address, the text also says when it
- * was passed.
+ * Describes the last label that was passed, after a condition did not become true in time. If the condition is an address, the text also
+ * says when it was passed.
  * @param {TestSession} session
  * @param {SourceMap} map
  * @param {Condition} condition

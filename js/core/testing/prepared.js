@@ -13,8 +13,8 @@ import { romCodes } from "../engine/rom_codes.js";
  * @typedef {import("../engine/engine_host.js").EngineHost} Engine
  * @typedef {{ boardText: string, programText: string }} Texts
  *
- * An error in a text: its line (0 if unknown) and its message. `number` is the refusal number, 0 for an error that is not a refusal. `file` is the
- * file name of a test text.
+ * An error in a text: its line (0 if unknown) and its message. `number` is the refusal number, 0 for an error that is not a refusal. `file`
+ * is the file name of a test text.
  * @typedef {{ text: "board" | "program" | "tests" | "properties", file?: string, line: number, number: number, words: string }} TextFault
  *
  * The session, the names, and the bytes in ROM.

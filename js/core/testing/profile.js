@@ -6,8 +6,8 @@
  * @typedef {import("./account.js").Calls} Calls
  * @typedef {import("./account.js").KeyTimes} KeyTimes
  *
- * A row for a label: the cycles from the label to the next label (`own`), and the calls of its routine. The code before all labels has a row with the
- * label "" and the address -1.
+ * A row for a label: the cycles from the label to the next label (`own`), and the calls of its routine. The code before all labels has a
+ * row with the label "" and the address -1.
  * @typedef {{ label: string, address: number, own: number, calls: Calls | null }} ProfileRow
  *
  * The rows for labels, and the rows for pressed keys. `begunBefore`: the cycles of instructions that started before a test.

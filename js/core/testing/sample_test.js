@@ -1,5 +1,5 @@
-// Creates a sample test for a board without tests. The test presses the first key of the board, if there is one, and expects the result: the display
-// text, or a lamp that is on.
+// Creates a sample test for a board without tests. The test presses the first key of the board, if there is one, and expects the result:
+// the display text, or a lamp that is on.
 
 import { shownAnswers } from "../board/shown_answers.js";
 import { SEEN_QUERY, hasScannedDisplay } from "../engine/seen_text.js";

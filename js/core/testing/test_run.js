@@ -25,9 +25,9 @@ import * as say from "../../words/testing.js";
  * @typedef {import("./test_text.js").Step} Step
  * @typedef {import("./test_text.js").Test} Test
  *
- * A failed test. `source`, `line`, `text`: the name of the test text, and the failed step. `words`: the message. The other fields describe the
- * session at that step: the cycles of the test, lamps and registers as in `state`, the last instructions (`trace`), and the session file. `file` is
- * null if the test did not start.
+ * A failed test. `source`, `line`, `text`: the name of the test text, and the failed step. `words`: the message. The other fields describe
+ * the session at that step: the cycles of the test, lamps and registers as in `state`, the last instructions (`trace`), and the session
+ * file. `file` is null if the test did not start.
  * @typedef {{ source: string, line: number, text: string, words: string, cycles: number, lamps: string, registers: string, trace: string[],
  *   file: Uint8Array | null }} Failure
  * @typedef {{ name: string, line: number, cycles: number, failure: Failure | null }} Outcome
@@ -248,8 +248,8 @@ export class TestRun {
   }
 
   /**
-   * Runs until a condition is true at the end of an instruction. For a label, it always runs to the next arrival at the label. Resolves to the error
-   * message, or to "".
+   * Runs until a condition is true at the end of an instruction. For a label, it always runs to the next arrival at the label. Resolves to
+   * the error message, or to "".
    * @param {TestSession} session
    * @param {Condition} condition
    * @param {number} within the maximum number of cycles

@@ -1,5 +1,5 @@
-// A session under test in memory. It stores an earlier state and the later actions, so that it can report the last instructions. Each run is counted
-// before it is executed.
+// A session under test in memory. It stores an earlier state and the later actions, so that it can report the last instructions. Each run
+// is counted before it is executed.
 
 import { SEEN_QUERY } from "../engine/seen_text.js";
 import { readCounter, readRegisters } from "../bench/answers.js";

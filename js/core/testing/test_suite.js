@@ -1,5 +1,5 @@
-// Reads the tests of a program, runs them, and counts their coverage. The page's worker and the commands `mcs4 test`, `mcs4 cover` and `mcs4 profile`
-// use this module.
+// Reads the tests of a program, runs them, and counts their coverage. The page's worker and the commands `mcs4 test`, `mcs4 cover` and
+// `mcs4 profile` use this module.
 //
 //     const report = await runTests(engine, { boardText, programText, testText }, async (done, total) => true);
 

@@ -1,5 +1,5 @@
-// Parses test texts into tests with steps, and reports the errors. Later texts can use the shared steps of earlier texts. Saved states belong to one
-// text. The manual ("The lines of a test") describes the language.
+// Parses test texts into tests with steps, and reports the errors. Later texts can use the shared steps of earlier texts. Saved states
+// belong to one text. The manual ("The lines of a test") describes the language.
 
 import { durationOf, wholeDuration } from "../conditions/durations.js";
 import { expressionOf, testConditionOf } from "../conditions/condition_language.js";
@@ -23,8 +23,8 @@ import * as say from "../../words/testing.js";
  * A key with its name and the commands that press and release it.
  * @typedef {{ name: string, key: import("../board/key_place.js").Key, press: string, release: string }} Key
  *
- * A key that a value selects during the execution of the step: the word in the line, the place of the value, the `trace` place, and the keys for the
- * values 0, 1 and so on. If there are no keys, the value is the key name.
+ * A key that a value selects during the execution of the step: the word in the line, the place of the value, the `trace` place, and the
+ * keys for the values 0, 1 and so on. If there are no keys, the value is the key name.
  * @typedef {{ word: string, place: string, probe: string, keys: Key[] }} ChosenKey
  *
  * The action of a step.
@@ -172,8 +172,8 @@ class TestReader {
   }
 
   /**
-   * Returns a line without its comment. A comment mark needs blanks around it. A mark in the name of a test is part of the name. A mark that is the
-   * name of a key stands for that key.
+   * Returns a line without its comment. A comment mark needs blanks around it. A mark in the name of a test is part of the name. A mark
+   * that is the name of a key stands for that key.
    * @param {string} line
    */
   withoutComment(line) {
@@ -372,8 +372,8 @@ class TestReader {
   }
 
   /**
-   * Parses a word that selects a key by a value: `{r4}` for the key whose name is the value, or `{r4:red,green}` for the key at that index. Returns
-   * null for any other word.
+   * Parses a word that selects a key by a value: `{r4}` for the key whose name is the value, or `{r4:red,green}` for the key at that index.
+   * Returns null for any other word.
    * @param {string} word
    * @returns {ChosenKey | null}
    */

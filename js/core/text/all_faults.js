@@ -1,4 +1,5 @@
-// Finds all errors in the texts of a board and a program, with their positions and messages. The page's editors and the language server show them.
+// Finds all errors in the texts of a board and a program, with their positions and messages. The page's editors and the language server
+// show them.
 
 import { faceFaults } from "../board/face.js";
 import { SourceMap } from "../machine/source_map.js";
@@ -14,8 +15,8 @@ import { alignedText, faultsOfLines, sentText } from "./text_fault.js";
  *
  * The queries to the bench.
  * @typedef {object} Asked
- * @property {(sent: string) => Promise<import("../bench/text_judgement.js").BoardError | null>} wiring resolves to the error in a board text, or to
- *   null
+ * @property {(sent: string) => Promise<import("../bench/text_judgement.js").BoardError | null>} wiring resolves to the error in a board
+ *   text, or to null
  * @property {(sent: string) => Promise<import("../bench/text_judgement.js").LineError[]>} errors resolves to the errors in program lines
  * @property {(sent: string) => Promise<Refusal | null>} refuse resolves to the refusal of a program on the board, or to null
  * @property {(sent: string) => Promise<string[]>} map resolves to the `map` answers for a program

@@ -74,8 +74,8 @@ function statementsForRoms(bytes, pages) {
 }
 
 /**
- * Returns the `asm` texts that store bytes in ROM, each as long as possible. If there are several texts, each of them stores a byte in every affected
- * ROM. If one of these ROMs is missing, the bench therefore rejects all texts.
+ * Returns the `asm` texts that store bytes in ROM, each as long as possible. If there are several texts, each of them stores a byte in
+ * every affected ROM. If one of these ROMs is missing, the bench therefore rejects all texts.
  * @param {Int16Array} bytes the bytes by address; negative for no byte
  * @returns {string[]}
  */
@@ -98,8 +98,8 @@ export function textsOfBytes(bytes) {
 }
 
 /**
- * Returns the `asm` texts that load a program into ROM and store 0 at other addresses. If possible, there is only one text. Otherwise the last text
- * contains the program.
+ * Returns the `asm` texts that load a program into ROM and store 0 at other addresses. If possible, there is only one text. Otherwise the
+ * last text contains the program.
  * @param {string} program the text as sent to the bench
  * @param {number[]} addresses the addresses in ascending order
  * @returns {string[]}

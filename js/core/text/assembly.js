@@ -4,8 +4,9 @@
  * A word and its range in the line.
  * @typedef {{ text: string, from: number, to: number }} Word
  *
- * The parts of a line. `label`: the label, or the name that the line defines. `defines`: true if the line defines a name with `=`. `head`: the first
- * word of the statement. `operands`: the operands, or the value of a definition. `comment`: the index at which the comment starts.
+ * The parts of a line. `label`: the label, or the name that the line defines. `defines`: true if the line defines a name with `=`. `head`:
+ * the first word of the statement. `operands`: the operands, or the value of a definition. `comment`: the index at which the comment
+ * starts.
  * @typedef {{ label: Word | null, defines: boolean, head: Word | null, operands: Word[], comment: number }} Parts
  *
  * @typedef {"comment" | "label" | "instruction" | "directive" | "register" | "number" | "name" | "unknown"} Kind

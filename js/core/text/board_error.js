@@ -1,5 +1,5 @@
-// Describes the error that the bench reports for a board text. The bench names the part, the text reader finds its position, and the manual describes
-// the valid values of each key.
+// Describes the error that the bench reports for a board text. The bench names the part, the text reader finds its position, and the manual
+// describes the valid values of each key.
 
 import { KEYS, LINE_NAMES, MAX_PARTS, MAX_COLUMNS, BITS_PER_CHIP, RANGES, boardLines } from "../bench/board_form.js";
 import { similarWords, suggestion } from "./alike.js";

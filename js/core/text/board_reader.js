@@ -1,5 +1,5 @@
-// Parses the TOML subset of board texts, with the position of each key and value. The parser collects errors and continues after them. Only the bench
-// decides whether a text is valid; this parser explains why the bench rejects a text.
+// Parses the TOML subset of board texts, with the position of each key and value. The parser collects errors and continues after them. Only
+// the bench decides whether a text is valid; this parser explains why the bench rejects a text.
 
 import { RANGES } from "../bench/board_form.js";
 import { tomlWords } from "./toml_words.js";
@@ -13,15 +13,16 @@ import * as say from "../../words/text.js";
  * The end of a word: its line, and the index after its last character.
  * @typedef {{ line: number, to: number }} End
  *
- * A value with its position and end. The position of an array or table is its opening bracket. `whole` is false for a number that is not an integer.
+ * A value with its position and end. The position of an array or table is its opening bracket. `whole` is false for a number that is not an
+ * integer.
  * @typedef {{ inner: Inner, whole: boolean, line: number, from: number, to: number, end: End }} Value
  * @typedef {{ name: string, line: number, from: number, to: number, value: Value }} Key
  *
  * A table with its position and its keys. Only an inline table has an end.
  * @typedef {{ table: string, line: number, from: number, to: number, keys: Key[], end?: End }} Entry
  *
- * The contents of a text: its tables (`entries`), the keys before all tables (`keys`), those of these keys whose values are not tables (`others`),
- * and the errors.
+ * The contents of a text: its tables (`entries`), the keys before all tables (`keys`), those of these keys whose values are not tables
+ * (`others`), and the errors.
  * @typedef {{ entries: Entry[], others: Key[], keys: Key[], faults: Fault[] }} BoardText
  */
 

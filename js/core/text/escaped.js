@@ -1,4 +1,5 @@
-// Makes foreign texts safe for a terminal. Escapes characters that could move the cursor, change the title, or reverse the writing direction.
+// Makes foreign texts safe for a terminal. Escapes characters that could move the cursor, change the title, or reverse the writing
+// direction.
 
 // eslint-disable-next-line no-control-regex
 const UNSAFE_CHARACTERS = /[\u0000-\u0008\u000b-\u001f\u007f-\u009f\u061c\u200e\u200f\u2028-\u202e\u2066-\u2069]/g;

@@ -4,8 +4,8 @@
  * A function that returns the line at a number from 0; undefined after the last line.
  * @typedef {(line: number) => string | undefined} LineAt
  *
- * The patterns for the parts of a text. `mark` starts a comment. `head` matches the first line of a part. `isNested`: true if a head directly after a
- * code line belongs to the enclosing part, as a loop label belongs to its subroutine.
+ * The patterns for the parts of a text. `mark` starts a comment. `head` matches the first line of a part. `isNested`: true if a head
+ * directly after a code line belongs to the enclosing part, as a loop label belongs to its subroutine.
  * @typedef {{ mark: string, head: RegExp, isNested: boolean }} Parts
  */
 

@@ -14,7 +14,8 @@ import * as say from "../../words/text.js";
  * @typedef {import("./program_words.js").Found} Found
  * @typedef {import("./text_fault.js").Fault} Fault
  *
- * The errors in the lines of a program. `areAll` is false if the bench has not checked all lines. `rest` is a refusal without a line number (42).
+ * The errors in the lines of a program. `areAll` is false if the bench has not checked all lines. `rest` is a refusal without a line number
+ * (42).
  * @typedef {{ faults: Fault[], areAll: boolean, rest: Refusal | null }} AllFaults
  */
 

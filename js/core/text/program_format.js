@@ -1,5 +1,5 @@
-// Formats a program: labels at the margin, then columns for instructions, operands and comments. Only blanks change, and only in lines with a valid
-// form, so the program keeps its bytes.
+// Formats a program: labels at the margin, then columns for instructions, operands and comments. Only blanks change, and only in lines with
+// a valid form, so the program keeps its bytes.
 
 import { MAX_LINE_LENGTH } from "../bench/inputs.js";
 import { LONGEST_KEPT, LONGEST_TEXT, sentText, trimBlanks } from "./text_fault.js";
@@ -22,7 +22,9 @@ const OPERANDS = 12;
 const COMMENT = 24;
 /** A comment after long code starts at the next multiple of COMMENT_STEP. */
 const COMMENT_STEP = 8;
-/** An indented comment without code is aligned with statements if its indentation is less than MIN_COMMENT_INDENT; otherwise with comments. */
+/**
+ * An indented comment without code is aligned with statements if its indentation is less than MIN_COMMENT_INDENT; otherwise with comments.
+ */
 const MIN_COMMENT_INDENT = 16;
 const DEFINITION = /^([A-Za-z_]\w*)[ \t]*=[ \t]*(\w+)$/;
 const CODE = /^(?:([A-Za-z_]\w*)[ \t]*:[ \t]*)?(?:([A-Za-z]\w*)(?:[ \t]+(\w+(?:[ \t]*,[ \t]*\w+)*))?)?$/;

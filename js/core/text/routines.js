@@ -1,11 +1,12 @@
-// Finds the routines of a program: the lines that each routine can reach, the routines that it calls with JMS, and its callers. A routine starts at
-// the first statement, and at each label that a JMS names. A path ends at BBL, at JIN (its target is not in the text), at data and at ORG.
+// Finds the routines of a program: the lines that each routine can reach, the routines that it calls with JMS, and its callers. A routine
+// starts at the first statement, and at each label that a JMS names. A path ends at BBL, at JIN (its target is not in the text), at data
+// and at ORG.
 
 import { namesOf, partsOf } from "./assembly.js";
 
 /**
- * A routine. `name` is its label, "" for none. `from` and `to` are the columns of the label. `line` and `last` are its first and last line, from 0.
- * No line between them belongs to another routine.
+ * A routine. `name` is its label, "" for none. `from` and `to` are the columns of the label. `line` and `last` are its first and last line,
+ * from 0. No line between them belongs to another routine.
  * @typedef {{ name: string, line: number, from: number, to: number, last: number }} Routine
  *
  * A statement: its upper-case first word, and the line of its target, -1 for none.
@@ -155,7 +156,8 @@ export class Routines {
   }
 
   /**
-   * Returns the routines that contain a line with a call. These are the routines that reach the line, or else the routine of the nearest label above.
+   * Returns the routines that contain a line with a call. These are the routines that reach the line, or else the routine of the nearest
+   * label above.
    * @param {number} line
    * @returns {Routine[]}
    */

@@ -8,8 +8,9 @@ import { WORDS } from "../conditions/parser.js";
  */
 
 /**
- * A language. `first` matches the words that can start a line. `others` are all other keywords. `named` is the word before a name that extends to the
- * end of the line. `whole` matches the first words of lines without comments. `isFree` is true if a line can start with a condition.
+ * A language. `first` matches the words that can start a line. `others` are all other keywords. `named` is the word before a name that
+ * extends to the end of the line. `whole` matches the first words of lines without comments. `isFree` is true if a line can start with a
+ * condition.
  */
 const TESTS = {
   first: /^(test|steps|from|save|press|release|keys|pace|run|until|expect|mark|set|reset|do|repeat|end)$/,

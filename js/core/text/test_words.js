@@ -138,7 +138,8 @@ export function completeTest(lines, line, at, names, forms) {
 }
 
 /**
- * Returns the words of a line up to the word at a position. Returns an empty list if there is no word at the position, or if the line is a comment.
+ * Returns the words of a line up to the word at a position. Returns an empty list if there is no word at the position, or if the line is a
+ * comment.
  * @param {string} line
  * @param {number} at
  */
@@ -175,7 +176,8 @@ export function helpForTest(lines, line, at, { steps, conditions }) {
 }
 
 /**
- * Replaces the numbers in a word by 0, and the letters that stand for numbers in the manual too. `ram.1.0x20` and `ram.B.S` therefore become equal.
+ * Replaces the numbers in a word by 0, and the letters that stand for numbers in the manual too. `ram.1.0x20` and `ram.B.S` therefore
+ * become equal.
  * @param {string} word
  */
 function normalizedWord(word) {

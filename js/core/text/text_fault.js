@@ -1,5 +1,5 @@
-// Converts a text to the form that is sent to the bench, and finds lines that cannot be sent. Comments and indentation are not sent; comments can
-// therefore contain any character and do not count towards the length. In code, a non-ASCII character is an error.
+// Converts a text to the form that is sent to the bench, and finds lines that cannot be sent. Comments and indentation are not sent;
+// comments can therefore contain any character and do not count towards the length. In code, a non-ASCII character is an error.
 
 import { LINE_TOO_LONG, MAX_LINE_LENGTH, NOT_ASCII } from "../bench/inputs.js";
 import * as say from "../../words/text.js";
@@ -8,8 +8,8 @@ import * as say from "../../words/text.js";
  * A range of lines, counted from 1.
  * @typedef {{ from: number, to: number }} Lines
  *
- * An error: the refusal number (0 for none), the line number from 1, the column range, and the message. `cures` are replacements for that range that
- * fix the error.
+ * An error: the refusal number (0 for none), the line number from 1, the column range, and the message. `cures` are replacements for that
+ * range that fix the error.
  * @typedef {{ number: number, line: number, from: number, to: number, words: string, cures?: string[] }} Fault
  *
  * The character that starts a comment in a program (`;`) and in a board text (`#`).
@@ -35,7 +35,8 @@ export function faultAt(number, { line, from, to }, words) {
 }
 
 /**
- * Returns the index at which the comment of a line starts; the line length if it has none. In a board text, a mark inside a string does not count.
+ * Returns the index at which the comment of a line starts; the line length if it has none. In a board text, a mark inside a string does not
+ * count.
  * @param {string} line
  * @param {CommentMark} mark
  */

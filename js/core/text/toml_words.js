@@ -3,7 +3,8 @@
 import * as say from "../../words/text.js";
 
 /**
- * A word: a mark, a string without its quotes, a bare word, the end of a line, or an invalid word. `fault` is the error message for an invalid word.
+ * A word: a mark, a string without its quotes, a bare word, the end of a line, or an invalid word. `fault` is the error message for an
+ * invalid word.
  * @typedef {{ kind: "mark" | "string" | "bare" | "end" | "bad", text: string, line: number, from: number, to: number,
  *   fault: string }} TomlWord
  */

@@ -1,5 +1,5 @@
-// Real time: computes the number of cycles that are due. Time during which the page was hidden, blocked or asleep does not count. A key press is
-// simulated early, and later frames make up for it.
+// Real time: computes the number of cycles that are due. Time during which the page was hidden, blocked or asleep does not count. A key
+// press is simulated early, and later frames make up for it.
 
 import { CYCLES_PER_SECOND, FRAME_MS } from "./mcs4_time.js";
 

@@ -18,12 +18,12 @@ import * as say from "../../words/time.js";
  * The callbacks of Travel.
  * @typedef {object} TravelCalls
  * @property {() => Promise<void>} stand Pauses time; resolves after time is paused.
- * @property {() => { board: string, program: string, watched: string[] }} texts Returns the texts whose names conditions can use, and the watch
- *   expressions.
+ * @property {() => { board: string, program: string, watched: string[] }} texts Returns the texts whose names conditions can use, and the
+ *   watch expressions.
  * @property {(goal: Goal | null) => void} aim Stores the goal in the session during the search; null removes it.
- * @property {<Result extends ServedLines>(words: string, work: (ways: Ways) => Promise<Result>) => Promise<Result | null>} change Does work that
- *   changes the session; saves and shows the result. `words` describe the work while the user can cancel it. If the work is cancelled or fails,
- *   reports that and resolves to null.
+ * @property {<Result extends ServedLines>(words: string, work: (ways: Ways) => Promise<Result>) => Promise<Result | null>} change Does work
+ *   that changes the session; saves and shows the result. `words` describe the work while the user can cancel it. If the work is cancelled
+ *   or fails, reports that and resolves to null.
  * @property {(goal: Goal) => void} runTo Starts time; it runs to the goal that the bench has stored.
  * @property {(tally: Tally) => void} counted Reports breakpoint hits and log messages.
  * @property {(stop: Stop, goal: Goal) => string} reasonOf Returns the message with the reason why time stopped.

@@ -1,5 +1,5 @@
-// Builds the lines of a trace: one line per instruction of a run, with its changes. They come from the answers to the queries `count` and `trace`,
-// which do not change the state.
+// Builds the lines of a trace: one line per instruction of a run, with its changes. They come from the answers to the queries `count` and
+// `trace`, which do not change the state.
 
 import { MOST_PLACES } from "../bench/inputs.js";
 import { valueIn } from "../bench/state_line.js";

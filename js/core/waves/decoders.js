@@ -1,5 +1,6 @@
-// Decoders: rows that are computed from several signal lines of a recording. The decoder of a shift register (4003) shows the bit that each clock
-// edge shifts in, and the register bits when the register is at rest. The decoder of the key matrix shows the driven rows and the pressed keys.
+// Decoders: rows that are computed from several signal lines of a recording. The decoder of a shift register (4003) shows the bit that each
+// clock edge shifts in, and the register bits when the register is at rest. The decoder of the key matrix shows the driven rows and the
+// pressed keys.
 
 import { countUpTo } from "./growing.js";
 import * as say from "../../words/waves.js";
@@ -13,7 +14,10 @@ import * as say from "../../words/waves.js";
 /** The number of cycles without a clock edge after which a register is at rest. */
 export const REST = 16;
 
-/** The values in the track of a shift register. Each bit value has two codes that alternate, so that two equal bits in a row are two changes. */
+/**
+ * The values in the track of a shift register. Each bit value has two codes that alternate, so that two equal bits in a row are two
+ * changes.
+ */
 const AT_REST = 0;
 const BIT = 2;
 const OTHER_BIT = 4;
@@ -39,8 +43,8 @@ export function lastRise(clock, until) {
 
 /**
  * Extends the track of a shift register from a moment to the end of the recording.
- * @param {{ clock: Track, data: Track, rise: number }} from the tracks of the register's lines; `rise` is the last rising clock edge up to `after`,
- *   or -1
+ * @param {{ clock: Track, data: Track, rise: number }} from the tracks of the register's lines; `rise` is the last rising clock edge up to
+ *   `after`, or -1
  * @param {Track} track
  * @param {number} after
  * @param {number} end
@@ -95,7 +99,8 @@ function onesOf(value, from, to) {
 }
 
 /**
- * Returns the driven rows, the columns with a pressed key, and the names of the pressed keys. If several rows are driven, the keys are unknown.
+ * Returns the driven rows, the columns with a pressed key, and the names of the pressed keys. If several rows are driven, the keys are
+ * unknown.
  * @param {WaveLine} line
  * @param {number} value a value in the track of the key scan
  */

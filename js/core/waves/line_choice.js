@@ -52,8 +52,8 @@ function lineIndices(lines, word) {
 }
 
 /**
- * Returns the lines for words; without words, all one-bit lines of the board. Throws a NoLine if a word matches no line, or if a line is requested
- * twice.
+ * Returns the lines for words; without words, all one-bit lines of the board. Throws a NoLine if a word matches no line, or if a line is
+ * requested twice.
  * @param {Board} board
  * @param {string} text the board text, for the names
  * @param {boolean} hasLabels

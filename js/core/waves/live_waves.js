@@ -9,8 +9,8 @@ import * as say from "../../words/waves.js";
  * @typedef {import("../engine/live_recorder.js").LivePart} LivePart
  * @typedef {import("../engine/wave_recorder.js").Recorded} Recorded
  *
- * The settings. `most`: the maximum length in cycles. `behind`: the number of these cycles after the trigger. `trigger`: the text of the trigger, ""
- * for none. `stopsTime`: true if time stops at the end.
+ * The settings. `most`: the maximum length in cycles. `behind`: the number of these cycles after the trigger. `trigger`: the text of the
+ * trigger, "" for none. `stopsTime`: true if time stops at the end.
  * @typedef {{ most: number, behind: number, trigger: string, stopsTime: boolean }} LiveChoice
  */
 

@@ -8,8 +8,8 @@ import * as say from "../../words/waves.js";
 /**
  * @typedef {import("./wave_recording.js").Waves} Waves
  *
- * A measurement: the line keeps its value from one moment to another. `isWhole`: both moments are changes of the line, not ends of the recording.
- * `period`: the cycles from the edge before the moment to the next edge in the same direction, 0 if there is none.
+ * A measurement: the line keeps its value from one moment to another. `isWhole`: both moments are changes of the line, not ends of the
+ * recording. `period`: the cycles from the edge before the moment to the next edge in the same direction, 0 if there is none.
  * @typedef {{ from: number, to: number, isWhole: boolean, period: number }} Measure
  */
 

@@ -1,5 +1,5 @@
-// The values of a signal line in a recording: the first value, and each moment at which the value changed. The track of a single bit stores no values
-// because the bit alternates.
+// The values of a signal line in a recording: the first value, and each moment at which the value changed. The track of a single bit stores
+// no values because the bit alternates.
 
 import { NumberQueue, countUpTo } from "./growing.js";
 

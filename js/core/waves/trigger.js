@@ -1,5 +1,5 @@
-// Parses the trigger of a recording: an edge of a signal line (`rom0.2 rises`, `lamp 3 falls`, `r5 changes`), or a condition that becomes true (`r9 =
-// 9`, `lamp 3 on`, `display 42`, `@LABEL`: see conditions/condition_language.js).
+// Parses the trigger of a recording: an edge of a signal line (`rom0.2 rises`, `lamp 3 falls`, `r5 changes`), or a condition that becomes
+// true (`r9 = 9`, `lamp 3 on`, `display 42`, `@LABEL`: see conditions/condition_language.js).
 
 import { tracedConditionOf } from "../conditions/condition_language.js";
 import { isDecoder } from "./decoders.js";
@@ -11,8 +11,8 @@ import * as say from "../../words/waves.js";
  * @typedef {import("./wave_lines.js").WaveLine} WaveLine
  * @typedef {"rises" | "falls" | "changes"} Edge
  *
- * A trigger. For an edge, `members` are the indexes of its lines. For a condition, `places` are the `trace` places that it needs. If the condition
- * depends only on the program counter, `address` is the value that makes it true, otherwise -1.
+ * A trigger. For an edge, `members` are the indexes of its lines. For a condition, `places` are the `trace` places that it needs. If the
+ * condition depends only on the program counter, `address` is the value that makes it true, otherwise -1.
  * @typedef {{ edge: Edge | "", members: number[], places: string[], address: number, holds: (values: string[]) => boolean }} Trigger
  */
 
@@ -26,8 +26,8 @@ export function plain(text) {
 }
 
 /**
- * Returns the index of the line with a name, or -1. Examples of names: `rom0.2`, `rom0` (the port), `lamp 3`, `lamp minus`, `minus`, `key 7`, `r5`,
- * `ram 0 0x12`.
+ * Returns the index of the line with a name, or -1. Examples of names: `rom0.2`, `rom0` (the port), `lamp 3`, `lamp minus`, `minus`, `key
+ * 7`, `r5`, `ram 0 0x12`.
  * @param {string} text
  * @param {WaveLine[]} lines
  */

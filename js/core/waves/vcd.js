@@ -12,7 +12,8 @@ const MAX_LINES = 8192;
 /** The maximum number of text lines per part of the file. A long recording does not fit into one string. */
 const PART_LINES = 100000;
 /**
- * The letters for line codes. No VCD value starts with one of them, so a reader that skips an unknown kind of value still reads the rest correctly.
+ * The letters for line codes. No VCD value starts with one of them, so a reader that skips an unknown kind of value still reads the rest
+ * correctly.
  */
 const LETTERS = "ACDEFGHIJKLMNOPQSTUVWY";
 

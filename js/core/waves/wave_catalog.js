@@ -26,8 +26,8 @@ export function catalogOf(board, text) {
 }
 
 /**
- * Returns the lines that are visible at first: the bits that change, the decoders that change, the program counter and the label. If no bit changes,
- * the first bits are visible.
+ * Returns the lines that are visible at first: the bits that change, the decoders that change, the program counter and the label. If no bit
+ * changes, the first bits are visible.
  * @param {Waves} waves
  */
 export function firstChoice(waves) {
@@ -61,8 +61,8 @@ function matchingLines(offered, text) {
 }
 
 /**
- * Returns the lines for a search text. Because RAM has many nibbles, the list contains the chosen nibbles and a limited number of other matching
- * nibbles.
+ * Returns the lines for a search text. Because RAM has many nibbles, the list contains the chosen nibbles and a limited number of other
+ * matching nibbles.
  * @param {WaveLine[]} offered
  * @param {string} text
  * @param {Set<string>} chosen

@@ -1,5 +1,5 @@
-// The lines of a recording: the signal lines of a board, decoders, ports as numbers, and requested values, with their names and `trace` places. The
-// page and `mcs4 wave` use the same names in the same order.
+// The lines of a recording: the signal lines of a board, decoders, ports as numbers, and requested values, with their names and `trace`
+// places. The page and `mcs4 wave` use the same names in the same order.
 
 import { BITS_PER_CHIP } from "../bench/board_form.js";
 import { numberOf, upTo } from "../bench/numbers.js";
@@ -13,13 +13,14 @@ import * as say from "../../words/waves.js";
  * @typedef {import("../board/face.js").FaceText} FaceText
  * @typedef {"level" | "key" | "test" | "value" | "port" | "shift" | "scan" | "pc" | "label"} WaveKind
  *
- * A line of a recording. `title` is its name in the board text, "" for none. `group` is its part of the board. `width` is its number of bits.
+ * A line of a recording. `title` is its name in the board text, "" for none. `group` is its part of the board. `width` is its number of
+ * bits.
  *
- * `places` depends on the kind. Level: the signal line of the board. Key: its row and column. Value: the `trace` places of its digits, highest digit
- * first. Scan: the names of its keys, row by row.
+ * `places` depends on the kind. Level: the signal line of the board. Key: its row and column. Value: the `trace` places of its digits,
+ * highest digit first. Scan: the names of its keys, row by row.
  *
- * `members` are the indexes of other lines. Port: its lines, lowest first. Shift register: its clock, its data and its bits. Scan: its columns and
- * its rows; `columns` is the number of columns.
+ * `members` are the indexes of other lines. Port: its lines, lowest first. Shift register: its clock, its data and its bits. Scan: its
+ * columns and its rows; `columns` is the number of columns.
  * @typedef {{ name: string, title: string, group: string, kind: WaveKind, places: string[], members: number[], width: number,
  *   columns: number }} WaveLine
  */
@@ -184,8 +185,8 @@ export function characterNames({ banks }) {
 }
 
 /**
- * Returns the lines of a board in this order: ROMs, RAM chips, chains, lamps, keys, TEST, ports as numbers, decoders, requested values, the program
- * counter, and the label if the program labels are known.
+ * Returns the lines of a board in this order: ROMs, RAM chips, chains, lamps, keys, TEST, ports as numbers, decoders, requested values, the
+ * program counter, and the label if the program labels are known.
  * @param {Board} board
  * @param {string} text the board text, for the names
  * @param {boolean} hasLabels

@@ -1,5 +1,5 @@
-// A recording for the page: the value of each line at a moment, its changes, and the instruction at a moment. A recording of running time grows at
-// its end and drops its start.
+// A recording for the page: the value of each line at a moment, its changes, and the instruction at a moment. A recording of running time
+// grows at its end and drops its start.
 
 import { ADDRESSES } from "../bench/rom_bytes.js";
 import { deriveShift, lastRise, scanText, shiftText } from "./decoders.js";
@@ -13,8 +13,8 @@ import { valueText } from "./wave_words.js";
  * @typedef {import("./wave_lines.js").WaveLine} WaveLine
  * @typedef {import("./wave_words.js").Base} Base
  *
- * The instruction at a moment: its address, its listing line, and its source line with the line number (0 for none). `isSecond`: the moment is the
- * second cycle of an instruction. `isEnd`: it is the next instruction, at the end of the recording.
+ * The instruction at a moment: its address, its listing line, and its source line with the line number (0 for none). `isSecond`: the moment
+ * is the second cycle of an instruction. `isEnd`: it is the next instruction, at the end of the recording.
  * @typedef {{ address: number, listed: string, line: number, source: string, isSecond: boolean, isEnd: boolean }} Instruction
  */
 
@@ -137,8 +137,8 @@ export class Waves {
   }
 
   /**
-   * Returns the value of a computed line: a port from its lines; the program counter and the label from the instructions. At the start, a shift
-   * register is at rest.
+   * Returns the value of a computed line: a port from its lines; the program counter and the label from the instructions. At the start, a
+   * shift register is at rest.
    * @param {number} line
    * @param {number} moment
    */

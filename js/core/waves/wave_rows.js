@@ -1,4 +1,5 @@
-// The arrangement of wave rows: their order, titles, colours and groups. It is stored by line name, so that it also applies to later recordings.
+// The arrangement of wave rows: their order, titles, colours and groups. It is stored by line name, so that it also applies to later
+// recordings.
 
 /**
  * @typedef {import("./wave_lines.js").WaveLine} WaveLine

@@ -9,8 +9,8 @@ import * as say from "../../words/waves.js";
 /**
  * @typedef {import("./wave_recording.js").Waves} Waves
  *
- * A search: the index of a line, and a function that tests a value. If `each` is true, every change to a matching value is a match. Otherwise a
- * change is a match only if the previous value did not match.
+ * A search: the index of a line, and a function that tests a value. If `each` is true, every change to a matching value is a match.
+ * Otherwise a change is a match only if the previous value did not match.
  * @typedef {{ line: number, matches: (value: number) => boolean, each: boolean }} Search
  */
 

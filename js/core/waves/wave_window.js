@@ -81,8 +81,8 @@ export class WaveWindow {
   }
 
   /**
-   * Follows a recording that grows at its end and drops its start. If the visible part or a cursor is at the end, it moves with the end. A short
-   * recording stays completely visible.
+   * Follows a recording that grows at its end and drops its start. If the visible part or a cursor is at the end, it moves with the end. A
+   * short recording stays completely visible.
    * @param {number} begin
    * @param {number} end
    */

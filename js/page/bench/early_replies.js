@@ -1,5 +1,6 @@
-// Delivers worker replies to the page faster. After a key press, Chromium delivers a worker's messages only at the next frame, but broadcast channel
-// messages at once. A broadcast message can be lost, for example while the page is frozen, so each reply is also sent as an ordinary message.
+// Delivers worker replies to the page faster. After a key press, Chromium delivers a worker's messages only at the next frame, but
+// broadcast channel messages at once. A broadcast message can be lost, for example while the page is frozen, so each reply is also sent as
+// an ordinary message.
 
 /**
  * @typedef {import("../../core/bench/bench_client.js").WorkerLike} WorkerLike

@@ -37,7 +37,8 @@ const MAX_LARGE_LEGEND = 4;
 export class FrontView {
   /**
    * @param {(button: HTMLButtonElement, key: BoardKey) => void} listen connects a button to its key
-   * @param {(face: string, number: number) => void} watch asks the bench to measure lamp duty cycles for a front panel (its comments and its number)
+   * @param {(face: string, number: number) => void} watch asks the bench to measure lamp duty cycles for a front panel (its comments and
+   *   its number)
    */
   constructor(listen, watch) {
     this.listen = listen;
@@ -76,8 +77,8 @@ export class FrontView {
   }
 
   /**
-   * Draws a changed front panel of the same board. A text without front panel comments leaves the drawn front panel as it is, because the user may
-   * still be writing.
+   * Draws a changed front panel of the same board. A text without front panel comments leaves the drawn front panel as it is, because the
+   * user may still be writing.
    * @param {Board} board
    * @param {Face} face
    */

@@ -1,5 +1,5 @@
-// The board's lamps. A lamp with a position on the front panel is drawn there. All other lamps are in rows and have their own names or the names of
-// their lines.
+// The board's lamps. A lamp with a position on the front panel is drawn there. All other lamps are in rows and have their own names or the
+// names of their lines.
 
 import { block, element } from "../ui/dom.js";
 import { brightnessOf } from "../../core/board/brightness.js";

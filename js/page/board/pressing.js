@@ -15,8 +15,8 @@ import { textOfKey } from "../../core/board/key_place.js";
  * @property {(key: Key) => void} press Queues a press of a key while time is running.
  * @property {(key: Key) => void} release Queues a release of a key while time is running.
  * @property {(word: "press" | "release", key: Key) => void} change Presses or releases a key immediately while time is paused.
- * @property {(event: KeyboardEvent) => BoardKey | undefined} meant Returns the board's key for a keyboard event. Returns undefined if there is none,
- *   or if another element handles the event.
+ * @property {(event: KeyboardEvent) => BoardKey | undefined} meant Returns the board's key for a keyboard event. Returns undefined if there
+ *   is none, or if another element handles the event.
  */
 
 /**
@@ -149,7 +149,8 @@ export class Pressing {
   }
 
   /**
-   * Releases a key when its finger lifts, unless the key stays down. If time was paused in between, the release takes effect when time resumes.
+   * Releases a key when its finger lifts, unless the key stays down. If time was paused in between, the release takes effect when time
+   * resumes.
    * @param {Key} key
    */
   up(key) {

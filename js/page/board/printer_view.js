@@ -14,8 +14,8 @@ import { printoutLines } from "../../core/board/strip.js";
 /**
  * The callbacks of the printer view.
  * @typedef {object} PrinterCalls
- * @property {(printer: { strobe: string, port: string } | null) => void} printOn Asks the bench to report the codes sent to a printer; null for no
- *   printer.
+ * @property {(printer: { strobe: string, port: string } | null) => void} printOn Asks the bench to report the codes sent to a printer; null
+ *   for no printer.
  * @property {() => void} clear Clears the bench's copy of the printout.
  */
 
@@ -59,8 +59,8 @@ export class PrinterView {
   }
 
   /**
-   * Draws a changed front panel of the same board. If its text has no front panel, or no printer on this board, the user may still be writing: the
-   * printout stays.
+   * Draws a changed front panel of the same board. If its text has no front panel, or no printer on this board, the user may still be
+   * writing: the printout stays.
    * @param {Board} board
    * @param {Face} face
    */

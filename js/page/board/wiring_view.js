@@ -88,8 +88,8 @@ export class WiringView {
    * Draws another board.
    * @param {Board} board
    * @param {import("../../core/board/wiring.js").Appearance} look
-   * @param {{ moved: import("../../core/board/wiring.js").Moved, isWired: boolean }} how the positions of dragged parts, and whether this board is
-   *   the one in use, whose lines have levels
+   * @param {{ moved: import("../../core/board/wiring.js").Moved, isWired: boolean }} how the positions of dragged parts, and whether this
+   *   board is the one in use, whose lines have levels
    */
   draw(board, look, { moved, isWired }) {
     const { parts, wires, ...size } = drawBoard(board, look, moved);

@@ -1,4 +1,5 @@
-// The table of all page commands. The toolbar, the menus, the palette, the key list in the help and the key bindings are created from this table.
+// The table of all page commands. The toolbar, the menus, the palette, the key list in the help and the key bindings are created from this
+// table.
 
 import { SPEEDS } from "../../core/time/speeds.js";
 import { KEYBOARD } from "../../words/help.js";
@@ -10,9 +11,10 @@ import * as say from "../../words/page_commands.js";
  * @typedef {"everywhere" | "texts" | "source" | "board" | "tests" | "properties"} KeyPlace the part of the page in which a key works
  * @typedef {"system" | "light" | "dark"} Theme
  *
- * A command. `id` names it within the page's modules. `words` is its label. `group` is its group in lists. `icon` is its optional icon. `keys` are
- * its keys; lists show the first one. `place` is the part of the page in which the keys work. `act` executes the command. `wordsNow` returns a label
- * that depends on whether time is running. `whyNot` returns the reason why the command cannot run now, or "" if it can.
+ * A command. `id` names it within the page's modules. `words` is its label. `group` is its group in lists. `icon` is its optional icon.
+ * `keys` are its keys; lists show the first one. `place` is the part of the page in which the keys work. `act` executes the command.
+ * `wordsNow` returns a label that depends on whether time is running. `whyNot` returns the reason why the command cannot run now, or "" if
+ * it can.
  * @typedef {{ id: string, words: string, group: keyof typeof say.GROUPS, icon?: IconName, keys: string[], place: KeyPlace,
  *   wordsNow?: (calls: CommandCalls) => string,
  *   act: (calls: CommandCalls) => void, whyNot: (calls: CommandCalls) => string }} Command
@@ -43,10 +45,11 @@ import * as say from "../../words/page_commands.js";
  * @property {(field: string, shown: string) => void} enter Brings the text or panel `shown` to the front, then focuses a field by its id.
  * @property {(text: TextName) => void} send Sends a text, as the first button of its editor does.
  * @property {(box: string) => void} toggle Toggles a check box by its id.
- * @property {(isSource: boolean) => boolean} hasText Returns true if a text is in front. With `isSource`, returns whether the source is in front.
+ * @property {(isSource: boolean) => boolean} hasText Returns true if a text is in front. With `isSource`, returns whether the source is in
+ *   front.
  * @property {(what: TextAct) => void} inText Performs an editing action in the text that is in front.
- * @property {(what?: import("../machine/breakpoint_row.js").BreakpointField) => void} breakpoint Toggles the breakpoint at the caret's line. With a
- *   field, opens that field of the breakpoint.
+ * @property {(what?: import("../machine/breakpoint_row.js").BreakpointField) => void} breakpoint Toggles the breakpoint at the caret's
+ *   line. With a field, opens that field of the breakpoint.
  * @property {() => void} open Asks for a file to open.
  * @property {() => void} save Saves the project to a file.
  * @property {() => void} saveSession Saves only the session file.

@@ -22,7 +22,8 @@ const EVERYWHERE = new Map(COMMANDS.filter(({ place }) => place === "everywhere"
   command.keys.map((key) => [key, command]))));
 
 /**
- * Returns the command of a key that works everywhere. Returns undefined for other keys, or if another part of the page has handled the event.
+ * Returns the command of a key that works everywhere. Returns undefined for other keys, or if another part of the page has handled the
+ * event.
  * @param {Typed & { defaultPrevented: boolean }} event
  * @returns {Command | undefined}
  */
@@ -31,7 +32,8 @@ export function commandOfKey(event) {
 }
 
 /**
- * Listens to the keys that work everywhere. While a dialog is open, these keys execute neither the command nor the browser's default action.
+ * Listens to the keys that work everywhere. While a dialog is open, these keys execute neither the command nor the browser's default
+ * action.
  * @param {(command: Command) => void} act
  * @param {() => boolean} isBlocked
  * @param {Pick<Window, "addEventListener">} target

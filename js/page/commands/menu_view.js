@@ -5,8 +5,8 @@ import { icon } from "../ui/icons.js";
 import { putBelow } from "../ui/popup_message.js";
 
 /**
- * A menu item: its id, label, icon, key and action. `isChosen` returns whether this alternative is selected. A wide window has the items with
- * `isNarrow` in the toolbar instead.
+ * A menu item: its id, label, icon, key and action. `isChosen` returns whether this alternative is selected. A wide window has the items
+ * with `isNarrow` in the toolbar instead.
  * @typedef {{ id?: string, words: string, icon?: import("../ui/icons.js").IconName, key?: string, act: () => void,
  *   isChosen?: () => boolean, isNarrow?: boolean }} MenuItem
  */

@@ -1,8 +1,8 @@
 // The palette's search: finds the entries that contain all words of the query, best matches first.
 
 /**
- * A palette entry. `words` is its label and `hint` the text next to it. `why` is the reason why it cannot run, or "" if it can. `isFound` is true if
- * another search has found the entry, which is then listed whatever its label is.
+ * A palette entry. `words` is its label and `hint` the text next to it. `why` is the reason why it cannot run, or "" if it can. `isFound`
+ * is true if another search has found the entry, which is then listed whatever its label is.
  * @typedef {{ words: string, hint: string, why: string, keys: string[], icon?: import("../ui/icons.js").IconName, isFound?: boolean,
  *   act: () => void }} Entry
  */
@@ -13,8 +13,8 @@ export function wordsOfQuery(query) {
 }
 
 /**
- * Returns an entry's rank, from best to worst: 0 if its label begins with the query; 1 if each query word begins a word of the label; 2 if the label
- * contains each query word; 3 if label, hint and keys together contain each query word. Returns -1 if the entry does not match.
+ * Returns an entry's rank, from best to worst: 0 if its label begins with the query; 1 if each query word begins a word of the label; 2 if
+ * the label contains each query word; 3 if label, hint and keys together contain each query word. Returns -1 if the entry does not match.
  * @param {Entry} entry
  * @param {string[]} wanted
  */

@@ -1,5 +1,5 @@
-// The command palette: a field that filters commands or destinations, and the list of matches. It follows the ARIA pattern of a combobox with a
-// listbox: the field keeps the focus, arrow keys choose an entry, and Enter executes it.
+// The command palette: a field that filters commands or destinations, and the list of matches. It follows the ARIA pattern of a combobox
+// with a listbox: the field keeps the focus, arrow keys choose an entry, and Enter executes it.
 
 import { element } from "../ui/dom.js";
 import { icon } from "../ui/icons.js";

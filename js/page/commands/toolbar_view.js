@@ -13,7 +13,9 @@ import * as say from "../../words/page_commands.js";
  * @typedef {import("../ui/tooltips.js").Tooltips} Tooltips
  */
 
-/** @typedef {{ id: string, tip?: string, isWide?: boolean }} ButtonLook the id and tooltip of a button; if `isWide`, its label is visible */
+/**
+ * @typedef {{ id: string, tip?: string, isWide?: boolean }} ButtonLook the id and tooltip of a button; if `isWide`, its label is visible
+ */
 
 /** The id of each command's button. */
 const TRANSPORT = {

@@ -135,8 +135,8 @@ export class DrawingController {
   }
 
   /**
-   * Adds a part from the shelf with its head at a point of the sheet. A part that joins an existing part is not moved: for example, a lamp joins the
-   * other lamps.
+   * Adds a part from the shelf with its head at a point of the sheet. A part that joins an existing part is not moved: for example, a lamp
+   * joins the other lamps.
    * @param {import("../../core/drawing/acts.js").Act} act
    * @param {import("../../core/board/wiring.js").Point | null} point
    */

@@ -24,8 +24,8 @@ import * as say from "../../words/drawing.js";
  * @property {(part: string) => void} find Shows the lines of a part in the text. The part is named as in the picture, for example `rom 1`.
  * @property {() => void} tidy Moves all parts to their default positions.
  * @property {() => void} scanKeys Inserts a key scan routine into the source.
- * @property {(act: Act, point: Point | null) => void} drop Adds a part and focuses it. The part is at a point of the sheet, or at its default
- *   position for null.
+ * @property {(act: Act, point: Point | null) => void} drop Adds a part and focuses it. The part is at a point of the sheet, or at its
+ *   default position for null.
  */
 
 /** The parts for which the user chooses a number of digits. */

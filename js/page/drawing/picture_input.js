@@ -1,5 +1,5 @@
-// Mouse, touch and keyboard input on the board's picture. The user draws a wire from pin to pin, by dragging or by two clicks, and drags parts. Arrow
-// keys move the focus between parts and between pins.
+// Mouse, touch and keyboard input on the board's picture. The user draws a wire from pin to pin, by dragging or by two clicks, and drags
+// parts. Arrow keys move the focus between parts and between pins.
 
 /**
  * @typedef {import("../board/wiring_view.js").WiringView} WiringView
@@ -159,8 +159,8 @@ export class PictureInput {
   }
 
   /**
-   * Handles an arrow key: moves the focus to the next part or pin. During a wire, the focus moves between the pins where the wire can end, from the
-   * last to the first. With Shift, moves the part instead. Returns true if the key has an action.
+   * Handles an arrow key: moves the focus to the next part or pin. During a wire, the focus moves between the pins where the wire can end,
+   * from the last to the first. With Shift, moves the part instead. Returns true if the key has an action.
    * @param {KeyboardEvent} event
    * @param {string} name
    */

@@ -1,5 +1,5 @@
-// Drags parts from the shelf onto the sheet, by mouse, pen or touch. A lamp or a buzzer that is dropped on a line is wired to that line. A click adds
-// a part at its default position. Shift and Enter add a part and focus it on the sheet, where arrow keys can move it.
+// Drags parts from the shelf onto the sheet, by mouse, pen or touch. A lamp or a buzzer that is dropped on a line is wired to that line. A
+// click adds a part at its default position. Shift and Enter add a part and focus it on the sheet, where arrow keys can move it.
 
 import { element } from "../ui/dom.js";
 
@@ -7,7 +7,8 @@ import { element } from "../ui/dom.js";
  * @typedef {import("../../core/drawing/acts.js").Shelved} Shelved
  * @typedef {{ clientX: number, clientY: number }} Place
  *
- * The part under the pressed pointer, with its button, the point where the pointer went down, and whether the part has been dragged since then.
+ * The part under the pressed pointer, with its button, the point where the pointer went down, and whether the part has been dragged since
+ * then.
  * @typedef {{ part: Shelved, node: HTMLElement, from: Place, isDragged: boolean }} Held
  *
  * The callbacks of the shelf.

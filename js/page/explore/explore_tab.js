@@ -29,9 +29,9 @@ import * as say from "../../words/explore.js";
  * @property {() => Omit<ExploredTexts, "propertiesText">} texts Returns the present texts of board, source and tests.
  * @property {() => string[]} labels Returns the labels of the program in ROM.
  * @property {(texts: ExploredTexts) => Promise<TextFault[]>} faults Resolves to the errors of all texts.
- * @property {(texts: ExploredTexts, asked: Asked, signal: AbortSignal, showProgress: (progress: Progress) => void) => Promise<Ended>} explore
- *   Searches until the time is up, every property has a counterexample, or `signal` is aborted. Calls `showProgress` with each progress report.
- *   Resolves to the errors in the texts and whether the search was stopped.
+ * @property {(texts: ExploredTexts, asked: Asked, signal: AbortSignal, showProgress: (progress: Progress) => void) => Promise<Ended>}
+ *   explore Searches until the time is up, every property has a counterexample, or `signal` is aborted. Calls `showProgress` with each
+ *   progress report. Resolves to the errors in the texts and whether the search was stopped.
  * @property {(number: number) => string} wordsOfRefusal Returns the message of a refusal.
  * @property {(line: number) => void} goToSource Shows a line of the source, from 1.
  * @property {(name: string, file: Uint8Array, texts: ExploredTexts) => void} open Opens a new session from a file, with the texts of the
@@ -39,7 +39,8 @@ import * as say from "../../words/explore.js";
  * @property {ProofsCalls["prove"]} prove Proves properties.
  * @property {ProofsCalls["open"]} openAfter Opens a new session with the texts, and executes lines in it.
  * @property {(test: string) => string} addTest Adds a test to the program's tests. Returns the message about the result.
- * @property {(words: string, isGood?: boolean) => void} mark Shows a short text on the tab; "" removes it. If `isGood`, the text reports a success.
+ * @property {(words: string, isGood?: boolean) => void} mark Shows a short text on the tab; "" removes it. If `isGood`, the text reports a
+ *   success.
  * @property {() => void} edited Handles an edit of the properties.
  * @property {(fault: unknown) => void} failed Reports an error that a call threw.
  */

@@ -17,8 +17,8 @@ import * as say from "../../words/help.js";
  * @typedef {object} TourCalls
  * @property {(example: Example) => Promise<boolean>} begin Begins a new session from an example. Resolves to true if it was created.
  * @property {(program: string) => void} put Puts a program into the source.
- * @property {(act: import("../../core/help/story.js").Act) => Promise<string>} act Executes the action of a story's link. Resolves to the reason why
- *   the action failed, or to "".
+ * @property {(act: import("../../core/help/story.js").Act) => Promise<string>} act Executes the action of a story's link. Resolves to the
+ *   reason why the action failed, or to "".
  * @property {(program: string) => boolean} isPut Returns true if the source is `program`.
  * @property {(target: Target) => void} reveal Scrolls the target of a step into view.
  * @property {() => void} left Handles the end of the tour.
@@ -100,8 +100,8 @@ export class TourView {
   }
 
   /**
-   * Scrolls the step's target into view. A ring marks the element that the user needs next: first the button that inserts the program, then the
-   * target, then the button that continues.
+   * Scrolls the step's target into view. A ring marks the element that the user needs next: first the button that inserts the program, then
+   * the target, then the button that continues.
    */
   pointOut() {
     const { program, target } = this.watch.step;

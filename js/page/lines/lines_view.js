@@ -7,8 +7,8 @@ import * as say from "../../words/page.js";
 /**
  * The callbacks of the console input.
  * @typedef {object} LinesCalls
- * @property {(lines: string) => Promise<string | null>} send Serves lines. Resolves to the first answer, or to null after a failure. A failure has
- *   already been reported.
+ * @property {(lines: string) => Promise<string | null>} send Serves lines. Resolves to the first answer, or to null after a failure. A
+ *   failure has already been reported.
  * @property {(answer: string) => string} wordsOf Returns an answer. A refusal is followed by its message.
  * @property {(wanted: string) => void} help Opens the help at an entry.
  */

@@ -23,15 +23,16 @@ import { stoppedAt } from "../../words/stops.js";
 /**
  * The callbacks of Serving.
  * @typedef {object} ServingCalls
- * @property {() => SourceMap | null} map Returns the source map of the program in ROM, with the names for `@NAME`, or null if ROM does not match the
- *   source.
- * @property {<Result>(words: string, work: (ways: Ways) => Promise<Result>) => Promise<Result>} work Performs long work, described by `words`, and
- *   shows its progress. Rejects with `Cancelled` if the user cancels the work.
+ * @property {() => SourceMap | null} map Returns the source map of the program in ROM, with the names for `@NAME`, or null if ROM does not
+ *   match the source.
+ * @property {<Result>(words: string, work: (ways: Ways) => Promise<Result>) => Promise<Result>} work Performs long work, described by
+ *   `words`, and shows its progress. Rejects with `Cancelled` if the user cancels the work.
  * @property {() => string} counter Returns the program counter on the page, as three hexadecimal digits.
  * @property {(result: ServedLines) => void} show Shows the session after the lines.
  * @property {() => void} checkSource Compares the source with ROM again.
  * @property {() => Promise<string>} keep Saves the session. Resolves to the reason why it could not be saved, or to "".
- * @property {(entries: Answered[], fault: string) => void} log Logs lines with their answers, and the reason if the session could not be saved.
+ * @property {(entries: Answered[], fault: string) => void} log Logs lines with their answers, and the reason if the session could not be
+ *   saved.
  * @property {(tally: Tally) => void} counted Shows the hit counts and log messages of breakpoints.
  * @property {() => boolean} isRunning Returns true if time is running.
  * @property {() => void} forgetGoal Forgets the goal of the run, because the bench was reset.
@@ -55,7 +56,8 @@ export class Serving {
   }
 
   /**
-   * Serves lines that change the session, saves the session and shows the answers. Resolves to the first answer, or to null after a failure.
+   * Serves lines that change the session, saves the session and shows the answers. Resolves to the first answer, or to null after a
+   * failure.
    * @param {string} lines
    * @returns {Promise<string | null>}
    */
@@ -86,7 +88,8 @@ export class Serving {
   }
 
   /**
-   * Performs other work that changes the session, saves the session and shows the result. Resolves to the result, or to null after a failure.
+   * Performs other work that changes the session, saves the session and shows the result. Resolves to the result, or to null after a
+   * failure.
    * @template {ServedLines} Result
    * @param {string} words the description of the work
    * @param {(ways: Ways) => Promise<Result>} work

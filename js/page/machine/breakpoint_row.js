@@ -16,11 +16,11 @@ import * as say from "../../words/machine.js";
  * The callbacks of the breakpoint form.
  * @typedef {object} RowCalls
  * @property {(id: number, changes: BreakpointWords) => void} change Changes a breakpoint, by its id, and sends the change to the bench.
- * @property {(id: number, changes: BreakpointWords) => void} type Shows the typed text in the breakpoint's mark and list entry, without sending it to
- *   the bench.
+ * @property {(id: number, changes: BreakpointWords) => void} type Shows the typed text in the breakpoint's mark and list entry, without
+ *   sending it to the bench.
  * @property {() => Promise<void>} settled Resolves when the bench has received all changes.
- * @property {(breakpoint: Breakpoint, node: HTMLElement) => void} place Puts the form below the breakpoint's source line, or into the list of
- *   breakpoints if the breakpoint has no line.
+ * @property {(breakpoint: Breakpoint, node: HTMLElement) => void} place Puts the form below the breakpoint's source line, or into the list
+ *   of breakpoints if the breakpoint has no line.
  * @property {(act: () => void) => void} whenPlaced Calls `act` when the form is in the page and can receive the focus.
  * @property {(node: HTMLElement) => void} leave Removes the form.
  * @property {(breakpoint: Breakpoint) => void} left Returns the focus to the breakpoint.

@@ -1,5 +1,5 @@
-// Controls the breakpoints of the current session: their list, their marks in the margin and in the disassembly, their panel, the form that edits one
-// of them, and the margin menu.
+// Controls the breakpoints of the current session: their list, their marks in the margin and in the disassembly, their panel, the form that
+// edits one of them, and the margin menu.
 
 import { BreakpointKeeper } from "../../core/debug/breakpoint_keeper.js";
 import { marksOf } from "../../core/machine/breakpoint_marks.js";
@@ -32,8 +32,8 @@ import * as say from "../../words/machine.js";
  * @property {() => { board: string, program: string }} texts Returns the current texts of board and source.
  * @property {(result: ServedLines) => Promise<void>} served Saves, shows and logs the result of lines that set the bench's breakpoints.
  * @property {(result: ServedLines) => void} showSession Shows the session after breakpoints were set without any lines.
- * @property {(lines: Map<number, BreakpointMark>, addresses: Map<number, BreakpointMark>) => void} showMarks Shows marks at source lines and at
- *   addresses of the disassembly.
+ * @property {(lines: Map<number, BreakpointMark>, addresses: Map<number, BreakpointMark>) => void} showMarks Shows marks at source lines
+ *   and at addresses of the disassembly.
  * @property {(address: number) => void} goTo Shows an address in the source and in the disassembly.
  * @property {(line: number) => void} reveal Scrolls the source to a line.
  * @property {(line: number, node: HTMLElement | null) => void} showBelow Shows an element below a source line; null removes the element.
@@ -41,8 +41,8 @@ import * as say from "../../words/machine.js";
  * @property {() => void} showSource Brings the source to the front.
  * @property {() => void} focusSource Moves the focus to the source.
  * @property {(line: number) => void} runTo Runs to a line of the source.
- * @property {() => Promise<void>} freshSource Compares the source with ROM if the source was edited since the last comparison. Resolves when the
- *   comparison is complete.
+ * @property {() => Promise<void>} freshSource Compares the source with ROM if the source was edited since the last comparison. Resolves
+ *   when the comparison is complete.
  * @property {() => Promise<void>} checkSource Compares the source with ROM in any case. Resolves when the comparison is complete.
  * @property {(words: string) => void} showMessage Shows a message near the user's last action.
  * @property {(fault: unknown) => void} failed Reports an error that a call threw.

@@ -22,8 +22,8 @@ import * as say from "../../words/machine.js";
 /**
  * The callbacks of the breakpoint list.
  * @typedef {object} BreakpointCalls
- * @property {(id: number, changes: Partial<KeptBreakpoint>) => void} change Changes a breakpoint's properties, by its id; for example, enables or
- *   disables it.
+ * @property {(id: number, changes: Partial<KeptBreakpoint>) => void} change Changes a breakpoint's properties, by its id; for example,
+ *   enables or disables it.
  * @property {(breakpoint: Breakpoint) => void} edit Opens the form that edits a breakpoint.
  * @property {(id: number) => void} remove Removes the breakpoint with an id.
  * @property {(isOn: boolean) => void} switchAll Enables or disables all breakpoints.

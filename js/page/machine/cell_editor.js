@@ -1,4 +1,5 @@
-// In-place editing of cells. A double click, or Enter or F2 on a cell, opens a field over the cell. Enter sets the value, Escape closes the field.
+// In-place editing of cells. A double click, or Enter or F2 on a cell, opens a field over the cell. Enter sets the value, Escape closes the
+// field.
 
 import { element } from "../ui/dom.js";
 import { putBelow } from "../ui/popup_message.js";
@@ -12,8 +13,8 @@ import * as say from "../../words/machine.js";
 /**
  * The callbacks of the cell editor.
  * @typedef {object} EditorCalls
- * @property {(place: string, value: string) => Promise<string>} poke Sets a place to a value, both in the syntax of the `poke` command. Resolves to
- *   "", or to the reason why the bench rejects the value.
+ * @property {(place: string, value: string) => Promise<string>} poke Sets a place to a value, both in the syntax of the `poke` command.
+ *   Resolves to "", or to the reason why the bench rejects the value.
  * @property {(words: string, at: HTMLElement) => void} showMessage Shows a message at a cell that cannot be edited at present.
  */
 

@@ -1,5 +1,5 @@
-// The heat map of RAM nibbles. A cell's colour shows how often or how recently its value changed. While time is paused, the bench counts the changes
-// in the recorded past. While time is running, the bench reports the changes as they happen.
+// The heat map of RAM nibbles. A cell's colour shows how often or how recently its value changed. While time is paused, the bench counts
+// the changes in the recorded past. While time is running, the bench reports the changes as they happen.
 
 import { block, byId, field } from "../ui/dom.js";
 import { parseCount } from "../../core/bench/numbers.js";
@@ -18,8 +18,8 @@ import * as say from "../../words/machine.js";
  * The callbacks of the heat map.
  * @typedef {object} HeatCalls
  * @property {() => boolean} isRunning Returns true if time is running.
- * @property {(cycles: number, signal: AbortSignal) => Promise<Heat | null>} count Counts the changes in the last `cycles` cycles. Resolves to null if
- *   `signal` is aborted or if the count fails. A failure has already been reported.
+ * @property {(cycles: number, signal: AbortSignal) => Promise<Heat | null>} count Counts the changes in the last `cycles` cycles. Resolves
+ *   to null if `signal` is aborted or if the count fails. A failure has already been reported.
  * @property {(isOn: boolean) => void} watch Switches the bench's reports of RAM changes on or off.
  * @property {(warm: Map<string, Warm>) => void} show Shows the heat level of cells, by place. Cells that are not in the map have no colour.
  * @property {(place: string) => string} nameOf Returns the program's name for a place.
@@ -84,7 +84,10 @@ export class HeatView {
     return cycles;
   }
 
-  /** Switches the bench's reports of RAM changes on if a heat map is selected, otherwise off. Called when the selection or the board changes. */
+  /**
+   * Switches the bench's reports of RAM changes on if a heat map is selected, otherwise off. Called when the selection or the board
+   * changes.
+   */
   updateWatch() {
     this.calls.watch(this.kind.value !== "");
   }

@@ -1,5 +1,5 @@
-// The tooltip about a cell's last change. While time is paused, it says when the value under the pointer or with the focus last changed, and which
-// line changed it. The bench searches the recorded past for this change.
+// The tooltip about a cell's last change. While time is paused, it says when the value under the pointer or with the focus last changed,
+// and which line changed it. The bench searches the recorded past for this change.
 
 import { element } from "../ui/dom.js";
 import { putBelow } from "../ui/popup_message.js";
@@ -12,9 +12,10 @@ import { putBelow } from "../ui/popup_message.js";
  * The callbacks of the tooltip.
  * @typedef {object} LastChangeCalls
  * @property {() => boolean} isRunning Returns true if time is running. The tooltip appears only while time is paused.
- * @property {(poked: Poked, signal: AbortSignal) => Promise<string>} wordsOf Resolves to a text about the last change of a place, or to "" if
- *   `signal` is aborted or the search fails.
- * @property {(cell: HTMLElement) => Poked | undefined} pokedAt Returns the place whose value a cell shows, or undefined if the cell shows none.
+ * @property {(poked: Poked, signal: AbortSignal) => Promise<string>} wordsOf Resolves to a text about the last change of a place, or to ""
+ *   if `signal` is aborted or the search fails.
+ * @property {(cell: HTMLElement) => Poked | undefined} pokedAt Returns the place whose value a cell shows, or undefined if the cell shows
+ *   none.
  */
 
 /** The time in milliseconds for which the pointer or the focus must stay on a cell before the tooltip opens. */

@@ -1,5 +1,5 @@
-// Scrolling of the disassembly. The box is as high as all 4,096 rows, but only the visible rows exist. The browser handles the scroll bar, the wheel
-// and touch. Keys move by rows and by pages.
+// Scrolling of the disassembly. The box is as high as all 4,096 rows, but only the visible rows exist. The browser handles the scroll bar,
+// the wheel and touch. Keys move by rows and by pages.
 
 import { ADDRESSES } from "../../core/bench/rom_bytes.js";
 import { element } from "../ui/dom.js";

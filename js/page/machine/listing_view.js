@@ -19,7 +19,10 @@ import { LAST_ADDRESS } from "../../core/bench/numbers.js";
 const DEFAULT_ROWS = 18;
 /** The number of bytes before the program counter, if they fit. */
 const BYTES_BEFORE = 10;
-/** The interval in milliseconds at which the disassembly follows the program counter while time is running. It is long enough to read the lines. */
+/**
+ * The interval in milliseconds at which the disassembly follows the program counter while time is running. It is long enough to read the
+ * lines.
+ */
 const FOLLOW_INTERVAL = 300;
 
 export class ListingView {
@@ -34,8 +37,8 @@ export class ListingView {
     this.block = block("lines-of-program");
     this.follows = true;
     /**
-     * The program counter when the user went to another address. When the counter changes, the disassembly follows it again. -1 if the disassembly is
-     * not waiting for such a change.
+     * The program counter when the user went to another address. When the counter changes, the disassembly follows it again. -1 if the
+     * disassembly is not waiting for such a change.
      */
     this.leftAt = -1;
     /** The first address when the disassembly does not follow the program counter. */
@@ -100,8 +103,8 @@ export class ListingView {
   }
 
   /**
-   * Shows the disassembly from an address. If the disassembly followed the counter while time was paused, it will follow again when the counter
-   * changes.
+   * Shows the disassembly from an address. If the disassembly followed the counter while time was paused, it will follow again when the
+   * counter changes.
    * @param {number} address
    */
   goTo(address) {
@@ -156,8 +159,8 @@ export class ListingView {
   }
 
   /**
-   * Returns true if other lines must be read. Lines that do not follow the counter are read again if the counter points into the middle of one of
-   * them.
+   * Returns true if other lines must be read. Lines that do not follow the counter are read again if the counter points into the middle of
+   * one of them.
    * @param {boolean} isRunning
    */
   mustMove(isRunning) {
@@ -223,7 +226,8 @@ export class ListingView {
   }
 
   /**
-   * Moves the disassembly by a number of lines; a negative `count` moves up. Resolves to false if other lines were requested in the meantime.
+   * Moves the disassembly by a number of lines; a negative `count` moves up. Resolves to false if other lines were requested in the
+   * meantime.
    * @param {number} count
    */
   async goBy(count) {

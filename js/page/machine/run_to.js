@@ -1,5 +1,5 @@
-// Runs to a line. In the disassembly, the user runs to a line by a click with Control, a right click, or Control and Enter. In the source, a key runs
-// to the caret's line.
+// Runs to a line. In the disassembly, the user runs to a line by a click with Control, a right click, or Control and Enter. In the source,
+// a key runs to the caret's line.
 
 import { commandOf } from "../commands/command_table.js";
 import { keyNameOf } from "../commands/keys.js";

@@ -1,5 +1,5 @@
-// Proofs of properties: a button that proves them for all inputs in a separate worker, and the verdicts. A verdict is visible as long as its texts
-// are unchanged.
+// Proofs of properties: a button that proves them for all inputs in a separate worker, and the verdicts. A verdict is visible as long as
+// its texts are unchanged.
 
 import { Cell, button, field, onClick } from "../ui/dom.js";
 import { lineNow, stillStands } from "../../core/prove/still_valid.js";
@@ -20,9 +20,9 @@ import { ProofsView } from "./proofs_view.js";
  * The callbacks of Proofs.
  * @typedef {object} ProofsCalls
  * @property {() => ExploredTexts} texts Returns the current texts.
- * @property {(texts: ExploredTexts, maxStates: number, signal: AbortSignal, report: (progress: Progress) => void) => Promise<Ended>} prove Proves
- *   properties with at most `maxStates` states for each question. Calls `report` with each progress report. Resolves to the errors in the texts and
- *   whether `signal` has cancelled the proof.
+ * @property {(texts: ExploredTexts, maxStates: number, signal: AbortSignal, report: (progress: Progress) => void) => Promise<Ended>} prove
+ *   Proves properties with at most `maxStates` states for each question. Calls `report` with each progress report. Resolves to the errors
+ *   in the texts and whether `signal` has cancelled the proof.
  * @property {(line: number) => void} goTo Shows a line of the properties text, from 1.
  * @property {(words: string) => void} showMessage Shows a message next to the buttons.
  * @property {(faults: TextFault[]) => void} refuse Shows the errors that prevented the proof.

@@ -1,5 +1,5 @@
-// The page's address. The part after `#` names a saved session, an example, or the texts of a link. The part after `?` names the example whose story
-// is open.
+// The page's address. The part after `#` names a saved session, an example, or the texts of a link. The part after `?` names the example
+// whose story is open.
 
 /** @typedef {"session" | "example" | "link"} AddressKind */
 
@@ -13,8 +13,8 @@ function decoded(text) {
 }
 
 /**
- * Returns the name of the example whose story the address requests, or "" if the address requests none. The name can also be the example's folder
- * name.
+ * Returns the name of the example whose story the address requests, or "" if the address requests none. The name can also be the example's
+ * folder name.
  * @param {string} search
  */
 export function storyOf(search) {

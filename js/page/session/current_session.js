@@ -32,8 +32,8 @@ import * as say from "../../words/session.js";
  * @property {() => string} where Returns a text with the program counter, its name and its source line.
  * @property {() => void} touched Called when the user changes the session.
  * @property {() => RanEntry[]} ran Removes and returns the log entries of the runs since the last call.
- * @property {(ran: RanEntry[], fault: string) => void} showRan Logs runs. `fault` is the reason why the session could not be saved, or "" if it was
- *   saved.
+ * @property {(ran: RanEntry[], fault: string) => void} showRan Logs runs. `fault` is the reason why the session could not be saved, or ""
+ *   if it was saved.
  * @property {(words: string) => void} notKept Shows the reason why the session is not saved; "" hides the reason.
  * @property {(state: "example" | "saved" | "failed") => void} saved Shows in the status line whether the session is saved.
  */
@@ -142,8 +142,8 @@ export class CurrentSession {
   }
 
   /**
-   * Shows the session's name in its field and in the window title. The address bar gets the session's address, or the example's address if the
-   * session is an unchanged example.
+   * Shows the session's name in its field and in the window title. The address bar gets the session's address, or the example's address if
+   * the session is an unchanged example.
    */
   showName() {
     if (!this.session) return;
@@ -189,7 +189,10 @@ export class CurrentSession {
     return this.keep();
   }
 
-  /** Writes the session to the store, then logs the runs before this save. Resolves to the reason why the session could not be saved, or to "". */
+  /**
+   * Writes the session to the store, then logs the runs before this save. Resolves to the reason why the session could not be saved, or to
+   * "".
+   */
   async keep() {
     if (!this.session) return "";
     const { calls } = this;

@@ -1,5 +1,5 @@
-// The list of saved sessions. The user opens and copies sessions one at a time, and deletes one or several sessions. Deleted sessions can be
-// restored.
+// The list of saved sessions. The user opens and copies sessions one at a time, and deletes one or several sessions. Deleted sessions can
+// be restored.
 
 import { block, button, element, field } from "../ui/dom.js";
 import { pictureOf } from "./gallery_view.js";
@@ -13,14 +13,15 @@ import * as say from "../../words/session.js";
  * The callbacks of the list. Sessions are identified by id.
  * @typedef {object} ListCalls
  * @property {(id: string) => boolean} isShown Returns true if a session is the current one.
- * @property {(id: string) => Promise<boolean>} open Opens a session. Resolves to false after a failure. The failure has already been reported.
+ * @property {(id: string) => Promise<boolean>} open Opens a session. Resolves to false after a failure. The failure has already been
+ *   reported.
  * @property {(id: string) => Promise<boolean>} copy Copies a session and opens the copy. Resolves to false if that fails.
  * @property {(records: SessionRecord[]) => Promise<void>} remove Deletes sessions. Deleted sessions can be restored.
  * @property {() => SessionRecord[]} deleted Returns the sessions that can be restored.
  * @property {(records: SessionRecord[]) => Promise<void>} bringBack Restores deleted sessions.
  * @property {(act: () => Promise<boolean>) => void} choose Executes `act`. Closes the dialog unless `act` resolves to false.
- * @property {(word: string, label: string, act: () => void) => HTMLButtonElement} button Returns a button with a visible word, a label for screen
- *   readers, and its action.
+ * @property {(word: string, label: string, act: () => void) => HTMLButtonElement} button Returns a button with a visible word, a label for
+ *   screen readers, and its action.
  */
 
 export class KeptList {

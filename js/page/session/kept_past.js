@@ -1,5 +1,6 @@
-// The recent history of the current session, for going back after a page reload. A history segment is the session's file at one moment and the
-// commands since then. The history comes from the worker's reports. When the user leaves the page, it is written to the tab's session storage.
+// The recent history of the current session, for going back after a page reload. A history segment is the session's file at one moment and
+// the commands since then. The history comes from the worker's reports. When the user leaves the page, it is written to the tab's session
+// storage.
 
 import { fromBase64, toBase64 } from "../../core/session/base64.js";
 import * as say from "../../words/session.js";

@@ -59,8 +59,8 @@ export class KeptSession {
   }
 
   /**
-   * Writes the session. Resolves to "" when the session is on the disk, otherwise to an error message. Calls during a write share the next write. If
-   * the store does not answer in time, the write counts as failed, and later writes wait until the store answers.
+   * Writes the session. Resolves to "" when the session is on the disk, otherwise to an error message. Calls during a write share the next
+   * write. If the store does not answer in time, the write counts as failed, and later writes wait until the store answers.
    * @returns {Promise<string>}
    */
   keep() {
@@ -80,8 +80,8 @@ export class KeptSession {
   }
 
   /**
-   * Writes the session when the user leaves the page and the page cannot wait. Nothing is written if the store must answer a read first: the answer
-   * would arrive too late, and the unfinished write would block other pages.
+   * Writes the session when the user leaves the page and the page cannot wait. Nothing is written if the store must answer a read first:
+   * the answer would arrive too late, and the unfinished write would block other pages.
    */
   keepNow() {
     return this.store.isWhole && !this.isUntouched ? this.write() : Promise.resolve("");

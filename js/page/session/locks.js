@@ -29,8 +29,8 @@ export class Locks {
   }
 
   /**
-   * Acquires a session's lock for this tab. Resolves to a function that releases the lock, or to null if another tab holds the lock. A page that is
-   * reloading can hold the lock for a moment longer, so there are several attempts.
+   * Acquires a session's lock for this tab. Resolves to a function that releases the lock, or to null if another tab holds the lock. A page
+   * that is reloading can hold the lock for a moment longer, so there are several attempts.
    * @param {string} id
    * @returns {Promise<Release | null>}
    */

@@ -1,5 +1,6 @@
-// Detects sessions that hang the page while they are opened, for example through a text that takes too long. Such a session must not be opened
-// automatically at every start. A flag is set before a session is opened. The flag is cleared when the page shows the session and still responds.
+// Detects sessions that hang the page while they are opened, for example through a text that takes too long. Such a session must not be
+// opened automatically at every start. A flag is set before a session is opened. The flag is cleared when the page shows the session and
+// still responds.
 
 import { browserStore } from "../ui/choices.js";
 
@@ -9,8 +10,8 @@ const KEY = "fethsaim.opening.";
 /** The time in milliseconds after which an opened session counts as harmless. */
 const SETTLE_TIME = 1000;
 /**
- * The maximum age in milliseconds of a recent opening. If the user leaves the page within this time, the page has not hung. In another tab, the
- * session may still be opening.
+ * The maximum age in milliseconds of a recent opening. If the user leaves the page within this time, the page has not hung. In another tab,
+ * the session may still be opening.
  */
 const RECENT_TIME = 2000;
 /** The window events that announce that the user leaves the page. Every browser sends at least one of them. */
@@ -27,8 +28,8 @@ export class Openings {
     this.later = later;
     this.now = now;
     /**
-     * @type {Map<string, { time: number, isEnded: boolean }>} the openings whose flags this page has set: the start time, and whether the opening has
-     *   ended
+     * @type {Map<string, { time: number, isEnded: boolean }>} the openings whose flags this page has set: the start time, and whether the
+     *   opening has ended
      */
     this.begun = new Map();
   }
@@ -78,7 +79,8 @@ export class Openings {
 
   /** @param {Pick<Window, "addEventListener">} target the page's window */
   listen(target) {
-    // When the user leaves a page, Firefox 153 often does not run functions that have never run. Run all functions needed at that time once now.
+    // When the user leaves a page, Firefox 153 often does not run functions that have never run. Run all functions needed at that time once
+    // now.
     this.begun.set("", { time: this.now(), isEnded: false });
     this.leave();
     for (const name of LEAVING) target.addEventListener(name, () => this.leave());

@@ -1,5 +1,5 @@
-// Asks the browser to keep the page's data even if disk space is short. Some browsers then ask the user. The page therefore asks only once, and only
-// when there is data to lose.
+// Asks the browser to keep the page's data even if disk space is short. Some browsers then ask the user. The page therefore asks only once,
+// and only when there is data to lose.
 
 /**
  * The browser's storage manager, or a substitute in tests.

@@ -27,15 +27,15 @@ import * as say from "../../words/session.js";
  * @typedef {object} ManagerCalls
  * @property {() => KeptSession | null} session Returns the current session, or null if there is none.
  * @property {() => Promise<string>} keep Saves the session. Resolves to the reason why it could not be saved, or to "".
- * @property {(words: string, ...actions: NoticeAction[]) => void} refuse Shows a message about an action that was not executed, with buttons for
- *   alternatives.
+ * @property {(words: string, ...actions: NoticeAction[]) => void} refuse Shows a message about an action that was not executed, with
+ *   buttons for alternatives.
  * @property {(id: string) => void} speed Sets the speed that a project requests, by its id.
  * @property {(record: SessionRecord) => void} left Reports a session that the user has left for a new one, and offers to return to it.
- * @property {(name: string, texts: import("../../core/session/opened_file.js").FileTexts) => Promise<void>} texts Loads the texts of a file into the
- *   editors.
+ * @property {(name: string, texts: import("../../core/session/opened_file.js").FileTexts) => Promise<void>} texts Loads the texts of a file
+ *   into the editors.
  * @property {(name: string, bytes: Int16Array) => Promise<void>} image Loads the bytes of a file into ROM; -1 leaves a byte unchanged.
- * @property {(record: SessionRecord, release: Release, example: string) => Promise<void>} use Makes a session the current one. `release` releases its
- *   lock. `example` is the example's name if the session is still unchanged, otherwise "".
+ * @property {(record: SessionRecord, release: Release, example: string) => Promise<void>} use Makes a session the current one. `release`
+ *   releases its lock. `example` is the example's name if the session is still unchanged, otherwise "".
  */
 
 
@@ -150,7 +150,8 @@ export class SessionManager {
   }
 
   /**
-   * Opens a file. A project or a session file becomes a new session. Texts are loaded into the current session's editors, and an image into its ROM.
+   * Opens a file. A project or a session file becomes a new session. Texts are loaded into the current session's editors, and an image into
+   * its ROM.
    * @param {File} file
    */
   async openFile(file) {

@@ -28,11 +28,11 @@ import * as say from "../../words/session.js";
  * @property {() => Promise<string>} keep Saves the session. Resolves to the reason why it could not be saved, or to "".
  * @property {(name: string) => void} rename Renames the current session.
  * @property {(id: string) => void} speed Sets the speed that a project requests, by its id.
- * @property {(name: string, texts: import("../../core/session/opened_file.js").FileTexts) => Promise<void>} texts Loads the texts of a file into the
- *   editors.
+ * @property {(name: string, texts: import("../../core/session/opened_file.js").FileTexts) => Promise<void>} texts Loads the texts of a file
+ *   into the editors.
  * @property {(name: string, bytes: Int16Array) => Promise<void>} image Loads the bytes of a file into ROM; -1 leaves a byte unchanged.
- * @property {(record: SessionRecord, release: Release, example: string) => Promise<void>} use Makes a session the current one. `release` releases its
- *   lock. `example` is the example's name if the session is still unchanged, otherwise "".
+ * @property {(record: SessionRecord, release: Release, example: string) => Promise<void>} use Makes a session the current one. `release`
+ *   releases its lock. `example` is the example's name if the session is still unchanged, otherwise "".
  * @property {() => void} showLines Brings the console to the front, for an example that consists only of lines.
  * @property {(text: string) => Promise<void>} link Opens the session of a link, given the link's contents.
  */
@@ -103,7 +103,8 @@ export class SessionsController {
   }
 
   /**
-   * Reports that the user has left a session for a new one. The notice has a button to return, because the change may have been an accident.
+   * Reports that the user has left a session for a new one. The notice has a button to return, because the change may have been an
+   * accident.
    * @param {SessionRecord} record
    */
   reportLeft({ id, name }) {
@@ -159,8 +160,8 @@ export class SessionsController {
   }
 
   /**
-   * Opens the first session of the page. This is the address's target, the example whose story is requested, the last used session that is not open
-   * in another tab, or the first example.
+   * Opens the first session of the page. This is the address's target, the example whose story is requested, the last used session that is
+   * not open in another tab, or the first example.
    * @param {string} story the name of the example whose story is requested; "" for none
    */
   async openFirst(story) {
@@ -201,8 +202,8 @@ export class SessionsController {
   }
 
   /**
-   * Reports a session that may have hung the page when it was last opened. Such a session is not opened automatically. Reports nothing if another tab
-   * holds the session's lock.
+   * Reports a session that may have hung the page when it was last opened. Such a session is not opened automatically. Reports nothing if
+   * another tab holds the session's lock.
    * @param {SessionRecord} record
    */
   async reportUnended(record) {

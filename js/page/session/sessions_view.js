@@ -95,8 +95,8 @@ export class SessionsView {
 
   closed() {
     this.notice.moveTo(document.body);
-    // The browser returns the focus to the button that opened the dialog. After a click by pointer, drop the focus so that the board receives the
-    // keys.
+    // The browser returns the focus to the button that opened the dialog. After a click by pointer, drop the focus so that the board
+    // receives the keys.
     if (this.byPointer && document.activeElement instanceof HTMLElement) document.activeElement.blur();
   }
 
@@ -122,7 +122,8 @@ export class SessionsView {
     const title = element("span", { className: "grow" }, toDo ? exampleWords(example.title, toDo[1]) : example.title);
     if (!example.story) return element("li", {}, open, title);
     const description = say.newStory(example.name);
-    return element("li", {}, open, title, this.button(say.WITH_STORY, description, () => this.choose(() => this.calls.beginStory(example))));
+    const story = this.button(say.WITH_STORY, description, () => this.choose(() => this.calls.beginStory(example)));
+    return element("li", {}, open, title, story);
   }
 
   /**

@@ -1,5 +1,5 @@
-// A link contains a session's name and texts in the part of an address that browsers do not send to servers. The link begins with its compression
-// method: 1 for deflate, 0 for none. Its contents are a checksum, and then the lines of a project file up to the session.
+// A link contains a session's name and texts in the part of an address that browsers do not send to servers. The link begins with its
+// compression method: 1 for deflate, 0 for none. Its contents are a checksum, and then the lines of a project file up to the session.
 
 import { fromBase64, toBase64 } from "../../core/session/base64.js";
 import { checksum } from "../../core/session/checksum.js";
@@ -12,8 +12,8 @@ import * as say from "../../words/session.js";
  */
 
 /**
- * The maximum length of a link. Chromium leaves its address bar empty if an address has more than 32,768 characters, and users copy and paste links
- * there. Any program that fits into ROM fits into a link, unless its text hardly compresses.
+ * The maximum length of a link. Chromium leaves its address bar empty if an address has more than 32,768 characters, and users copy and
+ * paste links there. Any program that fits into ROM fits into a link, unless its text hardly compresses.
  */
 export const LONGEST_LINK = 32000;
 /** The length of an address that all software should accept (RFC 9110, 4.1). Some software truncates longer addresses. */

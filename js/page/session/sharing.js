@@ -24,8 +24,8 @@ import * as say from "../../words/session.js";
  * @typedef {object} SharingCalls
  * @property {() => Texts | null} shown Returns the name and the texts of the current session, or null if there is none.
  * @property {() => void} address Puts the session's own address into the address bar.
- * @property {(texts: Texts, file: Uint8Array, runs: boolean) => Promise<boolean>} begin Begins a new session from texts and a file. If `runs`, time
- *   is running in the session. Resolves to true if the session was created.
+ * @property {(texts: Texts, file: Uint8Array, runs: boolean) => Promise<boolean>} begin Begins a new session from texts and a file. If
+ *   `runs`, time is running in the session. Resolves to true if the session was created.
  * @property {() => void} save Saves the project as a file. Called if the link would be too long.
  */
 

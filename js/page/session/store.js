@@ -1,5 +1,5 @@
-// The session store in the browser's IndexedDB. The page writes to the store, not the worker. When the user leaves the page, the browser completes
-// the page's requests but terminates the worker immediately.
+// The session store in the browser's IndexedDB. The page writes to the store, not the worker. When the user leaves the page, the browser
+// completes the page's requests but terminates the worker immediately.
 
 import * as say from "../../words/session.js";
 
@@ -98,8 +98,8 @@ export class Store {
   }
 
   /**
-   * Stores a record. Resolves when the record is on the disk. With locks, all requests are made at once, so they complete even while the page is
-   * closing.
+   * Stores a record. Resolves when the record is on the disk. With locks, all requests are made at once, so they complete even while the
+   * page is closing.
    * @param {SessionRecord} record
    * @returns {Promise<void>}
    */
@@ -114,8 +114,8 @@ export class Store {
   }
 
   /**
-   * Stores a record in a browser without locks. Rejects a record that is not based on the stored revision, so that two tabs never overwrite each
-   * other's changes.
+   * Stores a record in a browser without locks. Rejects a record that is not based on the stored revision, so that two tabs never overwrite
+   * each other's changes.
    * @param {SessionRecord} record
    * @returns {Promise<void>}
    */

@@ -20,10 +20,10 @@ import * as say from "../../words/session.js";
  * @property {() => void} edited Handles an edit of a text.
  * @property {(boardText: string) => void} named Updates the names that come from the board's text, which may have changed.
  * @property {() => Promise<string>} source Resolves to a source text that assembles to the contents of ROM. Rejects if the bench fails.
- * @property {(text: string) => Promise<boolean>} isNoProgram Resolves to true if every line of a text has an error, so that the text is probably not
- *   a program.
- * @property {(seen: TextName, lines: string) => void} took Handles texts that were loaded from a file. Shows the text `seen` and puts `lines` into
- *   the console's input.
+ * @property {(text: string) => Promise<boolean>} isNoProgram Resolves to true if every line of a text has an error, so that the text is
+ *   probably not a program.
+ * @property {(seen: TextName, lines: string) => void} took Handles texts that were loaded from a file. Shows the text `seen` and puts
+ *   `lines` into the console's input.
  * @property {(fault: unknown) => void} failed Reports an error that a call threw.
  */
 

@@ -14,8 +14,8 @@ import * as say from "../../words/example_notes.js";
  * The callbacks of the welcome cards.
  * @typedef {object} WelcomeCalls
  * @property {() => void} beginTour Begins the tour with the first program.
- * @property {(name: string) => Promise<boolean>} begin Begins a new session from an example, by its name. Resolves to true if the session was
- *   created.
+ * @property {(name: string) => Promise<boolean>} begin Begins a new session from an example, by its name. Resolves to true if the session
+ *   was created.
  * @property {() => void} draw Brings the Wiring tab's picture to the front.
  * @property {() => void} seen Stores that the cards were shown.
  */

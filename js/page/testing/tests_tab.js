@@ -24,14 +24,15 @@ import * as say from "../../words/testing.js";
  * @property {() => string[]} labels Returns the labels of the program in ROM.
  * @property {(texts: TestedTexts) => Promise<TextFault[]>} faults Resolves to the errors of all texts.
  * @property {(texts: Texts) => Promise<string>} sample Resolves to a sample test for a board and a source.
- * @property {(texts: TestedTexts) => Promise<Report>} run Runs the tests. Resolves to their results. Rejects with `Cancelled` if the user cancels the
- *   run.
+ * @property {(texts: TestedTexts) => Promise<Report>} run Runs the tests. Resolves to their results. Rejects with `Cancelled` if the user
+ *   cancels the run.
  * @property {(number: number) => string} wordsOfRefusal Returns the message of a refusal.
- * @property {(report: Report | null, programText: string) => void} showCounts Shows the execution counts of a program's lines in the margin; null
- *   removes the counts.
+ * @property {(report: Report | null, programText: string) => void} showCounts Shows the execution counts of a program's lines in the
+ *   margin; null removes the counts.
  * @property {(address: number) => void} goTo Shows an address in the source and in the disassembly.
  * @property {(name: string, file: Uint8Array, texts: TestedTexts) => void} open Opens a new session from a file, with the tested texts.
- * @property {(words: string, isGood?: boolean) => void} mark Shows a short text on the tab; "" removes it. If `isGood`, the text reports a success.
+ * @property {(words: string, isGood?: boolean) => void} mark Shows a short text on the tab; "" removes it. If `isGood`, the text reports a
+ *   success.
  * @property {() => void} edited Handles an edit of the tests.
  * @property {(fault: unknown) => void} failed Reports an error that a call threw.
  */

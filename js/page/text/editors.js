@@ -36,20 +36,20 @@ import * as say from "../../words/text.js";
  * The callbacks of the two editors. Lines count from 1.
  * @typedef {object} EditorsCalls
  * @property {(edits: Edit[]) => void} edited Handles an edit: the edits of the source, or an empty list for an edit of the board's text.
- * @property {(isBegun: boolean) => Promise<void>} assembled Handles a program that was loaded into ROM; `isBegun` is true if the processor was reset.
- *   Resolves when the breakpoints are at their lines.
- * @property {(lines: string) => Promise<string | null>} act Serves lines. Resolves to the first answer, or to null after a failure. A failure has
- *   already been reported.
+ * @property {(isBegun: boolean) => Promise<void>} assembled Handles a program that was loaded into ROM; `isBegun` is true if the processor
+ *   was reset. Resolves when the breakpoints are at their lines.
+ * @property {(lines: string) => Promise<string | null>} act Serves lines. Resolves to the first answer, or to null after a failure. A
+ *   failure has already been reported.
  * @property {() => Promise<void>} stop Pauses time. Resolves when time is paused.
  * @property {() => void} run Resumes time.
  * @property {() => string} counter Returns the program counter on the page, as three hexadecimal digits.
  * @property {(line: number) => void} toggleBreakpoint Sets or removes the breakpoint at a source line.
  * @property {(line: number, what: BreakpointField) => void} editBreakpoint Opens a field of the breakpoint at a line.
- * @property {(line: number, point: { left: number, bottom: number }) => void} askedMargin Opens the margin menu of a line at a point of the window,
- *   in pixels.
+ * @property {(line: number, point: { left: number, bottom: number }) => void} askedMargin Opens the margin menu of a line at a point of the
+ *   window, in pixels.
  * @property {(name: string) => string} meaningOf Returns the description of a name in the program, or "" if the name is unknown.
- * @property {(text: string, at: number) => import("../../core/debug/value_words.js").Piece[]} valuesAt Returns the current values of the word at an
- *   offset in a line. Returns an empty list while time is running.
+ * @property {(text: string, at: number) => import("../../core/debug/value_words.js").Piece[]} valuesAt Returns the current values of the
+ *   word at an offset in a line. Returns an empty list while time is running.
  * @property {import("./meaning_view.js").Offer} offer Makes a cell that shows a value editable.
  * @property {(name: "program" | "board", count: number) => void} hasFaults Shows the number of errors in a text on its tab.
  * @property {(text: string, words: string) => void} replaceBoard Replaces the board's text and shows a message that offers undo.
@@ -150,7 +150,8 @@ export class Editors {
   }
 
   /**
-   * Shows or hides the offer of a first board. When the offer disappears while it has the focus, the focus moves to the front panel's heading.
+   * Shows or hides the offer of a first board. When the offer disappears while it has the focus, the focus moves to the front panel's
+   * heading.
    * @param {boolean} isOffered
    */
   offerBoard(isOffered) {

@@ -4,8 +4,8 @@ import { Cell, element, onClick } from "../ui/dom.js";
 import * as say from "../../words/text.js";
 
 /**
- * A question: its label, the initial text of the field, the label of the button, and the action. The action returns an error message, or "" if it
- * succeeds.
+ * A question: its label, the initial text of the field, the label of the button, and the action. The action returns an error message, or ""
+ * if it succeeds.
  * @typedef {{ label: string, value: string, word: string, act: (typed: string) => string }} Asked
  */
 

@@ -1,5 +1,5 @@
-// A line-based text editor: the page's interface to CodeMirror 6. A position is a line and an offset in that line, both from 0. Each text has its own
-// state with its undo history, caret and marks.
+// A line-based text editor: the page's interface to CodeMirror 6. A position is a line and an offset in that line, both from 0. Each text
+// has its own state with its undo history, caret and marks.
 
 import { defaultKeymap, history, historyKeymap, indentLess, insertTab, isolateHistory, redo, redoDepth, undo, undoDepth }
   from "@codemirror/commands";
@@ -20,9 +20,9 @@ import { descendant } from "../ui/dom.js";
  * @typedef {import("./line_layers.js").Layer} Layer
  * @typedef {Record<string, (editor: LineEditor) => void>} KeyMap actions by key name, for example `Shift-Ctrl-[`
  *
- * The options of an editor. `label` and `description` are for screen readers. `gutters` are the names of its gutters; "numbers" is the gutter of line
- * numbers. `indent` is the indentation of a new line, by default that of the previous line. `keys` are its own keys, and `more` are further
- * CodeMirror extensions.
+ * The options of an editor. `label` and `description` are for screen readers. `gutters` are the names of its gutters; "numbers" is the
+ * gutter of line numbers. `indent` is the indentation of a new line, by default that of the previous line. `keys` are its own keys, and
+ * `more` are further CodeMirror extensions.
  * @typedef {{ container: HTMLElement, label: string, description: string, colours: import("./line_colours.js").Colours, gutters: string[],
  *   indent?: string, keys: KeyMap, more: Extension[], calls: EditorCalls }} EditorParts
  */
@@ -34,8 +34,8 @@ import { descendant } from "../ui/dom.js";
  * @property {() => void} moved Handles a caret move.
  * @property {(line: number) => void} clickedGutter Handles a click on a gutter at a line, from 0.
  * @property {(line: number, event: Event) => void} askedGutter Handles a right click on a gutter at a line, from 0.
- * @property {(size: number) => boolean} takes Returns true if the editor accepts an edit by pasting or dropping that makes the text `size` characters
- *   long.
+ * @property {(size: number) => boolean} takes Returns true if the editor accepts an edit by pasting or dropping that makes the text `size`
+ *   characters long.
  * @property {(position: Position) => Completion} complete Returns the completions for the word at a position.
  */
 

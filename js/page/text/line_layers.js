@@ -1,5 +1,5 @@
-// Layers over an editor's lines: marks in the gutters, line styles, underlined ranges, and texts after lines. Layers move with their lines while the
-// text is edited. Showing new ranges in a layer replaces its previous ranges.
+// Layers over an editor's lines: marks in the gutters, line styles, underlined ranges, and texts after lines. Layers move with their lines
+// while the text is edited. Showing new ranges in a layer replaces its previous ranges.
 
 import { RangeSet, StateEffect, StateField } from "@codemirror/state";
 import { Decoration, EditorView, GutterMarker, WidgetType, gutter, gutterLineClass } from "@codemirror/view";

@@ -1,5 +1,5 @@
-// Marks at the lines of a text: texts in the gutters, and the mark of the next instruction. Marks move with their lines while the text is edited.
-// Each call replaces the previous marks.
+// Marks at the lines of a text: texts in the gutters, and the mark of the next instruction. Marks move with their lines while the text is
+// edited. Each call replaces the previous marks.
 
 import { upTo } from "../../core/bench/numbers.js";
 

@@ -1,5 +1,5 @@
-// Error checks while the user types. A check starts when the user pauses. An edit cancels the check in progress, and another check starts at the next
-// pause.
+// Error checks while the user types. A check starts when the user pauses. An edit cancels the check in progress, and another check starts
+// at the next pause.
 
 /** The delay in milliseconds between the last edit and a check. */
 const CHECK_DELAY = 300;
@@ -9,7 +9,8 @@ const CHECK_DELAY = 300;
  */
 export class LiveFaults {
   /**
-   * @param {(isWanted: () => boolean) => Promise<Result | undefined>} find resolves to the errors, or to undefined if the check is cancelled
+   * @param {(isWanted: () => boolean) => Promise<Result | undefined>} find resolves to the errors, or to undefined if the check is
+   *   cancelled
    * @param {(result: Result) => void} show
    * @param {(fault: unknown) => void} failed
    */

@@ -1,5 +1,5 @@
-// The description of the word at the pointer or the caret, below the text: its current values, in cells that can be edited, and its meaning. A
-// tooltip at the pointer also shows the values.
+// The description of the word at the pointer or the caret, below the text: its current values, in cells that can be edited, and its
+// meaning. A tooltip at the pointer also shows the values.
 
 import { element } from "../ui/dom.js";
 import { putBelow } from "../ui/popup_message.js";

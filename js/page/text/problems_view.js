@@ -1,4 +1,5 @@
-// The list of problems in all texts, and the number of problems. The number includes the common mistakes that were detected while time was running.
+// The list of problems in all texts, and the number of problems. The number includes the common mistakes that were detected while time was
+// running.
 
 import { block, element, onClick } from "../ui/dom.js";
 import * as say from "../../words/text.js";

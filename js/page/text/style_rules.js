@@ -1,5 +1,5 @@
-// The style rules that CodeMirror creates at run time. The page's content security policy allows only the page's own style sheet, so the rules are
-// inserted at the beginning of that sheet.
+// The style rules that CodeMirror creates at run time. The page's content security policy allows only the page's own style sheet, so the
+// rules are inserted at the beginning of that sheet.
 
 import { StyleModule } from "style-mod";
 

@@ -1,5 +1,5 @@
-// An editor with the features that all texts of the page share. Each opened text has its own state with its undo history. The states of recent
-// sessions are kept until the page is closed.
+// An editor with the features that all texts of the page share. Each opened text has its own state with its undo history. The states of
+// recent sessions are kept until the page is closed.
 
 import { EditorView } from "@codemirror/view";
 import { upTo } from "../../core/bench/numbers.js";
@@ -13,8 +13,8 @@ import * as say from "../../words/text.js";
  * @typedef {import("./line_editor.js").Position} Position
  * @typedef {import("../../core/debug/breakpoints.js").Edit} Edit
  *
- * The options of an editor: its container, its name for screen readers, its syntax colouring, the gutters besides the error gutter, the indentation
- * of a new line, its foldable parts, and its own keys.
+ * The options of an editor: its container, its name for screen readers, its syntax colouring, the gutters besides the error gutter, the
+ * indentation of a new line, its foldable parts, and its own keys.
  * @typedef {{ container: HTMLElement, label: string, colours: import("./line_colours.js").Colours, gutters: string[], indent?: string,
  *   folds?: import("../../core/text/folding.js").Parts, keys: KeyMap, calls: TextCalls }} TextParts
  *
@@ -31,7 +31,8 @@ import * as say from "../../words/text.js";
  * @property {(line: number, event: Event) => void} askedGutter Handles a right click on a gutter at a line, from 1.
  * @property {() => void} clickedName Handles a click with Control, which has already moved the caret.
  * @property {(size: number) => void} refused Reports that a text of `size` characters is too long and was rejected.
- * @property {(position: Position) => import("../../core/text/completion.js").Completion} complete Returns the completions for the word at a position.
+ * @property {(position: Position) => import("../../core/text/completion.js").Completion} complete Returns the completions for the word at a
+ *   position.
  */
 
 /** The maximum number of stored texts. */
@@ -142,8 +143,8 @@ export class TextEditor {
   }
 
   /**
-   * Handles a key event. Tab indents after the user has typed or clicked in the editor. After Escape, or if Tab moved the focus in, Tab moves the
-   * focus as usual. Returns true if the key is handled.
+   * Handles a key event. Tab indents after the user has typed or clicked in the editor. After Escape, or if Tab moved the focus in, Tab
+   * moves the focus as usual. Returns true if the key is handled.
    * @param {KeyboardEvent} event
    */
   typed({ key, shiftKey, ctrlKey, altKey, metaKey }) {

@@ -25,10 +25,10 @@ import * as say from "../../words/text.js";
  *
  * @typedef {import("../machine/breakpoint_row.js").BreakpointField} BreakpointField
  *
- * The language of a text. `mark` begins a comment. `indent` is the indentation of a new line, by default that of the previous line. `folds` are its
- * foldable parts. `isInstruction` returns true if a word in upper case is an instruction. It is missing for texts without names. `isUnsent` is true
- * for a text that is never sent to the bench. `wordsAt` describes the word at an offset in a line, both from 0. `valuesAt` returns the current values
- * of that word, and `offer` makes a value editable. `complete` returns the completions for the word.
+ * The language of a text. `mark` begins a comment. `indent` is the indentation of a new line, by default that of the previous line. `folds`
+ * are its foldable parts. `isInstruction` returns true if a word in upper case is an instruction. It is missing for texts without names.
+ * `isUnsent` is true for a text that is never sent to the bench. `wordsAt` describes the word at an offset in a line, both from 0.
+ * `valuesAt` returns the current values of that word, and `offer` makes a value editable. `complete` returns the completions for the word.
  * @typedef {{ mark: import("../../core/text/text_fault.js").CommentMark, colours: import("./line_colours.js").Colours, gutters: string[],
  *   indent?: string,
  *   folds?: import("../../core/text/folding.js").Parts, isInstruction?: (word: string) => boolean,
@@ -45,10 +45,10 @@ import * as say from "../../words/text.js";
  * @property {() => void} send Sends the text to the bench.
  * @property {() => void} [prove] Proves the text. Missing for texts that cannot be proved.
  * @property {(line: number) => void} toggleBreakpoint Sets or removes the breakpoint at a line.
- * @property {(line: number, what: BreakpointField) => void} [editBreakpoint] Opens a field of the breakpoint at a line. Missing for texts without
- *   breakpoints.
- * @property {(line: number, point: { left: number, bottom: number }) => void} [askedMargin] Opens the margin menu of a line at a point of the window,
- *   in pixels. Missing for texts without this menu.
+ * @property {(line: number, what: BreakpointField) => void} [editBreakpoint] Opens a field of the breakpoint at a line. Missing for texts
+ *   without breakpoints.
+ * @property {(line: number, point: { left: number, bottom: number }) => void} [askedMargin] Opens the margin menu of a line at a point of
+ *   the window, in pixels. Missing for texts without this menu.
  */
 
 /** The time in milliseconds for which the pointer or the caret must rest before its word is described. */

@@ -1,5 +1,5 @@
-// The editor of a text that belongs to a board and a program: its tests or its properties. It completes names of the board and the program, and shows
-// errors while the user types.
+// The editor of a text that belongs to a board and a program: its tests or its properties. It completes names of the board and the program,
+// and shows errors while the user types.
 
 import { Face, moreFaults } from "../../core/board/face.js";
 import { button, onClick } from "../ui/dom.js";
@@ -33,8 +33,8 @@ import { COLOURS } from "../../core/text/test_colours.js";
  */
 
 /**
- * A kind of text. `name` is also a part of the editor's id. `firstButton` is the button that inserts `firstText`. `forms` are the forms of its lines.
- * `wordsAt` describes a word, and `complete` completes it.
+ * A kind of text. `name` is also a part of the editor's id. `firstButton` is the button that inserts `firstText`. `forms` are the forms of
+ * its lines. `wordsAt` describes a word, and `complete` completes it.
  * @template Forms
  * @typedef {{ name: "tests" | "properties", firstButton: string, firstText: (names: Names) => string | Promise<string>, forms: Forms,
  *   wordsAt: (lines: string[], line: number, at: number, forms: Forms) => string,

@@ -1,6 +1,6 @@
-// The clock. In real time or slower, each animation frame runs the cycles that are due. At full speed, the worker continues on its own. Below full
-// speed, time stands still while the page is hidden, and while the browser or the computer suspends the page. In real time, a key press does not wait
-// for the next frame: its cycles are simulated early.
+// The clock. In real time or slower, each animation frame runs the cycles that are due. At full speed, the worker continues on its own.
+// Below full speed, time stands still while the page is hidden, and while the browser or the computer suspends the page. In real time, a
+// key press does not wait for the next frame: its cycles are simulated early.
 
 import { CYCLES_PER_SECOND } from "../../core/time/mcs4_time.js";
 import { LONG_GAP, MAX_AHEAD, RealTime } from "../../core/time/real_time.js";
@@ -14,12 +14,12 @@ import { REAL, canFollowLine, togglesKeys } from "../../core/time/speeds.js";
 /**
  * The callbacks of the clock.
  * @typedef {object} ClockCalls
- * @property {(cycles: number, key: Key | null) => Promise<void>} advance Presses `key`, unless it is null, and runs cycles. Resolves when the cycles
- *   have run.
+ * @property {(cycles: number, key: Key | null) => Promise<void>} advance Presses `key`, unless it is null, and runs cycles. Resolves when
+ *   the cycles have run.
  * @property {() => Promise<void>} instruct Runs one instruction. Called at the speed of one instruction per second.
  * @property {() => Promise<void>} runFull Starts full speed, at which the worker continues on its own.
- * @property {(time: number, wasHidden: boolean) => void} stoodStill Reports that time stood still for `time` milliseconds. The cycles of that time
- *   are skipped. `wasHidden` is true if the page was hidden.
+ * @property {(time: number, wasHidden: boolean) => void} stoodStill Reports that time stood still for `time` milliseconds. The cycles of
+ *   that time are skipped. `wasHidden` is true if the page was hidden.
  * @property {(fault: unknown) => void} failed Reports an error that a call threw.
  */
 
@@ -58,8 +58,8 @@ export class Clock {
   }
 
   /**
-   * Returns the duration of a number of cycles in milliseconds at the current speed. Returns Infinity at full speed and at one instruction per
-   * second, so that lamps show their long-term brightness.
+   * Returns the duration of a number of cycles in milliseconds at the current speed. Returns Infinity at full speed and at one instruction
+   * per second, so that lamps show their long-term brightness.
    * @param {number} cycles
    */
   timeOf(cycles) {
@@ -110,8 +110,8 @@ export class Clock {
   }
 
   /**
-   * Runs the cycles that are due at a key press, without waiting for the next frame. Returns true if the key was sent with these cycles; otherwise
-   * the caller must send the key. If a call is in progress, more cycles run as soon as it ends.
+   * Runs the cycles that are due at a key press, without waiting for the next frame. Returns true if the key was sent with these cycles;
+   * otherwise the caller must send the key. If a call is in progress, more cycles run as soon as it ends.
    * @param {Key} key
    */
   pressNow(key) {

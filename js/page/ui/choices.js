@@ -1,5 +1,5 @@
-// The user's preferences for the page, for example folded panels and the tab in front. They are in the browser's local storage if the browser allows
-// that. Otherwise they last only for this visit.
+// The user's preferences for the page, for example folded panels and the tab in front. They are in the browser's local storage if the
+// browser allows that. Otherwise they last only for this visit.
 
 const KEY = "fethsaim.choices";
 

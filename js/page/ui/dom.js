@@ -53,8 +53,8 @@ export function element(name, properties = {}, ...children) {
 }
 
 /**
- * The text of an element. The page is updated only if the text differs, so an unchanged frame costs nothing. The text node is never replaced, because
- * WebKit loses a click if the pressed text node is removed before the release.
+ * The text of an element. The page is updated only if the text differs, so an unchanged frame costs nothing. The text node is never
+ * replaced, because WebKit loses a click if the pressed text node is removed before the release.
  */
 export class Cell {
   /** @param {HTMLElement} node */
@@ -103,7 +103,8 @@ export function pressedSwitch(node) {
 }
 
 /**
- * Calls `act` on each click. After a click by pointer, the button loses the focus, so that Enter and the space bar press the board's keys again.
+ * Calls `act` on each click. After a click by pointer, the button loses the focus, so that Enter and the space bar press the board's keys
+ * again.
  * @param {HTMLElement} node
  * @param {() => void} act
  */

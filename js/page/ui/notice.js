@@ -1,23 +1,23 @@
-// Notices about errors and about actions that can be undone. The three newest are visible regardless of the page's scroll position. Most kinds have
-// at most one notice, the newest; undoable actions and sessions that were not opened have one notice each. An error notice disappears when its cause
-// is gone, a success notice after some time. A list shows all past notices.
+// Notices about errors and about actions that can be undone. The three newest are visible regardless of the page's scroll position. Most
+// kinds have at most one notice, the newest; undoable actions and sessions that were not opened have one notice each. An error notice
+// disappears when its cause is gone, a success notice after some time. A list shows all past notices.
 
 import { block, element } from "./dom.js";
 import { NoticeList } from "./notice_list.js";
 import * as say from "../../words/page.js";
 
 /**
- * The kinds of notices: lasting errors (`kept`, `store`), rejections (`session`, `refusal`), a copied link (`share`), a loaded file (`file`), a
- * session that the user has left for a new one (`left`), a session that was not opened automatically (`unended`), an action that can be undone
- * (`undo`), and any other error ("").
+ * The kinds of notices: lasting errors (`kept`, `store`), rejections (`session`, `refusal`), a copied link (`share`), a loaded file
+ * (`file`), a session that the user has left for a new one (`left`), a session that was not opened automatically (`unended`), an action
+ * that can be undone (`undo`), and any other error ("").
  * @typedef {"" | "kept" | "session" | "store" | "refusal" | "share" | "file" | "left" | "unended" | "undo"} NoticeKind
  * @typedef {{ word: string, act: () => void }} NoticeAction a button in the notice
  * @typedef {{ kind: NoticeKind, words: string, node: HTMLElement, message: import("./notice_list.js").Message, timer: number }} Row
  */
 
 /**
- * The kinds of errors that are reported repeatedly while they last. After the user has dismissed such a notice, it appears again only if its cause
- * was gone in between.
+ * The kinds of errors that are reported repeatedly while they last. After the user has dismissed such a notice, it appears again only if
+ * its cause was gone in between.
  */
 const LASTING = new Set(["kept", "store"]);
 /** The kinds that have a separate notice for each event. */
@@ -30,7 +30,8 @@ const STAY_TIME = 8000;
 const MAX_SHOWN = 3;
 
 /**
- * Returns the notices to remove so that at most MAX_SHOWN remain: first the oldest success notices, then the oldest others. The newest notice stays.
+ * Returns the notices to remove so that at most MAX_SHOWN remain: first the oldest success notices, then the oldest others. The newest
+ * notice stays.
  * @template {{ kind: NoticeKind }} Each
  * @param {Each[]} rows the notices, newest first
  * @returns {Each[]}
@@ -151,7 +152,8 @@ export class Notice {
   }
 
   /**
-   * Moves the notices into an element, for example into a dialog that has opened. Outside the open dialog, the user could neither read nor use them.
+   * Moves the notices into an element, for example into a dialog that has opened. Outside the open dialog, the user could neither read nor
+   * use them.
    * @param {HTMLElement} host
    */
   moveTo(host) {

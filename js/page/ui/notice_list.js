@@ -5,7 +5,8 @@ import * as say from "../../words/page.js";
 
 /**
  * @typedef {import("./notice.js").NoticeAction} NoticeAction
- * @typedef {{ words: string, time: Date, actions: NoticeAction[] }} Message the text of a notice, and its actions until one of them is executed
+ * @typedef {{ words: string, time: Date, actions: NoticeAction[] }} Message the text of a notice, and its actions until one of them is
+ *   executed
  */
 
 /** The maximum number of stored notices. */

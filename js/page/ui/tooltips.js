@@ -1,5 +1,6 @@
-// Tooltips with a button's action and key. A tooltip opens when the pointer rests on the button, when the button gets the keyboard focus, or on a
-// long touch. Browsers show a `title` only for the pointer, so a button with a `title` gets a tooltip for the keyboard and for touch.
+// Tooltips with a button's action and key. A tooltip opens when the pointer rests on the button, when the button gets the keyboard focus,
+// or on a long touch. Browsers show a `title` only for the pointer, so a button with a `title` gets a tooltip for the keyboard and for
+// touch.
 
 import { element } from "./dom.js";
 

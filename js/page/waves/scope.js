@@ -25,11 +25,12 @@ import * as say from "../../words/waves.js";
 /**
  * The callbacks of the logic analyser.
  * @typedef {object} ScopeCalls
- * @property {(cycles: number, isBefore: boolean, values: string[]) => Promise<Recorded | null>} record Records the last `cycles` cycles (`isBefore`),
- *   or the next ones. `values` are the names of registers and nibbles to include. Resolves to null after a failure. A failure has already been
- *   reported.
- * @property {(wanted: { trigger: string } & LiveWanted, values: string[]) => Promise<{ recorded: Recorded | null, fault: string } | null>} begin
- *   Starts a recording that lasts until `end`. Resolves to its first part or to the error in the trigger, or to null if the call failed.
+ * @property {(cycles: number, isBefore: boolean, values: string[]) => Promise<Recorded | null>} record Records the last `cycles` cycles
+ *   (`isBefore`), or the next ones. `values` are the names of registers and nibbles to include. Resolves to null after a failure. A failure
+ *   has already been reported.
+ * @property {(wanted: { trigger: string } & LiveWanted, values: string[]) => Promise<{ recorded: Recorded | null, fault: string } | null>}
+ *   begin Starts a recording that lasts until `end`. Resolves to its first part or to the error in the trigger, or to null if the call
+ *   failed.
  * @property {() => Promise<LivePart | null>} end Ends the recording. Resolves to its last part, or to null if there is none.
  * @property {() => WaveLine[]} offered Returns all lines of the board.
  * @property {() => string} name Returns the session's name, which is used for file names.

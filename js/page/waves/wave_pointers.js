@@ -1,5 +1,5 @@
-// Touch, mouse and wheel input on the waves. A click places the cursor. A drag moves the visible part, or a row by its name. Two fingers or the wheel
-// zoom.
+// Touch, mouse and wheel input on the waves. A click places the cursor. A drag moves the visible part, or a row by its name. Two fingers or
+// the wheel zoom.
 
 /**
  * @typedef {{ x: number, y: number }} Point
@@ -8,7 +8,8 @@
 /**
  * The callbacks of the pointer input. Points are in pixels from the top left corner.
  * @typedef {object} PointerCalls
- * @property {(point: Point, isOther: boolean) => void} click Places the active cursor at a point; the other cursor if `isOther` (with Shift).
+ * @property {(point: Point, isOther: boolean) => void} click Places the active cursor at a point; the other cursor if `isOther` (with
+ *   Shift).
  * @property {(point: Point) => boolean} holdsCursor Returns true if a drag from this point moves the cursor.
  * @property {(point: Point) => void} drag Moves the dragged cursor to a point.
  * @property {(point: Point) => boolean} isName Returns true if a point is on the row names.
@@ -104,8 +105,8 @@ export class WavePointers {
   }
 
   /**
-   * Handles a wheel event. A vertical turn zooms at the pointer, or scrolls the rows if the pointer is on their names. A sideways turn, or a turn
-   * with Shift, pans.
+   * Handles a wheel event. A vertical turn zooms at the pointer, or scrolls the rows if the pointer is on their names. A sideways turn, or
+   * a turn with Shift, pans.
    * @param {WheelEvent} event
    */
   turn(event) {
