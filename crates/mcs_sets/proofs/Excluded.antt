@@ -1,7 +1,6 @@
 -- What an entry excludes.
-use Rattle.std.proofs.Common.{◌≡◌, ◌<◌, ◌+◌, ◌-◌, ◌*◌, ◌/◌, ◌%◌, ◌&&◌, ◌||◌, ℕ, zero, suc, List, [], ◌∷◌, Bool, true, false, not, Option, Some, None, is_none, nat_lt, length, get_or, slice_index, refl, subst, sym, ap, ◌∙◌, arith, eqb}
+use Rattle.std.proofs.Common.{◌≡◌, ◌<◌, ◌+◌, ◌-◌, ◌*◌, ◌/◌, ◌%◌, ◌&&◌, ℕ, zero, suc, List, [], ◌∷◌, Bool, true, false, not, Option, Some, None, is_none, nat_lt, length, get_or, slice_index, refl, subst, sym, ap, ◌∙◌, arith, eqb}
 use Rattle.std.proofs.lemmas.Bool.{and_left, and_right, or_from, not_from_true, ne_eqb, lt-ltb, le-ltb}
-use Rattle.std.proofs.lemmas.Nat.{div-mul-add}
 use Rattle.mcs_model.specs.declared.board.BoardParts.{BoardParts}
 use Rattle.mcs_model.specs.declared.regs.Regs.{Regs}
 use Rattle.mcs_model.specs.declared.op.Op.{Op}
@@ -9,12 +8,10 @@ use Rattle.mcs_model.specs.declared.op.Op.TheVariants.{Jcn, Fim, Fin, Jun, Jms, 
 use Rattle.mcs_model.specs.Boards.{masks_on}
 use Rattle.mcs_model.specs.Command.{lacks_rom}
 use Rattle.mcs_model.specs.Effect.{instruction_at}
-use Rattle.mcs_model.specs.Numbers.{word_on_page}
-use Rattle.mcs_model.specs.Registers.{pair_of}
 use Rattle.mcs_drive.specs.Tracked.{Tracked}
 use Rattle.mcs_check.specs.declared.common_mistakes.Mistakes.{Mistakes}
 use Rattle.mcs_check.specs.declared.conditions.Condition.{Condition}
-use Rattle.mcs_check.specs.Conditions.{is_met, are_met, keeps_to}
+use Rattle.mcs_check.specs.Conditions.{is_met, are_met}
 use Rattle.mcs_check.specs.Mistaken.{errs_in_calls, errs_in_chips, errs_in_lines, has_input, has_output, is_fourth_call, is_lone_return, is_mistaken, is_rdr, is_wrr, lacks_ram, lacks_word, last_read, makes, uses_ram}
 use Rattle.mcs_sets.specs.declared.entries.Entry.{Entry}
 use Rattle.mcs_sets.specs.Entries.{has, held, IsIn}

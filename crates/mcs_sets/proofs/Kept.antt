@@ -1,11 +1,10 @@
 -- From what holds in each entry to what holds for all inputs.
-use Rattle.std.proofs.Common.{◌≡◌, ℕ, zero, suc, List, Bool, true}
-use Rattle.std.specs.List.{Contains}
+use Rattle.std.proofs.Common.{ℕ, zero, suc, List}
 use Rattle.mcs_drive.specs.Driven.{Levels, FitBoard}
 use Rattle.mcs_drive.specs.Tracked.{Tracked, under, driven, no_observer}
 use Rattle.mcs_sets.specs.declared.entries.Entry.{Entry}
 use Rattle.mcs_sets.specs.Entries.{accs_of}
-use Rattle.mcs_sets.specs.Excluding.{EntriesSuffice, HoldsIn}
+use Rattle.mcs_sets.specs.Excluding.{EntriesSuffice}
 use Rattle.mcs_sets.specs.Following.{IsOf, StaysAmong}
 use Rattle.mcs_sets.proofs.Memory.{has-lt, cycle-of_board}
 
