@@ -195,7 +195,7 @@ class Pressed:
     keys: list[tuple[int, int]]
     answer: str
 
-    def question(self, keys: list[tuple[int, int]], most: int = 1000000, pause: int = 1000000) -> Question:
+    def question(self, keys: list[tuple[int, int]], most: int = 3000000, pause: int = 1000000) -> Question:
         """Returns the question about these keys."""
         question = question_of(self.props, [], most, pause)
         question.opens = [comparisons_of(self.opens, {})]
@@ -205,7 +205,7 @@ class Pressed:
 
 PRESSED = [
     Pressed(LOCK, "lamp open on only after press 4, press 7, press 1, press 1, press #", "in ramport 0 line1 1 1",
-            [(1, 0), (2, 0), (0, 0), (0, 0), (3, 2)], "holds 0"),
+            [(1, 0), (2, 0), (0, 0), (0, 0), (3, 2)], "holds 2083023"),
 ]
 
 
