@@ -123,9 +123,13 @@ fn outcome_of(alloc: Global, text: &str) -> Result<Outcome, Refusal>
         is_whole,
         ..
     } = question;
-    let (Some(board), Some(program), Some(marks), true, true) =
-        (board, program, Marks::of(marks), is_whole, is_posed)
-    else {
+    let (Some(board), Some(program), Some(marks), true, true) = (
+        board,
+        program,
+        Marks::of(marks),
+        is_whole,
+        is_posed,
+    ) else {
         return Err(Refusal::NotWhole);
     };
     if sets > 0 {

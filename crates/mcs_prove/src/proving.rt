@@ -10,7 +10,9 @@ use crate::fault::Refusal;
 use crate::machine::rig_given;
 use mcs_asm::{AsmFault, FaultKind, assemble};
 use mcs_board::BenchRig;
-use mcs_check::{Aim, Condition, Conjunction, Cycles, Marks, Outcome, Replica, add_limit, add_opening, check_all};
+use mcs_check::{
+    Aim, Condition, Conjunction, Cycles, Marks, Outcome, Replica, add_limit, add_opening, check_all,
+};
 use mcs_cpu4004::Cpu;
 use mcs_search::MOST;
 use mcs_sets::check_by_sets;
@@ -123,7 +125,7 @@ pub fn prove(
     requires { most ≤ MOST }
     ensures { IfOk result (IsKeptOf board.now program.now
         (observer_of (map (λ n. n.items) goal.begins.items) (map (λ n. n.items) goal.ends.items)
-            (map (λ n. n.items) goal.opens.items) goal.marks)
+        (map (λ n. n.items) goal.opens.items) goal.marks)
         (map (λ n. n.items) goal.nevers.items) goal.limit) }
 {
     let rig = rig_of(alloc, board, program)?;
