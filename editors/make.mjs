@@ -7,16 +7,16 @@
 import { mkdirSync, readFileSync, writeFileSync } from "node:fs";
 import { dirname } from "node:path";
 import { fileURLToPath } from "node:url";
-import { KEYS } from "../js/core/bench/board_form.js";
-import { KINDS } from "../js/core/board/face_words.js";
-import { instructionsOf } from "../js/core/help/manual.js";
+import { PART_KEYS } from "../js/core/bench/board_form.js";
+import { LINE_KINDS } from "../js/core/board/face_words.js";
+import { readInstructions } from "../js/core/help/manual.js";
 import { DIRECTIVES } from "../js/core/text/assembly.js";
-import { dataOfPage } from "../js/node/page_parts.mjs";
+import { readPageData } from "../js/node/page_parts.mjs";
 
 const OWN = dirname(fileURLToPath(import.meta.url));
-const INSTRUCTIONS = [...instructionsOf(dataOfPage().manual).keys()].sort();
-const FACE = [...KINDS.keys()].sort();
-const TABLES = Object.keys(KEYS).sort();
+const INSTRUCTIONS = [...readInstructions(readPageData().manual).keys()].sort();
+const FACE = [...LINE_KINDS.keys()].sort();
+const TABLES = Object.keys(PART_KEYS).sort();
 
 const NAME = "[A-Za-z_][A-Za-z0-9_]*";
 const NUMBER = "(?:0x[0-9A-Fa-f]+|[0-9]+)";

@@ -6,7 +6,7 @@ import { execFileSync } from "node:child_process";
 import { mkdirSync, readFileSync, rmSync, writeFileSync } from "node:fs";
 import { join, resolve } from "node:path";
 import { COMMANDS } from "../js/node/commands/table.mjs";
-import { checksumOfFiles } from "../js/node/joined.cjs";
+import { hashFiles } from "../js/node/joined.cjs";
 import { TOP } from "../js/node/top.mjs";
 
 const [, , folderName = "", ...commandNames] = process.argv;
@@ -36,6 +36,6 @@ for (const name of names) {
   execFileSync("esbuild", options, { cwd: TOP, input: entryModule(name) });
   const { inputs } = JSON.parse(readFileSync(META, "utf8"));
   const sources = Object.keys(inputs).filter((input) => input !== "entry.mjs").sort();
-  writeFileSync(join(folder, "sources", name), `${checksumOfFiles([...sources.map((each) => join(TOP, each)), file])}\n${sources.join("\n")}\n`);
+  writeFileSync(join(folder, "sources", name), `${hashFiles([...sources.map((each) => join(TOP, each)), file])}\n${sources.join("\n")}\n`);
 }
 rmSync(META);

@@ -8,8 +8,8 @@ import { tmpdir } from "node:os";
 import { dirname, join } from "node:path";
 import { fileURLToPath } from "node:url";
 import { Engine } from "../../js/core/engine/engine.js";
-import { endOfInputs, matchAnswers, readInputs } from "../../js/core/bench/inputs.js";
-import { sourceOfRom } from "../../js/core/engine/texts_of_file.js";
+import { findInputEnd, matchAnswers, readInputs } from "../../js/core/bench/inputs.js";
+import { disassembleRom } from "../../js/core/engine/texts_of_file.js";
 
 const [modulePath, mcs4, count] = process.argv.slice(2);
 // The files are in memory if possible, because the program waits for its disk after each command.
@@ -180,7 +180,7 @@ const answersTo = (engine, file, lines) => engine.ask(file, lines).answers;
 // Checks that the source text that the page generates from ROM reproduces the same bytes in an empty ROM.
 function compareSource(name, engine, file) {
   const board = answersTo(engine, file, "board\n").slice(1).map((line) => `${line}\n`).join("");
-  const source = sourceOfRom(engine, file);
+  const source = disassembleRom(engine, file);
   const again = answersTo(engine, file, `wire\n.\nwire\n${board}.\nasm\n${source}.\n${ALL_ROM}`).slice(3);
   verdict(`${name}: the source text made of ROM gives other bytes`, again.join() === answersTo(engine, file, ALL_ROM).join());
 }
@@ -207,7 +207,7 @@ function compareInPieces(name, engine, file, input) {
   const bytes = Uint8Array.from(file);
   const answers = [engine.ask(file, "").opened];
   for (let at = 0; at < input.length;) {
-    const end = endOfInputs(input, at, 1 + below(200));
+    const end = findInputEnd(input, at, 1 + below(200));
     answers.push(...engine.serve(bytes, input.slice(at, end), bytes).answers);
     at = end;
   }

@@ -18,16 +18,16 @@ const matches = (words, pattern, what) => console.log(pattern.test(words) ? `ok 
 
 // --- frames ---
 
-const framed = (text, size = Buffer.byteLength(text)) => `Content-Length: ${size}\r\n\r\n${text}`;
+const frameMessage = (text, size = Buffer.byteLength(text)) => `Content-Length: ${size}\r\n\r\n${text}`;
 const request = (seq, command, args) => JSON.stringify({ seq, type: "request", command, arguments: args });
-const INITIALIZE = framed(request(1, "initialize", {}));
+const INITIALIZE = frameMessage(request(1, "initialize", {}));
 
 /** Byte sequences after which no message can follow, with the expected error. With `isOpen`, the stream stays open, but no more bytes arrive. */
 const LOST = [
-  { name: "the rest of a message never comes", bytes: framed("{\"seq\":", 50), words: /^only 7 of the 50 bytes/, isOpen: true },
+  { name: "the rest of a message never comes", bytes: frameMessage("{\"seq\":", 50), words: /^only 7 of the 50 bytes/, isOpen: true },
   { name: "the rest of a head never comes", bytes: "Content-Le", words: /^only a part of the head/, isOpen: true },
-  { name: "a Content-Length that is too large", bytes: `${INITIALIZE}${framed("{}", 9)}`, words: /^only 2 of the 9 bytes/ },
-  { name: "a Content-Length that is too small", bytes: `${framed(request(1, "threads"), 20)}${INITIALIZE}`, words: /^a message begins with/ },
+  { name: "a Content-Length that is too large", bytes: `${INITIALIZE}${frameMessage("{}", 9)}`, words: /^only 2 of the 9 bytes/ },
+  { name: "a Content-Length that is too small", bytes: `${frameMessage(request(1, "threads"), 20)}${INITIALIZE}`, words: /^a message begins with/ },
   { name: "a Content-Length that is no number", bytes: "Content-Length: many\r\n\r\n{}", words: /^a message begins with/ },
   { name: "a Content-Length below 0", bytes: "Content-Length: -2\r\n\r\n{}", words: /^a message begins with/ },
   { name: "two of them", bytes: "Content-Length: 2\r\nContent-Length: 3\r\n\r\n{}", words: /^a message begins with/ },

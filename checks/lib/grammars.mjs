@@ -2,10 +2,10 @@
 // Prints a letter for each character of the text, as the page or the grammar's editor would colour it. The letters are: c comment, l label, k name
 // that = defines, i instruction, d directive, r register, n number, v name, t table, p key, s string, . nothing.
 import { readFileSync } from "node:fs";
-import { instructionsOf } from "../../js/core/help/manual.js";
+import { readInstructions } from "../../js/core/help/manual.js";
 import { BoardLanguage } from "../../js/core/server/board_language.js";
-import { partsOf, tokensOf } from "../../js/core/text/assembly.js";
-import { dataOfPage } from "../../js/node/page_parts.mjs";
+import { splitStatement, tokenizeLine } from "../../js/core/text/assembly.js";
+import { readPageData } from "../../js/node/page_parts.mjs";
 
 const EDITORS = new URL("../../editors/", import.meta.url);
 const [how, name] = process.argv.slice(2);
@@ -28,11 +28,11 @@ function byPage() {
     const colours = new BoardLanguage({ queries: () => ({}) }, new Map(), () => "").colours({ lines, text });
     return lines.map((line, at) => marked(line, colours.filter((each) => each.line === at).map((each) => ({ ...each, letter: letters[each.type] }))));
   }
-  const instructions = instructionsOf(dataOfPage().manual);
+  const instructions = readInstructions(readPageData().manual);
   return lines.map((line) => {
-    const { defines } = partsOf(line);
+    const { defines } = splitStatement(line);
     const letterOf = (kind) => (kind === "label" ? (defines ? "k" : "l") : OF_PAGE[kind]);
-    return marked(line, tokensOf(line, (word) => instructions.has(word)).map((each) => ({ ...each, letter: letterOf(each.kind) })));
+    return marked(line, tokenizeLine(line, (word) => instructions.has(word)).map((each) => ({ ...each, letter: letterOf(each.kind) })));
   });
 }
 

@@ -1,5 +1,5 @@
-// Starts the bench's commands: the command in the user's setting, or by default the commands in the extension. These run on the editor's own Node, so
-// the user needs no other software.
+// Starts the bench's commands. A setting of the user can name a command. By default, the commands in the extension run, on the editor's Node, so
+// that the user needs no other software.
 "use strict";
 const { spawn } = require("node:child_process");
 const { join } = require("node:path");
@@ -14,35 +14,36 @@ class BenchCommand {
    */
   constructor(vscode, folder) {
     this.vscode = vscode;
-    this.own = join(folder, "bench", "js", "node", "mcs4.cjs");
-    /** True if the command in the setting could not be started. The extension's own commands then replace it. */
-    this.isGivenUp = false;
+    this.ownScript = join(folder, "bench", "js", "node", "mcs4.cjs");
+    /** True if the command in the setting did not start. The commands in the extension then replace it. */
+    this.hasSettingFailed = false;
   }
 
-  /** The command that the user's setting names, or "" if there is none. */
-  get named() {
-    return this.isGivenUp ? "" : this.vscode.workspace.getConfiguration("mcs4").get("command") || "";
+  /** The command that the user's setting names; "" for none. */
+  get configuredCommand() {
+    return this.hasSettingFailed ? "" : this.vscode.workspace.getConfiguration("mcs4").get("command") || "";
   }
 
-  /** The program to start, the arguments before the command's own arguments, and additions to the environment. */
-  get form() {
-    const { named, own } = this;
-    return named === "" ? { program: process.execPath, words: [own], env: AS_NODE } : { program: named, words: [], env: {} };
+  /** The program to start, its first arguments (before those of the command), and additions to the environment. */
+  get launchForm() {
+    const { configuredCommand, ownScript } = this;
+    if (configuredCommand !== "") return { program: configuredCommand, words: [], env: {} };
+    return { program: process.execPath, words: [ownScript], env: AS_NODE };
   }
 
   /**
    * Starts a command. Returns the process.
-   * @param {string[]} words
-   * @param {"pipe" | "ignore"} errors how to handle the standard error of the command
+   * @param {string[]} words the name of the command and its arguments
+   * @param {"pipe" | "ignore"} errors the treatment of the command's standard error
    */
   start(words, errors) {
-    const { program, words: before, env } = this.form;
+    const { program, words: before, env } = this.launchForm;
     return spawn(program, [...before, ...words], { env: { ...process.env, ...env }, stdio: ["pipe", "pipe", errors], windowsHide: true });
   }
 
   /**
-   * Runs a command until it ends. Resolves to its exit status and its output.
-   * @param {string[]} words
+   * Runs a command to its end. Resolves to its exit status and its output.
+   * @param {string[]} words the name of the command and its arguments
    * @param token the cancellation token
    */
   run(words, token) {
@@ -58,27 +59,31 @@ class BenchCommand {
       child.stdin.on("error", () => {});
       child.stdin.end();
       const ending = token && token.onCancellationRequested(() => child.kill());
-      const over = (status, words_) => {
+      const finish = (status, startError) => {
         if (ending) ending.dispose();
-        settle({ status, output: printed.output, errors: printed.errors + words_ });
+        settle({ status, output: printed.output, errors: printed.errors + startError });
       };
-      child.on("error", ({ message }) => over(null, message));
-      child.on("close", (status) => over(status, ""));
+      child.on("error", ({ message }) => finish(null, message));
+      child.on("close", (status) => finish(status, ""));
     });
   }
 
-  /** @param {string[]} words */
+  /**
+   * Returns the editor's description of a debug adapter.
+   * @param {string[]} words the name of the command and its arguments
+   */
   debugAdapter(words) {
-    const { program, words: before, env } = this.form;
+    const { program, words: before, env } = this.launchForm;
     return new this.vscode.DebugAdapterExecutable(program, [...before, ...words], { env });
   }
 
   /**
-   * @param {string[]} words
+   * Returns the editor's description of a command that a task runs.
+   * @param {string[]} words the name of the command and its arguments
    * @param {string} cwd the working directory
    */
   execution(words, cwd) {
-    const { program, words: before, env } = this.form;
+    const { program, words: before, env } = this.launchForm;
     return new this.vscode.ProcessExecution(program, [...before, ...words], { cwd, env });
   }
 }

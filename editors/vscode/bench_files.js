@@ -1,5 +1,5 @@
-// Determines which files belong to the bench, and the arguments that run a test file. A file belongs to the bench if its folder has board.toml, or if
-// its folder or a parent folder has mcs4.toml.
+// Determines which files belong to the bench, and which arguments run a test file. A file belongs to the bench if its folder contains board.toml, or
+// if its folder or a parent folder contains mcs4.toml.
 "use strict";
 const { existsSync, readFileSync } = require("node:fs");
 const { dirname, join } = require("node:path");
@@ -7,7 +7,7 @@ const { dirname, join } = require("node:path");
 const PROJECT = "mcs4.toml";
 
 /**
- * Returns the nearest project folder, from a file's folder upwards, or "" if there is none.
+ * Returns the nearest project folder, from the folder of a file upwards; "" if there is none.
  * @param {string} file
  */
 function projectFolder(file) {
@@ -23,29 +23,29 @@ function belongsToBench(file) {
 }
 
 /**
- * Returns the test files that a project lists, in order. (The bench parses mcs4.toml strictly; only the order matters here.)
+ * Returns the test files that a project lists, in their order. Does not check mcs4.toml, because the bench does.
  * @param {string} folder
  */
-function testsOfProject(folder) {
+function listProjectTests(folder) {
   const text = readFileSync(join(folder, PROJECT), "utf8").replace(/^[ \t]*#.*$/gm, "");
   const [, list = ""] = /^[ \t]*tests[ \t]*=[ \t]*(\[[^\]]*\]|"[^"\n]*"|'[^'\n]*')/m.exec(text) || [];
   return (list.match(/"[^"\n]*"|'[^'\n]*'/g) || []).map((quoted) => join(folder, ...quoted.slice(1, -1).split("/")));
 }
 
 /**
- * Returns the arguments that make mcs4 run a test file. Its results are the last ones in the output: the project's test files before it run first,
- * because they may define steps that it uses.
+ * Returns the arguments with which mcs4 runs a test file. The test files before this one in the project run first, because they can define steps
+ * that this file uses. The last results in the output belong to this file.
  * @param {string} file
  */
-function wordsOfTests(file) {
+function testArguments(file) {
   const folder = projectFolder(file);
   if (folder !== "") {
-    const tests = testsOfProject(folder);
-    const place = tests.indexOf(file);
-    return ["test", "-C", folder, ...(place < 0 ? [file] : tests.slice(0, place + 1))];
+    const tests = listProjectTests(folder);
+    const index = tests.indexOf(file);
+    return ["test", "-C", folder, ...(index < 0 ? [file] : tests.slice(0, index + 1))];
   }
   const programs = [".asm", ".4004"].map((ending) => file.replace(/\.[^.\\/]*$/, ending));
   return ["test", join(dirname(file), "board.toml"), programs.find((each) => existsSync(each)) || programs[0], file];
 }
 
-module.exports = { PROJECT, belongsToBench, projectFolder, wordsOfTests };
+module.exports = { PROJECT, belongsToBench, projectFolder, testArguments };

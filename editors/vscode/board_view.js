@@ -1,6 +1,6 @@
-// The front panel view, "Lamps and keys". It draws the board of the program that is being debugged, and the user can press its keys. The view can be
-// in the debugger's side bar or in a panel of its own. Its page is board_view.html; editors/vsix builds the script and style sheet of that page from
-// those of the bench's page.
+// The view "Lamps and keys". It draws the front panel of the board while a program is debugged, and the user can press the keys. The view can be in
+// the side bar of the debugger or in a separate panel. The page of the view is board_view.html. editors/vsix builds its script and style sheet from
+// the page of the bench.
 "use strict";
 const { readFileSync } = require("node:fs");
 const { join } = require("node:path");
@@ -12,44 +12,44 @@ class BoardView {
   constructor(vscode, folder) {
     this.vscode = vscode;
     this.folder = folder;
-    /** The web views that exist: of the side bar and of panels. */
+    /** The open web views, in the side bar and in panels. */
     this.pages = new Set();
-    /** The debug session whose board is drawn, and everything that it has reported about the board. */
+    /** The debug session whose board the view draws, and all values that the session has reported about the board. */
     this.session = null;
     this.shown = null;
   }
 
-  /** Fills the web view of the side bar or of a panel. The editor calls this when it shows the view. */
+  /** Fills a web view in the side bar or in a panel. The editor calls this method when it shows the view. */
   resolveWebviewView(view) {
     const { webview } = view;
     webview.options = this.options;
     const uriOf = (name) => String(webview.asWebviewUri(this.vscode.Uri.file(join(this.folder, name))));
-    const parts = { "@SOURCE@": webview.cspSource, "@STYLE@": uriOf("board_page.css"), "@SCRIPT@": uriOf("board_page.js") };
+    const replacements = { "@SOURCE@": webview.cspSource, "@STYLE@": uriOf("board_page.css"), "@SCRIPT@": uriOf("board_page.js") };
     const text = readFileSync(join(this.folder, "board_view.html"), "utf8");
-    webview.onDidReceiveMessage((message) => this.take(message, webview));
+    webview.onDidReceiveMessage((message) => this.handleMessage(message, webview));
     view.onDidDispose(() => this.pages.delete(webview));
     this.pages.add(webview);
-    webview.html = text.replace(/@[A-Z]+@/g, (word) => parts[word] || word);
+    webview.html = text.replace(/@[A-Z]+@/g, (word) => replacements[word] || word);
   }
 
   get options() {
     return { enableScripts: true, localResourceRoots: [this.vscode.Uri.file(this.folder)] };
   }
 
-  /** Opens a panel. If nothing is being debugged, starts the program in the active editor, or the first project of the workspace, in real time. */
+  /** Opens a panel. If no program is debugged, starts the program in the active editor, or the first project of the workspace, in real time. */
   async open() {
     const { window, debug, ViewColumn } = this.vscode;
     const panel = window.createWebviewPanel("mcs4.panel", TITLE, { viewColumn: ViewColumn.Beside, preserveFocus: true },
       { ...this.options, retainContextWhenHidden: true });
     this.resolveWebviewView(panel);
     if (this.session) return;
-    const configuration = await this.launched();
+    const configuration = await this.launchConfiguration();
     if (configuration) await debug.startDebugging(undefined, configuration);
     else window.showInformationMessage("There is no MCS-4 program here: open one, or a folder with mcs4.toml.");
   }
 
-  /** Resolves to the launch configuration for a panel, or to null if there is no program. */
-  async launched() {
+  /** Resolves to the launch configuration for a new panel; null if there is no program. */
+  async launchConfiguration() {
     const { window, workspace } = this.vscode;
     const form = { type: "mcs4", request: "launch", name: TITLE, realTime: true, stopOnEntry: false };
     const editor = window.activeTextEditor;
@@ -61,8 +61,8 @@ class BoardView {
     return first ? { ...form, project: first.fsPath } : null;
   }
 
-  /** Handles a message from the page: the page is ready, a key was pressed or released, or the printout was cleared. */
-  async take(message, webview) {
+  /** Handles a message of the page: the page is ready, or the user pressed or released a key or cleared the printout. */
+  async handleMessage(message, webview) {
     if (message.isReady) {
       webview.postMessage({ kind: "boardShown", news: this.shown });
       return;
@@ -80,8 +80,8 @@ class BoardView {
     for (const webview of this.pages) webview.postMessage({ kind: "boardShown", news });
   }
 
-  /** Draws the board of a debug session that has just started. */
-  async follow(session) {
+  /** Draws the board of a debug session that has started. */
+  async followSession(session) {
     try {
       const news = await session.customRequest("watchBoard");
       this.session = session;
@@ -92,7 +92,7 @@ class BoardView {
     }
   }
 
-  /** Passes on a debug session's changes of the board to the pages. */
+  /** Sends the changes of the board, which the debug session has reported, to the pages. */
   news({ session, event, body }) {
     if (event !== "boardShown" || session !== this.session) return;
     this.shown = { ...this.shown, ...body };
@@ -117,7 +117,7 @@ class BoardView {
       debug.registerDebugAdapterTrackerFactory("mcs4", {
         createDebugAdapterTracker: (session) => ({
           onDidSendMessage: ({ type, event }) => {
-            if (type === "event" && event === "initialized") this.follow(session);
+            if (type === "event" && event === "initialized") this.followSession(session);
           },
         }),
       }),

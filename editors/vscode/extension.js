@@ -10,8 +10,8 @@ const { TestExplorer } = require("./test_explorer.js");
 
 const LANGUAGES = ["mcs4", "mcs4-board", "mcs4-test", "mcs4-props"];
 
-/** Lets F5 without a launch configuration debug the program in the active editor. */
-function resolved(folder, configuration) {
+/** Returns the debug configuration. If there is no launch configuration (F5), returns one for the program in the active editor. */
+function resolveConfiguration(folder, configuration) {
   if (configuration.type) return configuration;
   const editor = vscode.window.activeTextEditor;
   if (!editor || editor.document.languageId !== "mcs4") return configuration;
@@ -42,7 +42,7 @@ exports.activate = (context) => {
     client,
     new ProgramLanguage(vscode).register(),
     vscode.debug.registerDebugAdapterDescriptorFactory("mcs4", { createDebugAdapterDescriptor: () => bench.debugAdapter(["dap"]) }),
-    vscode.debug.registerDebugConfigurationProvider("mcs4", { resolveDebugConfiguration: resolved }),
+    vscode.debug.registerDebugConfigurationProvider("mcs4", { resolveDebugConfiguration: resolveConfiguration }),
     vscode.commands.registerCommand("mcs4.pressKey", pressKey),
     new Tasks(vscode, bench).register(),
     ...new TestExplorer(vscode, bench).register(),

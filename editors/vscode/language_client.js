@@ -1,14 +1,15 @@
-// A client of `mcs4 lsp` for Visual Studio Code, without third-party packages. It forwards the editor's requests to the server.
+// A client of the language server `mcs4 lsp` for Visual Studio Code, without third-party packages. The client sends the editor's requests to the
+// server.
 "use strict";
 const { LanguageFeatures } = require("./language_features.js");
 
-/** The client capabilities that affect the server's answers. */
+/** The client capabilities that the server uses. */
 const CAPABILITIES = {
   textDocument: { hover: { contentFormat: ["markdown", "plaintext"] } },
   experimental: { commands: { commands: ["editor.action.showReferences"] } },
 };
-/** The server's ids for languages that have another id in the editor. */
-const NAMES = { "mcs4": "asm", "mcs4-board": "toml" };
+/** The server's ids of the languages that have another id in the editor, by the editor's id. */
+const SERVER_LANGUAGE_IDS = { "mcs4": "asm", "mcs4-board": "toml" };
 
 class LanguageClient {
   /**
@@ -21,7 +22,7 @@ class LanguageClient {
     this.bench = bench;
     this.languages = languages;
     this.input = Buffer.alloc(0);
-    this.waiting = new Map();
+    this.pendingRequests = new Map();
     this.id = 0;
     this.child = null;
     this.disposables = [];
@@ -42,36 +43,36 @@ class LanguageClient {
     this.provide(capabilities);
   }
 
-  /** Starts the server. If the command in the setting does not start, uses the extension's own command instead. */
+  /** Starts the server. If the command in the setting does not start, starts the command in the extension instead. */
   async start() {
     const { bench } = this;
-    const { named } = bench;
+    const { configuredCommand } = bench;
     if (await this.isStarted()) return;
-    if (named === "") throw new Error("The language server was not started.");
-    bench.isGivenUp = true;
-    const message = `The command ${named} was not started; the setting mcs4.command names it. The extension's own commands take its place.`;
+    if (configuredCommand === "") throw new Error("The language server was not started.");
+    bench.hasSettingFailed = true;
+    const message = `The command ${configuredCommand} was not started; the setting mcs4.command names it. The extension's own commands take its place.`;
     this.vscode.window.showErrorMessage(message);
     if (!(await this.isStarted())) throw new Error("The language server was not started.");
   }
 
-  /** Tries to start the server. Resolves to true if the program could be started. */
+  /** Tries to start the server. Resolves to whether the program has started. */
   async isStarted() {
     const child = this.bench.start(["lsp"], "ignore");
-    const isThere = await new Promise((settle) => {
+    const hasStarted = await new Promise((settle) => {
       child.on("spawn", () => settle(true));
       child.on("error", () => settle(false));
     });
-    if (!isThere) return false;
+    if (!hasStarted) return false;
     this.child = child;
-    child.on("close", () => this.lost());
+    child.on("close", () => this.handleServerEnd());
     child.stdin.on("error", () => {});
-    child.stdout.on("data", (bytes) => this.take(bytes));
+    child.stdout.on("data", (bytes) => this.receive(bytes));
     return true;
   }
 
-  lost() {
-    for (const { reject } of this.waiting.values()) reject(new Error("the language server has ended"));
-    this.waiting.clear();
+  handleServerEnd() {
+    for (const { reject } of this.pendingRequests.values()) reject(new Error("the language server has ended"));
+    this.pendingRequests.clear();
     this.child = null;
   }
 
@@ -86,7 +87,7 @@ class LanguageClient {
     for (const each of this.disposables) each.dispose();
   }
 
-  take(bytes) {
+  receive(bytes) {
     this.input = Buffer.concat([this.input, bytes]);
     for (;;) {
       const end = this.input.indexOf("\r\n\r\n");
@@ -97,11 +98,11 @@ class LanguageClient {
       this.input = this.input.subarray(end + 4 + size);
       if (message.method === "textDocument/publishDiagnostics") this.show(message.params);
       if (message.method === "window/showMessage") this.showMessage(message.params);
-      const waiting = message.method === undefined && this.waiting.get(message.id);
-      if (!waiting) continue;
-      this.waiting.delete(message.id);
-      if (message.error) waiting.reject(new Error(message.error.message));
-      else waiting.resolve(message.result);
+      const pending = message.method === undefined && this.pendingRequests.get(message.id);
+      if (!pending) continue;
+      this.pendingRequests.delete(message.id);
+      if (message.error) pending.reject(new Error(message.error.message));
+      else pending.resolve(message.result);
     }
   }
 
@@ -127,71 +128,71 @@ class LanguageClient {
     const { id } = this;
     if (!this.child) return Promise.reject(new Error("the language server has ended"));
     return new Promise((resolve, reject) => {
-      this.waiting.set(id, { resolve, reject });
+      this.pendingRequests.set(id, { resolve, reject });
       this.send({ id, method, params });
     });
   }
 
   // --- texts
 
-  isMeant(document) {
+  isServed(document) {
     return this.languages.includes(document.languageId) || /(^|[\\/])mcs4\.toml$/.test(document.fileName);
   }
 
   listen() {
     const { workspace } = this.vscode;
-    const idOf = ({ languageId }) => NAMES[languageId] || languageId;
-    const opened = (document) => {
-      if (!this.isMeant(document)) return;
-      const textDocument = { uri: document.uri.toString(), languageId: idOf(document), version: document.version, text: document.getText() };
+    const serverIdOf = ({ languageId }) => SERVER_LANGUAGE_IDS[languageId] || languageId;
+    const reportOpened = (document) => {
+      if (!this.isServed(document)) return;
+      const textDocument = { uri: document.uri.toString(), languageId: serverIdOf(document), version: document.version, text: document.getText() };
       this.notify("textDocument/didOpen", { textDocument });
     };
     this.disposables.push(
-      workspace.onDidOpenTextDocument(opened),
+      workspace.onDidOpenTextDocument(reportOpened),
       workspace.onDidCloseTextDocument((document) => {
-        if (this.isMeant(document)) this.notify("textDocument/didClose", { textDocument: { uri: document.uri.toString() } });
+        if (this.isServed(document)) this.notify("textDocument/didClose", { textDocument: { uri: document.uri.toString() } });
       }),
       workspace.onDidChangeTextDocument(({ document, contentChanges }) => {
-        if (!this.isMeant(document) || contentChanges.length === 0) return;
-        const changes = contentChanges.map(({ range, text }) => ({ range: this.plainRange(range), text }));
+        if (!this.isServed(document) || contentChanges.length === 0) return;
+        const changes = contentChanges.map(({ range, text }) => ({ range: this.toProtocolRange(range), text }));
         const textDocument = { uri: document.uri.toString(), version: document.version };
         this.notify("textDocument/didChange", { textDocument, contentChanges: changes });
       }),
     );
-    workspace.textDocuments.forEach(opened);
+    workspace.textDocuments.forEach(reportOpened);
   }
 
   show({ uri, diagnostics }) {
     const { vscode } = this;
     const levels = [0, vscode.DiagnosticSeverity.Error, vscode.DiagnosticSeverity.Warning, vscode.DiagnosticSeverity.Information];
     this.diagnostics.set(vscode.Uri.parse(uri), diagnostics.map(({ range, message, severity }) => (
-      new vscode.Diagnostic(this.rangeOf(range), message, levels[severity] ?? vscode.DiagnosticSeverity.Error))));
+      new vscode.Diagnostic(this.toEditorRange(range), message, levels[severity] ?? vscode.DiagnosticSeverity.Error))));
   }
 
   // --- conversions between the types of the editor and of the protocol
 
-  plainRange({ start, end }) {
+  toProtocolRange({ start, end }) {
     const plain = ({ line, character }) => ({ line, character });
     return { start: plain(start), end: plain(end) };
   }
 
-  rangeOf({ start, end }) {
+  toEditorRange({ start, end }) {
     return new this.vscode.Range(start.line, start.character, end.line, end.character);
   }
 
-  locationOf({ uri, range }) {
-    return new this.vscode.Location(this.vscode.Uri.parse(uri), this.rangeOf(range));
+  toEditorLocation({ uri, range }) {
+    return new this.vscode.Location(this.vscode.Uri.parse(uri), this.toEditorRange(range));
   }
 
-  editOf({ changes }) {
+  toWorkspaceEdit({ changes }) {
     const edit = new this.vscode.WorkspaceEdit();
     for (const [uri, edits] of Object.entries(changes)) {
-      for (const { range, newText } of edits) edit.replace(this.vscode.Uri.parse(uri), this.rangeOf(range), newText);
+      for (const { range, newText } of edits) edit.replace(this.vscode.Uri.parse(uri), this.toEditorRange(range), newText);
     }
     return edit;
   }
 
-  at(document, { line, character }) {
+  positionParams(document, { line, character }) {
     return { textDocument: { uri: document.uri.toString() }, position: { line, character } };
   }
 
@@ -204,17 +205,19 @@ class LanguageClient {
       languages.registerHoverProvider(selector, { provideHover: (document, position) => this.hover(document, position) }),
       languages.registerDefinitionProvider(selector, {
         provideDefinition: async (document, position) => {
-          const found = await this.ask("textDocument/definition", this.at(document, position));
-          return found && this.locationOf(found);
+          const found = await this.ask("textDocument/definition", this.positionParams(document, position));
+          return found && this.toEditorLocation(found);
         },
       }),
       languages.registerReferenceProvider(selector, {
-        provideReferences: async (document, position, context) => (
-          (await this.ask("textDocument/references", { ...this.at(document, position), context })) || []).map((each) => this.locationOf(each)),
+        provideReferences: async (document, position, context) => {
+          const found = await this.ask("textDocument/references", { ...this.positionParams(document, position), context });
+          return (found || []).map((each) => this.toEditorLocation(each));
+        },
       }),
       languages.registerRenameProvider(selector, {
         provideRenameEdits: async (document, position, newName) => (
-          this.editOf(await this.ask("textDocument/rename", { ...this.at(document, position), newName }))),
+          this.toWorkspaceEdit(await this.ask("textDocument/rename", { ...this.positionParams(document, position), newName }))),
       }),
       languages.registerCompletionItemProvider(selector, {
         provideCompletionItems: (document, position, _, context) => this.completion(document, position, context),
@@ -229,40 +232,40 @@ class LanguageClient {
   provideColours(selector, { tokenTypes, tokenModifiers }) {
     const { vscode } = this;
     const legend = new vscode.SemanticTokensLegend(tokenTypes, tokenModifiers);
-    const tokensOf = (tokens) => new vscode.SemanticTokens(new Uint32Array(tokens ? tokens.data : []), tokens ? tokens.resultId : undefined);
-    const paramsOf = (document, more) => ({ textDocument: { uri: document.uri.toString() }, ...more });
+    const toTokens = (tokens) => new vscode.SemanticTokens(new Uint32Array(tokens ? tokens.data : []), tokens ? tokens.resultId : undefined);
+    const documentParams = (document, more) => ({ textDocument: { uri: document.uri.toString() }, ...more });
     this.disposables.push(vscode.languages.registerDocumentSemanticTokensProvider(selector, {
-      provideDocumentSemanticTokens: async (document) => tokensOf(await this.ask("textDocument/semanticTokens/full", paramsOf(document))),
+      provideDocumentSemanticTokens: async (document) => toTokens(await this.ask("textDocument/semanticTokens/full", documentParams(document))),
       provideDocumentSemanticTokensEdits: async (document, previousResultId) => {
-        const tokens = await this.ask("textDocument/semanticTokens/full/delta", paramsOf(document, { previousResultId }));
-        if (!tokens || !tokens.edits) return tokensOf(tokens);
+        const tokens = await this.ask("textDocument/semanticTokens/full/delta", documentParams(document, { previousResultId }));
+        if (!tokens || !tokens.edits) return toTokens(tokens);
         const edits = tokens.edits.map(({ start, deleteCount, data }) => (
           new vscode.SemanticTokensEdit(start, deleteCount, new Uint32Array(data))));
         return new vscode.SemanticTokensEdits(edits, tokens.resultId);
       },
     }, legend), vscode.languages.registerDocumentRangeSemanticTokensProvider(selector, {
       provideDocumentRangeSemanticTokens: async (document, range) => (
-        tokensOf(await this.ask("textDocument/semanticTokens/range", paramsOf(document, { range: this.plainRange(range) })))),
+        toTokens(await this.ask("textDocument/semanticTokens/range", documentParams(document, { range: this.toProtocolRange(range) })))),
     }, legend));
   }
 
   async hover(document, position) {
-    const found = await this.ask("textDocument/hover", this.at(document, position));
+    const found = await this.ask("textDocument/hover", this.positionParams(document, position));
     if (!found) return null;
     const markdown = new this.vscode.MarkdownString(found.contents.value);
-    return new this.vscode.Hover(markdown, found.range && this.rangeOf(found.range));
+    return new this.vscode.Hover(markdown, found.range && this.toEditorRange(found.range));
   }
 
   async completion(document, position, { triggerKind = 0, triggerCharacter } = {}) {
     // The editor numbers trigger kinds from 0, the protocol from 1.
     const context = { triggerKind: triggerKind + 1, triggerCharacter };
-    const list = (await this.ask("textDocument/completion", { ...this.at(document, position), context })) || [];
+    const list = (await this.ask("textDocument/completion", { ...this.positionParams(document, position), context })) || [];
     return list.map(({ label, kind, detail, documentation, textEdit, insertTextFormat }) => {
       // The editor numbers item kinds from 0, the protocol from 1.
       const item = new this.vscode.CompletionItem(label, kind - 1);
       item.detail = detail;
       item.documentation = documentation;
-      item.range = this.rangeOf(textEdit.range);
+      item.range = this.toEditorRange(textEdit.range);
       item.insertText = insertTextFormat === 2 ? new this.vscode.SnippetString(textEdit.newText) : textEdit.newText;
       return item;
     });
@@ -271,15 +274,15 @@ class LanguageClient {
   async symbols(document) {
     const list = (await this.ask("textDocument/documentSymbol", { textDocument: { uri: document.uri.toString() } })) || [];
     return list.map(({ name, detail, kind, range, selectionRange }) => (
-      new this.vscode.DocumentSymbol(name, detail || "", kind - 1, this.rangeOf(range), this.rangeOf(selectionRange))));
+      new this.vscode.DocumentSymbol(name, detail || "", kind - 1, this.toEditorRange(range), this.toEditorRange(selectionRange))));
   }
 
   async actions(document, range) {
     const context = { diagnostics: [] };
-    const params = { textDocument: { uri: document.uri.toString() }, range: this.plainRange(range), context };
+    const params = { textDocument: { uri: document.uri.toString() }, range: this.toProtocolRange(range), context };
     return ((await this.ask("textDocument/codeAction", params)) || []).map(({ title, edit }) => {
       const action = new this.vscode.CodeAction(title, this.vscode.CodeActionKind.QuickFix);
-      action.edit = this.editOf(edit);
+      action.edit = this.toWorkspaceEdit(edit);
       return action;
     });
   }

@@ -1,5 +1,5 @@
 // The language features beyond hover, names, completion and diagnostics: formatting, inlay hints, folding, workspace symbols, call hierarchy, code
-// lenses, links, selection ranges and signature help. Forwards the editor's requests to `mcs4 lsp`, and converts the answers to the editor's classes.
+// lenses, links, selection ranges and signature help. Sends the editor's requests to `mcs4 lsp`, and converts the answers to the editor's classes.
 "use strict";
 
 class LanguageFeatures {
@@ -22,7 +22,7 @@ class LanguageFeatures {
       }),
       languages.registerDocumentRangeFormattingEditProvider(selector, {
         provideDocumentRangeFormattingEdits: (document, range, options) => (
-          this.edits("textDocument/rangeFormatting", document, { range: this.client.plainRange(range), options })),
+          this.edits("textDocument/rangeFormatting", document, { range: this.client.toProtocolRange(range), options })),
       }),
       languages.registerInlayHintsProvider(selector, { provideInlayHints: (document, range) => this.hints(document, range) }),
       languages.registerFoldingRangeProvider(selector, { provideFoldingRanges: (document) => this.folds(document) }),
@@ -40,13 +40,13 @@ class LanguageFeatures {
         provideCallHierarchyIncomingCalls: (item) => this.calls("callHierarchy/incomingCalls", item, "from"),
         provideCallHierarchyOutgoingCalls: (item) => this.calls("callHierarchy/outgoingCalls", item, "to"),
       }),
-      commands.registerCommand("mcs4.runTest", (...given) => (
-        this.client.ask("workspace/executeCommand", { command: "mcs4.runTest", arguments: given }))),
+      commands.registerCommand("mcs4.runTest", (...commandArguments) => (
+        this.client.ask("workspace/executeCommand", { command: "mcs4.runTest", arguments: commandArguments }))),
     ];
   }
 
   /** Sends a request about a document. Resolves to the answer, or to an empty list if there is none. */
-  async of(method, document, more = {}) {
+  async request(method, document, more = {}) {
     return (await this.client.ask(method, { textDocument: { uri: document.uri.toString() }, ...more })) || [];
   }
 
@@ -55,28 +55,28 @@ class LanguageFeatures {
   }
 
   async edits(method, document, more) {
-    return (await this.of(method, document, more)).map(({ range, newText }) => new this.vscode.TextEdit(this.client.rangeOf(range), newText));
+    return (await this.request(method, document, more)).map(({ range, newText }) => new this.vscode.TextEdit(this.client.toEditorRange(range), newText));
   }
 
   async hints(document, range) {
-    const hints = await this.of("textDocument/inlayHint", document, { range: this.client.plainRange(range) });
+    const hints = await this.request("textDocument/inlayHint", document, { range: this.client.toProtocolRange(range) });
     return hints.map(({ position, label, paddingLeft }) => (
       Object.assign(new this.vscode.InlayHint(this.position(position), label), { paddingLeft })));
   }
 
   async folds(document) {
-    return (await this.of("textDocument/foldingRange", document)).map(({ startLine, endLine, kind }) => (
+    return (await this.request("textDocument/foldingRange", document)).map(({ startLine, endLine, kind }) => (
       new this.vscode.FoldingRange(startLine, endLine, kind === "comment" ? this.vscode.FoldingRangeKind.Comment : undefined)));
   }
 
   async selections(document, positions) {
     const plain = positions.map(({ line, character }) => ({ line, character }));
-    const selectionOf = ({ range, parent }) => new this.vscode.SelectionRange(this.client.rangeOf(range), parent && selectionOf(parent));
-    return (await this.of("textDocument/selectionRange", document, { positions: plain })).map(selectionOf);
+    const selectionOf = ({ range, parent }) => new this.vscode.SelectionRange(this.client.toEditorRange(range), parent && selectionOf(parent));
+    return (await this.request("textDocument/selectionRange", document, { positions: plain })).map(selectionOf);
   }
 
   async signature(document, position) {
-    const found = await this.client.ask("textDocument/signatureHelp", this.client.at(document, position));
+    const found = await this.client.ask("textDocument/signatureHelp", this.client.positionParams(document, position));
     if (!found) return null;
     const { vscode } = this;
     const signatures = found.signatures.map(({ label, documentation, parameters }) => (
@@ -87,46 +87,46 @@ class LanguageFeatures {
   }
 
   async lenses(document) {
-    return (await this.of("textDocument/codeLens", document)).map(({ range, command }) => (
-      new this.vscode.CodeLens(this.client.rangeOf(range), this.command(command))));
+    return (await this.request("textDocument/codeLens", document)).map(({ range, command }) => (
+      new this.vscode.CodeLens(this.client.toEditorRange(range), this.command(command))));
   }
 
-  /** Converts a command. The editor's own commands need arguments of the editor's classes. */
-  command({ title, command, arguments: given = [] }) {
-    if (command !== "editor.action.showReferences") return { title, command, arguments: given };
-    const [uri, position, places] = given;
-    const own = [this.vscode.Uri.parse(uri), this.position(position), places.map((each) => this.client.locationOf(each))];
-    return { title, command, arguments: own };
+  /** Converts a command to the editor's form. Commands of the editor need arguments of the editor's classes. */
+  command({ title, command, arguments: serverArguments = [] }) {
+    if (command !== "editor.action.showReferences") return { title, command, arguments: serverArguments };
+    const [uri, position, places] = serverArguments;
+    const editorArguments = [this.vscode.Uri.parse(uri), this.position(position), places.map((each) => this.client.toEditorLocation(each))];
+    return { title, command, arguments: editorArguments };
   }
 
   async links(document) {
-    return (await this.of("textDocument/documentLink", document)).map(({ range, target, tooltip }) => (
-      Object.assign(new this.vscode.DocumentLink(this.client.rangeOf(range), this.vscode.Uri.parse(target)), { tooltip })));
+    return (await this.request("textDocument/documentLink", document)).map(({ range, target, tooltip }) => (
+      Object.assign(new this.vscode.DocumentLink(this.client.toEditorRange(range), this.vscode.Uri.parse(target)), { tooltip })));
   }
 
   async workspaceSymbols(query) {
     return ((await this.client.ask("workspace/symbol", { query })) || []).map(({ name, kind, containerName, location }) => (
-      new this.vscode.SymbolInformation(name, kind - 1, containerName, this.client.locationOf(location))));
+      new this.vscode.SymbolInformation(name, kind - 1, containerName, this.client.toEditorLocation(location))));
   }
 
   // --- routines
 
-  itemOf({ kind, name, detail, uri, range, selectionRange }) {
+  toHierarchyItem({ kind, name, detail, uri, range, selectionRange }) {
     const { vscode, client } = this;
-    return new vscode.CallHierarchyItem(kind - 1, name, detail, vscode.Uri.parse(uri), client.rangeOf(range), client.rangeOf(selectionRange));
+    return new vscode.CallHierarchyItem(kind - 1, name, detail, vscode.Uri.parse(uri), client.toEditorRange(range), client.toEditorRange(selectionRange));
   }
 
   async routines(document, position) {
-    const found = await this.client.ask("textDocument/prepareCallHierarchy", this.client.at(document, position));
-    return (found || []).map((each) => this.itemOf(each));
+    const found = await this.client.ask("textDocument/prepareCallHierarchy", this.client.positionParams(document, position));
+    return (found || []).map((each) => this.toHierarchyItem(each));
   }
 
   async calls(method, { uri, range, selectionRange }, end) {
     const { vscode, client } = this;
-    const item = { uri: uri.toString(), range: client.plainRange(range), selectionRange: client.plainRange(selectionRange) };
+    const item = { uri: uri.toString(), range: client.toProtocolRange(range), selectionRange: client.toProtocolRange(selectionRange) };
     const Call = end === "from" ? vscode.CallHierarchyIncomingCall : vscode.CallHierarchyOutgoingCall;
     const found = (await client.ask(method, { item })) || [];
-    return found.map((each) => new Call(this.itemOf(each[end]), each.fromRanges.map((range_) => client.rangeOf(range_))));
+    return found.map((each) => new Call(this.toHierarchyItem(each[end]), each.fromRanges.map((range_) => client.toEditorRange(range_))));
   }
 }
 

@@ -1,5 +1,5 @@
-// Detects programs, tests and properties of the bench. Other software also uses the extensions .asm, .test and .props, so such files count only in
-// the folder of a project or a board. Only the bench uses .4004, so package.json claims that extension.
+// Detects programs, tests and properties of the bench. Other software also uses the file extensions .asm, .test and .props, so such files belong to
+// the bench only in the folder of a project or a board. Only the bench uses .4004, so package.json assigns a language to this extension.
 "use strict";
 const { extname } = require("node:path");
 const { belongsToBench } = require("./bench_files.js");
@@ -7,27 +7,27 @@ const { belongsToBench } = require("./bench_files.js");
 /** The language ids, by file extension. */
 const LANGUAGES = { ".asm": "mcs4", ".test": "mcs4-test", ".props": "mcs4-props" };
 
-/** Assigns a language to each file of the bench once. If the user then chooses another language, that choice stays. */
+/** Assigns a language to each file of the bench, once, so that the user can then choose another language. */
 class ProgramLanguage {
-  /** @param vscode the editor's own module */
+  /** @param vscode the editor's API module */
   constructor(vscode) {
     this.vscode = vscode;
-    this.given = new Set();
+    this.assignedFiles = new Set();
   }
 
   register() {
     const { workspace } = this.vscode;
-    for (const document of workspace.textDocuments) this.look(document);
-    return workspace.onDidOpenTextDocument((document) => this.look(document));
+    for (const document of workspace.textDocuments) this.assignLanguage(document);
+    return workspace.onDidOpenTextDocument((document) => this.assignLanguage(document));
   }
 
-  look(document) {
+  assignLanguage(document) {
     const { uri, fileName, languageId } = document;
     const language = LANGUAGES[extname(fileName).toLowerCase()];
     if (uri.scheme !== "file" || !language || languageId === language) return;
-    if (this.given.has(fileName) || !belongsToBench(fileName)) return;
-    this.given.add(fileName);
-    // If the document was closed in the meantime, the request fails. Ignore that.
+    if (this.assignedFiles.has(fileName) || !belongsToBench(fileName)) return;
+    this.assignedFiles.add(fileName);
+    // The request fails if the user has closed the document meanwhile. Such an error is ignored.
     this.vscode.languages.setTextDocumentLanguage(document, language).then(undefined, () => {});
   }
 }

@@ -5,7 +5,7 @@ const { PROJECT } = require("./bench_files.js");
 
 const TYPE = "mcs4";
 const COMMANDS = ["test", "cover", "profile", "explore", "prove"];
-/** The problem matchers for the output, defined in package.json. */
+/** The problem matchers for the output of tasks, which package.json defines. */
 const MATCHERS = ["$mcs4", "$mcs4-line", "$mcs4-test"];
 
 class Tasks {
@@ -19,10 +19,10 @@ class Tasks {
   }
 
   register() {
-    return this.vscode.tasks.registerTaskProvider(TYPE, { provideTasks: () => this.all(), resolveTask: (task) => this.resolved(task) });
+    return this.vscode.tasks.registerTaskProvider(TYPE, { provideTasks: () => this.listTasks(), resolveTask: (task) => this.completeTask(task) });
   }
 
-  async all() {
+  async listTasks() {
     const files = await this.vscode.workspace.findFiles(`**/${PROJECT}`, "**/node_modules/**");
     return files.flatMap((uri) => COMMANDS.map((command) => this.task({ type: TYPE, command, folder: dirname(uri.fsPath) }, uri)));
   }
@@ -37,15 +37,15 @@ class Tasks {
     return task;
   }
 
-  /** Completes a task from tasks.json. If the task has no folder, uses the workspace folder. */
-  resolved({ definition, scope }) {
+  /** Returns a task of tasks.json in runnable form. If the task has no folder, uses the workspace folder. */
+  completeTask({ definition, scope }) {
     const { vscode } = this;
     const [first] = vscode.workspace.workspaceFolders || [];
     const { uri } = scope && scope.uri ? scope : first || { uri: null };
     const folder = definition.folder || (uri ? uri.fsPath : "");
     if (!COMMANDS.includes(definition.command) || folder === "") return undefined;
     const task = this.task({ ...definition, folder }, uri || vscode.Uri.file(folder));
-    // The editor identifies a task by the definition object that it passed in.
+    // The editor identifies a task by its definition object, so the task must have the original object.
     task.definition = definition;
     return task;
   }

@@ -1,9 +1,10 @@
-// Shows the workspace's tests in the editor's test view. Finds them in test files, runs them with `mcs4 test`, and debugs them with `mcs4 dap`.
+// Shows the tests of the workspace in the editor's test view. Finds tests in test files, runs tests with `mcs4 test`, and debugs a test with
+// `mcs4 dap`.
 "use strict";
 const { readFileSync } = require("node:fs");
 const { basename } = require("node:path");
-const { belongsToBench, wordsOfTests } = require("./bench_files.js");
-const { resultsOf } = require("./tap.js");
+const { belongsToBench, testArguments } = require("./bench_files.js");
+const { parseResults } = require("./tap.js");
 
 const PATTERN = "**/*.test";
 const HEAD = /^([ \t]*test[ \t]+)(\S.*?)[ \t]*$/;
@@ -12,7 +13,7 @@ const HEAD = /^([ \t]*test[ \t]+)(\S.*?)[ \t]*$/;
  * Returns the tests in a text, with their locations.
  * @param {string} text
  */
-function testsIn(text) {
+function findTests(text) {
   return text.split(/\r?\n/).flatMap((line, at) => {
     const [, before, name] = HEAD.exec(line) || [];
     return name ? [{ name, line: at, from: before.length, to: before.length + name.length }] : [];
@@ -38,15 +39,15 @@ class TestExplorer {
     this.controller.resolveHandler = (item) => (item ? this.read(item.uri) : this.findAll());
     this.controller.refreshHandler = () => this.findAll();
     const watcher = workspace.createFileSystemWatcher(PATTERN);
-    const look = ({ uri, getText }) => {
+    const showDocument = ({ uri, getText }) => {
       if (uri.scheme === "file" && uri.fsPath.endsWith(".test")) this.show(uri, getText());
     };
-    const seen = (document) => look({ uri: document.uri, getText: () => document.getText() });
-    for (const document of workspace.textDocuments) seen(document);
+    const showOpenDocument = (document) => showDocument({ uri: document.uri, getText: () => document.getText() });
+    for (const document of workspace.textDocuments) showOpenDocument(document);
     return [
       this.controller, watcher, watcher.onDidCreate((uri) => this.read(uri)), watcher.onDidChange((uri) => this.read(uri)),
       watcher.onDidDelete((uri) => this.controller.items.delete(uri.toString())),
-      workspace.onDidOpenTextDocument(seen), workspace.onDidChangeTextDocument(({ document }) => seen(document)),
+      workspace.onDidOpenTextDocument(showOpenDocument), workspace.onDidChangeTextDocument(({ document }) => showOpenDocument(document)),
     ];
   }
 
@@ -70,7 +71,7 @@ class TestExplorer {
   show(uri, text) {
     if (!belongsToBench(uri.fsPath)) return;
     const { controller, vscode } = this;
-    const found = testsIn(text);
+    const found = findTests(text);
     const file = controller.items.get(uri.toString()) || controller.createTestItem(uri.toString(), basename(uri.fsPath), uri);
     file.children.replace(found.map(({ name, line, from, to }) => {
       const item = controller.createTestItem(`${uri}#${name}`, name, uri);
@@ -82,12 +83,12 @@ class TestExplorer {
 
   // --- runs
 
-  /** Returns the tests that a request selects: for each test file's item, the list of its selected tests. */
-  wantedOf({ include, exclude = [] }) {
+  /** Returns the tests that a request selects, as a map from the item of a test file to its selected tests. */
+  selectedTests({ include, exclude = [] }) {
     const wanted = new Map();
     const add = (file, tests) => {
-      const own = tests.filter((test) => !exclude.includes(test) && !exclude.includes(file));
-      wanted.set(file, [...(wanted.get(file) || []), ...own]);
+      const included = tests.filter((test) => !exclude.includes(test) && !exclude.includes(file));
+      wanted.set(file, [...(wanted.get(file) || []), ...included]);
     };
     const childrenOf = (item) => {
       const children = [];
@@ -105,43 +106,43 @@ class TestExplorer {
 
   async run(request, token) {
     const run = this.controller.createTestRun(request);
-    for (const [file, tests] of this.wantedOf(request)) {
+    for (const [file, tests] of this.selectedTests(request)) {
       if (token.isCancellationRequested) break;
-      await this.runText(run, file, tests, token);
+      await this.runTestFile(run, file, tests, token);
     }
     run.end();
   }
 
   /** Runs a test file, and reports the results of the selected tests. */
-  async runText(run, file, tests, token) {
+  async runTestFile(run, file, tests, token) {
     await this.vscode.workspace.saveAll(false);
     for (const test of tests) run.started(test);
-    const { output, errors } = await this.bench.run(wordsOfTests(file.uri.fsPath), token);
+    const { output, errors } = await this.bench.run(testArguments(file.uri.fsPath), token);
     run.appendOutput((output + errors).replace(/\r?\n/g, "\r\n"));
     const names = [];
     file.children.forEach((child) => names.push(child.label));
-    // The results of earlier test files of the project come first, so take the last ones.
-    const results = resultsOf(output).slice(-names.length);
+    // The output starts with the results of earlier test files of the project, so the last results belong to this file.
+    const results = parseResults(output).slice(-names.length);
     for (const test of tests) {
       const result = results[names.indexOf(test.label)];
       if (!result || result.name !== test.label) run.errored(test, new this.vscode.TestMessage(errors.trim() || "The test was not run."));
       else if (result.hasPassed) run.passed(test);
-      else run.failed(test, this.messageOf(result));
+      else run.failed(test, this.createMessage(result));
     }
   }
 
-  messageOf({ words, at, more }) {
+  createMessage({ words, at, details }) {
     const { vscode } = this;
-    const message = new vscode.TestMessage([words, ...more].join("\n"));
+    const message = new vscode.TestMessage([words, ...details].join("\n"));
     if (at) message.location = new vscode.Location(vscode.Uri.file(at.file), new vscode.Position(at.line - 1, 0));
     return message;
   }
 
-  /** Debugs the first test of a request. Time pauses at the test's failure or at its end, and the user can go back from there. */
+  /** Debugs the first test of a request. Time pauses at the failure or at the end of the test, and the user can go back in time from there. */
   async debug(request) {
     const { workspace, debug } = this.vscode;
     const run = this.controller.createTestRun(request);
-    const [[, [test]]] = [...this.wantedOf(request)];
+    const [[, [test]]] = [...this.selectedTests(request)];
     if (test) {
       const configuration = { type: "mcs4", request: "launch", name: test.label, tests: test.uri.fsPath, test: test.label };
       await debug.startDebugging(workspace.getWorkspaceFolder(test.uri), configuration);

@@ -5,7 +5,7 @@ import { CommandError, UsageError } from "./output.mjs";
 
 const PROJECT_FILE = "mcs4.toml";
 /** The names of arguments that are not file names and may be empty. */
-const NO_FILES = new Set(["CYCLES", "N", "KEYS", "FIRST", "LAST", "COUNT"]);
+const NON_FILE_ARGUMENTS = new Set(["CYCLES", "N", "KEYS", "FIRST", "LAST", "COUNT"]);
 
 /**
  * Throws a UsageError if there are too few or too many arguments, or if a file name is empty.
@@ -15,10 +15,11 @@ const NO_FILES = new Set(["CYCLES", "N", "KEYS", "FIRST", "LAST", "COUNT"]);
  * @param {boolean} [hasProject] true if a project can supply the missing file names
  */
 export function checkArguments(words, names, max = names.length, hasProject = false) {
-  const missing = names.slice(words.length).filter((name) => !name.endsWith("?"));
-  if (missing.length > 0) throw new UsageError(say.missing(missing, hasProject && words.length === 0 && !existsSync(PROJECT_FILE)));
+  const missingNames = names.slice(words.length).filter((name) => !name.endsWith("?"));
+  if (missingNames.length > 0) throw new UsageError(say.missing(missingNames, hasProject && words.length === 0 && !existsSync(PROJECT_FILE)));
   if (words.length > max) throw new UsageError(say.oneTooMany(words[max]));
-  if (words.some((word, at) => word === "" && !NO_FILES.has((names[at] || "").replace("?", "")))) throw new UsageError(say.EMPTY_ARGUMENT);
+  const canBeEmpty = (/** @type {string} */ name) => NON_FILE_ARGUMENTS.has(name.replace("?", ""));
+  if (words.some((word, index) => word === "" && !canBeEmpty(names[index] || ""))) throw new UsageError(say.EMPTY_ARGUMENT);
 }
 
 /**
@@ -34,30 +35,30 @@ export function parseCount(name, word, max) {
 }
 
 /**
- * Returns the project in `folder` (option `-C`). Without this option, returns the project in the current folder if there are fewer than `needed`
+ * Returns the project in `folder` (option `-C`). Without this option, returns the project in the current folder if there are fewer than `neededCount`
  * arguments, otherwise null.
  * @param {string | undefined} folder
  * @param {string[]} words
- * @param {number} needed the number of arguments with which the command does not need a project
+ * @param {number} neededCount the number of arguments with which the command does not need a project
  */
-export async function projectFor(folder, words, needed) {
-  if (folder === undefined && (words.length >= needed || !existsSync(PROJECT_FILE))) return null;
-  const [{ projectIn }, { ProjectFault }] = await Promise.all([import("./project_on_disk.mjs"), import("../core/project/project_folder.js")]);
+export async function findProject(folder, words, neededCount) {
+  if (folder === undefined && (words.length >= neededCount || !existsSync(PROJECT_FILE))) return null;
+  const [{ projectIn }, { ProjectError }] = await Promise.all([import("./project_on_disk.mjs"), import("../core/project/project_folder.js")]);
   try {
     return projectIn(folder === undefined ? "." : folder);
-  } catch (thrown) {
-    throw thrown instanceof ProjectFault ? new CommandError(thrown.message) : thrown;
+  } catch (error) {
+    throw error instanceof ProjectError ? new CommandError(error.message) : error;
   }
 }
 
 /**
  * Returns the test files or the properties files of a project; throws an error if it has none.
  * @param {import("./project_on_disk.mjs").DiskProject} project
- * @param {"tests" | "properties"} what
+ * @param {"tests" | "properties"} kind
  */
-export function projectFiles(project, what) {
-  if (project[what].length === 0) throw new CommandError(say.projectLacks(project.file, what));
-  return project[what];
+export function projectFiles(project, kind) {
+  if (project[kind].length === 0) throw new CommandError(say.projectLacks(project.file, kind));
+  return project[kind];
 }
 
 /**
@@ -65,8 +66,8 @@ export function projectFiles(project, what) {
  * @param {string | undefined} folder
  * @param {string[]} words
  */
-export async function namesWithProperties(folder, words) {
-  const project = await projectFor(folder, words, 3);
+export async function resolveFileNames(folder, words) {
+  const project = await findProject(folder, words, 3);
   if (!project) return words;
   if (words.length > 0) return [project.board, project.program, ...words];
   const properties = projectFiles(project, "properties");

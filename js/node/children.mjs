@@ -15,7 +15,7 @@ const HAS_GROUPS = process.platform !== "win32";
 const KILL_DELAYS = { command: 1000, tool: 10000 };
 
 /** @type {Map<number, { child: import("node:child_process").ChildProcess, hasGroup: boolean }>} the running children, by process id */
-const running = new Map();
+const runningChildren = new Map();
 let isEnding = false;
 
 /** Returns a promise that never resolves, for callers that must wait while the process is ending. */
@@ -26,8 +26,8 @@ const waitForever = () => new Promise(() => {});
  * @param {number} pid
  * @param {NodeJS.Signals} signal
  */
-function send(pid, signal) {
-  const { hasGroup = false } = running.get(pid) || {};
+function sendSignal(pid, signal) {
+  const { hasGroup = false } = runningChildren.get(pid) || {};
   try {
     process.kill(hasGroup && HAS_GROUPS ? -pid : pid, signal);
   } catch {
@@ -40,13 +40,13 @@ function send(pid, signal) {
  * @param {import("node:child_process").ChildProcess} child
  * @param {boolean} hasGroup
  */
-function follow(child, hasGroup) {
+function trackChild(child, hasGroup) {
   const { pid } = child;
-  if (pid !== undefined) running.set(pid, { child, hasGroup });
-  return new Promise((settle) => {
+  if (pid !== undefined) runningChildren.set(pid, { child, hasGroup });
+  return new Promise((resolve) => {
     const finish = (result) => {
-      if (pid !== undefined) running.delete(pid);
-      settle(result);
+      if (pid !== undefined) runningChildren.delete(pid);
+      resolve(result);
     };
     child.on("error", ({ message }) => finish({ status: null, signal: null, words: message }));
     child.on("close", (status, signal) => finish({ status, signal, words: "" }));
@@ -62,21 +62,21 @@ function follow(child, hasGroup) {
 export async function runCommand(command, words, input = "") {
   const env = { ...process.env, [IS_RUN_BY_COMMAND]: "1" };
   const child = processes().spawn(command, words, { detached: HAS_GROUPS, env, stdio: ["pipe", "pipe", "pipe"] });
-  const ended = follow(child, true);
-  const printed = [child.stdout, child.stderr].map((stream) => {
+  const endResult = trackChild(child, true);
+  const outputs = [child.stdout, child.stderr].map((stream) => {
     const output = { text: "" };
     stream.setEncoding("utf8");
     stream.on("data", (text) => {
       output.text += text;
-      if (output.text.length > MAX_OUTPUT && child.pid !== undefined) send(child.pid, "SIGTERM");
+      if (output.text.length > MAX_OUTPUT && child.pid !== undefined) sendSignal(child.pid, "SIGTERM");
     });
     return output;
   });
   child.stdin.on("error", () => {});
   child.stdin.end(input);
-  const { status, signal, words: startError } = await ended;
+  const { status, signal, words: startError } = await endResult;
   if (isEnding) await waitForever();
-  return { status, signal, stdout: printed[0].text, stderr: printed[1].text || startError };
+  return { status, signal, stdout: outputs[0].text, stderr: outputs[1].text || startError };
 }
 
 /**
@@ -84,16 +84,16 @@ export async function runCommand(command, words, input = "") {
  * processes are in one group, so Ctrl-C reaches both.
  * @param {Record<string, string | undefined>} env
  */
-export async function runAgain(env) {
+export async function rerunCommand(env) {
   const child = processes().spawn(process.execPath, process.argv.slice(1, 3), { env, stdio: ["ignore", "ignore", "inherit"] });
-  const { status } = await follow(child, false);
+  const { status } = await trackChild(child, false);
   if (isEnding) await waitForever();
   return status;
 }
 
 /** Sends SIGINT to the children that have their own process group, because Ctrl-C does not reach them. */
-export function interrupt() {
-  for (const [pid, { hasGroup }] of running) if (hasGroup) send(pid, "SIGINT");
+export function interruptChildren() {
+  for (const [pid, { hasGroup }] of runningChildren) if (hasGroup) sendSignal(pid, "SIGINT");
 }
 
 /** Lets pending events run. Never resolves once the process is ending. */
@@ -109,16 +109,16 @@ export function yieldToMessages() {
  * Ends all children, then this process.
  * @param {number} status
  */
-async function end(status) {
+async function endAll(status) {
   if (isEnding) return;
   isEnding = true;
-  await Promise.all([...running].map(([pid, { child, hasGroup }]) => new Promise((settle) => {
-    child.on("close", settle);
-    send(pid, "SIGTERM");
-    setTimeout(() => send(pid, "SIGKILL"), hasGroup ? KILL_DELAYS.command : KILL_DELAYS.tool);
+  await Promise.all([...runningChildren].map(([pid, { child, hasGroup }]) => new Promise((resolve) => {
+    child.on("close", resolve);
+    sendSignal(pid, "SIGTERM");
+    setTimeout(() => sendSignal(pid, "SIGKILL"), hasGroup ? KILL_DELAYS.command : KILL_DELAYS.tool);
   })));
   process.exit(status);
 }
 
-process.on("SIGTERM", () => end(143));
-process.on("SIGHUP", () => end(129));
+process.on("SIGTERM", () => endAll(143));
+process.on("SIGHUP", () => endAll(129));

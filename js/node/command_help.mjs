@@ -1,4 +1,4 @@
-// The help of commands for a terminal. It is generated from the command table and from js/words/commands.js.
+// The help of commands for a terminal, generated from the command table and from js/words/commands.js.
 import { folded as foldedTo } from "../core/text/folded.js";
 import * as say from "../words/commands.js";
 import { COMMANDS } from "./commands/table.mjs";
@@ -7,14 +7,14 @@ const WIDTH = 79;
 const INDENT = "  ";
 const DEEP_INDENT = INDENT.repeat(3);
 
-/** @type {(text: string, first?: string, others?: string) => string} */
-const folded = (text, first = "", others = first) => foldedTo(text, WIDTH, first, others);
+/** @type {(text: string, first?: string, otherIndent?: string) => string} */
+const foldText = (text, first = "", otherIndent = first) => foldedTo(text, WIDTH, first, otherIndent);
 
 /**
  * Returns the paragraphs of a text, each joined into one line.
  * @param {string} text
  */
-export function paragraphsOf(text) {
+export function splitParagraphs(text) {
   return text.split(/\n[ ]*\n/).map((paragraph) => paragraph.trim().replace(/\s+/g, " "));
 }
 
@@ -52,10 +52,10 @@ export function optionRows(name) {
 }
 
 /** @type {(head: string, rows: string[][]) => string} formats a list with a heading: each entry has its description below it */
-const listed = (head, rows) => `${head}\n${rows.map(([word, does]) => `${INDENT}${word}\n${folded(does, DEEP_INDENT)}`).join("\n")}`;
+const formatList = (head, rows) => `${head}\n${rows.map(([word, does]) => `${INDENT}${word}\n${foldText(does, DEEP_INDENT)}`).join("\n")}`;
 
 /** @type {(head: string, lines: string[]) => string} */
-const itemized = (head, lines) => `${head}\n${lines.map((line) => folded(line, INDENT, DEEP_INDENT)).join("\n")}`;
+const formatItems = (head, lines) => `${head}\n${lines.map((line) => foldText(line, INDENT, DEEP_INDENT)).join("\n")}`;
 
 /**
  * Returns the help of a command.
@@ -65,10 +65,10 @@ export function commandHelp(name) {
   const { text, examples, status } = say.COMMAND_WORDS[name];
   return `${[
     usageText(name),
-    ...paragraphsOf(text).map((paragraph) => folded(paragraph)),
-    listed(say.OPTIONS_HEAD, optionRows(name)),
-    listed(say.EXAMPLES_HEAD, examples),
-    itemized(say.STATUS_HEAD, status),
+    ...splitParagraphs(text).map((paragraph) => foldText(paragraph)),
+    formatList(say.OPTIONS_HEAD, optionRows(name)),
+    formatList(say.EXAMPLES_HEAD, examples),
+    formatItems(say.STATUS_HEAD, status),
   ].join("\n\n")}\n`;
 }
 
@@ -85,13 +85,13 @@ export function commandsByGroup() {
 export function mcs4Help(top) {
   const width = Math.max(...say.MCS4_USAGE.map(([form]) => form.length));
   const groups = commandsByGroup().map(({ title, commands }) => (
-    `${title}:\n${commands.map(({ name, does }) => folded(does, `${INDENT}${name.padEnd(9)} `, " ".repeat(12))).join("\n")}`));
+    `${title}:\n${commands.map(({ name, does }) => foldText(does, `${INDENT}${name.padEnd(9)} `, " ".repeat(12))).join("\n")}`));
   return `${[
     `usage:\n${say.MCS4_USAGE.map(([form, does]) => `${INDENT}${form.padEnd(width)}  ${does}`).join("\n")}`,
-    ...paragraphsOf(say.MCS4_TEXT).map((paragraph) => folded(paragraph)),
+    ...splitParagraphs(say.MCS4_TEXT).map((paragraph) => foldText(paragraph)),
     ...groups,
-    itemized(say.STATUS_HEAD, say.MCS4_STATUS),
-    itemized(say.ENVIRONMENT_HEAD, say.MCS4_ENVIRONMENT),
+    formatItems(say.STATUS_HEAD, say.MCS4_STATUS),
+    formatItems(say.ENVIRONMENT_HEAD, say.MCS4_ENVIRONMENT),
     ...(top === "" ? [] : [say.whereManualIs(top)]),
   ].join("\n\n")}\n`;
 }

@@ -10,19 +10,19 @@ import { CommandError, UsageError, print, printError } from "./output.mjs";
  * @typedef {import("./commands/table.mjs").Values} Values
  */
 
-const FAILED = 1;
-const WRONG_ARGUMENTS = 2;
+const FAILED_STATUS = 1;
+const WRONG_ARGUMENTS_STATUS = 2;
 /** @type {import("./commands/table.mjs").Option} */
-const HELP = { type: "boolean", short: "h" };
+const HELP_OPTION = { type: "boolean", short: "h" };
 
 /**
  * Returns the words that are most similar to a mistyped word. (Loads the module only then.)
  * @param {string} word
  * @param {string[]} words
  */
-async function suggestionsFor(word, words) {
-  const { similarWords } = await import("../core/text/alike.js");
-  return similarWords(word, words);
+async function findSuggestions(word, words) {
+  const { findSimilarWords } = await import("../core/text/alike.js");
+  return findSimilarWords(word, words);
 }
 
 /**
@@ -30,9 +30,9 @@ async function suggestionsFor(word, words) {
  * @param {string} word the option as typed
  * @param {Command["options"]} options
  */
-async function unknownOption(word, options) {
+async function unknownOptionError(word, options) {
   const isLong = word.startsWith("--");
-  const suggestions = isLong ? await suggestionsFor(word.slice(2), Object.keys(options)) : [];
+  const suggestions = isLong ? await findSuggestions(word.slice(2), Object.keys(options)) : [];
   return new UsageError(say.noOption(word, suggestions.map((name) => `--${name}`)));
 }
 
@@ -46,7 +46,7 @@ const lacksValue = (value, isInline) => value === undefined || value === "" || (
  */
 async function checkOption({ name, rawName, value, inlineValue }, options) {
   const option = options[name];
-  if (!option) throw await unknownOption(rawName, options);
+  if (!option) throw await unknownOptionError(rawName, options);
   if (option.type === "boolean" && value !== undefined) throw new UsageError(say.noValue(rawName));
   if (option.type === "string" && lacksValue(value, inlineValue === true)) {
     throw new UsageError(say.valueMissing(option.value || name.toUpperCase(), rawName));
@@ -59,15 +59,15 @@ async function checkOption({ name, rawName, value, inlineValue }, options) {
  * @param {string[]} words
  * @returns {Promise<{ values: Values, positionals: string[] }>}
  */
-async function parsed(command, words) {
-  const options = { help: HELP, ...command.options };
+async function parseCommandLine(command, words) {
+  const options = { help: HELP_OPTION, ...command.options };
   const { values, positionals, tokens } = parseArgs({ args: words, options, strict: false, allowPositionals: true, tokens: true });
-  const seen = new Set();
+  const seenOptions = new Set();
   for (const token of tokens) {
     if (token.kind !== "option") continue;
     await checkOption(token, options);
-    if (seen.has(token.name) && !options[token.name].multiple) throw new UsageError(say.optionTwice(token.rawName));
-    seen.add(token.name);
+    if (seenOptions.has(token.name) && !options[token.name].multiple) throw new UsageError(say.optionTwice(token.rawName));
+    seenOptions.add(token.name);
   }
   return { values, positionals };
 }
@@ -77,27 +77,27 @@ async function parsed(command, words) {
  * @param {string} name
  * @param {string} message
  */
-function complain(name, message) {
+function printErrorLines(name, message) {
   printError(message.split("\n").map((line) => `${name}: ${line}\n`).join(""));
 }
 
 /**
  * Reports an error and returns the exit status. Rethrows unexpected errors.
  * @param {string} name
- * @param {unknown} thrown
+ * @param {unknown} error
  */
-async function report(name, thrown) {
-  if (thrown instanceof UsageError) {
+async function reportError(name, error) {
+  if (error instanceof UsageError) {
     const { usageText } = await import("./command_help.mjs");
-    complain(name, thrown.message);
+    printErrorLines(name, error.message);
     printError(`${usageText(name)}\n`);
-    return WRONG_ARGUMENTS;
+    return WRONG_ARGUMENTS_STATUS;
   }
   const { noRoomMessage } = await import("./native_program.mjs");
   const noRoom = noRoomMessage();
-  if (!noRoom && !(thrown instanceof CommandError)) throw thrown;
-  complain(name, noRoom || thrown.message);
-  return FAILED;
+  if (!noRoom && !(error instanceof CommandError)) throw error;
+  printErrorLines(name, noRoom || error.message);
+  return FAILED_STATUS;
 }
 
 /**
@@ -109,7 +109,7 @@ async function report(name, thrown) {
 export async function runCommand(name, words, load = COMMANDS[name].load) {
   const command = COMMANDS[name];
   try {
-    const { values, positionals } = await parsed(command, words);
+    const { values, positionals } = await parseCommandLine(command, words);
     if (values.help) {
       const { commandHelp } = await import("./command_help.mjs");
       print(commandHelp(name));
@@ -117,8 +117,8 @@ export async function runCommand(name, words, load = COMMANDS[name].load) {
     }
     const { run } = await load();
     return await run(values, positionals);
-  } catch (thrown) {
-    return report(name, thrown);
+  } catch (error) {
+    return reportError(name, error);
   }
 }
 
@@ -128,20 +128,20 @@ export async function runCommand(name, words, load = COMMANDS[name].load) {
  */
 async function rejectCommand(word) {
   const names = [...Object.keys(COMMANDS), ...Object.keys(say.MCS4_COMPLETED)];
-  complain("mcs4", say.noCommand(word, await suggestionsFor(word, names)));
-  return WRONG_ARGUMENTS;
+  printErrorLines("mcs4", say.noCommand(word, await findSuggestions(word, names)));
+  return WRONG_ARGUMENTS_STATUS;
 }
 
 /**
  * Prints the help of a command, or of mcs4 if no command is named. Returns the exit status.
  * @param {string[]} words
  */
-async function help([name, ...others]) {
+async function printHelp([name, ...extraWords]) {
   const { commandHelp, mcs4Help, mcs4Usage } = await import("./command_help.mjs");
-  if (others.length > 0) {
-    complain("mcs4", say.oneTooMany(others[0]));
+  if (extraWords.length > 0) {
+    printErrorLines("mcs4", say.oneTooMany(extraWords[0]));
     printError(`${mcs4Usage()}\n`);
-    return WRONG_ARGUMENTS;
+    return WRONG_ARGUMENTS_STATUS;
   }
   const isAboutMcs4 = name === undefined || Object.hasOwn(say.MCS4_COMPLETED, name);
   if (!isAboutMcs4 && !Object.hasOwn(COMMANDS, name)) return rejectCommand(name);
@@ -149,8 +149,8 @@ async function help([name, ...others]) {
   try {
     print(isAboutMcs4 ? mcs4Help(TOP) : commandHelp(name));
     return 0;
-  } catch (thrown) {
-    return report("mcs4", thrown);
+  } catch (error) {
+    return reportError("mcs4", error);
   }
 }
 
@@ -160,10 +160,10 @@ async function help([name, ...others]) {
  */
 export async function runLine([name = "", ...words]) {
   if (Object.hasOwn(COMMANDS, name)) return runCommand(name, words);
-  if (name === "help") return help(words);
+  if (name === "help") return printHelp(words);
   if (name !== "" && name !== "version") return rejectCommand(name);
   const { mcs4Usage } = await import("./command_help.mjs");
-  if (name === "version") complain("mcs4", say.oneTooMany(words[0]));
+  if (name === "version") printErrorLines("mcs4", say.oneTooMany(words[0]));
   printError(`${mcs4Usage()}\n`);
-  return WRONG_ARGUMENTS;
+  return WRONG_ARGUMENTS_STATUS;
 }

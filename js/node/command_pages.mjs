@@ -3,11 +3,11 @@
 import { mkdirSync, writeFileSync } from "node:fs";
 import { join } from "node:path";
 import * as say from "../words/commands.js";
-import { commandsByGroup, usageLines, commandHelp, mcs4Help, optionRows, paragraphsOf } from "./command_help.mjs";
+import { commandsByGroup, usageLines, commandHelp, mcs4Help, optionRows, splitParagraphs } from "./command_help.mjs";
 import { COMMANDS } from "./commands/table.mjs";
 
-const BOLD = "\\fB";
-const PLAIN = "\\fR";
+const ROFF_BOLD = "\\fB";
+const ROFF_PLAIN = "\\fR";
 
 // --- manual pages ---
 
@@ -18,21 +18,21 @@ const ROFF_ESCAPES = { "\\": "\\e", "-": "\\-", "`": "\\(ga", "^": "\\(ha", "~":
  * Escapes a text for roff. Text between back quotes becomes bold.
  * @param {string} text
  */
-function roff(text) {
+function escapeRoff(text) {
   const parts = text.replace(/\s+/g, " ").trim().split("`");
-  const plain = parts.map((part) => part.replace(/[\\\-`^~']/g, (sign) => ROFF_ESCAPES[sign]));
-  const line = plain.map((part, at) => (at % 2 === 1 ? `${BOLD}${part}${PLAIN}` : part)).join("");
+  const escapedParts = parts.map((part) => part.replace(/[\\\-`^~']/g, (sign) => ROFF_ESCAPES[sign]));
+  const line = escapedParts.map((part, index) => (index % 2 === 1 ? `${ROFF_BOLD}${part}${ROFF_PLAIN}` : part)).join("");
   return line.startsWith(".") ? `\\&${line}` : line;
 }
 
 /** @type {(title: string, lines: string[]) => string[]} */
-const section = (title, lines) => [`.SH ${title}`, ...lines];
+const formatSection = (title, lines) => [`.SH ${title}`, ...lines];
 /** @type {(rows: string[][]) => string[]} */
-const tagged = (rows) => rows.flatMap(([tag, does]) => [".TP", `.B ${roff(tag)}`, roff(does)]);
-/** @type {(lines: string[], between: string) => string[]} */
-const joined = (lines, between) => lines.flatMap((line, at) => (at > 0 ? [between, line] : [line]));
+const formatTaggedRows = (rows) => rows.flatMap(([tag, does]) => [".TP", `.B ${escapeRoff(tag)}`, escapeRoff(does)]);
+/** @type {(lines: string[], separator: string) => string[]} */
+const insertBetween = (lines, separator) => lines.flatMap((line, index) => (index > 0 ? [separator, line] : [line]));
 /** @type {(text: string) => string[]} */
-const paragraphs = (text) => joined(paragraphsOf(text).map(roff), ".PP");
+const formatParagraphs = (text) => insertBetween(splitParagraphs(text).map(escapeRoff), ".PP");
 /** @type {(lines: string[]) => string[][]} splits lines such as `0: all was done.` into the exit status and its meaning */
 const statusRows = (lines) => lines.map((line) => [line.slice(0, 1), line.slice(2)]);
 
@@ -45,13 +45,13 @@ function manualPage(name) {
   const titles = say.MANUAL_SECTIONS;
   return [
     `.TH MCS4\\-${name.toUpperCase()} 1 "" Fethsaim "${say.MANUAL_TITLE}"`,
-    ...section(titles.name, [`mcs4-${name} \\- ${roff(summary)}`]),
-    ...section(titles.synopsis, joined(usageLines(name).map((form) => `.B ${roff(form)}`), ".br")),
-    ...section(titles.description, paragraphs(text)),
-    ...section(titles.options, tagged(optionRows(name))),
-    ...section(titles.examples, tagged(examples)),
-    ...section(titles.status, tagged(statusRows(status))),
-    ...section(titles.seeAlso, [".BR mcs4 (1)"]),
+    ...formatSection(titles.name, [`mcs4-${name} \\- ${escapeRoff(summary)}`]),
+    ...formatSection(titles.synopsis, insertBetween(usageLines(name).map((form) => `.B ${escapeRoff(form)}`), ".br")),
+    ...formatSection(titles.description, formatParagraphs(text)),
+    ...formatSection(titles.options, formatTaggedRows(optionRows(name))),
+    ...formatSection(titles.examples, formatTaggedRows(examples)),
+    ...formatSection(titles.status, formatTaggedRows(statusRows(status))),
+    ...formatSection(titles.seeAlso, [".BR mcs4 (1)"]),
   ].map((line) => `${line}\n`).join("");
 }
 
@@ -59,25 +59,25 @@ function manualPage(name) {
 function mcs4ManualPage() {
   const titles = say.MANUAL_SECTIONS;
   const groups = commandsByGroup().flatMap(({ title, commands }) => (
-    [`.SS ${title}`, ...commands.flatMap(({ name, does }) => [".TP", `.BR mcs4\\-${name} (1)`, roff(does)])]));
+    [`.SS ${title}`, ...commands.flatMap(({ name, does }) => [".TP", `.BR mcs4\\-${name} (1)`, escapeRoff(does)])]));
   const [variables, files] = [say.MCS4_ENVIRONMENT.map((line) => [line.split(" ")[0], line.slice(line.indexOf(" ") + 1)]), [say.FILES_OF_MCS4]];
   return [
     `.TH MCS4 1 "" Fethsaim "${say.MANUAL_TITLE}"`,
-    ...section(titles.name, [`mcs4 \\- ${roff(say.MCS4_SUMMARY)}`]),
-    ...section(titles.synopsis, joined(say.MCS4_USAGE.map(([form]) => `.B ${roff(form)}`), ".br")),
-    ...section(titles.description, [...tagged(say.MCS4_USAGE), ".PP", ...paragraphs(say.MCS4_TEXT)]),
-    ...section(titles.commands, groups),
-    ...section(titles.status, tagged(statusRows(say.MCS4_STATUS))),
-    ...section(titles.environment, tagged(variables)),
-    ...section(titles.files, tagged(files)),
-    ...section(titles.seeAlso, [roff(say.MANUAL_IS)]),
+    ...formatSection(titles.name, [`mcs4 \\- ${escapeRoff(say.MCS4_SUMMARY)}`]),
+    ...formatSection(titles.synopsis, insertBetween(say.MCS4_USAGE.map(([form]) => `.B ${escapeRoff(form)}`), ".br")),
+    ...formatSection(titles.description, [...formatTaggedRows(say.MCS4_USAGE), ".PP", ...formatParagraphs(say.MCS4_TEXT)]),
+    ...formatSection(titles.commands, groups),
+    ...formatSection(titles.status, formatTaggedRows(statusRows(say.MCS4_STATUS))),
+    ...formatSection(titles.environment, formatTaggedRows(variables)),
+    ...formatSection(titles.files, formatTaggedRows(files)),
+    ...formatSection(titles.seeAlso, [escapeRoff(say.MANUAL_IS)]),
   ].map((line) => `${line}\n`).join("");
 }
 
 // --- completions ---
 
 /** Returns all words that can follow `mcs4`. Each has its description and the words that can follow it. */
-function completedWords() {
+function listCompletions() {
   const commands = Object.entries(COMMANDS).map(([name, { options, usage }]) => ({
     name,
     does: say.COMMAND_WORDS[name].summary,
@@ -91,16 +91,17 @@ function completedWords() {
 }
 
 /** @type {(text: string) => string} */
-const quoted = (text) => `'${text.replace(/'/g, "'\\''")}'`;
+const quoteForShell = (text) => `'${text.replace(/'/g, "'\\''")}'`;
 
-/** @param {ReturnType<typeof completedWords>} words */
+/** @param {ReturnType<typeof listCompletions>} words */
 function bashCompletion(words) {
-  const cases = words.filter((word) => word.words.length > 0).map((word) => `            ${word.name}) words=${quoted(word.words.join(" "))} ;;`);
+  const commands = words.filter((word) => word.words.length > 0);
+  const cases = commands.map((word) => `            ${word.name}) words=${quoteForShell(word.words.join(" "))} ;;`);
   return `# Completion of mcs4 for bash.
 _mcs4() {
     local words= word=\${COMP_WORDS[COMP_CWORD]}
     if [ "$COMP_CWORD" -eq 1 ]; then
-        words=${quoted(words.map(({ name }) => name).join(" "))}
+        words=${quoteForShell(words.map(({ name }) => name).join(" "))}
     else
         case \${COMP_WORDS[1]} in
 ${cases.join("\n")}
@@ -115,21 +116,21 @@ complete -o default -F _mcs4 mcs4
 `;
 }
 
-/** @param {ReturnType<typeof completedWords>} words */
+/** @param {ReturnType<typeof listCompletions>} words */
 function zshCompletion(words) {
-  const others = words.filter((word) => word.name !== "help" && word.words.length > 0);
+  const otherCommands = words.filter((word) => word.name !== "help" && word.words.length > 0);
   return `#compdef mcs4
 # Completion of mcs4 for zsh.
 local -a commands words_here
 commands=(
-${words.map(({ name, does }) => `    ${quoted(`${name}:${does.replace(/:/g, "\\:")}`)}`).join("\n")}
+${words.map(({ name, does }) => `    ${quoteForShell(`${name}:${does.replace(/:/g, "\\:")}`)}`).join("\n")}
 )
 if (( CURRENT == 2 )); then
     _describe command commands
     return
 fi
 case $words[2] in
-${others.map(({ name, words: nextWords }) => `    ${name}) words_here=(${nextWords.join(" ")}) ;;`).join("\n")}
+${otherCommands.map(({ name, words: nextWords }) => `    ${name}) words_here=(${nextWords.join(" ")}) ;;`).join("\n")}
     help) _describe command commands; return ;;
 esac
 if [[ $PREFIX == -* ]] || (( CURRENT == 3 )); then compadd -a words_here; fi
@@ -137,14 +138,14 @@ _files
 `;
 }
 
-/** @param {ReturnType<typeof completedWords>} words */
+/** @param {ReturnType<typeof listCompletions>} words */
 function fishCompletion(words) {
-  const fishQuoted = (/** @type {string} */ text) => `'${text.replace(/\\/g, "\\\\").replace(/'/g, "\\'")}'`;
-  const after = (/** @type {string} */ name) => `complete -c mcs4 -n '__fish_seen_subcommand_from ${name}'`;
+  const quoteForFish = (/** @type {string} */ text) => `'${text.replace(/\\/g, "\\\\").replace(/'/g, "\\'")}'`;
+  const completeAfter = (/** @type {string} */ name) => `complete -c mcs4 -n '__fish_seen_subcommand_from ${name}'`;
   const lines = words.flatMap(({ name, does, words: nextWords }) => [
-    `complete -c mcs4 -n __fish_use_subcommand -f -a ${name} -d ${fishQuoted(does)}`,
-    ...(name === "help" ? [`${after(name)} -f -a ${fishQuoted(nextWords.join(" "))}`]
-      : nextWords.map((word) => `${after(name)} ${word.startsWith("--") ? `-l ${word.slice(2)}` : `-a ${word}`}`)),
+    `complete -c mcs4 -n __fish_use_subcommand -f -a ${name} -d ${quoteForFish(does)}`,
+    ...(name === "help" ? [`${completeAfter(name)} -f -a ${quoteForFish(nextWords.join(" "))}`]
+      : nextWords.map((word) => `${completeAfter(name)} ${word.startsWith("--") ? `-l ${word.slice(2)}` : `-a ${word}`}`)),
   ]);
   return `# Completion of mcs4 for fish.\n${lines.map((line) => `${line}\n`).join("")}`;
 }
@@ -154,7 +155,7 @@ function fishCompletion(words) {
 /** Returns the names and contents of all files. */
 export function commandPages() {
   const names = Object.keys(COMMANDS);
-  const words = completedWords();
+  const words = listCompletions();
   return [
     ["help/mcs4.txt", mcs4Help("")], ["man/mcs4.1", mcs4ManualPage()],
     ...names.flatMap((name) => [[`help/${name}.txt`, commandHelp(name)], [`man/mcs4-${name}.1`, manualPage(name)]]),
@@ -162,8 +163,8 @@ export function commandPages() {
   ];
 }
 
-const [, , folder = "", ...others] = process.argv;
-if (folder === "" || folder.startsWith("-") || others.length > 0) {
+const [, , folder = "", ...extraWords] = process.argv;
+if (folder === "" || folder.startsWith("-") || extraWords.length > 0) {
   process.stderr.write("usage: node js/node/command_pages.mjs FOLDER\n");
   process.exit(2);
 }

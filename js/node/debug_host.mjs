@@ -2,11 +2,11 @@
 // session files (`mcs4 open`).
 import { closeSync, existsSync, fsyncSync, openSync, realpathSync } from "node:fs";
 import { dirname, isAbsolute, join, resolve, sep } from "node:path";
-import { holderOf, readUnlocked } from "./file_locks.mjs";
+import { findLockHolder, readUnlocked } from "./file_locks.mjs";
 import { CommandError } from "./output.mjs";
 import { openProgram } from "./program_on_file.mjs";
 import { heldBy } from "../words/adapter.js";
-import { isInside, readUserFile, readUserText, replacementOf } from "./user_files.mjs";
+import { isInside, readUserFile, readUserText, prepareReplacement } from "./user_files.mjs";
 
 /** The maximum size of a session file in bytes. */
 const MAX_SESSION_BYTES = 1048576;
@@ -25,7 +25,7 @@ class SessionFile {
 
   async replace(bytes, lines, count, check) {
     const { name, program: oldProgram } = this;
-    const replacement = replacementOf(name, bytes);
+    const replacement = prepareReplacement(name, bytes);
     let program = null;
     try {
       program = await openProgram("open", replacement.name);
@@ -47,7 +47,7 @@ class SessionFile {
 }
 
 /** @type {(name: string) => string} converts a path to forward slashes, which the whole debugger uses and Windows accepts */
-const withSlashes = (name) => (sep === "/" ? name : name.split(sep).join("/"));
+const toSlashes = (name) => (sep === "/" ? name : name.split(sep).join("/"));
 
 function syncFolder(name) {
   const folder = openSync(name, "r");
@@ -56,11 +56,11 @@ function syncFolder(name) {
 }
 
 /** Starts the native program on a session file. If another process holds the file's lock, the error names that process. */
-async function openFile(name) {
+async function openSessionFile(name) {
   try {
     return await openProgram("open", name);
   } catch (fault) {
-    const holder = fault instanceof CommandError && existsSync(name) ? holderOf(name) : "";
+    const holder = fault instanceof CommandError && existsSync(name) ? findLockHolder(name) : "";
     throw holder === "" ? fault : new CommandError(`${fault.message}; ${heldBy(holder)}`);
   }
 }
@@ -68,10 +68,10 @@ async function openFile(name) {
 /** The host functions of the debugger, as js/core/adapter/launching.js describes them. */
 export const host = {
   nameOf: (name, folder) => {
-    const whole = isAbsolute(name) ? name : resolve(folder || ".", name);
-    return withSlashes(existsSync(whole) ? realpathSync(whole) : whole);
+    const path = isAbsolute(name) ? name : resolve(folder || ".", name);
+    return toSlashes(existsSync(path) ? realpathSync(path) : path);
   },
-  beside: (name, other) => withSlashes(join(dirname(other), name)),
+  beside: (name, other) => toSlashes(join(dirname(other), name)),
   read: (name) => {
     try {
       return readUserText(name);
@@ -89,10 +89,10 @@ export const host = {
   },
   isThere: existsSync,
   isInside: (name, folder) => !existsSync(name) || isInside(name, folder),
-  open: async (name) => new SessionFile(name, await openFile(name)),
+  open: async (name) => new SessionFile(name, await openSessionFile(name)),
   make: async (name) => new SessionFile(name, await openProgram("new", name)),
   readSession: async (name) => readUnlocked(name, MAX_SESSION_BYTES),
-  pause: () => new Promise((settle) => {
-    setImmediate(settle);
+  pause: () => new Promise((finish) => {
+    setImmediate(finish);
   }),
 };

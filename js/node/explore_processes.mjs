@@ -3,17 +3,17 @@ import { createHash } from "node:crypto";
 import { writeFileSync } from "node:fs";
 import { dirname, join } from "node:path";
 import { Engine } from "../core/engine/engine.js";
-import { begun } from "../core/explore/beginning.js";
+import { startCampaign } from "../core/explore/beginning.js";
 import { readCampaign } from "../core/explore/campaign.js";
-import { CampaignRun, patienceOf, proofTimeOf } from "../core/explore/campaign_run.js";
-import { joinReports, lineOfProperty, stepsOf } from "../core/explore/report.js";
-import { subjectOf } from "../core/explore/subject.js";
-import { prepare } from "../core/testing/prepared.js";
+import { CampaignRun, minimisingCycles, initialProofTime } from "../core/explore/campaign_run.js";
+import { joinReports, propertyLocation, formatSteps } from "../core/explore/report.js";
+import { createSubject } from "../core/explore/subject.js";
+import { prepareTests } from "../core/testing/prepared.js";
 import * as say from "../words/commands.js";
-import { yieldToMessages, interrupt, runAgain, runCommand } from "./children.mjs";
+import { yieldToMessages, interruptChildren, rerunCommand, runCommand } from "./children.mjs";
 import { rejectedTextsError } from "./native_program.mjs";
 import { CommandError, printError } from "./output.mjs";
-import { moduleOfPage } from "./page_parts.mjs";
+import { readPageModule } from "./page_parts.mjs";
 import { readUserText, writeUserFile } from "./user_files.mjs";
 
 /**
@@ -39,7 +39,7 @@ let isStopped = false;
  * @param {{ from: { file: string, line: number, state: string } | null }} campaign
  * @param {string} name the name of the properties file
  */
-function testsFor({ from }, name) {
+function readStartTests({ from }, name) {
   if (!from) return "";
   const file = from.file ? join(dirname(name), from.file) : `${name.replace(/\.props$/, "")}.test`;
   try {
@@ -50,12 +50,12 @@ function testsFor({ from }, name) {
 }
 
 /** Asks a model (a command) about key sequences. Resolves to its answers, one line for each sequence. */
-async function askModel(command, chains) {
-  const { status, stdout, stderr, signal } = await runCommand("sh", ["-c", command], `${chains.join("\n")}\n`);
+async function askModel(command, keySequences) {
+  const { status, stdout, stderr, signal } = await runCommand("sh", ["-c", command], `${keySequences.join("\n")}\n`);
   const lines = stdout.split("\n").slice(0, -1);
   const [words] = stderr.split("\n");
   if (status !== 0) return { shown: [], fault: say.modelEnded(signal || `status ${status}`, words) };
-  return { shown: lines, fault: lines.length === chains.length ? "" : say.modelPrinted(lines.length, chains.length) };
+  return { shown: lines, fault: lines.length === keySequences.length ? "" : say.modelPrinted(lines.length, keySequences.length) };
 }
 
 /** The search for one campaign, that is, one properties file. */
@@ -73,21 +73,21 @@ class Exploration {
   }
 
   /** Reads the texts. Resolves to the subject of the search, its initial state, and all texts on which the result depends. */
-  async begin() {
+  async readTexts() {
     const { engine, settings: { texts: { board, program, properties } } } = this;
-    const { prepared, faults: textErrors } = prepare(engine, { boardText: board.text, programText: program.text });
+    const { prepared, faults: textErrors } = prepareTests(engine, { boardText: board.text, programText: program.text });
     if (!prepared) throw await rejectedTextsError(engine, { board, program }, textErrors);
-    const subject = subjectOf(engine, board.text, program.text, program.before);
+    const subject = createSubject(engine, board.text, program.text, program.before);
     const { campaign, faults } = readCampaign(properties.text, subject);
     if (faults.length > 0) throw new CommandError(faults.map(({ line, words }) => `${properties.name}:${line}: ${words}`).join("\n"));
-    const testText = testsFor(campaign, properties.name);
-    const { readable, words } = await begun({ subject, campaign }, prepared, testText);
+    const testText = readStartTests(campaign, properties.name);
+    const { searchSetup: preparation, words } = await startCampaign({ subject, campaign }, prepared, testText);
     if (words) throw new CommandError(`${properties.name}:${campaign.from.line}: ${words}`);
-    return { ...readable, texts: [board.text, program.text, properties.text, testText] };
+    return { ...preparation, texts: [board.text, program.text, properties.text, testText] };
   }
 
   /** Prints a model's command before it runs for the first time. */
-  announce({ command, properties }) {
+  announceModel({ command, properties }) {
     if (command === "" || !this.settings.allowsModel) return;
     const { line } = properties.find(({ form }) => form === "model");
     printError(`# ${say.runsModel(this.names.properties, line, command)}\n`);
@@ -107,35 +107,35 @@ class Exploration {
   /** Searches with one seed. Resolves to the report. */
   async search({ subject, campaign, texts }) {
     const { settings: { seconds, seed, allowsModel }, names } = this;
-    const model = allowsModel ? (chains) => askModel(campaign.command, chains) : null;
+    const model = allowsModel ? (keySequences) => askModel(campaign.command, keySequences) : null;
     const confirm = (test, isGoal) => this.confirm(test, isGoal);
-    const run = new CampaignRun(subject, campaign, seed, confirm, patienceOf(seconds), model, yieldToMessages, proofTimeOf(seconds));
-    const usageAtStart = process.cpuUsage();
+    const run = new CampaignRun(subject, campaign, seed, confirm, minimisingCycles(seconds), model, yieldToMessages, initialProofTime(seconds));
+    const startUsage = process.cpuUsage();
     const end = performance.now() + 1000 * seconds;
     while (performance.now() < end && !isStopped && !run.isDone) {
-      const found = await run.goOn(SLICE_TIME);
-      if (run.fault && !isStopped) throw new CommandError(`${names.properties}:${campaign.properties[run.modelled].line}: ${run.fault}`);
-      if (found) this.show(campaign.properties[found.property], found.found);
+      const counterexample = await run.runFor(SLICE_TIME);
+      if (run.fault && !isStopped) throw new CommandError(`${names.properties}:${campaign.properties[run.modelIndex].line}: ${run.fault}`);
+      if (counterexample) this.printCounterexample(campaign.properties[counterexample.property], counterexample.found);
       await yieldToMessages();
     }
-    const { user, system } = process.cpuUsage(usageAtStart);
-    for (const test of run.doubts) printError(`explore: ${say.notSeenToFail(test)}`);
+    const { user, system } = process.cpuUsage(startUsage);
+    for (const test of run.unconfirmedTests) printError(`explore: ${say.notSeenToFail(test)}`);
     const sums = createHash("sha256").update(JSON.stringify(texts)).digest("hex");
     return run.report({ names, sums, seconds: (user + system) / 1e6, isStopped });
   }
 
   /** Prints a counterexample as soon as it is found. */
-  show(property, { steps }) {
-    printError(`# ${say.wasFound(lineOfProperty(property, { names: this.names }), property.text, property.isGoal, stepsOf(steps))}\n`);
+  printCounterexample(property, { steps }) {
+    printError(`# ${say.wasFound(propertyLocation(property, { names: this.names }), property.text, property.isGoal, formatSteps(steps))}\n`);
   }
 
   /** Runs one search in another process. Resolves to the exit status and the name of the report. */
-  async searchInProcess(seed) {
+  async runJob(seed) {
     const { settings } = this;
     const report = join(settings.folder, `report.${seed}`);
     const name = join(settings.folder, `job.${seed}`);
     writeFileSync(name, JSON.stringify({ ...settings, seed, report }));
-    return { status: await runAgain({ ...process.env, [JOB_VARIABLE]: name }), report };
+    return { status: await rerunCommand({ ...process.env, [JOB_VARIABLE]: name }), report };
   }
 
   /** Runs all jobs in parallel. Resolves to the combined report. */
@@ -143,13 +143,13 @@ class Exploration {
     const { files, settings: { jobs, seed, texts } } = this;
     writeFileSync(files.board, texts.board.text);
     writeFileSync(files.program, texts.program.text);
-    const begunSearch = await this.begin();
-    this.announce(begunSearch.campaign);
-    if (jobs === 1) return this.search(begunSearch);
-    const ended = await Promise.all([...Array(jobs).keys()].map((job) => this.searchInProcess(seed + job)));
-    const failed = ended.find(({ status }) => status === null || status > 1);
-    if (failed) throw new CommandError(say.jobEnded(failed.status));
-    return joinReports(ended.map(({ report }) => readReport(report)));
+    const search = await this.readTexts();
+    this.announceModel(search.campaign);
+    if (jobs === 1) return this.search(search);
+    const jobResults = await Promise.all([...Array(jobs).keys()].map((job) => this.runJob(seed + job)));
+    const failedJob = jobResults.find(({ status }) => status === null || status > 1);
+    if (failedJob) throw new CommandError(say.jobEnded(failedJob.status));
+    return joinReports(jobResults.map(({ report }) => readReport(report)));
   }
 }
 
@@ -171,8 +171,8 @@ function readReport(name) {
  */
 export function mergeReports(names) {
   const reports = names.map(readReport);
-  const at = reports.findIndex(({ sums }) => sums !== reports[0].sums);
-  if (at > 0) throw new CommandError(say.differentTexts(names[at], names[0]));
+  const index = reports.findIndex(({ sums }) => sums !== reports[0].sums);
+  if (index > 0) throw new CommandError(say.differentTexts(names[index], names[0]));
   return joinReports(reports);
 }
 
@@ -180,9 +180,9 @@ export function mergeReports(names) {
 async function startExploration(settings) {
   process.on("SIGINT", () => {
     isStopped = true;
-    interrupt();
+    interruptChildren();
   });
-  return new Exploration(await Engine.load(moduleOfPage()), settings);
+  return new Exploration(await Engine.load(readPageModule()), settings);
 }
 
 /**
@@ -205,7 +205,7 @@ export function jobSettings() {
  */
 export async function exploreAsJob(settings) {
   const exploration = await startExploration(settings);
-  const report = await exploration.search(await exploration.begin());
+  const report = await exploration.search(await exploration.readTexts());
   writeUserFile(settings.report, `${JSON.stringify(report)}\n`);
   return 0;
 }

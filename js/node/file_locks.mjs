@@ -7,12 +7,12 @@ import { readUserFile } from "./user_files.mjs";
 import { sessionInUse } from "../words/adapter.js";
 
 /** The exit status of `flock` if another process holds the lock. */
-const LOCKED = 75;
+const LOCKED_STATUS = 75;
 /** Matches a lock in /proc/locks, with its process and the device and inode of the file. */
-const FLOCK = /^\d+: FLOCK +\w+ +\w+ +(\d+) +([0-9a-f]+):([0-9a-f]+):(\d+) /;
+const FLOCK_LINE = /^\d+: FLOCK +\w+ +\w+ +(\d+) +([0-9a-f]+):([0-9a-f]+):(\d+) /;
 
 /** @param {string} name the name of a file in /proc */
-function textOf(name) {
+function readProcFile(name) {
   try {
     return readFileSync(name, "utf8");
   } catch {
@@ -24,43 +24,43 @@ function textOf(name) {
  * Returns the ids of the processes that hold a lock on a file.
  * @param {string} name
  */
-function holdersOf(name) {
+function findLockHolders(name) {
   const { dev, ino } = statSync(name);
-  const locks = textOf("/proc/locks").split("\n").flatMap((line) => {
-    const [, process, major, minor, inode] = FLOCK.exec(line) || [];
+  const locks = readProcFile("/proc/locks").split("\n").flatMap((line) => {
+    const [, process, major, minor, inode] = FLOCK_LINE.exec(line) || [];
     return Number(inode) === ino ? [{ process: Number(process), device: [major, minor].map((part) => parseInt(part, 16)) }] : [];
   });
   // The device number is composed as makedev(3) does. On some file systems, the device of a lock differs from the device of its file.
-  const matching = locks.filter(({ device: [major, minor] }) => dev === ((major & 0xFFF) * 256) + (minor & 0xFF) + ((minor & 0xFFF00) * 4096));
-  return (matching.length > 0 ? matching : locks).map(({ process }) => process).filter((process) => process > 0);
+  const deviceLocks = locks.filter(({ device: [major, minor] }) => dev === ((major & 0xFFF) * 256) + (minor & 0xFF) + ((minor & 0xFFF00) * 4096));
+  return (deviceLocks.length > 0 ? deviceLocks : locks).map(({ process }) => process).filter((process) => process > 0);
 }
 
 /**
  * Returns the command line and process id of the holder of a file's lock, or "" if there is none or it is not visible.
  * @param {string} name
  */
-export function holderOf(name) {
-  const [process] = holdersOf(name);
+export function findLockHolder(name) {
+  const [process] = findLockHolders(name);
   if (process === undefined) return "";
-  const words = textOf(`/proc/${process}/cmdline`).split("\0").filter(Boolean).map((word) => word.replace(/^.*\//, ""));
-  return `${words.join(" ") || textOf(`/proc/${process}/comm`).trim()} (process ${process})`;
+  const words = readProcFile(`/proc/${process}/cmdline`).split("\0").filter(Boolean).map((word) => word.replace(/^.*\//, ""));
+  return `${words.join(" ") || readProcFile(`/proc/${process}/comm`).trim()} (process ${process})`;
 }
 
 /**
  * Returns the bytes of a session file. Throws an error if a program is serving the file.
  * @param {string} name
- * @param {number} most the maximum number of bytes
+ * @param {number} maxBytes the maximum number of bytes
  * @returns {Uint8Array}
  */
-export function readUnlocked(name, most) {
+export function readUnlocked(name, maxBytes) {
   // Reject a file that is too large or not regular before `cat` opens it.
-  const bytes = readUserFile(name, most);
-  const { status, stdout, error } = spawnSync("flock", ["--shared", "--nonblock", "--conflict-exit-code", String(LOCKED), name, "cat", name],
-    { maxBuffer: most + 1, stdio: ["ignore", "pipe", "ignore"] });
-  if (status === LOCKED) throw new CommandError(sessionInUse(name, holderOf(name)));
+  const bytes = readUserFile(name, maxBytes);
+  const { status, stdout, error } = spawnSync("flock", ["--shared", "--nonblock", "--conflict-exit-code", String(LOCKED_STATUS), name, "cat", name],
+    { maxBuffer: maxBytes + 1, stdio: ["ignore", "pipe", "ignore"] });
+  if (status === LOCKED_STATUS) throw new CommandError(sessionInUse(name, findLockHolder(name)));
   if (!error && status === 0) return new Uint8Array(stdout);
   // Without the `flock` command, look for a lock in /proc. A file whose contents have changed is also in use.
-  const holder = holderOf(name);
-  if (holder !== "" || !bytes.equals(readUserFile(name, most))) throw new CommandError(sessionInUse(name, holder));
+  const holder = findLockHolder(name);
+  if (holder !== "" || !bytes.equals(readUserFile(name, maxBytes))) throw new CommandError(sessionInUse(name, holder));
   return new Uint8Array(bytes);
 }

@@ -8,7 +8,7 @@ import { escaped } from "../core/text/escaped.js";
 const MAX_NAMES = 1000;
 
 /** Replaces a leading `~` in a path with the home folder. */
-export function withoutTilde(name) {
+export function expandTilde(name) {
   return name === "~" || name.startsWith("~/") ? homedir() + name.slice(1) : name;
 }
 
@@ -26,12 +26,12 @@ function isFolder(name) {
  * @param {string} begin
  */
 export function fileNames(begin) {
-  const cut = begin.lastIndexOf("/") + 1;
-  const [folder, name] = [begin.slice(0, cut), begin.slice(cut)];
-  const folderPath = withoutTilde(folder) || ".";
+  const nameStart = begin.lastIndexOf("/") + 1;
+  const [folder, name] = [begin.slice(0, nameStart), begin.slice(nameStart)];
+  const folderPath = expandTilde(folder) || ".";
   try {
-    const isOffered = (file) => file.startsWith(name) && (name.startsWith(".") || !file.startsWith(".")) && escaped(file) === file;
-    return readdirSync(folderPath).filter(isOffered).sort().slice(0, MAX_NAMES)
+    const isMatching = (file) => file.startsWith(name) && (name.startsWith(".") || !file.startsWith(".")) && escaped(file) === file;
+    return readdirSync(folderPath).filter(isMatching).sort().slice(0, MAX_NAMES)
       .map((file) => `${folder}${file}${isFolder(join(folderPath, file)) ? "/" : ""}`);
   } catch {
     return [];

@@ -1,7 +1,7 @@
 // Reads the texts that a command's arguments name: files, pipes, or `-` for standard input.
 import { closeSync, openSync } from "node:fs";
 import { CommandError } from "./output.mjs";
-import { readStream, readUserFile, statOfInput } from "./user_files.mjs";
+import { readStream, readUserFile, statInput } from "./user_files.mjs";
 import { noAnswers } from "../words/commands.js";
 
 /** The maximum sizes, in bytes, of a session script, of answers, and of a single text. */
@@ -23,9 +23,9 @@ const UTF_16 = { fffe: "utf-16le", feff: "utf-16be" };
  * @param {Buffer} bytes
  * @returns {{ text: string, encoding: BufferEncoding }}
  */
-function decoded(bytes) {
-  const wide = UTF_16[bytes.toString("hex", 0, 2)];
-  if (wide) return { text: new TextDecoder(wide).decode(bytes), encoding: "utf8" };
+function decodeText(bytes) {
+  const utf16Encoding = UTF_16[bytes.toString("hex", 0, 2)];
+  if (utf16Encoding) return { text: new TextDecoder(utf16Encoding).decode(bytes), encoding: "utf8" };
   try {
     return { text: new TextDecoder("utf-8", { fatal: true }).decode(bytes), encoding: "utf8" };
   } catch {
@@ -37,15 +37,15 @@ function decoded(bytes) {
 /**
  * Reads and decodes a regular file.
  * @param {string} name
- * @param {number} most the maximum number of bytes
+ * @param {number} maxBytes the maximum number of bytes
  */
-export function decodedFile(name, most) {
-  return decoded(readUserFile(name, most));
+export function readDecodedFile(name, maxBytes) {
+  return decodeText(readUserFile(name, maxBytes));
 }
 
 /** @param {string} name */
 function isPipe(name) {
-  const stat = statOfInput(name);
+  const stat = statInput(name);
   return stat !== undefined && (stat.isFIFO() || stat.isCharacterDevice());
 }
 
@@ -58,29 +58,29 @@ export class GivenTexts {
   /**
    * Returns the contents of the file, pipe or standard input that an argument names. Throws an error if it is empty.
    * @param {string} name
-   * @param {number} most the maximum number of bytes
+   * @param {number} maxBytes the maximum number of bytes
    */
-  read(name, most) {
-    const bytes = name === "-" ? this.readStandardInput(most) : this.readNamed(name, most);
+  read(name, maxBytes) {
+    const bytes = name === "-" ? this.readStandardInput(maxBytes) : this.readFileOrPipe(name, maxBytes);
     if (bytes.length === 0) throw new CommandError(`${name} is empty`);
     return bytes;
   }
 
-  /** @param {number} most the maximum number of bytes */
-  readStandardInput(most) {
-    if (!this.standardInput) this.standardInput = readStream(STANDARD_INPUT, "-", most);
+  /** @param {number} maxBytes the maximum number of bytes */
+  readStandardInput(maxBytes) {
+    if (!this.standardInput) this.standardInput = readStream(STANDARD_INPUT, "-", maxBytes);
     return this.standardInput;
   }
 
   /**
    * @param {string} name
-   * @param {number} most the maximum number of bytes
+   * @param {number} maxBytes the maximum number of bytes
    */
-  readNamed(name, most) {
-    if (!isPipe(name)) return readUserFile(name, most);
+  readFileOrPipe(name, maxBytes) {
+    if (!isPipe(name)) return readUserFile(name, maxBytes);
     const pipe = openSync(name, "r");
     try {
-      return readStream(pipe, name, most);
+      return readStream(pipe, name, maxBytes);
     } finally {
       closeSync(pipe);
     }
@@ -91,7 +91,7 @@ export class GivenTexts {
    * @param {string} name
    */
   source(name) {
-    return { name, text: decoded(this.read(name, MAX_TEXT_BYTES)).text.replace(/\r\n?/g, "\n") };
+    return { name, text: decodeText(this.read(name, MAX_TEXT_BYTES)).text.replace(/\r\n?/g, "\n") };
   }
 
   /**
@@ -102,21 +102,21 @@ export class GivenTexts {
    */
   text(name, word) {
     const bytes = this.read(name, MAX_SCRIPT);
-    const { text, encoding } = decoded(bytes);
+    const { text, encoding } = decodeText(bytes);
     const lines = text.split(/\r\n?|\n/);
-    const begin = lines.findIndex((line) => line.replace(/[ \t]+$/, "") === word);
-    if (begin < 0 && bytes.length > MAX_TEXT_BYTES) {
+    const beginIndex = lines.findIndex((line) => line.replace(/[ \t]+$/, "") === word);
+    if (beginIndex < 0 && bytes.length > MAX_TEXT_BYTES) {
       throw new CommandError(`${name} has ${bytes.length} bytes, more than the text of a board or a program can have (${MAX_TEXT_BYTES})`);
     }
-    if (begin < 0) return { name, text: lines.join("\n"), before: 0, encoding };
-    const dot = lines.indexOf(".", begin);
-    const textLines = lines.slice(begin + 1, dot < 0 ? lines.length : dot);
-    return { name, text: textLines.map((line) => `${line}\n`).join(""), before: begin + 1, encoding };
+    if (beginIndex < 0) return { name, text: lines.join("\n"), before: 0, encoding };
+    const endIndex = lines.indexOf(".", beginIndex);
+    const textLines = lines.slice(beginIndex + 1, endIndex < 0 ? lines.length : endIndex);
+    return { name, text: textLines.map((line) => `${line}\n`).join(""), before: beginIndex + 1, encoding };
   }
 
   /** Returns the text on standard input. */
   lines() {
-    return decoded(this.readStandardInput(MAX_SCRIPT));
+    return decodeText(this.readStandardInput(MAX_SCRIPT));
   }
 
   /**
@@ -125,7 +125,7 @@ export class GivenTexts {
    */
   answers(command) {
     if (this.readStandardInput(MAX_ANSWERS).length === 0) throw new CommandError(noAnswers(command));
-    return decoded(this.readStandardInput(MAX_ANSWERS)).text.split("\n").slice(0, -1).map((line) => line.replace(/\r$/, ""));
+    return decodeText(this.readStandardInput(MAX_ANSWERS)).text.split("\n").slice(0, -1).map((line) => line.replace(/\r$/, ""));
   }
 
   /**
@@ -133,6 +133,6 @@ export class GivenTexts {
    * @param {string} name
    */
   script(name) {
-    return decoded(this.read(name, MAX_SCRIPT)).text;
+    return decodeText(this.read(name, MAX_SCRIPT)).text;
   }
 }

@@ -1,6 +1,6 @@
-// Loads the joined file of a command. A joined file starts faster than the modules from which tools/join_commands.mjs has built it. It is used only
-// if its checksum matches the sources in the tree. Checksums are slow to compute, so the user's cache stores the sizes and times of the sources.
-// While these are unchanged, the checksum is not computed again. (tools/lib/start.sh does the same for the program.)
+// Loads the joined file of a command, which starts faster than the modules from which tools/join_commands.mjs has built the file. A joined file is
+// used only if its checksum matches the sources in the tree. Checksums are slow to compute, so the user's cache stores the sizes and times of the
+// sources. While these are unchanged, the checksum is not computed again. (tools/lib/start.sh does the same for the program.)
 //
 // Compiling a joined file takes a tenth of the startup time. The cache therefore also stores the compiled code of each command, for the version that
 // ran last.
@@ -12,24 +12,24 @@ const { dirname, join } = require("node:path");
 const { Script } = require("node:vm");
 
 const TOP = join(__dirname, "../..");
-const FOLDER = join(TOP, "shipped/commands");
+const COMMANDS_FOLDER = join(TOP, "shipped/commands");
 const IS_WINDOWS = process.platform === "win32";
-const OWNER_ALONE = 0o700;
-const OWNER_ALONE_FILE = 0o600;
-const ACCESS_BY_OTHERS = 0o077;
+const OWNER_ONLY_MODE = 0o700;
+const OWNER_ONLY_FILE_MODE = 0o600;
+const OTHERS_ACCESS_BITS = 0o077;
 /**
  * Files that changed within this time, in milliseconds, are not cached. On a file system with a resolution of seconds, their next change might not be
  * visible.
  */
-const RECENT_CHANGE = 3000;
+const RECENT_CHANGE_TIME = 3000;
 /** The length of the header before the compiled code, in bytes. */
 const HEADER_LENGTH = 80;
 /**
- * The kind of a run: "done" if the command did its work, "asked" if it only printed its help or an error. An "asked" run compiles fewer functions.
- * @typedef {"done" | "asked"} Kind
+ * The kind of a run: "done" if the command did its work, "asked" if the command only printed its help or an error, and so compiled fewer functions.
+ * @typedef {"done" | "asked"} RunKind
  */
-/** @type {Kind[]} */
-const KINDS = ["done", "asked"];
+/** @type {RunKind[]} */
+const RUN_KINDS = ["done", "asked"];
 /** The highest exit status of a command that has done its work. */
 const MAX_DONE_STATUS = 1;
 
@@ -37,7 +37,7 @@ const MAX_DONE_STATUS = 1;
  * Returns the checksum of the concatenated contents of files. (Loads node:crypto only here, because it is slow to load.)
  * @param {string[]} names
  */
-function checksumOfFiles(names) {
+function hashFiles(names) {
   const hash = require("node:crypto").createHash("sha256");
   for (const name of names) hash.update(readFileSync(name));
   return hash.digest("hex");
@@ -61,9 +61,9 @@ function cacheFolder() {
   const folder = join(cache, "fethsaim");
   try {
     if (!existsSync(folder) && (belongsToUser(cache) || (!existsSync(cache) && belongsToUser(dirname(cache))))) {
-      mkdirSync(folder, { recursive: true, mode: OWNER_ALONE });
+      mkdirSync(folder, { recursive: true, mode: OWNER_ONLY_MODE });
     }
-    return belongsToUser(folder) && (IS_WINDOWS || (statSync(folder).mode & ACCESS_BY_OTHERS) === 0) ? folder : "";
+    return belongsToUser(folder) && (IS_WINDOWS || (statSync(folder).mode & OTHERS_ACCESS_BITS) === 0) ? folder : "";
   } catch {
     return "";
   }
@@ -75,7 +75,7 @@ function cacheFolder() {
  */
 function fileStamps(names) {
   const stats = names.map((name) => statSync(name, { bigint: true }));
-  const hasRecentChange = stats.some(({ mtimeMs, ctimeMs }) => [mtimeMs, ctimeMs].some((time) => Number(time) > Date.now() - RECENT_CHANGE));
+  const hasRecentChange = stats.some(({ mtimeMs, ctimeMs }) => [mtimeMs, ctimeMs].some((time) => Number(time) > Date.now() - RECENT_CHANGE_TIME));
   return { stamps: stats.map(({ dev, ino, size, mtimeNs, ctimeNs }) => `${dev} ${ino} ${size} ${mtimeNs} ${ctimeNs}\n`).join(""), hasRecentChange };
 }
 
@@ -85,18 +85,18 @@ function fileStamps(names) {
  * @param {...(string | Uint8Array)} parts
  */
 function writeToCache(path, ...parts) {
-  const temporary = `${path}.${process.pid}`;
+  const temporaryPath = `${path}.${process.pid}`;
   try {
-    const file = openSync(temporary, "wx", OWNER_ALONE_FILE);
+    const file = openSync(temporaryPath, "wx", OWNER_ONLY_FILE_MODE);
     try {
       for (const part of parts) writeFileSync(file, part);
       fsyncSync(file);
     } finally {
       closeSync(file);
     }
-    renameSync(temporary, path);
+    renameSync(temporaryPath, path);
   } catch {
-    rmSync(temporary, { force: true });
+    rmSync(temporaryPath, { force: true });
   }
 }
 
@@ -105,34 +105,34 @@ function writeToCache(path, ...parts) {
  * @param {string} folder the cache folder; "" for none
  * @param {string} name the name of a command
  * @param {string[]} files
- * @param {string} sum
+ * @param {string} checksum
  */
-function areUnchanged(folder, name, files, sum) {
-  if (folder === "") return checksumOfFiles(files) === sum;
+function areUnchanged(folder, name, files, checksum) {
+  if (folder === "") return hashFiles(files) === checksum;
   const path = join(folder, `${TOP.replace(/[/\\:]/g, "%")}.${name}.joined`);
   const { stamps, hasRecentChange } = fileStamps(files);
-  const entry = `${sum}\n${stamps}`;
+  const entry = `${checksum}\n${stamps}`;
   if (existsSync(path) && readFileSync(path, "utf8") === entry) return true;
-  if (checksumOfFiles(files) !== sum) return false;
+  if (hashFiles(files) !== checksum) return false;
   if (!hasRecentChange && fileStamps(files).stamps === stamps) writeToCache(path, entry);
   return true;
 }
 
-/** @type {(sum: string, kind: Kind, length: number) => string} the header of compiled code: source checksum, kind and length */
-const codeHeader = (sum, kind, length) => `${sum} ${kind} ${length}\n`.padEnd(HEADER_LENGTH);
+/** @type {(checksum: string, kind: RunKind, length: number) => string} the header of compiled code: source checksum, kind and length */
+const codeHeader = (checksum, kind, length) => `${checksum} ${kind} ${length}\n`.padEnd(HEADER_LENGTH);
 
 /**
  * Returns the cached compiled code of the joined file with a checksum, and its kind. Returns undefined if there is none.
  * @param {string} path the path of the compiled code in the cache
- * @param {string} sum
- * @returns {{ code: Uint8Array, kind: Kind } | undefined}
+ * @param {string} checksum
+ * @returns {{ code: Uint8Array, kind: RunKind } | undefined}
  */
-function cachedCode(path, sum) {
+function readCachedCode(path, checksum) {
   try {
     const bytes = readFileSync(path);
     const code = bytes.subarray(HEADER_LENGTH);
     const head = bytes.latin1Slice(0, HEADER_LENGTH);
-    const kind = KINDS.find((each) => head === codeHeader(sum, each, code.length));
+    const kind = RUN_KINDS.find((runKind) => head === codeHeader(checksum, runKind, code.length));
     return kind && { code, kind };
   } catch {
     return undefined;
@@ -143,16 +143,16 @@ function cachedCode(path, sum) {
  * Stores the compiled code of a joined file when the command ends, unless the cache already has code of the same kind.
  * @param {Script} script
  * @param {string} path the path of the compiled code in the cache
- * @param {string} sum
- * @param {Kind | undefined} known the kind of the cached code; undefined if there is none
+ * @param {string} checksum
+ * @param {RunKind | undefined} cachedKind the kind of the cached code; undefined if there is none
  */
-function cacheCode(script, path, sum, known) {
+function storeCodeAtExit(script, path, checksum, cachedKind) {
   process.on("exit", (status) => {
-    const isShort = status > MAX_DONE_STATUS || process.argv.some((word) => word === "-h" || word === "--help");
-    const kind = isShort ? "asked" : "done";
-    if (known === kind) return;
+    const isHelpOrError = status > MAX_DONE_STATUS || process.argv.some((word) => word === "-h" || word === "--help");
+    const kind = isHelpOrError ? "asked" : "done";
+    if (cachedKind === kind) return;
     const code = script.createCachedData();
-    writeToCache(path, codeHeader(sum, kind, code.length), code);
+    writeToCache(path, codeHeader(checksum, kind, code.length), code);
   });
 }
 
@@ -160,17 +160,17 @@ function cacheCode(script, path, sum, known) {
  * Runs a joined file and returns its exports. The file is ASCII, so Latin 1 decodes it correctly and fast.
  * @param {string} file
  * @param {string} path the path of the compiled code in the cache; "" if there is no cache
- * @param {string} sum
+ * @param {string} checksum
  */
-function load(file, path, sum) {
+function loadJoined(file, path, checksum) {
   const source = `(function (require, module, __filename, __dirname) {${readFileSync(file, "latin1")}\n})`;
-  const { code: cachedData, kind = undefined } = (path && cachedCode(path, sum)) || {};
+  const { code: cachedData, kind = undefined } = (path && readCachedCode(path, checksum)) || {};
   const script = new Script(source, { filename: file, cachedData });
-  const known = script.cachedDataRejected ? undefined : kind;
-  if (path !== "" && known !== "done") cacheCode(script, path, sum, known);
-  const loaded = { exports: {} };
-  script.runInThisContext()(require, loaded, file, dirname(file));
-  return loaded.exports;
+  const cachedKind = script.cachedDataRejected ? undefined : kind;
+  if (path !== "" && cachedKind !== "done") storeCodeAtExit(script, path, checksum, cachedKind);
+  const loadedModule = { exports: {} };
+  script.runInThisContext()(require, loadedModule, file, dirname(file));
+  return loadedModule.exports;
 }
 
 /**
@@ -179,11 +179,11 @@ function load(file, path, sum) {
  * @param {string} name the name of a command
  * @param {string} file
  */
-function checksumOfJoined(folder, name, file) {
+function joinedChecksum(folder, name, file) {
   try {
-    const [sum, ...sources] = readFileSync(join(FOLDER, "sources", name), "utf8").trimEnd().split("\n");
-    const isAlone = !existsSync(join(TOP, "js/core"));
-    return isAlone || areUnchanged(folder, name, [...sources.map((source) => join(TOP, source)), file], sum) ? sum : "";
+    const [checksum, ...sources] = readFileSync(join(COMMANDS_FOLDER, "sources", name), "utf8").trimEnd().split("\n");
+    const isWithoutSources = !existsSync(join(TOP, "js/core"));
+    return isWithoutSources || areUnchanged(folder, name, [...sources.map((source) => join(TOP, source)), file], checksum) ? checksum : "";
   } catch {
     return "";
   }
@@ -195,11 +195,11 @@ function checksumOfJoined(folder, name, file) {
  * @returns {{ run: (words: string[]) => Promise<number> } | null}
  */
 function joinedCommand(name) {
-  const file = join(FOLDER, `${name}.cjs`);
+  const file = join(COMMANDS_FOLDER, `${name}.cjs`);
   if (!/^[a-z]+$/.test(name) || !existsSync(file)) return null;
   const folder = cacheFolder();
-  const sum = checksumOfJoined(folder, name, file);
-  return sum === "" ? null : load(file, folder === "" ? "" : join(folder, `${name}.code`), sum);
+  const checksum = joinedChecksum(folder, name, file);
+  return checksum === "" ? null : loadJoined(file, folder === "" ? "" : join(folder, `${name}.code`), checksum);
 }
 
-module.exports = { checksumOfFiles, joinedCommand, cacheFolder };
+module.exports = { hashFiles, joinedCommand, cacheFolder };

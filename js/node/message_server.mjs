@@ -1,24 +1,24 @@
-// The common part of `mcs4 lsp` and `mcs4 dap`. Passes the bytes of standard input to a connection. When no further message can arrive, the process
+// The code that `mcs4 lsp` and `mcs4 dap` share. Passes the bytes of standard input to a connection. When no further message can arrive, the process
 // ends and prints the reason on standard error.
 import { isatty } from "node:tty";
 import { escaped } from "../core/text/escaped.js";
 import { WAITS_FOR_EDITOR } from "../words/commands.js";
 import { printError } from "./output.mjs";
 
-/** The time in milliseconds to wait for the rest of an incomplete message after each part. */
+/** The time in milliseconds to wait for more bytes of an incomplete message. */
 const MESSAGE_TIMEOUT = 10000;
-const INPUT = 0;
+const STDIN = 0;
 
 /**
  * Explains to a user at a terminal that the command waits for an editor. (An editor starts the command without a terminal.)
  * @param {string} name the command's name
  */
 export function explainAtTerminal(name) {
-  if (isatty(INPUT)) printError(`${name}: ${WAITS_FOR_EDITOR}\n`);
+  if (isatty(STDIN)) printError(`${name}: ${WAITS_FOR_EDITOR}\n`);
 }
 
 /**
- * Returns a function that ends the process after all output is written. Its arguments are the exit status and the reason.
+ * Returns a function that ends the process after all output is written. The arguments of the function are the exit status and the reason.
  * @param {string} name the command's name
  * @returns {(status: number, words?: string) => void}
  */
@@ -34,32 +34,32 @@ export function exitAfterOutput(name) {
 /**
  * Passes the bytes of standard input to a connection.
  * @param {import("../core/server/message_stream.js").MessageStream} connection
- * @param {(words: string) => void} ended called once with the reason when no further message can arrive; the reason is "" if the stream ends between
+ * @param {(words: string) => void} onEnd called once with the reason when no further message can arrive; the reason is "" if the stream ends between
  *   messages
  */
-export function listen(connection, ended) {
+export function listenToInput(connection, onEnd) {
   let hasEnded = false;
-  let parts = 0;
+  let partCount = 0;
   /** @type {NodeJS.Timeout | undefined} */
   let timer;
   const end = (words) => {
     clearTimeout(timer);
-    if (!hasEnded) ended(words);
+    if (!hasEnded) onEnd(words);
     hasEnded = true;
   };
   // If this process was suspended or busy, the rest of the message may be in the pipe. setImmediate lets Node read it first.
-  const rejectIncomplete = (partsThen) => setImmediate(() => partsThen === parts && !hasEnded && end(connection.refuseIncomplete()));
+  const rejectIncomplete = (earlierCount) => setImmediate(() => earlierCount === partCount && !hasEnded && end(connection.reportIncomplete()));
   process.stdin.on("data", (bytes) => {
     if (hasEnded) return;
     clearTimeout(timer);
-    parts += 1;
+    partCount += 1;
     try {
       connection.take(bytes);
     } catch (fault) {
       end(fault instanceof Error ? fault.message : String(fault));
       return;
     }
-    if (connection.reader.incomplete !== "") timer = setTimeout(rejectIncomplete, MESSAGE_TIMEOUT, parts);
+    if (connection.reader.incomplete !== "") timer = setTimeout(rejectIncomplete, MESSAGE_TIMEOUT, partCount);
   });
-  process.stdin.on("end", () => !hasEnded && end(connection.refuseIncomplete()));
+  process.stdin.on("end", () => !hasEnded && end(connection.reportIncomplete()));
 }

@@ -6,20 +6,20 @@ import { Engine } from "../core/engine/engine.js";
 import { IS_RUN_BY_COMMAND } from "./children.mjs";
 import joined from "./joined.cjs";
 import { printError } from "./output.mjs";
-import { moduleOfPage } from "./page_parts.mjs";
+import { readPageModule } from "./page_parts.mjs";
 
-const OWNER_ALONE = 0o600;
+const OWNER_ONLY_MODE = 0o600;
 
 /**
  * Returns true at the first call for each user, and records the call in the cache. Returns false if it cannot be recorded, as tools/lib/start.sh
  * does.
  */
-function isFirstTime() {
+function recordFirstUse() {
   try {
     const folder = joined.cacheFolder();
-    const note = join(folder, "reported_module");
-    if (folder === "" || existsSync(note)) return false;
-    closeSync(openSync(note, "wx", OWNER_ALONE));
+    const noteFile = join(folder, "reported_module");
+    if (folder === "" || existsSync(noteFile)) return false;
+    closeSync(openSync(noteFile, "wx", OWNER_ONLY_MODE));
     return true;
   } catch {
     return false;
@@ -31,7 +31,7 @@ function isFirstTime() {
  * @param {string} words the message about the use of the module and its reason; "" for no message
  */
 export function startModule(words) {
-  const engine = new Engine(new WebAssembly.Module(moduleOfPage()));
-  if (words !== "" && !process.env[IS_RUN_BY_COMMAND] && isFirstTime()) printError(`mcs4: ${words}\n`);
+  const engine = new Engine(new WebAssembly.Module(readPageModule()));
+  if (words !== "" && !process.env[IS_RUN_BY_COMMAND] && recordFirstUse()) printError(`mcs4: ${words}\n`);
   return engine;
 }

@@ -4,11 +4,11 @@ import { startModule } from "./module_engine.mjs";
 const SIGNALS = /** @type {const} */ (["SIGHUP", "SIGINT", "SIGTERM"]);
 
 /**
- * Returns a function that answers the questions of `mcs4 prove`. A search is a single call of the module, and no signal handler can run during the
+ * Returns a function that answers the questions of `mcs4 prove`. The module is called once for a search, and no signal handler can run during the
  * call. The handlers are therefore removed, so that a signal ends the process immediately.
  * @returns {(question: string) => string}
  */
-export function moduleProver() {
+export function makeModuleProver() {
   const engine = startModule("");
   return (question) => {
     const handlers = SIGNALS.flatMap((signal) => process.listeners(signal).map((handler) => ({ signal, handler })));

@@ -14,7 +14,7 @@ import { constants as system } from "node:os";
 import { join } from "node:path";
 import { isQuery } from "../core/bench/answer_table.js";
 import { BenchRefusal } from "../core/bench/faults.js";
-import { endOfInputs, isSeq, opensText, withoutReturn } from "../core/bench/inputs.js";
+import { findInputEnd, isSeq, opensText, stripReturn } from "../core/bench/inputs.js";
 import { CommandError } from "./output.mjs";
 import { processes } from "./processes.mjs";
 import { removeFolder, temporaryFolder, temporaryRoot } from "./temporary.mjs";
@@ -35,7 +35,7 @@ import { TOP } from "./top.mjs";
 
 /** The maximum number of processes, each at one state. */
 const MAX_PROCESSES = 3;
-/** The maximum number of copies that were made without a call of `keep`. */
+/** The maximum number of copies that the engine makes on its own, in addition to those that `keep` requests. */
 const MAX_COPIES = 32;
 /** The minimum number of bytes that a pipe accepts while nobody reads from it. */
 const PIPE_CAPACITY = 4096;
@@ -59,13 +59,13 @@ function analyse(lines) {
   let [commands, seqs] = ["", 0];
   /** @type {{ isQuery: boolean } | null} */
   let text = null;
-  for (const whole of lines.replace(/\n$/, "").split("\n")) {
-    const line = withoutReturn(whole);
-    const asks = text ? text.isQuery : isQuery(line.trim().split(/[ \t]/, 1)[0]);
-    if (!asks && (text || line.trim() !== "")) commands += `${line}\n`;
+  for (const wholeLine of lines.replace(/\n$/, "").split("\n")) {
+    const line = stripReturn(wholeLine);
+    const isAsking = text ? text.isQuery : isQuery(line.trim().split(/[ \t]/, 1)[0]);
+    if (!isAsking && (text || line.trim() !== "")) commands += `${line}\n`;
     if (!text && isSeq(line)) seqs += 1;
     if (text && line === ".") text = null;
-    else if (!text && opensText(line)) text = { isQuery: asks };
+    else if (!text && opensText(line)) text = { isQuery: isAsking };
   }
   return { commands, seqs, isWhole: !text && (lines === "" || lines.endsWith("\n")) };
 }
@@ -80,7 +80,7 @@ function splitForPipe(lines) {
   const pieces = [];
   let piece = "";
   for (let at = 0; at < lines.length;) {
-    const end = endOfInputs(lines, at, 1);
+    const end = findInputEnd(lines, at, 1);
     const input = lines.slice(at, end);
     if (piece !== "" && piece.length + input.length > PIPE_CAPACITY) {
       pieces.push(piece);
@@ -106,11 +106,11 @@ const SHELL_LOOP = `while read -r word name slot; do
 done < "$folder/control"
 if [ -e "$folder" ]; then rm -rf -- "$folder"; fi`;
 
-/** The shell's name, which precedes its own messages. */
+/** The shell's name, which precedes the shell's messages. */
 const SHELL = "starter";
 /** The shell's exit status if no program is named and start.sh does not know one. */
 const UNKNOWN_PROGRAM = 3;
-/** The shell script. It finds the program if none is named, creates the pipes, starts the loop, and prints the program's path. */
+/** The shell script: finds the program if none is named, creates the pipes, starts the loop, and prints the program's path. */
 const SHELL_SCRIPT = `trap "" HUP INT TERM
 program=$1 top=$2 folder=$3
 shift 3
@@ -129,8 +129,8 @@ class Starter {
   constructor(program) {
     this.root = temporaryRoot();
     this.folder = temporaryFolder("mcs4");
-    this.free = [...Array(MAX_PROCESSES + 1).keys()];
-    const pipes = ["control", ...this.free.flatMap((slot) => [`in${slot}`, `out${slot}`])].map((name) => join(this.folder, name));
+    this.freeSlots = [...Array(MAX_PROCESSES + 1).keys()];
+    const pipes = ["control", ...this.freeSlots.flatMap((slot) => [`in${slot}`, `out${slot}`])].map((name) => join(this.folder, name));
     const { status, signal, stdout } = processes().spawnSync(
       "/bin/sh", ["-c", SHELL_SCRIPT, SHELL, program, TOP, this.folder, ...pipes], { encoding: "utf8", stdio: ["ignore", "pipe", "ignore"] });
     // A signal to the process group, such as Ctrl-C, can end the shell before it ignores signals. This process has received the same signal, so end
@@ -152,12 +152,12 @@ class Starter {
    * @param {string} name
    */
   start(word, name) {
-    const slot = this.free.pop();
+    const slot = this.freeSlots.pop();
     writeSync(this.control, `${word} ${name} ${slot}\n`);
     return { slot, input: openSync(join(this.folder, `in${slot}`), "w"), output: openSync(join(this.folder, `out${slot}`), "r") };
   }
 
-  /** The program's lines on standard error, without the shell's own messages and without lines that name this folder. */
+  /** The program's lines on standard error, without the shell's messages and without lines that name this folder. */
   get words() {
     const lines = readFileSync(join(this.folder, "words"), "latin1").split("\n");
     return lines.filter((line) => line !== "" && !line.startsWith(`${SHELL}: `) && !line.includes(this.folder));
@@ -197,19 +197,19 @@ class Session {
     if (this.hasEnded || !/^session \d+$/.test(line)) {
       this.end();
       const [, number] = /^no (\d+)$/.exec(line) || [];
-      throw number ? new BenchRefusal(Number(number)) : this.noAnswerError();
+      throw number ? new BenchRefusal(Number(number)) : this.makeNoAnswerError();
     }
     return Number(line.slice("session ".length));
   }
 
   /** Returns the error for a program whose first line is not one of mcs4's. */
-  noAnswerError() {
+  makeNoAnswerError() {
     const { program, words } = this.starter;
     return new ProgramError([...words, `${program} does not answer; MCS4 names the program where it is not the mcs4 at the top`].join("\n"));
   }
 
   /** Returns the error for a program that has ended before it answered. */
-  endedError() {
+  makeEndedError() {
     return new ProgramError(`the session has ended; the program said: ${this.starter.words.join("; ") || "nothing"}`);
   }
 
@@ -239,7 +239,7 @@ class Session {
       const { seqs } = analyse(piece);
       const text = this.send(`${piece}seq\n`, (output) => (
         /(?:^|\n)seq \d+\n$/.test(output.slice(-30)) && (seqs === 0 || (output.match(/^seq \d+$/gm) || []).length > seqs)));
-      if (this.hasEnded) throw this.endedError();
+      if (this.hasEnded) throw this.makeEndedError();
       const outputLines = text.split("\n");
       this.count = Number(outputLines[outputLines.length - 2].slice("seq ".length));
       outputLines.length -= 2;
@@ -254,9 +254,9 @@ class Session {
    */
   exchangeLast(lines) {
     const pieces = splitForPipe(lines);
-    const last = pieces.pop();
+    const lastPiece = pieces.pop();
     const answers = this.exchange(pieces.join(""));
-    writeSync(this.input, last);
+    writeSync(this.input, lastPiece);
     closeSync(this.input);
     const text = this.readUntil(() => false);
     this.close(this.output);
@@ -271,19 +271,19 @@ class Session {
   send(lines, isWhole) {
     try {
       writeSync(this.input, lines);
-    } catch (thrown) {
-      if (thrown.code !== "EPIPE") throw thrown;
+    } catch (error) {
+      if (error.code !== "EPIPE") throw error;
     }
     return this.readUntil(isWhole);
   }
 
   /** Empties the input pipe after a program has ended early, because the next program with this pipe must not read the remaining lines. */
-  drain() {
+  emptyInput() {
     const pipe = openSync(join(this.starter.folder, `in${this.slot}`), constants.O_RDONLY | constants.O_NONBLOCK);
     try {
       while (readSync(pipe, this.buffer) > 0) continue;
-    } catch (thrown) {
-      if (thrown.code !== "EAGAIN") throw thrown;
+    } catch (error) {
+      if (error.code !== "EAGAIN") throw error;
     } finally {
       closeSync(pipe);
     }
@@ -291,7 +291,7 @@ class Session {
 
   /** Closes the input, so that the program ends, and waits for the program's end. */
   end() {
-    if (this.hasEnded) this.drain();
+    if (this.hasEnded) this.emptyInput();
     closeSync(this.input);
     while (!this.hasEnded && readSync(this.output, this.buffer) > 0) continue;
     this.close(this.output);
@@ -303,7 +303,7 @@ class Session {
    */
   close(pipe) {
     closeSync(pipe);
-    this.starter.free.push(this.slot);
+    this.starter.freeSlots.push(this.slot);
   }
 }
 
@@ -322,9 +322,9 @@ export class NativeEngine {
     this.states = [{ parent: -1, commands: "", copy: "", count: 0 }];
     /** @type {Session[]} the running sessions, most recently used first */
     this.sessions = [];
-    /** @type {number[]} the states with copies that were made without a call of `keep`, oldest first */
-    this.copied = [];
-    this.files = 0;
+    /** @type {number[]} the states with copies that `keep` did not request, oldest first */
+    this.automaticCopies = [];
+    this.fileCount = 0;
     /** @type {Map<string, LineAnalysis>} */
     this.analyses = new Map();
   }
@@ -339,7 +339,7 @@ export class NativeEngine {
 
   /** @param {State} [into] */
   begin(into = new Uint8Array(this.size)) {
-    return this.setNumber(into, 0);
+    return this.writeIndex(into, 0);
   }
 
   /**
@@ -348,14 +348,14 @@ export class NativeEngine {
    * @param {State} into
    */
   serve(state, lines, into) {
-    const number = this.numberOf(state);
+    const number = this.nodeIndex(state);
     const { commands, isWhole } = this.analyse(lines);
     if (!isWhole) return this.serveLast(number, lines, into);
     const session = this.sessionAt(number);
     const opened = `session ${session.count}`;
     const answers = this.exchange(session, lines);
     if (commands !== "") session.at = this.addState({ parent: number, commands, copy: "", count: session.count });
-    this.setNumber(into, session.at);
+    this.writeIndex(into, session.at);
     return { status: 0, opened, answers };
   }
 
@@ -364,7 +364,7 @@ export class NativeEngine {
    * @param {string} lines
    */
   ask(state, lines) {
-    const number = this.numberOf(state);
+    const number = this.nodeIndex(state);
     const { commands, isWhole } = this.analyse(lines);
     if (commands === "" && isWhole) {
       const session = this.sessionAt(number);
@@ -379,15 +379,15 @@ export class NativeEngine {
 
   /** @param {State} state */
   keep(state) {
-    const number = this.numberOf(state);
+    const number = this.nodeIndex(state);
     const { file } = this.sessionAt(number);
-    this.copied = this.copied.filter((each) => each !== number);
+    this.automaticCopies = this.automaticCopies.filter((each) => each !== number);
     if (this.states[number].copy === "") this.copy(number, file);
   }
 
   /** @param {State} state */
   bytesOf(state) {
-    const number = this.numberOf(state);
+    const number = this.nodeIndex(state);
     return new Uint8Array(readFileSync(this.states[number].copy || this.sessionAt(number).file));
   }
 
@@ -395,7 +395,7 @@ export class NativeEngine {
   stateOf(bytes) {
     const copy = this.newFile();
     writeFileSync(copy, bytes);
-    return this.setNumber(new Uint8Array(this.size), this.addState({ parent: -1, commands: "", copy, count: -1 }));
+    return this.writeIndex(new Uint8Array(this.size), this.addState({ parent: -1, commands: "", copy, count: -1 }));
   }
 
   /** The message that the folder for temporary files has no room for a session, or "" if it has room. */
@@ -424,7 +424,7 @@ export class NativeEngine {
    * Returns the index of a state's node.
    * @param {State} state
    */
-  numberOf(state) {
+  nodeIndex(state) {
     const number = new DataView(state.buffer, state.byteOffset).getUint32(0);
     if (state.length !== this.size || number >= this.states.length) throw new Error("these bytes are not a state of this engine");
     return number;
@@ -435,7 +435,7 @@ export class NativeEngine {
    * @param {State} state
    * @param {number} number
    */
-  setNumber(state, number) {
+  writeIndex(state, number) {
     new DataView(state.buffer, state.byteOffset).setUint32(0, number);
     return state;
   }
@@ -453,8 +453,8 @@ export class NativeEngine {
    * @param {string} lines
    */
   analyse(lines) {
-    const cached = this.analyses.get(lines);
-    if (cached) return cached;
+    const cachedAnalysis = this.analyses.get(lines);
+    if (cachedAnalysis) return cachedAnalysis;
     if (this.analyses.size === MAX_ANALYSES) this.analyses.clear();
     const analysis = analyse(lines);
     this.analyses.set(lines, analysis);
@@ -469,9 +469,9 @@ export class NativeEngine {
   exchange(session, lines) {
     try {
       return session.exchange(lines);
-    } catch (thrown) {
+    } catch (error) {
       this.drop(session, true);
-      throw thrown;
+      throw error;
     }
   }
 
@@ -488,7 +488,7 @@ export class NativeEngine {
     const copy = this.newFile();
     renameSync(session.file, copy);
     this.drop(session, false);
-    this.setNumber(into, this.addState({ parent: -1, commands: "", copy, count: -1 }));
+    this.writeIndex(into, this.addState({ parent: -1, commands: "", copy, count: -1 }));
     return { status: 0, opened, answers };
   }
 
@@ -497,9 +497,9 @@ export class NativeEngine {
    * @param {number} number the index of the state
    */
   sessionAt(number) {
-    const found = this.sessions.findIndex(({ at }) => at === number);
-    if (found < 0) return this.newSession(number);
-    if (found > 0) this.sessions.unshift(...this.sessions.splice(found, 1));
+    const index = this.sessions.findIndex(({ at }) => at === number);
+    if (index < 0) return this.newSession(number);
+    if (index > 0) this.sessions.unshift(...this.sessions.splice(index, 1));
     return this.sessions[0];
   }
 
@@ -508,7 +508,7 @@ export class NativeEngine {
    * @param {number} number the index of the state
    */
   newSession(number) {
-    const { lines, copy } = this.pathTo(number);
+    const { lines, copy } = this.commandsTo(number);
     const file = this.newFile();
     if (copy !== "") copyFileSync(copy, file);
     const session = new Session(this.starter, copy === "" ? "new" : "open", file.slice(this.starter.folder.length + 1));
@@ -516,7 +516,7 @@ export class NativeEngine {
     if (this.sessions.length > MAX_PROCESSES) this.drop(this.sessions[MAX_PROCESSES], true);
     if (lines !== "") {
       this.exchange(session, lines);
-      this.copyForNext(number, session.file);
+      this.storeCopy(number, session.file);
     }
     session.at = number;
     return session;
@@ -526,7 +526,7 @@ export class NativeEngine {
    * Returns the path of the nearest copy at a state or above it ("" for a new session), and the commands from there to the state.
    * @param {number} number the index of the state
    */
-  pathTo(number) {
+  commandsTo(number) {
     const commands = [];
     let from = number;
     for (; from > 0 && this.states[from].copy === ""; from = this.states[from].parent) commands.push(this.states[from].commands);
@@ -538,13 +538,13 @@ export class NativeEngine {
    * @param {number} number the index of the state
    * @param {string} file
    */
-  copyForNext(number, file) {
+  storeCopy(number, file) {
     this.copy(number, file);
-    this.copied.push(number);
-    if (this.copied.length <= MAX_COPIES) return;
-    const oldest = this.states[/** @type {number} */ (this.copied.shift())];
-    rmSync(oldest.copy, { force: true });
-    oldest.copy = "";
+    this.automaticCopies.push(number);
+    if (this.automaticCopies.length <= MAX_COPIES) return;
+    const oldestNode = this.states[/** @type {number} */ (this.automaticCopies.shift())];
+    rmSync(oldestNode.copy, { force: true });
+    oldestNode.copy = "";
   }
 
   /**
@@ -560,8 +560,8 @@ export class NativeEngine {
 
   /** Returns the path for a new session file. */
   newFile() {
-    this.files += 1;
-    return join(this.starter.folder, `${this.files}.mcs`);
+    this.fileCount += 1;
+    return join(this.starter.folder, `${this.fileCount}.mcs`);
   }
 
   /**

@@ -5,7 +5,7 @@ import { type } from "node:os";
 import { join } from "node:path";
 import { BenchRefusal } from "../core/bench/faults.js";
 import { MAX_TEXT_BYTES } from "./given_texts.mjs";
-import { statOfInput } from "./user_files.mjs";
+import { statInput } from "./user_files.mjs";
 import { CommandError } from "./output.mjs";
 import { processes } from "./processes.mjs";
 import { TOP } from "./top.mjs";
@@ -21,10 +21,10 @@ import {
  * @typedef {{ program: string, fault: string, isUnsupported: boolean }} Found
  */
 
-const SIGNALS = /** @type {const} */ ({ SIGHUP: 129, SIGINT: 130, SIGTERM: 143 });
-const STARTER = 'top=$0; . "$top/tools/lib/start.sh"; ';
-const FIND_PROGRAM = `${STARTER}find_or_build >&2; printf "%s\\n%s" "$program" "$fault"`;
-const FIND_PROVER = `${STARTER}find_prover; printf "%s\\n%s\\n" "$program" "$fault"; if is_without_program; then echo 1; fi`;
+const SIGNAL_STATUSES = /** @type {const} */ ({ SIGHUP: 129, SIGINT: 130, SIGTERM: 143 });
+const STARTER_SCRIPT = 'top=$0; . "$top/tools/lib/start.sh"; ';
+const FIND_PROGRAM = `${STARTER_SCRIPT}find_or_build >&2; printf "%s\\n%s" "$program" "$fault"`;
+const FIND_PROVER = `${STARTER_SCRIPT}find_prover; printf "%s\\n%s\\n" "$program" "$fault"; if is_without_program; then echo 1; fi`;
 
 const IS_WINDOWS = process.platform === "win32";
 const hasStarter = existsSync(join(TOP, "tools/lib/start.sh"));
@@ -45,7 +45,7 @@ function runStarter(script) {
 }
 
 /** @returns {Found} the result without a starter: an editor extension has none, and Windows has no shell */
-const noProgram = () => ({ program: "", fault: hasStarter ? notForSystem(type(), process.arch) : NO_PROGRAM_IN_COPY, isUnsupported: true });
+const noProgramResult = () => ({ program: "", fault: hasStarter ? notForSystem(type(), process.arch) : NO_PROGRAM_IN_COPY, isUnsupported: true });
 
 /** @type {Found | null} the cached result of the search for the program */
 let foundProgram = null;
@@ -53,7 +53,7 @@ let foundProgram = null;
 /** Returns the program that the variable MCS4 names, or the program that ./mcs4 starts. Builds that program first if necessary. */
 function findProgram() {
   if (process.env.MCS4) return { program: process.env.MCS4, fault: "", isUnsupported: false };
-  foundProgram ||= runStarter(FIND_PROGRAM) || noProgram();
+  foundProgram ||= runStarter(FIND_PROGRAM) || noProgramResult();
   return foundProgram;
 }
 
@@ -71,7 +71,7 @@ export function proverPath() {
   const { MCS4_PROVE: proverName } = process.env;
   if (proverName && !existsSync(proverName)) throw new CommandError(noNamedProver(proverName));
   if (proverName) return proverName;
-  const { program, fault, isUnsupported } = runStarter(FIND_PROVER) || noProgram();
+  const { program, fault, isUnsupported } = runStarter(FIND_PROVER) || noProgramResult();
   if (program === "" && !isUnsupported) throw new CommandError(noProver(fault));
   return program;
 }
@@ -85,16 +85,16 @@ let nativeEngine = null;
  * @returns {Promise<EngineHost>}
  */
 export async function startEngine() {
-  // This must come first, so that a signal cannot leave the engine's folder behind.
+  // Register the handlers first, so that a signal cannot leave the engine's folder behind.
   endOnSignals();
   const { NativeEngine } = await import("./native_engine.mjs");
-  const known = process.env.MCS4 || foundProgram || !hasStarter || IS_WINDOWS ? null : NativeEngine.forKnownProgram();
-  const { program, fault } = known ? { program: known.starter.program, fault: "" } : findProgram();
+  const knownEngine = process.env.MCS4 || foundProgram || !hasStarter || IS_WINDOWS ? null : NativeEngine.forKnownProgram();
+  const { program, fault } = knownEngine ? { program: knownEngine.starter.program, fault: "" } : findProgram();
   if (program === "") {
     const { startModule } = await import("./module_engine.mjs");
     return startModule(hasStarter ? runsOnModule(fault) : "");
   }
-  const engine = known || new NativeEngine(program);
+  const engine = knownEngine || new NativeEngine(program);
   nativeEngine = engine;
   process.on("exit", endEngine);
   return engine;
@@ -110,14 +110,14 @@ export function endEngine() {
 let signalAction = null;
 
 /**
- * Makes signals end the process through `act`, so that unfinished files are removed.
- * @param {(status: number) => void} [act] ends the process with an exit status
+ * Makes signals end the process through `endProcess`, so that unfinished files are removed.
+ * @param {(status: number) => void} [endProcess] ends the process with an exit status
  */
-export function endOnSignals(act = process.exit) {
+export function endOnSignals(endProcess = process.exit) {
   const isFirst = signalAction === null;
-  signalAction = act;
+  signalAction = endProcess;
   if (!isFirst) return;
-  for (const [signal, status] of Object.entries(SIGNALS)) process.on(signal, () => signalAction(status));
+  for (const [signal, status] of Object.entries(SIGNAL_STATUSES)) process.on(signal, () => signalAction(status));
 }
 
 /**
@@ -135,16 +135,16 @@ export function noRoomMessage() {
  */
 export async function openSession(engine, texts, session) {
   // A pipe without a writer would block the process forever, and signals could not end it. In addition, the file is read twice.
-  if (statOfInput(session)?.isFIFO()) throw new CommandError(`cannot read ${session}: it is not a regular file`);
+  if (statInput(session)?.isFIFO()) throw new CommandError(`cannot read ${session}: it is not a regular file`);
   const bytes = texts.read(session, MAX_TEXT_BYTES);
   if (!bytes.equals(texts.read(session, MAX_TEXT_BYTES))) throw new CommandError(inUse(session));
   const state = engine.stateOf(bytes);
   try {
     engine.ask(state, "seq\n");
-  } catch (thrown) {
-    if (!(thrown instanceof BenchRefusal)) throw thrown;
-    const { wordsOfRefusal } = await import("./refused_texts.mjs");
-    throw new CommandError(sessionRefused(session, thrown.number, wordsOfRefusal(thrown.number)));
+  } catch (error) {
+    if (!(error instanceof BenchRefusal)) throw error;
+    const { describeRefusal } = await import("./refused_texts.mjs");
+    throw new CommandError(sessionRefused(session, error.number, describeRefusal(error.number)));
   }
   return state;
 }
@@ -152,12 +152,12 @@ export async function openSession(engine, texts, session) {
 /**
  * Returns the error for rejected texts. (Loads the modules with the messages only then.)
  * @param {EngineHost} engine
- * @param {ConstructorParameters<typeof import("./refused_texts.mjs").RefusedTexts>[1]} given
+ * @param {ConstructorParameters<typeof import("./refused_texts.mjs").RefusedTexts>[1]} givenTexts
  * @param {import("../core/testing/prepared.js").TextFault[]} faults
  */
-export async function rejectedTextsError(engine, given, faults) {
+export async function rejectedTextsError(engine, givenTexts, faults) {
   const { RefusedTexts } = await import("./refused_texts.mjs");
-  return new CommandError(new RefusedTexts(engine, given).message(faults));
+  return new CommandError(new RefusedTexts(engine, givenTexts).message(faults));
 }
 
 /**
@@ -166,7 +166,7 @@ export async function rejectedTextsError(engine, given, faults) {
  * @param {Uint8Array} codes the contents of ROM
  * @param {import("./given_texts.mjs").GivenText} program
  */
-export async function checkedProgramMap(engine, codes, program) {
+export async function readCheckedMap(engine, codes, program) {
   const { sessionProgram } = await import("../core/engine/session_program.js");
   const { faults, other, map } = sessionProgram(engine, codes, program.text);
   if (faults.length > 0) throw await rejectedTextsError(engine, { program }, faults);
@@ -187,7 +187,7 @@ export async function yieldToMessages() {
  * @param {EngineHost} engine
  * @param {import("./given_texts.mjs").GivenText} program
  */
-export async function assembledProgram(engine, program) {
+export async function assembleProgram(engine, program) {
   const { readSource } = await import("../core/engine/session_program.js");
   const { faults, map, bytes } = readSource(engine, program.text);
   if (faults.length > 0) throw await rejectedTextsError(engine, { program }, faults);
@@ -202,12 +202,12 @@ export async function assembledProgram(engine, program) {
  * @param {string} session the session's file name
  * @returns {Promise<(address: number) => string>}
  */
-export async function addressDescriber(texts, engine, programName, session) {
+export async function makeAddressDescriber(texts, engine, programName, session) {
   const [{ romCodes }, { placeInSource }] = await Promise.all([
     import("../core/engine/rom_codes.js"), import("../core/machine/source_places.js"),
   ]);
   const program = texts.text(programName, "asm");
-  const map = await checkedProgramMap(engine, romCodes(engine, await openSession(engine, texts, session)), program);
+  const map = await readCheckedMap(engine, romCodes(engine, await openSession(engine, texts, session)), program);
   const source = { lines: program.text.split("\n"), before: program.before };
   return (address) => placeInSource(map, source, address);
 }

@@ -2,8 +2,8 @@
 import { fstatSync, writeSync } from "node:fs";
 import { escaped } from "../core/text/escaped.js";
 
-const OUTPUT = 1;
-const ERRORS = 2;
+const STDOUT = 1;
+const STDERR = 2;
 /** The exit status if the reader of standard output has gone: the shell's status for SIGPIPE. */
 const PIPE_STATUS = 141;
 
@@ -19,17 +19,17 @@ export class UsageError extends Error {}
  * @param {Uint8Array} bytes
  */
 function writeAll(stream, bytes) {
-  for (let at = 0; at < bytes.length;) {
+  for (let offset = 0; offset < bytes.length;) {
     try {
-      at += writeSync(stream, bytes, at);
-    } catch (thrown) {
-      if (thrown.code !== "EAGAIN") throw thrown;
+      offset += writeSync(stream, bytes, offset);
+    } catch (error) {
+      if (error.code !== "EAGAIN") throw error;
       Atomics.wait(new Int32Array(new SharedArrayBuffer(4)), 0, 0, 1);
     }
   }
 }
 
-const NOT_WRITTEN = "not all was written; is there room where it goes to?";
+const NOT_WRITTEN_MESSAGE = "not all was written; is there room where it goes to?";
 
 /** Throws an error if standard output is closed. Node opens another file in its place, so the starter sets the variable `is_closed`. */
 export function checkOutput() {
@@ -43,10 +43,10 @@ export function checkOutput() {
 export function printBytes(bytes) {
   checkOutput();
   try {
-    writeAll(OUTPUT, bytes);
-  } catch (thrown) {
-    if (thrown.code === "EPIPE") process.exit(PIPE_STATUS);
-    throw new CommandError(NOT_WRITTEN);
+    writeAll(STDOUT, bytes);
+  } catch (error) {
+    if (error.code === "EPIPE") process.exit(PIPE_STATUS);
+    throw new CommandError(NOT_WRITTEN_MESSAGE);
   }
 }
 
@@ -58,7 +58,7 @@ export function exitOnOutputError(name) {
   checkOutput();
   process.stdout.on("error", ({ code }) => {
     if (code === "EPIPE") process.exit(PIPE_STATUS);
-    printError(`${name}: ${NOT_WRITTEN}\n`);
+    printError(`${name}: ${NOT_WRITTEN_MESSAGE}\n`);
     process.exit(1);
   });
 }
@@ -77,7 +77,7 @@ export function print(text) {
  */
 export function printError(text) {
   try {
-    writeAll(ERRORS, Buffer.from(escaped(text)));
+    writeAll(STDERR, Buffer.from(escaped(text)));
   } catch {
     // There is no other way to report the text.
   }
@@ -89,6 +89,6 @@ export function printError(text) {
  * @param {BufferEncoding} encoding
  */
 export function printFile(text, encoding) {
-  if (fstatSync(OUTPUT).isCharacterDevice()) print(text);
+  if (fstatSync(STDOUT).isCharacterDevice()) print(text);
   else printBytes(Buffer.from(text, encoding));
 }

@@ -1,7 +1,7 @@
 // The panel's terminal. Draws on the whole screen and reads single keys. Restores the terminal however the panel ends.
 import { writeSync } from "node:fs";
-import { keysIn } from "../core/panel/terminal_keys.js";
-import { MIN_SIZE, hasRoom } from "../core/panel/screen.js";
+import { splitKeys } from "../core/panel/terminal_keys.js";
+import { MIN_SIZE, fitsPanel } from "../core/panel/screen.js";
 import * as say from "../words/panel.js";
 import { CommandError } from "./output.mjs";
 import { isDumb } from "./terminal.mjs";
@@ -12,13 +12,13 @@ import { isDumb } from "./terminal.mjs";
  * @typedef {import("../core/panel/terminal_keys.js").TypedKey} TypedKey
  */
 
-const OUTPUT = 1;
+const STDOUT = 1;
 /** The escape sequences that switch to the alternate screen, without cursor and line wrapping (BEGIN), and back (END). */
-const BEGIN = "\x1b[?1049h\x1b[?25l\x1b[?7l\x1b[2J";
-const END = "\x1b[0m\x1b[?7h\x1b[?25h\x1b[?1049l";
-const CLEAR = "\x1b[2J";
-const PLAIN = "\x1b[0m";
-const INVERSE = "\x1b[7m";
+const BEGIN_SEQUENCE = "\x1b[?1049h\x1b[?25l\x1b[?7l\x1b[2J";
+const END_SEQUENCE = "\x1b[0m\x1b[?7h\x1b[?25h\x1b[?1049l";
+const CLEAR_SEQUENCE = "\x1b[2J";
+const PLAIN_SEQUENCE = "\x1b[0m";
+const INVERSE_SEQUENCE = "\x1b[7m";
 const MIN_SIZE_TEXT = say.columnsByRows(MIN_SIZE.columns, MIN_SIZE.rows);
 /** The minimum colour depths, in bits, for 256 colours and for 8 colours. */
 const MIN_BITS = { colours256: 8, colours8: 4 };
@@ -39,10 +39,10 @@ const paint8 = (colour, level) => `\x1b[${["2;", "", colour === "amber" ? "" : "
  * @param {import("node:tty").WriteStream} output
  * @param {Record<string, string | undefined>} env
  */
-function paintFor(output, env) {
+function choosePainter(output, env) {
   if (env.NO_COLOR) return null;
-  const { NO_COLOR: _, FORCE_COLOR: __, ...others } = env;
-  const depth = output.getColorDepth(others);
+  const { NO_COLOR: _, FORCE_COLOR: __, ...otherVariables } = env;
+  const depth = output.getColorDepth(otherVariables);
   if (depth >= MIN_BITS.colours256) return paint256;
   return depth >= MIN_BITS.colours8 ? paint8 : null;
 }
@@ -54,8 +54,8 @@ export class PanelTerminal {
     if (isDumb(env)) throw new CommandError(say.isDumb(env.TERM || ""));
     this.input = stdin;
     this.output = stdout;
-    if (!hasRoom(this.size)) throw new CommandError(say.tooSmall(MIN_SIZE_TEXT, this.size.columns, this.size.rows));
-    this.paint = paintFor(stdout, env);
+    if (!fitsPanel(this.size)) throw new CommandError(say.tooSmall(MIN_SIZE_TEXT, this.size.columns, this.size.rows));
+    this.paint = choosePainter(stdout, env);
     this.isOn = false;
     /** True if the terminal has gone or the panel must end. */
     this.isGone = false;
@@ -66,7 +66,7 @@ export class PanelTerminal {
     /** @type {string[]} the rows that are on the screen */
     this.shown = [];
     this.wake = () => {};
-    this.resized = () => {};
+    this.onResize = () => {};
   }
 
   get size() {
@@ -76,9 +76,9 @@ export class PanelTerminal {
 
   /**
    * Switches to the whole screen and starts reading keys.
-   * @param {() => void} resized called when the terminal's size changes
+   * @param {() => void} onResize called when the terminal's size changes
    */
-  begin(resized) {
+  begin(onResize) {
     const markGone = () => {
       this.isGone = true;
       this.wake();
@@ -87,18 +87,18 @@ export class PanelTerminal {
     process.on("exit", () => this.end());
     this.input.setEncoding("utf8");
     this.input.on("data", (text) => {
-      this.keys.push(...keysIn(String(text)));
+      this.keys.push(...splitKeys(String(text)));
       this.wake();
     });
     for (const event of ["end", "error", "close"]) this.input.on(event, markGone);
     this.output.on("error", markGone);
     this.output.on("resize", () => {
       this.shown = [];
-      resized();
+      onResize();
       this.wake();
     });
     this.input.setRawMode(true);
-    this.output.write(BEGIN);
+    this.output.write(BEGIN_SEQUENCE);
   }
 
   /** Restores the terminal immediately and makes the panel end. */
@@ -114,7 +114,7 @@ export class PanelTerminal {
     this.isOn = false;
     try {
       this.input.setRawMode(false);
-      writeSync(OUTPUT, END);
+      writeSync(STDOUT, END_SEQUENCE);
     } catch {
       this.isLost = true;
     }
@@ -134,11 +134,11 @@ export class PanelTerminal {
    */
   async wait(milliseconds) {
     if (this.keys.length > 0 || this.isGone) return;
-    await new Promise((settle) => {
-      const timer = setTimeout(settle, Math.max(0, milliseconds));
+    await new Promise((resolve) => {
+      const timer = setTimeout(resolve, Math.max(0, milliseconds));
       this.wake = () => {
         clearTimeout(timer);
-        settle(undefined);
+        resolve(undefined);
       };
     });
     this.wake = () => {};
@@ -150,11 +150,11 @@ export class PanelTerminal {
    */
   draw(rows) {
     if (!this.isOn) return;
-    const begin = this.shown.length === rows.length ? "" : CLEAR;
+    const begin = this.shown.length === rows.length ? "" : CLEAR_SEQUENCE;
     const texts = rows.map((row) => this.rowText(row));
-    const changed = texts.map((text, at) => (begin === "" && text === this.shown[at] ? "" : `\x1b[${at + 1};1H${text}`)).join("");
+    const changedText = texts.map((text, index) => (begin === "" && text === this.shown[index] ? "" : `\x1b[${index + 1};1H${text}`)).join("");
     this.shown = texts;
-    if (changed !== "") this.output.write(begin + changed);
+    if (changedText !== "") this.output.write(begin + changedText);
   }
 
   /** Shows that the terminal is too small. Does nothing after the terminal has been restored. */
@@ -162,17 +162,17 @@ export class PanelTerminal {
     if (!this.isOn) return;
     const { columns, rows } = this.size;
     this.shown = [];
-    this.output.write(`\x1b[H${CLEAR}${say.needsRoom(`${MIN_SIZE.columns} by ${MIN_SIZE.rows}`, columns, rows)}`);
+    this.output.write(`\x1b[H${CLEAR_SEQUENCE}${say.needsRoom(`${MIN_SIZE.columns} by ${MIN_SIZE.rows}`, columns, rows)}`);
   }
 
   /** @param {ScreenRow} row */
   rowText({ pieces, isInverse }) {
     const text = pieces.map((piece) => this.pieceText(piece)).join("");
-    return isInverse ? `${INVERSE}${text}${PLAIN}` : text;
+    return isInverse ? `${INVERSE_SEQUENCE}${text}${PLAIN_SEQUENCE}` : text;
   }
 
   /** @param {Piece} piece */
   pieceText({ text, colour, level }) {
-    return this.paint && colour !== "" ? `${this.paint(colour, level)}${text}${PLAIN}` : text;
+    return this.paint && colour !== "" ? `${this.paint(colour, level)}${text}${PLAIN_SEQUENCE}` : text;
   }
 }

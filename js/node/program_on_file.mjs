@@ -1,14 +1,14 @@
-// The native program on a user's session file, with asynchronous reads. It serves session lines and returns their answers.
+// Runs the native program on a user's session file, with asynchronous reads. The program executes session lines and prints their answers.
 import { spawn } from "node:child_process";
 import { constants } from "node:os";
-import { refusalOf } from "../core/bench/answers.js";
+import { parseRefusal } from "../core/bench/answers.js";
 import { SEQ_ANSWER, isSeq } from "../core/bench/inputs.js";
 import { programPath } from "./native_program.mjs";
 import { CommandError } from "./output.mjs";
 import { programEnded, sessionWasRefused } from "../words/commands.js";
 
 /** The offset of an exit status that represents a signal: shells add it to the signal's number. */
-const SIGNALLED = 128;
+const SIGNAL_STATUS_OFFSET = 128;
 
 /** The error of a program that has ended before it answered. */
 export class ProgramEnded extends CommandError {}
@@ -30,7 +30,7 @@ export class SessionProgram {
     /** The program's output on standard error, and the error if the program did not start. */
     this.words = "";
     /** The first answer line. */
-    this.opened = "";
+    this.openingLine = "";
     this.wake = () => {};
     this.hasEnded = false;
     /** The program's exit status. Valid once the program has ended. */
@@ -47,16 +47,16 @@ export class SessionProgram {
       });
     }
     this.child.stdin.on("error", () => {});
-    this.ended = new Promise((settle) => {
+    this.endPromise = new Promise((resolve) => {
       const finish = (words) => {
         this.hasEnded = true;
         this.words += words;
         this.wake();
-        settle();
+        resolve();
       };
       this.child.on("error", ({ message }) => finish(message));
       this.child.on("close", (status, signal) => {
-        this.status = signal ? SIGNALLED + constants.signals[signal] : status;
+        this.status = signal ? SIGNAL_STATUS_OFFSET + constants.signals[signal] : status;
         finish("");
       });
     });
@@ -69,8 +69,8 @@ export class SessionProgram {
   async readLines(count) {
     while (this.lines.length < count) {
       if (this.hasEnded) throw new ProgramEnded(programEnded([...this.lines, this.words.trim()].filter(Boolean).join("; ")));
-      await new Promise((settle) => {
-        this.wake = settle;
+      await new Promise((resolve) => {
+        this.wake = resolve;
       });
     }
     return this.lines.splice(0, count);
@@ -89,18 +89,18 @@ export class SessionProgram {
   /**
    * Serves one input, or several inputs without `seq`. A `seq` line follows, because its answer marks the end, however many answers there are.
    * @param {string} input
-   * @param {(line: string) => void} each called with each answer line as it arrives
+   * @param {(line: string) => void} onAnswer called with each answer line as it arrives
    */
-  async serve(input, each) {
+  async serve(input, onAnswer) {
     this.child.stdin.write(`${input}seq\n`);
-    let counts = isSeq(input.trimEnd()) ? 1 : 0;
+    let expectedSeqs = isSeq(input.trimEnd()) ? 1 : 0;
     for (;;) {
       const [line] = await this.readLines(1);
       if (SEQ_ANSWER.test(line)) {
-        if (counts === 0) return;
-        counts -= 1;
+        if (expectedSeqs === 0) return;
+        expectedSeqs -= 1;
       }
-      each(line);
+      onAnswer(line);
     }
   }
 
@@ -112,7 +112,7 @@ export class SessionProgram {
   /** Closes the program's input and waits until the program has ended. */
   async end() {
     this.close();
-    await this.ended;
+    await this.endPromise;
   }
 }
 
@@ -120,11 +120,11 @@ export class SessionProgram {
  * Returns an answer. A refusal is followed by its message. (Loads the messages only then.)
  * @param {string} answer
  */
-async function withMessage(answer) {
-  const refusal = refusalOf(answer);
+async function addRefusalMessage(answer) {
+  const refusal = parseRefusal(answer);
   if (!refusal) return answer;
-  const { wordsOfRefusal } = await import("./refused_texts.mjs");
-  return `${answer}: ${wordsOfRefusal(refusal.number)}`;
+  const { describeRefusal } = await import("./refused_texts.mjs");
+  return `${answer}: ${describeRefusal(refusal.number)}`;
 }
 
 /**
@@ -134,9 +134,9 @@ async function withMessage(answer) {
  */
 export async function openProgram(word, name) {
   const program = new SessionProgram(word, name);
-  const [first] = await program.readLines(1);
-  program.opened = first;
-  if (first.startsWith("session ")) return program;
+  const [firstLine] = await program.readLines(1);
+  program.openingLine = firstLine;
+  if (firstLine.startsWith("session ")) return program;
   await program.end();
-  throw new CommandError(sessionWasRefused(name, [await withMessage(first), program.words.trim()].filter(Boolean).join("; ")));
+  throw new CommandError(sessionWasRefused(name, [await addRefusalMessage(firstLine), program.words.trim()].filter(Boolean).join("; ")));
 }

@@ -1,10 +1,10 @@
-// The history of lines typed at prompts. It is a private file of the user: $XDG_STATE_HOME/mcs4/history. Several prompts can add lines at the same
-// time, each under a lock. A new prompt shortens a file that has become too long. If the file cannot be created or used, readline keeps the lines
+// The history of lines typed at prompts, in a private file of the user: $XDG_STATE_HOME/mcs4/history. Several prompts can add lines at the same
+// time, each under a lock. A new prompt shortens a file that has become too long. If the file cannot be created or used, readline stores the lines
 // until the prompt ends.
 import { closeSync, constants, existsSync, fchmodSync, fstatSync, mkdirSync, openSync, readSync, rmSync, statSync, writeSync } from "node:fs";
 import { dirname, isAbsolute, join } from "node:path";
 import { escaped } from "../core/text/escaped.js";
-import { replacementOf } from "./user_files.mjs";
+import { prepareReplacement } from "./user_files.mjs";
 
 /** The maximum number of lines in the history. */
 export const MAX_LINES = 1000;
@@ -12,16 +12,16 @@ export const MAX_LINES = 1000;
 const MAX_LINE_LENGTH = 1000;
 /** The size in bytes above which the file is shortened, and its maximum size after that. */
 const MAX_BYTES = 262144;
-const KEPT_BYTES = 131072;
+const SHORTENED_BYTES = 131072;
 /** The age in milliseconds after which a lock file is considered the leftover of a killed process and removed. */
 const STALE_LOCK_AGE = 10000;
 /** The time in milliseconds to wait for the lock. After that, the line is added without the lock. */
 const LOCK_TIMEOUT = 1000;
 /** The time in milliseconds between two attempts to acquire the lock. */
 const RETRY_INTERVAL = 3;
-const OWNER_ALONE = 0o600;
-const ACCESS_BY_OTHERS = 0o077;
-const APPEND = constants.O_RDWR | constants.O_APPEND | constants.O_CREAT | constants.O_NONBLOCK | constants.O_NOCTTY;
+const OWNER_ONLY_MODE = 0o600;
+const OTHERS_ACCESS_BITS = 0o077;
+const APPEND_FLAGS = constants.O_RDWR | constants.O_APPEND | constants.O_CREAT | constants.O_NONBLOCK | constants.O_NOCTTY;
 
 /** Returns the path of the history file, or "" if the environment names no home folder. */
 function historyPath({ XDG_STATE_HOME = "", HOME = "" }) {
@@ -35,44 +35,44 @@ function historyPath({ XDG_STATE_HOME = "", HOME = "" }) {
  */
 function makeFolder(folder) {
   const missingFolders = [];
-  for (let at = folder; !existsSync(at); at = dirname(at)) missingFolders.unshift(at);
+  for (let path = folder; !existsSync(path); path = dirname(path)) missingFolders.unshift(path);
   if (missingFolders.length > 0 && statSync(dirname(missingFolders[0])).uid !== process.getuid()) throw new Error("it is a place of another user");
   for (const name of missingFolders) mkdirSync(name, 0o700);
 }
 
 /** Opens the file, which must be a regular file that belongs to the user. Removes access by others. */
 function openFile(name) {
-  const file = openSync(name, APPEND, OWNER_ALONE);
+  const file = openSync(name, APPEND_FLAGS, OWNER_ONLY_MODE);
   const stat = fstatSync(file);
   if (!stat.isFile() || stat.uid !== process.getuid()) {
     closeSync(file);
     throw new Error("it is not a file of the user's own");
   }
-  if ((stat.mode & ACCESS_BY_OTHERS) !== 0) fchmodSync(file, OWNER_ALONE);
+  if ((stat.mode & OTHERS_ACCESS_BITS) !== 0) fchmodSync(file, OWNER_ONLY_MODE);
   return file;
 }
 
 /** Reads an open file from an offset to the end. */
-function readFrom(file, first) {
+function readTail(file, first) {
   const bytes = Buffer.alloc(Math.max(0, fstatSync(file).size - first));
   return bytes.subarray(0, readSync(file, bytes, 0, bytes.length, first));
 }
 
-/** Returns the last complete lines that fit into `most` bytes. */
-function lastLines(bytes, most) {
-  if (bytes.length <= most) return bytes;
-  const tail = bytes.subarray(bytes.length - most);
+/** Returns the last complete lines that fit into `maxBytes` bytes. */
+function lastCompleteLines(bytes, maxBytes) {
+  if (bytes.length <= maxBytes) return bytes;
+  const tail = bytes.subarray(bytes.length - maxBytes);
   return tail.subarray(tail.indexOf("\n") + 1);
 }
 
 /** Acquires the lock. Returns false if it cannot be acquired in time. */
-function takeLock(lock) {
-  for (let waited = 0; waited < LOCK_TIMEOUT; waited += RETRY_INTERVAL) {
+function acquireLock(lock) {
+  for (let waitedTime = 0; waitedTime < LOCK_TIMEOUT; waitedTime += RETRY_INTERVAL) {
     try {
-      closeSync(openSync(lock, "wx", OWNER_ALONE));
+      closeSync(openSync(lock, "wx", OWNER_ONLY_MODE));
       return true;
-    } catch (thrown) {
-      if (thrown.code !== "EEXIST") return false;
+    } catch (error) {
+      if (error.code !== "EEXIST") return false;
     }
     const lockStat = statSync(lock, { throwIfNoEntry: false });
     if (lockStat && Date.now() - lockStat.mtimeMs > STALE_LOCK_AGE) rmSync(lock, { force: true });
@@ -82,8 +82,8 @@ function takeLock(lock) {
 }
 
 /** Shortens a file that is too long, keeping its last lines. */
-function shorten(name, file) {
-  if (fstatSync(file).size > MAX_BYTES) replacementOf(name, lastLines(readFrom(file, 0), KEPT_BYTES)).put();
+function shortenFile(name, file) {
+  if (fstatSync(file).size > MAX_BYTES) prepareReplacement(name, lastCompleteLines(readTail(file, 0), SHORTENED_BYTES)).put();
 }
 
 /** Returns true if a terminal can show a line unchanged. A file that the user has edited can contain other lines. */
@@ -96,25 +96,25 @@ export class PromptHistory {
     /** The lines of the file when the prompt started, newest first. */
     this.lines = [];
     /** The last line that was added. */
-    this.last = "";
+    this.lastLine = "";
     this.withFile((file, isLocked) => {
-      this.lines = lastLines(readFrom(file, 0), KEPT_BYTES).toString("utf8").split("\n").filter(isPrintable).slice(-MAX_LINES).reverse();
-      [this.last = ""] = this.lines;
-      if (isLocked) shorten(this.name, file);
+      this.lines = lastCompleteLines(readTail(file, 0), SHORTENED_BYTES).toString("utf8").split("\n").filter(isPrintable).slice(-MAX_LINES).reverse();
+      [this.lastLine = ""] = this.lines;
+      if (isLocked) shortenFile(this.name, file);
     });
   }
 
-  /** Calls `act` with the open file, under the lock if possible. After an error, the file is not used again. */
-  withFile(act) {
+  /** Calls `operation` with the open file, under the lock if possible. After an error, the file is not used again. */
+  withFile(operation) {
     if (this.name === "") return;
     const lock = `${this.name}.lock`;
     let isLocked = false;
     try {
       makeFolder(dirname(this.name));
-      isLocked = takeLock(lock);
+      isLocked = acquireLock(lock);
       const file = openFile(this.name);
       try {
-        act(file, isLocked);
+        operation(file, isLocked);
       } finally {
         closeSync(file);
       }
@@ -127,8 +127,8 @@ export class PromptHistory {
 
   /** Adds a line, unless it is blank, too long, or equal to the last one. */
   add(line) {
-    if (line.trim() === "" || line === this.last || line.length > MAX_LINE_LENGTH) return;
-    this.last = line;
+    if (line.trim() === "" || line === this.lastLine || line.length > MAX_LINE_LENGTH) return;
+    this.lastLine = line;
     this.withFile((file) => writeSync(file, `${line}\n`));
   }
 }

@@ -2,14 +2,14 @@
 // test` must confirm each counterexample.
 import { writeFileSync } from "node:fs";
 import { join } from "node:path";
-import { Judging } from "../core/prove/judging.js";
-import { MOST_SETS, questionText, readAnswer } from "../core/prove/question.js";
+import { PropertyJudge } from "../core/prove/judging.js";
+import { MAX_SETS, questionText, readAnswer } from "../core/prove/question.js";
 import { readCampaign } from "../core/explore/campaign.js";
-import { grouped } from "../core/explore/report.js";
-import { subjectOf } from "../core/explore/subject.js";
-import { prepare } from "../core/testing/prepared.js";
+import { formatNumber } from "../core/explore/report.js";
+import { createSubject } from "../core/explore/subject.js";
+import { prepareTests } from "../core/testing/prepared.js";
 import * as say from "../words/prove.js";
-import { interrupt, runCommand } from "./children.mjs";
+import { interruptChildren, runCommand } from "./children.mjs";
 import { yieldToMessages, rejectedTextsError, proverPath, startEngine } from "./native_program.mjs";
 import { CommandError } from "./output.mjs";
 import { removeFolder, temporaryFolder } from "./temporary.mjs";
@@ -22,8 +22,8 @@ import { removeFolder, temporaryFolder } from "./temporary.mjs";
  * @typedef {{ most: number, memory: number }} Limits
  */
 
-/** One call of `mcs4 prove`: its texts, its limits and its prover. */
-class Proving {
+/** A run of `mcs4 prove`: the texts, the limits and the prover. */
+class ProofSession {
   /**
    * @param {Texts} texts
    * @param {Limits} limits
@@ -34,24 +34,24 @@ class Proving {
     this.program = proverPath();
     /** @type {((question: string) => string) | null} answers a question with the module; null if the program mcs4-prove answers */
     this.module = null;
-    // This handler runs before the engine's handler. Ctrl-C does not reach the search, because it has its own process group.
-    process.on("SIGINT", interrupt);
+    // This handler runs before the engine's handler. Ctrl-C does not reach the search, because the search has its own process group.
+    process.on("SIGINT", interruptChildren);
   }
 
   /** Reads the texts. Resolves to the object that judges their properties. */
   async begin() {
     const engine = await startEngine();
-    if (this.program === "") this.module = (await import("./module_prover.mjs")).moduleProver();
+    if (this.program === "") this.module = (await import("./module_prover.mjs")).makeModuleProver();
     const { board, program, properties } = this.texts;
-    const { prepared, faults: textErrors } = prepare(engine, { boardText: board.text, programText: program.text });
+    const { prepared, faults: textErrors } = prepareTests(engine, { boardText: board.text, programText: program.text });
     if (!prepared) throw await rejectedTextsError(engine, { board, program }, textErrors);
-    const subject = subjectOf(engine, board.text, program.text, program.before);
+    const subject = createSubject(engine, board.text, program.text, program.before);
     const { campaign, faults } = readCampaign(properties.text, subject, false);
     if (faults.length > 0) throw new CommandError(faults.map(({ line, words }) => `${properties.name}:${line}: ${words}`).join("\n"));
-    return new Judging(subject, campaign, {
+    return new PropertyJudge(subject, campaign, {
       ask: (question) => this.ask(question, this.limits),
-      askBySets: (question) => this.ask(question, { most: 0, sets: MOST_SETS }),
-      confirms: (found, isGoal) => this.confirms(found, isGoal),
+      askBySets: (question) => this.ask(question, { most: 0, sets: MAX_SETS }),
+      confirms: (counterexample, isGoal) => this.confirms(counterexample, isGoal),
       reason: (answer) => this.reason(answer),
       yieldToMessages,
     });
@@ -63,10 +63,10 @@ class Proving {
    */
   reason(answer) {
     const { most, memory } = this.limits;
-    if (answer.kind === "more") return say.moreStates(grouped(most));
+    if (answer.kind === "more") return say.moreStates(formatNumber(most));
     if (answer.kind === "lost") return say.GAVE_UP;
     if (answer.states === 0) return say.NO_MEMORY;
-    return memory > 0 ? say.noRoomIn(grouped(answer.states), memory) : say.noRoom(grouped(answer.states));
+    return memory > 0 ? say.noRoomIn(formatNumber(answer.states), memory) : say.noRoom(formatNumber(answer.states));
   }
 
   /**
@@ -93,14 +93,14 @@ class Proving {
   /**
    * Resolves to true if `mcs4 test` confirms a counterexample. A counterexample in session lines needs no confirmation, because the bench has already
    * run it.
-   * @param {import("../core/prove/counterexample.js").Counterexample} found
+   * @param {import("../core/prove/counterexample.js").Counterexample} counterexample
    * @param {boolean} isGoal
    */
   async confirms({ isTest, text }, isGoal) {
     if (!isTest) return true;
     const folder = temporaryFolder("prove");
     const names = ["board_text", "program_text", "found.test"].map((name) => join(folder, name));
-    [this.texts.board.text, this.texts.program.text, text].forEach((each, at) => writeFileSync(names[at], each));
+    [this.texts.board.text, this.texts.program.text, text].forEach((content, index) => writeFileSync(names[index], content));
     try {
       const { status } = await runCommand(process.execPath, [process.argv[1], "test", ...names]);
       return status === (isGoal ? 0 : 1);
@@ -114,8 +114,8 @@ class Proving {
  * Reads the texts and prepares the proof of their properties. The caller then judges one property at a time.
  * @param {Texts} texts
  * @param {Limits} limits
- * @returns {Promise<Judging>}
+ * @returns {Promise<PropertyJudge>}
  */
 export function beginProving(texts, limits) {
-  return new Proving(texts, limits).begin();
+  return new ProofSession(texts, limits).begin();
 }

@@ -1,10 +1,10 @@
 // The report of `mcs4 explain` about the rejected lines of a script: each line, the wrong line of its text, and the reason.
-import { refusalOf } from "../core/bench/answers.js";
+import { parseRefusal } from "../core/bench/answers.js";
 import { INVALID_CHARACTER, LINE_TOO_LONG, MAX_LINE_LENGTH, NOT_ASCII, opensText } from "../core/bench/inputs.js";
-import { numberOf } from "../core/bench/numbers.js";
-import { ADDRESSES } from "../core/bench/rom_bytes.js";
+import { parseNumber } from "../core/bench/numbers.js";
+import { ADDRESS_COUNT } from "../core/bench/rom_bytes.js";
 import * as say from "../words/commands.js";
-import { MAX_SHOWN_LENGTH, NO_FORM, RefusedTexts, spellingHint, wordsOfRefusal } from "./refused_texts.mjs";
+import { MAX_SHOWN_LENGTH, NO_FORM, RefusedTexts, spellingHint, describeRefusal } from "./refused_texts.mjs";
 
 /**
  * @typedef {import("../core/bench/answered_script.js").AnsweredInput} AnsweredInput
@@ -25,81 +25,81 @@ export class RefusedLines {
   /**
    * @param {import("../core/engine/engine_host.js").EngineHost} engine
    * @param {string[]} lines the script's lines
-   * @param {((address: number) => string) | null} placeOf describes an address in terms of a program's source; null without a source
+   * @param {((address: number) => string) | null} describeAddress describes an address in terms of a program's source; null without a source
    */
-  constructor(engine, lines, placeOf) {
+  constructor(engine, lines, describeAddress) {
     this.engine = engine;
     this.lines = lines;
-    this.placeOf = placeOf;
+    this.describeAddress = describeAddress;
     /** The text of the last wired board. Null if the session already had a board, because its text is not known. */
     this.boardText = null;
   }
 
   /**
    * Returns the error in a rejected text, with its line number in that text. Returns null if the line is not known.
-   * @param {AnsweredInput} answered
+   * @param {AnsweredInput} answeredInput
    * @param {{ number: number, line: number }} refusal
    */
-  errorOfText({ input }, { number, line }) {
+  findTextError({ input }, { number, line }) {
     const { text: textLines, kind } = input;
     if (number === LINE_TOO_LONG || number === NOT_ASCII) {
-      const found = textLines.findIndex((each) => (number === NOT_ASCII ? INVALID_CHARACTER.test(each) : each.length > MAX_LINE_LENGTH));
-      return found < 0 ? null : { line: found + 1, words: wordsOfRefusal(number) };
+      const index = textLines.findIndex((textLine) => (number === NOT_ASCII ? INVALID_CHARACTER.test(textLine) : textLine.length > MAX_LINE_LENGTH));
+      return index < 0 ? null : { line: index + 1, words: describeRefusal(number) };
     }
-    const unnamed = (/** @type {string} */ text) => ({ name: "", text, before: 0, encoding: /** @type {const} */ ("utf8") });
-    const text = textLines.map((each) => `${each}\n`).join("");
-    const board = this.boardText === null ? undefined : unnamed(this.boardText);
-    const texts = new RefusedTexts(this.engine, { board, program: unnamed(text) });
+    const makeUnnamedText = (/** @type {string} */ text) => ({ name: "", text, before: 0, encoding: /** @type {const} */ ("utf8") });
+    const text = textLines.map((textLine) => `${textLine}\n`).join("");
+    const board = this.boardText === null ? undefined : makeUnnamedText(this.boardText);
+    const texts = new RefusedTexts(this.engine, { board, program: makeUnnamedText(text) });
     const textKind = TEXT_KINDS[kind];
-    return texts.errorOf({ text: textKind, line: textKind === "board" ? 0 : line, number, words: "" }, text);
+    return texts.findError({ text: textKind, line: textKind === "board" ? 0 : line, number, words: "" }, text);
   }
 
   /**
    * Returns a report line about the address in an input, as a list. The list is empty if the input has no address or no source is known.
-   * @param {AnsweredInput} answered
+   * @param {AnsweredInput} answeredInput
    */
   addressLines({ input: { line, words: [kind, first = "", second = ""] } }) {
-    if (!this.placeOf || opensText(line)) return [];
+    if (!this.describeAddress || opensText(line)) return [];
     const word = /^(break|unbreak|list)$/.test(kind) ? first : kind !== "poke" ? "" : first === "pc" ? second
       : first.startsWith("rom.") ? first.slice("rom.".length) : "";
-    const address = numberOf(word);
-    return address >= 0 && address < ADDRESSES ? [`    ${this.placeOf(address)}`] : [];
+    const address = parseNumber(word);
+    return address >= 0 && address < ADDRESS_COUNT ? [`    ${this.describeAddress(address)}`] : [];
   }
 
   /**
    * Returns the report lines about a rejected input.
-   * @param {AnsweredInput} answered
+   * @param {AnsweredInput} answeredInput
    * @param {{ number: number, line: number }} refusal
    */
-  linesAbout(answered, refusal) {
-    const { input, at } = answered;
+  describeInput(answeredInput, refusal) {
+    const { input, at } = answeredInput;
     const { number } = refusal;
-    const found = opensText(input.line) ? this.errorOfText(answered, refusal) : null;
-    const shown = this.lines[at + (found ? found.line : 0) - 1];
-    const hint = number === NOT_ASCII ? foreignCharacter(shown) : number === NO_FORM && found ? spellingHint(shown) : "";
+    const error = opensText(input.line) ? this.findTextError(answeredInput, refusal) : null;
+    const shownLine = this.lines[at + (error ? error.line : 0) - 1];
+    const hint = number === NOT_ASCII ? foreignCharacter(shownLine) : number === NO_FORM && error ? spellingHint(shownLine) : "";
     return [
-      say.refusedLine(at, number, found ? found.line : 0, `${found ? found.words : wordsOfRefusal(number)}${hint}`),
-      `    ${shown.slice(0, MAX_SHOWN_LENGTH)}`, ...this.addressLines(answered),
+      say.refusedLine(at, number, error ? error.line : 0, `${error ? error.words : describeRefusal(number)}${hint}`),
+      `    ${shownLine.slice(0, MAX_SHOWN_LENGTH)}`, ...this.addressLines(answeredInput),
     ];
   }
 
   /**
    * Returns the report lines about all rejected inputs, and about the first input without an answer.
    * @param {AnsweredInput[]} inputs
-   * @param {string} opened the first answer line
+   * @param {string} openingLine the first answer line
    */
-  reportLines(inputs, opened) {
-    const refused = refusalOf(opened);
-    const lines = refused ? [say.sessionWasRefusedBy(refused.number, wordsOfRefusal(refused.number))] : [];
-    if (opened === "session 0") this.boardText = "";
+  reportLines(inputs, openingLine) {
+    const openingRefusal = parseRefusal(openingLine);
+    const lines = openingRefusal ? [say.sessionWasRefusedBy(openingRefusal.number, describeRefusal(openingRefusal.number))] : [];
+    if (openingLine === "session 0") this.boardText = "";
     for (const [index, each] of inputs.entries()) {
       const { input, at, answer } = each;
       if (answer === "") {
-        const shown = `    ${input.line.slice(0, MAX_SHOWN_LENGTH)}`;
-        return [...lines, say.notAnswered(at, index === inputs.length - 1), shown, ...this.addressLines(each)];
+        const shownLine = `    ${input.line.slice(0, MAX_SHOWN_LENGTH)}`;
+        return [...lines, say.notAnswered(at, index === inputs.length - 1), shownLine, ...this.addressLines(each)];
       }
-      const refusal = refusalOf(answer);
-      if (refusal) lines.push(...this.linesAbout(each, refusal));
+      const refusal = parseRefusal(answer);
+      if (refusal) lines.push(...this.describeInput(each, refusal));
       else if (input.kind === "wire") this.boardText = input.text.map((line) => `${line}\n`).join("");
     }
     return lines;

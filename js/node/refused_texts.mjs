@@ -2,16 +2,16 @@
 import { readFileSync } from "node:fs";
 import { readBoard } from "../core/bench/answers.js";
 import { readWiring } from "../core/bench/text_judgement.js";
-import { Words } from "../core/bench/words.js";
+import { ErrorMessages } from "../core/bench/words.js";
 import { readProgram } from "../core/engine/program_check.js";
-import { instructionsOf } from "../core/help/manual.js";
+import { readInstructions } from "../core/help/manual.js";
 import { SourceMap } from "../core/machine/source_map.js";
-import { namesOf } from "../core/text/assembly.js";
-import { errorOfBoard } from "../core/text/board_error.js";
-import { LACKS_ROM, errorOfLine, lacksOfRom } from "../core/text/program_faults.js";
+import { findDefinedNames } from "../core/text/assembly.js";
+import { createBoardError } from "../core/text/board_error.js";
+import { MISSING_ROM, createLineError, findMissingRoms } from "../core/text/program_faults.js";
 import { alignedText, sentText } from "../core/text/text_fault.js";
 import { boardTables } from "../core/text/text_help.js";
-import { dataOfPage } from "./page_parts.mjs";
+import { readPageData } from "./page_parts.mjs";
 
 /**
  * @typedef {import("../core/engine/engine_host.js").EngineHost} EngineHost
@@ -27,29 +27,29 @@ export const NO_FORM = 30;
 const OTHER_SPELLING = new RegExp("[ \\t,][0-7]P([ \\t,]|$)|[0-9]<|[ \\t,][0-9][0-9A-F]*H([ \\t,]|$)|[ \\t,][$][0-9A-F]|^[A-Z_][A-Z0-9_]*,|"
   + "[ \\t]/|[ \\t](TZ|TN|CZ|CN|AZ|AN)[ \\t,]");
 
-/** @type {Words | null} */
+/** @type {ErrorMessages | null} */
 let words = null;
 /** @type {ReturnType<typeof boardTables> | null} */
 let tables = null;
-/** @type {ReturnType<typeof instructionsOf> | null} */
+/** @type {ReturnType<typeof readInstructions> | null} */
 let instructions = null;
 
 /** Returns the manual's tables about boards, and its instructions. */
 function readManual() {
   if (!tables || !instructions) {
-    const { manual } = dataOfPage();
-    [tables, instructions] = [boardTables(manual), instructionsOf(manual)];
+    const { manual } = readPageData();
+    [tables, instructions] = [boardTables(manual), readInstructions(manual)];
   }
   return { tables, instructions };
 }
 
 /** Returns the message of a refusal, by its number. */
-export function wordsOfRefusal(number) {
+export function describeRefusal(number) {
   if (!words) {
     const rows = readFileSync(new URL("../../tools/lib/refusals.txt", import.meta.url), "utf8").split("\n");
-    words = new Words(Object.fromEntries(rows.filter((row) => /^\d/.test(row)).map((row) => [row.slice(0, 2), row.slice(3)])));
+    words = new ErrorMessages(Object.fromEntries(rows.filter((row) => /^\d/.test(row)).map((row) => [row.slice(0, 2), row.slice(3)])));
   }
-  return words.ofRefusal(number);
+  return words.refusalMeaning(number);
 }
 
 /**
@@ -64,36 +64,36 @@ export function spellingHint(line) {
 export class RefusedTexts {
   /**
    * @param {EngineHost} engine
-   * @param {{ board?: GivenText, program: GivenText }} given
+   * @param {{ board?: GivenText, program: GivenText }} givenTexts
    */
-  constructor(engine, given) {
+  constructor(engine, givenTexts) {
     this.engine = engine;
-    this.given = given;
+    this.givenTexts = givenTexts;
   }
 
   /**
    * Returns the error in a board's text, with its line and its message. Returns null if the bench does not report a line.
    * @param {string} text
    */
-  errorOfBoard(text) {
+  findBoardError(text) {
     const { engine } = this;
     const error = readWiring(engine.ask(engine.begin(), `wiring\n${sentText(text, "#")}.\n`).answers[0]);
-    return error && error.line > 0 ? errorOfBoard(alignedText(text, "#"), error, readManual().tables, wordsOfRefusal) : null;
+    return error && error.line > 0 ? createBoardError(alignedText(text, "#"), error, readManual().tables, describeRefusal) : null;
   }
 
   /**
    * Returns the error for the first program line that puts bytes into a ROM chip that the board does not have. Returns null if there is none.
    * @param {string} text
    */
-  lineWithoutRom(text) {
-    const { engine, given: { board } } = this;
+  findLineWithoutRom(text) {
+    const { engine, givenTexts: { board } } = this;
     if (!board) return null;
     const file = engine.begin();
     engine.serve(file, `wire\n${sentText(board.text, "#")}.\n`, file);
     const roms = new Set(readBoard(engine.ask(file, "board\n").answers).roms.map(({ chip }) => chip));
     const sent = sentText(text, ";");
-    const [error = null] = lacksOfRom(sent.split("\n"), new SourceMap(readProgram(engine, sent).map, sent), roms)
-      .sort((one, other) => one.line - other.line);
+    const [error = null] = findMissingRoms(sent.split("\n"), new SourceMap(readProgram(engine, sent).map, sent), roms)
+      .sort((first, second) => first.line - second.line);
     return error;
   }
 
@@ -103,30 +103,30 @@ export class RefusedTexts {
    * @param {string} text
    * @returns {Fault | null}
    */
-  errorOf({ text: kind, line, number }, text) {
-    if (kind === "board") return line > 0 ? null : this.errorOfBoard(text);
-    if (number === LACKS_ROM) return this.lineWithoutRom(text);
+  findError({ text: kind, line, number }, text) {
+    if (kind === "board") return line > 0 ? null : this.findBoardError(text);
+    if (number === MISSING_ROM) return this.findLineWithoutRom(text);
     if (line === 0 || number < NO_FORM) return null;
     const lines = alignedText(text, ";").split("\n");
-    const facts = { instructions: readManual().instructions, names: namesOf(lines) };
-    return errorOfLine(lines, { line, number }, facts, wordsOfRefusal);
+    const facts = { instructions: readManual().instructions, names: findDefinedNames(lines) };
+    return createLineError(lines, { line, number }, facts, describeRefusal);
   }
 
   /**
    * Returns the message about an error, followed by the wrong line.
    * @param {TextFault} fault
    */
-  messageOf(fault) {
+  formatError(fault) {
     const { text: kind, file, line, number } = fault;
     if (kind === "tests") return `${file}:${line}: ${fault.words}`;
-    const { name, text, before } = this.given[kind];
-    const error = number > 0 ? this.errorOf(fault, text) : null;
+    const { name, text, before } = this.givenTexts[kind];
+    const error = number > 0 ? this.findError(fault, text) : null;
     const at = line || (error ? error.line : 0);
-    const shown = at > 0 && number > 0 ? [text.split("\n")[at - 1]] : [];
-    const hint = number === NO_FORM && shown.length > 0 ? spellingHint(shown[0]) : "";
-    const why = `${number > 0 ? `no ${number}: ` : ""}${fault.words || (error ? error.words : wordsOfRefusal(number))}${hint}`;
-    const where = at > 0 ? `line ${at + before}: ` : "";
-    return [`${name}: ${where}${why}`, ...shown.map((each) => `    ${each.slice(0, MAX_SHOWN_LENGTH)}`)].join("\n");
+    const shownLines = at > 0 && number > 0 ? [text.split("\n")[at - 1]] : [];
+    const hint = number === NO_FORM && shownLines.length > 0 ? spellingHint(shownLines[0]) : "";
+    const reason = `${number > 0 ? `no ${number}: ` : ""}${fault.words || (error ? error.words : describeRefusal(number))}${hint}`;
+    const location = at > 0 ? `line ${at + before}: ` : "";
+    return [`${name}: ${location}${reason}`, ...shownLines.map((shownLine) => `    ${shownLine.slice(0, MAX_SHOWN_LENGTH)}`)].join("\n");
   }
 
   /**
@@ -134,7 +134,7 @@ export class RefusedTexts {
    * @param {TextFault[]} faults
    */
   message(faults) {
-    const more = faults.length > MAX_ERRORS ? [`and ${faults.length - MAX_ERRORS} more`] : [];
-    return [...faults.slice(0, MAX_ERRORS).map((fault) => this.messageOf(fault)), ...more].join("\n");
+    const moreLines = faults.length > MAX_ERRORS ? [`and ${faults.length - MAX_ERRORS} more`] : [];
+    return [...faults.slice(0, MAX_ERRORS).map((fault) => this.formatError(fault)), ...moreLines].join("\n");
   }
 }

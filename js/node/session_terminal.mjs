@@ -1,13 +1,13 @@
-// `mcs4 new` and `mcs4 open` at a terminal. The native program serves the lines. Its answers go to standard output as they arrive. The prompt and all
-// messages go to standard error.
+// `mcs4 new` and `mcs4 open` at a terminal. The native program executes the lines. The answers go to standard output as they arrive. The prompt and
+// all messages go to standard error.
 import { joinLines } from "../core/bench/inputs.js";
 import { SessionPrompt } from "../core/prompt/bench_prompt.js";
 import { BEGINNING } from "../words/session_prompt.js";
-import { fileNames, withoutTilde } from "./file_names.mjs";
-import { MAX_SCRIPT, decodedFile } from "./given_texts.mjs";
+import { fileNames, expandTilde } from "./file_names.mjs";
+import { MAX_SCRIPT, readDecodedFile } from "./given_texts.mjs";
 import { print } from "./output.mjs";
-import { dataOfPage } from "./page_parts.mjs";
-import { wordsOfRefusal } from "./refused_texts.mjs";
+import { readPageData } from "./page_parts.mjs";
+import { describeRefusal } from "./refused_texts.mjs";
 import { ProgramEnded, SessionProgram } from "./program_on_file.mjs";
 import { TerminalPrompt } from "./terminal_prompt.mjs";
 
@@ -16,42 +16,42 @@ import { TerminalPrompt } from "./terminal_prompt.mjs";
  * @param {SessionProgram} program
  * @param {{ print: (words: string) => void, complain: (words: string) => void }} terminal
  */
-function callsOn(program, terminal) {
+function makePromptCalls(program, terminal) {
   let data = null;
   const manual = () => {
-    if (!data) data = dataOfPage();
+    if (!data) data = readPageData();
     return data.manual;
   };
   return {
     serve: async (input) => {
-      let first = "";
+      let firstLine = "";
       await program.serve(input, (line) => {
-        if (first === "") first = line;
+        if (firstLine === "") firstLine = line;
         print(`${line}\n`);
       });
-      return first;
+      return firstLine;
     },
     ask: async (line) => {
       const lines = [];
-      await program.serve(`${line}\n`, (each) => lines.push(each));
+      await program.serve(`${line}\n`, (answerLine) => lines.push(answerLine));
       return lines;
     },
     print: (words) => terminal.print(words),
     complain: (words) => terminal.complain(words),
-    read: (name) => decodedFile(withoutTilde(name), MAX_SCRIPT).text,
+    read: (name) => readDecodedFile(expandTilde(name), MAX_SCRIPT).text,
     files: fileNames,
     errorsOf: async (word, text, board) => {
-      const { errorsOfText } = await import("./text_errors.mjs");
-      return errorsOfText(word, text, board, { manual: manual(), wordsOf: wordsOfRefusal });
+      const { findTextErrors } = await import("./text_errors.mjs");
+      return findTextErrors(word, text, board, { manual: manual(), wordsOf: describeRefusal });
     },
-    wordsOf: wordsOfRefusal,
+    wordsOf: describeRefusal,
     manual,
   };
 }
 
 /** Ends the program: sends it the rest of the input, waits for its end, and prints its last answers. */
-async function finish(program, unserved) {
-  program.child.stdin.write(unserved);
+async function endProgram(program, unservedInput) {
+  program.child.stdin.write(unservedInput);
   await program.end();
   print(joinLines(program.lines));
 }
@@ -63,22 +63,22 @@ async function finish(program, unserved) {
  */
 export async function servePrompt(word, name) {
   const program = new SessionProgram(word, name, true);
-  let signalled = 0;
-  let unserved = "";
+  let signalStatus = 0;
+  let unservedInput = "";
   try {
-    const [first] = await program.readLines(1);
-    print(`${first}\n`);
-    if (first.startsWith("session ")) {
-      const holder = { print: (words) => terminal.print(words), complain: (words) => terminal.complain(words) };
-      const prompt = new SessionPrompt(callsOn(program, holder));
+    const [firstLine] = await program.readLines(1);
+    print(`${firstLine}\n`);
+    if (firstLine.startsWith("session ")) {
+      const terminalCalls = { print: (words) => terminal.print(words), complain: (words) => terminal.complain(words) };
+      const prompt = new SessionPrompt(makePromptCalls(program, terminalCalls));
       const terminal = new TerminalPrompt(prompt, { output: process.stderr });
       terminal.print(BEGINNING);
-      signalled = await terminal.run();
-      unserved = signalled === 0 ? prompt.rest : "";
+      signalStatus = await terminal.run();
+      unservedInput = signalStatus === 0 ? prompt.rest : "";
     }
   } catch (thrown) {
     if (!(thrown instanceof ProgramEnded)) throw thrown;
   }
-  await finish(program, unserved);
-  return signalled || program.status;
+  await endProgram(program, unservedInput);
+  return signalStatus || program.status;
 }

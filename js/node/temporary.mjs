@@ -1,4 +1,4 @@
-// Temporary folders for commands. They are in memory if possible, private to the user, and removed when the process exits.
+// Temporary folders for commands. The folders are in memory if possible, private to the user, and removed when the process exits.
 import { accessSync, constants, mkdtempSync, rmSync } from "node:fs";
 import { tmpdir } from "node:os";
 import { join } from "node:path";

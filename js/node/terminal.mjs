@@ -9,7 +9,7 @@ export function isDumb({ TERM = "" }) {
  * Returns a function from the code of a colour or style to a function that applies it to a text. If the terminal has no colours, or if NO_COLOR is
  * set, texts stay unchanged.
  */
-export function painter(env) {
+export function makePainter(env) {
   const isPlain = isDumb(env) || Boolean(env.NO_COLOR);
   return (code) => (isPlain ? (text) => text : (text) => `\x1b[${code}m${text}\x1b[0m`);
 }

@@ -7,9 +7,9 @@ import { constants } from "node:os";
 import { createInterface } from "node:readline";
 import { PassThrough } from "node:stream";
 import { escaped } from "../core/text/escaped.js";
-import { QUOTED, foldedMessage } from "../core/text/folded.js";
+import { QUOTED, wrapMessage } from "../core/text/folded.js";
 import { MAX_LINES, PromptHistory } from "./prompt_history.mjs";
-import { isDumb, painter } from "./terminal.mjs";
+import { isDumb, makePainter } from "./terminal.mjs";
 
 /**
  * The receiver of typed lines. `label` is the text of the prompt. `take` serves a line. `complete` returns the completions of a line, and the end of
@@ -23,15 +23,15 @@ import { isDumb, painter } from "./terminal.mjs";
  * The streams and callbacks of a prompt at a terminal.
  * @typedef {object} TerminalCalls
  * @property {import("node:tty").WriteStream} output the terminal that shows the prompt and the messages
- * @property {() => void} [served] called after a line has been served
- * @property {() => void} [left] called when the prompt returns the terminal: at Ctrl-Z and at its end
- * @property {() => void} [entered] called when the prompt has the terminal again after Ctrl-Z
+ * @property {() => void} [onServed] called after a line has been served
+ * @property {() => void} [onLeave] called when the prompt returns the terminal: at Ctrl-Z and at its end
+ * @property {() => void} [onReturn] called when the prompt has the terminal again after Ctrl-Z
  */
 
 /** The escape sequences around pasted text, and the sequences that switch them on and off (bracketed paste). */
-const PASTE = { begins: "\x1b[200~", ends: "\x1b[201~", on: "\x1b[?2004h", off: "\x1b[?2004l" };
+const PASTE_SEQUENCES = { begins: "\x1b[200~", ends: "\x1b[201~", on: "\x1b[?2004h", off: "\x1b[?2004l" };
 /** Matches the beginning of a paste mark at the end of the input so far. */
-const CUT_MARK = /\x1b\[(2(0[01]?)?)?$/;
+const PARTIAL_MARK = /\x1b\[(2(0[01]?)?)?$/;
 const CTRL_C = "\x03";
 const BOLD = 1;
 const RED = 31;
@@ -40,7 +40,7 @@ const DEFAULT_WIDTH = 80;
 /** The minimum width to which messages are folded, in columns. */
 const MIN_WIDTH = 20;
 
-/** The input stream of readline. It receives the terminal's input piece by piece. */
+/** The input stream of readline, which receives the terminal's input piece by piece. */
 class Keys extends PassThrough {
   isTTY = true;
 
@@ -50,7 +50,7 @@ class Keys extends PassThrough {
 }
 
 /** Replaces control characters in pasted text with U+FFFD, so that they cannot move the cursor. The bench rejects a line with U+FFFD. */
-function harmless(text) {
+function replaceControlCharacters(text) {
   // eslint-disable-next-line no-control-regex
   return text.replace(/[\x00-\x08\x0b-\x1f\x7f-\x9f]/g, "\ufffd");
 }
@@ -60,28 +60,28 @@ export class TerminalPrompt {
    * @param {PromptOfLines} prompt
    * @param {TerminalCalls} calls
    */
-  constructor(prompt, { output, served = () => {}, left = () => {}, entered = () => {} }) {
+  constructor(prompt, { output, onServed = () => {}, onLeave = () => {}, onReturn = () => {} }) {
     this.prompt = prompt;
     this.output = output;
-    this.calls = { served, left, entered };
+    this.calls = { onServed, onLeave, onReturn };
     this.isDumb = isDumb(process.env);
-    this.paint = painter(process.env);
+    this.paint = makePainter(process.env);
     this.history = new PromptHistory(process.env);
     /** The pieces of input that have not been handled yet. */
-    this.waiting = [];
+    this.waitingInput = [];
     /** True while a line is being served or completed, and before the first prompt. */
     this.isBusy = true;
     this.isPasting = false;
     this.hasInputEnded = false;
-    this.isOver = false;
+    this.hasEnded = false;
     this.status = 0;
     this.keys = new Keys();
     this.terminal = createInterface({
       input: this.keys, output, terminal: !this.isDumb, history: this.history.lines, historySize: MAX_LINES, crlfDelay: Infinity,
       completer: (line, callback) => this.complete(line, callback),
     });
-    this.ended = new Promise((settle) => {
-      this.settle = settle;
+    this.endPromise = new Promise((resolve) => {
+      this.resolveEnd = resolve;
     });
   }
 
@@ -94,12 +94,12 @@ export class TerminalPrompt {
 
   /** @param {string} words */
   print(words) {
-    this.output.write(`${foldedMessage(escaped(words), this.width)}\n`);
+    this.output.write(`${wrapMessage(escaped(words), this.width)}\n`);
   }
 
   /** Prints an error message in red. Quoted lines are not coloured. */
   complain(words) {
-    const lines = foldedMessage(escaped(words), this.width).split("\n");
+    const lines = wrapMessage(escaped(words), this.width).split("\n");
     const paint = this.paint(RED);
     this.output.write(`${lines.map((line) => (line.startsWith(QUOTED) ? line : paint(line))).join("\n")}\n`);
   }
@@ -116,22 +116,22 @@ export class TerminalPrompt {
     });
     process.stdin.on("error", () => this.end());
     this.addHandlers();
-    if (!this.isDumb) this.output.write(PASTE.on);
-    process.on("exit", () => this.leave());
-    this.next();
-    await this.ended;
+    if (!this.isDumb) this.output.write(PASTE_SEQUENCES.on);
+    process.on("exit", () => this.releaseTerminal());
+    this.showNextPrompt();
+    await this.endPromise;
     return this.status;
   }
 
   /** Registers the handlers of lines and signals. */
   addHandlers() {
     const { terminal } = this;
-    terminal.on("line", (line) => this.serve(line));
+    terminal.on("line", (line) => this.serveLine(line));
     terminal.on("close", () => this.end());
     terminal.on("SIGINT", () => this.dropLine());
     terminal.on("SIGTSTP", () => this.suspend());
     if (this.isDumb) process.on("SIGINT", () => (this.isBusy ? this.prompt.interrupt() : this.dropLine()));
-    // On a terminal with cursor movement, readline reads Ctrl-C as a key, so a SIGINT comes from another process.
+    // On a terminal with cursor movement, readline reads Ctrl-C as a key, so another process has sent a SIGINT.
     for (const signal of ["SIGTERM", "SIGHUP", ...(this.isDumb ? [] : ["SIGINT"])]) {
       process.on(signal, () => {
         this.status = 128 + constants.signals[signal];
@@ -141,7 +141,7 @@ export class TerminalPrompt {
   }
 
   /** Shows the prompt and handles waiting input. */
-  next() {
+  showNextPrompt() {
     this.isBusy = false;
     this.show();
     this.handleWaiting();
@@ -152,85 +152,85 @@ export class TerminalPrompt {
     this.terminal.prompt(true);
   }
 
-  async serve(line) {
+  async serveLine(line) {
     this.isBusy = true;
     this.history.add(line);
     try {
       await this.prompt.take(line);
-    } catch (thrown) {
-      this.fail(thrown);
+    } catch (error) {
+      this.endWithError(error);
       return;
     }
-    this.calls.served();
+    this.calls.onServed();
     if (this.prompt.isEnded) this.end();
-    else if (!this.isOver) this.next();
+    else if (!this.hasEnded) this.showNextPrompt();
   }
 
   /** Ends the prompt after an unexpected error. The promise of `run` then rejects. */
-  fail(thrown) {
-    const settle = this.settle;
-    this.settle = () => settle(Promise.reject(thrown));
+  endWithError(error) {
+    const resolve = this.resolveEnd;
+    this.resolveEnd = () => resolve(Promise.reject(error));
     this.end();
   }
 
   /** Ends the prompt and restores the terminal. */
   end() {
-    if (this.isOver) return;
-    this.isOver = true;
+    if (this.hasEnded) return;
+    this.hasEnded = true;
     if (!this.prompt.isEnded) this.output.write("\n");
     this.terminal.close();
-    this.leave();
+    this.releaseTerminal();
     process.stdin.destroy();
-    this.settle();
+    this.resolveEnd();
   }
 
-  /** Switches off bracketed paste and calls `left`. (The terminal's mode is restored when readline closes or Node ends.) */
-  leave() {
+  /** Switches off bracketed paste and calls `onLeave`. (The terminal's mode is restored when readline closes or Node ends.) */
+  releaseTerminal() {
     if (this.hasLeft) return;
     this.hasLeft = true;
-    this.calls.left();
-    if (!this.isDumb) this.output.write(PASTE.off);
+    this.calls.onLeave();
+    if (!this.isDumb) this.output.write(PASTE_SEQUENCES.off);
   }
 
   // --- input ---
 
   /** Handles input from the terminal. Ctrl-C while a line is being served stops that line and discards the input before the key. */
   handleInput(text) {
-    const stop = this.isBusy && !this.isDumb && !this.isPasting ? text.lastIndexOf(CTRL_C) : -1;
-    if (stop >= 0) {
-      this.waiting = [text.slice(stop + 1)];
+    const stopIndex = this.isBusy && !this.isDumb && !this.isPasting ? text.lastIndexOf(CTRL_C) : -1;
+    if (stopIndex >= 0) {
+      this.waitingInput = [text.slice(stopIndex + 1)];
       this.prompt.interrupt();
     } else {
-      this.waiting.push(text);
+      this.waitingInput.push(text);
       this.handleWaiting();
     }
   }
 
   /** Handles waiting input, up to a line that must be served first. */
   handleWaiting() {
-    while (!this.isBusy && !this.isOver && this.waiting.length > 0) {
-      const rest = this.handlePiece(this.waiting[0]);
-      if (rest !== "") this.waiting[0] = rest;
-      else this.waiting.shift();
+    while (!this.isBusy && !this.hasEnded && this.waitingInput.length > 0) {
+      const unhandledText = this.handlePiece(this.waitingInput[0]);
+      if (unhandledText !== "") this.waitingInput[0] = unhandledText;
+      else this.waitingInput.shift();
       // If the input ends within a paste mark, wait for the rest of the mark.
-      if (rest !== "" && CUT_MARK.exec(rest)?.index === 0) {
-        if (this.waiting.length < 2) return;
-        this.waiting.splice(0, 2, rest + this.waiting[1]);
+      if (unhandledText !== "" && PARTIAL_MARK.exec(unhandledText)?.index === 0) {
+        if (this.waitingInput.length < 2) return;
+        this.waitingInput.splice(0, 2, unhandledText + this.waitingInput[1]);
       }
     }
-    if (this.hasInputEnded && !this.isBusy && !this.isOver) this.end();
+    if (this.hasInputEnded && !this.isBusy && !this.hasEnded) this.end();
   }
 
   /** Handles one piece of input: a paste mark, or characters up to the end of a line. Returns the rest of the input. */
   handlePiece(text) {
-    const mark = this.isPasting ? PASTE.ends : PASTE.begins;
-    if (text.startsWith(mark)) {
+    const pasteMark = this.isPasting ? PASTE_SEQUENCES.ends : PASTE_SEQUENCES.begins;
+    if (text.startsWith(pasteMark)) {
       this.isPasting = !this.isPasting;
-      return text.slice(mark.length);
+      return text.slice(pasteMark.length);
     }
-    const at = text.indexOf(mark);
-    const before = at < 0 ? text.replace(CUT_MARK, "") : text.slice(0, at);
-    const [piece] = /^[^\r\n]*(\r\n|\r|\n)?/.exec(before);
+    const markIndex = text.indexOf(pasteMark);
+    const textBeforeMark = markIndex < 0 ? text.replace(PARTIAL_MARK, "") : text.slice(0, markIndex);
+    const [piece] = /^[^\r\n]*(\r\n|\r|\n)?/.exec(textBeforeMark);
     if (this.isPasting) this.paste(piece);
     else if (piece !== "") this.keys.emit("data", piece);
     return text.slice(piece.length);
@@ -239,7 +239,7 @@ export class TerminalPrompt {
   /** Inserts pasted characters into the line. None of them acts as a key. */
   paste(piece) {
     const text = piece.replace(/[\r\n]+$/, "");
-    if (text !== "") this.terminal.write(harmless(text));
+    if (text !== "") this.terminal.write(replaceControlCharacters(text));
     if (text.length < piece.length) this.terminal.write(null, { name: "return" });
   }
 
@@ -274,13 +274,13 @@ export class TerminalPrompt {
 
   /** Handles Ctrl-Z: returns the terminal to the shell until the process continues. */
   suspend() {
-    this.calls.left();
-    this.output.write(PASTE.off);
+    this.calls.onLeave();
+    this.output.write(PASTE_SEQUENCES.off);
     process.stdin.setRawMode(false);
     process.once("SIGCONT", () => {
       process.stdin.setRawMode(true);
-      this.output.write(PASTE.on);
-      this.calls.entered();
+      this.output.write(PASTE_SEQUENCES.on);
+      this.calls.onReturn();
       this.terminal.prompt(true);
     });
     process.kill(process.pid, "SIGTSTP");

@@ -1,14 +1,14 @@
-// The common part of `mcs4 test`, `cover` and `profile`: runs tests, or counts over the next cycles of a session.
+// The code that `mcs4 test`, `cover` and `profile` share: runs tests, or counts over the next cycles of a session.
 import { runTests } from "../core/testing/test_suite.js";
 import { failureLine } from "../core/testing/tap.js";
 import { excludeEachOther, otherProgram, sessionStopped } from "../words/commands.js";
-import { parseCount, projectFiles, checkArguments, projectFor } from "./arguments.mjs";
+import { parseCount, projectFiles, checkArguments, findProject } from "./arguments.mjs";
 import { GivenTexts } from "./given_texts.mjs";
 import { yieldToMessages, rejectedTextsError, openSession, startEngine } from "./native_program.mjs";
 import { CommandError, UsageError, print, printError } from "./output.mjs";
 
 /**
- * @typedef {import("../core/testing/account.js").Account} Account
+ * @typedef {import("../core/testing/account.js").ExecutionRecorder} ExecutionRecorder
  * @typedef {import("../core/testing/coverage.js").Coverage} Coverage
  * @typedef {import("../core/testing/profile.js").Profile} Profile
  * @typedef {import("../core/testing/test_run.js").Outcome} Outcome
@@ -16,7 +16,7 @@ import { CommandError, UsageError, print, printError } from "./output.mjs";
  *
  * The callbacks of a command. `checkNames` checks the file names before the files are read. `outcome` formats the result of each test. `report`
  * prints the counts at the end. `Counting` is the class that counts.
- * @typedef {{ name: string, Counting: typeof Account, checkNames?: (names: string[]) => void,
+ * @typedef {{ name: string, Counting: typeof ExecutionRecorder, checkNames?: (names: string[]) => void,
  *   outcome?: (outcome: Outcome, number: number, total: number) => string,
  *   report?: (counts: { coverage: Coverage | null, profile: Profile | null }, program: GivenText) => void }} Tool
  */
@@ -26,11 +26,11 @@ const MAX_CYCLES = 100000000;
 /**
  * Returns the file names of board, program and tests, from the arguments or from the project.
  * @param {string | undefined} folder
- * @param {string[]} given
+ * @param {string[]} givenNames
  */
-async function namesOf(folder, given) {
-  const project = await projectFor(folder, given, 3);
-  const names = project ? [project.board, project.program, ...(given.length > 0 ? given : projectFiles(project, "tests"))] : given;
+async function resolveNames(folder, givenNames) {
+  const project = await findProject(folder, givenNames, 3);
+  const names = project ? [project.board, project.program, ...(givenNames.length > 0 ? givenNames : projectFiles(project, "tests"))] : givenNames;
   checkArguments(names, ["BOARD", "PROGRAM", "TEST"], Infinity, true);
   return names;
 }
@@ -39,16 +39,16 @@ async function namesOf(folder, given) {
  * Runs tests. Resolves to the exit status: 0 if all tests pass, otherwise 1.
  * @param {Tool} tool
  * @param {string | undefined} folder
- * @param {string[]} given
+ * @param {string[]} givenNames
  */
-export async function runTestCommand({ Counting, checkNames = () => {}, outcome: tapOf = () => "", report = () => {} }, folder, given) {
-  const allNames = await namesOf(folder, given);
+export async function runTestCommand({ Counting, checkNames = () => {}, outcome: tapOf = () => "", report = () => {} }, folder, givenNames) {
+  const allNames = await resolveNames(folder, givenNames);
   checkNames(allNames);
   const [boardName, programName, ...names] = allNames;
   const texts = new GivenTexts();
   const board = texts.text(boardName, "wire");
   const program = texts.text(programName, "asm");
-  const sources = names.map((each) => texts.source(each));
+  const sources = names.map((fileName) => texts.source(fileName));
   const engine = await startEngine();
   const printOutcome = (outcome, number, total) => {
     printError(failureLine(outcome));
@@ -65,11 +65,11 @@ export async function runTestCommand({ Counting, checkNames = () => {}, outcome:
  * Runs a copy of a session for a number of cycles, and counts. Resolves to the exit status.
  * @param {Tool} tool
  * @param {string} session
- * @param {string[]} given
+ * @param {string[]} givenNames
  */
-export async function countCycles({ name, Counting, checkNames = () => {}, report = () => {} }, session, given) {
-  checkArguments([session, ...given], ["SESSION", "CYCLES", "PROGRAM"]);
-  const [word, programName] = given;
+export async function countCycles({ name, Counting, checkNames = () => {}, report = () => {} }, session, givenNames) {
+  checkArguments([session, ...givenNames], ["SESSION", "CYCLES", "PROGRAM"]);
+  const [word, programName] = givenNames;
   const cycles = parseCount("CYCLES", word, MAX_CYCLES);
   checkNames([session, programName]);
   const { countSession } = await import("../core/testing/session_count.js");
@@ -77,11 +77,11 @@ export async function countCycles({ name, Counting, checkNames = () => {}, repor
   const program = texts.text(programName, "asm");
   const engine = await startEngine();
   const state = await openSession(engine, texts, session);
-  const { faults, other, counted } = await countSession(engine, state, program.text, cycles, Counting);
+  const { faults, other, counted: counts } = await countSession(engine, state, program.text, cycles, Counting);
   if (faults.length > 0) throw await rejectedTextsError(engine, { program }, faults);
   if (other) throw new CommandError(otherProgram(programName, other.address, other.is, other.line + program.before, other.makes));
-  if (counted.stop !== "end") printError(`${name}: ${sessionStopped(counted.elapsed, counted.stop)}\n`);
-  report(counted, program);
+  if (counts.stop !== "end") printError(`${name}: ${sessionStopped(counts.elapsed, counts.stop)}\n`);
+  report(counts, program);
   return 0;
 }
 
@@ -89,10 +89,10 @@ export async function countCycles({ name, Counting, checkNames = () => {}, repor
  * Counts over the next cycles of a session if one is named. Otherwise runs tests. Resolves to the exit status.
  * @param {Tool} tool
  * @param {{ folder?: string, session?: string }} values
- * @param {string[]} given
+ * @param {string[]} givenNames
  */
-export function testOrCount(tool, { folder, session }, given) {
-  if (session === undefined) return runTestCommand(tool, folder, given);
+export function testOrCount(tool, { folder, session }, givenNames) {
+  if (session === undefined) return runTestCommand(tool, folder, givenNames);
   if (folder !== undefined) throw new UsageError(excludeEachOther("-C", "--session"));
-  return countCycles(tool, session, given);
+  return countCycles(tool, session, givenNames);
 }

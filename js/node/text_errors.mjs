@@ -1,16 +1,16 @@
 // Finds all errors in a text that the bench has rejected. The messages are the same as on the page.
-import { instructionsOf } from "../core/help/manual.js";
+import { readInstructions } from "../core/help/manual.js";
 import { TextBench } from "../core/server/text_bench.js";
-import { AllFaultsOfTexts } from "../core/text/all_faults.js";
+import { TextErrorFinder } from "../core/text/all_faults.js";
 import { boardTables } from "../core/text/text_help.js";
 import { Engine } from "../core/engine/engine.js";
-import { moduleOfPage } from "./page_parts.mjs";
+import { readPageModule } from "./page_parts.mjs";
 
 /** @type {TextBench | null} */
 let bench = null;
 
 async function loadBench() {
-  if (!bench) bench = new TextBench(await Engine.load(moduleOfPage()));
+  if (!bench) bench = new TextBench(await Engine.load(readPageModule()));
   return bench;
 }
 
@@ -19,13 +19,13 @@ async function loadBench() {
  * @param {import("../core/prompt/bench_prompt.js").TextWord} word
  * @param {string} text
  * @param {string} board the text of the board, which a program needs
- * @param {{ manual: import("../core/help/manual.js").ManualSection[], wordsOf: (number: number) => string }} known
+ * @param {{ manual: import("../core/help/manual.js").ManualSection[], wordsOf: (number: number) => string }} resources
  */
-export async function errorsOfText(word, text, board, { manual, wordsOf }) {
+export async function findTextErrors(word, text, board, { manual, wordsOf }) {
   const textBench = await loadBench();
   const isBoard = word === "wire" || word === "wiring";
   if (!isBoard) textBench.setBoard(word === "asm" ? board : null);
-  const search = new AllFaultsOfTexts(textBench.queries(), { instructions: instructionsOf(manual), tables: boardTables(manual) }, wordsOf);
-  const found = await (isBoard ? search.ofBoard(text, () => true) : search.ofProgram(text, () => true));
-  return found ? found.faults : [];
+  const search = new TextErrorFinder(textBench.queries(), { instructions: readInstructions(manual), tables: boardTables(manual) }, wordsOf);
+  const result = await (isBoard ? search.findInBoard(text, () => true) : search.findInProgram(text, () => true));
+  return result ? result.faults : [];
 }

@@ -7,24 +7,24 @@ import {
 } from "node:fs";
 import { createRequire } from "node:module";
 import { dirname, join, resolve, sep } from "node:path";
-import { LONGEST_KEPT } from "../core/text/text_fault.js";
+import { STORED_LIMIT } from "../core/text/text_fault.js";
 import * as say from "../words/commands.js";
 import { CommandError } from "./output.mjs";
 
 /** The maximum size of a user's text in bytes. A character has at most four bytes. */
-export const MAX_USER_TEXT = 4 * LONGEST_KEPT;
+export const MAX_USER_TEXT = 4 * STORED_LIMIT;
 /** The maximum number of symbolic links to follow, the same as in Linux. */
 const MAX_LINKS = 40;
-const PART_BYTES = 65536;
-const ANY_WRITER = 0o222;
-const ALL_MODES = 0o7777;
-const OWNER_ALONE = 0o600;
+const CHUNK_BYTES = 65536;
+const WRITE_BITS = 0o222;
+const MODE_BITS = 0o7777;
+const OWNER_ONLY_MODE = 0o600;
 
 /** The error of a file that cannot be read or written. The message contains the file's name. */
 export class UserFileError extends CommandError {}
 
-/** The reason for such an error, without the file's name. `tried` adds the name. */
-class Reason extends Error {}
+/** The reason for such an error, without the file's name. `withFileError` adds the name. */
+class FileErrorReason extends Error {}
 
 /** @type {Record<string, string>} the messages for the system's error codes */
 const REASONS = {
@@ -34,24 +34,24 @@ const REASONS = {
   ENAMETOOLONG: "its name is too long", EEXIST: "something else has its name",
 };
 
-/** @param {unknown} thrown */
-function reasonOf(thrown) {
-  const { code = "", message = String(thrown) } = /** @type {{ code?: string, message?: string }} */ (thrown);
+/** @param {unknown} error */
+function describeFileError(error) {
+  const { code = "", message = String(error) } = /** @type {{ code?: string, message?: string }} */ (error);
   return REASONS[code] || message;
 }
 
 /**
- * Calls `act` and returns its result. Converts an error of the system into a UserFileError.
+ * Calls `operation` and returns its result. Converts an error of the system into a UserFileError.
  * @template Result
- * @param {string} what the beginning of the message, such as `cannot read NAME`
- * @param {() => Result} act
+ * @param {string} failureText the beginning of the message, such as `cannot read NAME`
+ * @param {() => Result} operation
  * @returns {Result}
  */
-function tried(what, act) {
+function withFileError(failureText, operation) {
   try {
-    return act();
-  } catch (thrown) {
-    throw thrown instanceof UserFileError ? thrown : new UserFileError(`${what}: ${reasonOf(thrown)}`);
+    return operation();
+  } catch (error) {
+    throw error instanceof UserFileError ? error : new UserFileError(`${failureText}: ${describeFileError(error)}`);
   }
 }
 
@@ -61,8 +61,8 @@ function tried(what, act) {
  * Returns the stat of a file to read, or undefined if there is no such file.
  * @param {string} name
  */
-export function statOfInput(name) {
-  return tried(`cannot read ${name}`, () => statSync(name, { throwIfNoEntry: false }));
+export function statInput(name) {
+  return withFileError(`cannot read ${name}`, () => statSync(name, { throwIfNoEntry: false }));
 }
 
 /**
@@ -75,45 +75,45 @@ export function isInside(name, folder) {
 }
 
 /**
- * Reads an open file to its end. Throws a Reason if the file is larger than a limit. Counts the size while reading, because files in /proc report no
- * size, and other files can grow in the meantime.
+ * Reads an open file to its end. Throws a FileErrorReason if the file is larger than a limit. Counts the size while reading, because files in /proc
+ * report no size, and other files can grow in the meantime.
  * @param {number} file
- * @param {number} most the maximum number of bytes
+ * @param {number} maxBytes the maximum number of bytes
  */
-function readUpTo(file, most) {
+function readToEnd(file, maxBytes) {
   const parts = [];
   for (let size = 0; ;) {
-    const part = Buffer.allocUnsafe(PART_BYTES);
+    const part = Buffer.allocUnsafe(CHUNK_BYTES);
     const count = readSync(file, part);
     if (count === 0) return Buffer.concat(parts);
     parts.push(part.subarray(0, count));
     size += count;
-    if (size > most) throw new Reason(`it has more than ${most} bytes`);
+    if (size > maxBytes) throw new FileErrorReason(`it has more than ${maxBytes} bytes`);
   }
 }
 
 /**
- * Reads an open file to its end. Throws a Reason if the file is not regular or is larger than a limit.
+ * Reads an open file to its end. Throws a FileErrorReason if the file is not regular or is larger than a limit.
  * @param {number} file
- * @param {number} most the maximum number of bytes
+ * @param {number} maxBytes the maximum number of bytes
  */
-function readRegular(file, most) {
+function readRegular(file, maxBytes) {
   const stat = fstatSync(file);
-  if (stat.isDirectory()) throw new Reason("it is a folder");
-  if (!stat.isFile()) throw new Reason("it is not a regular file");
-  return readUpTo(file, most);
+  if (stat.isDirectory()) throw new FileErrorReason("it is a folder");
+  if (!stat.isFile()) throw new FileErrorReason("it is not a regular file");
+  return readToEnd(file, maxBytes);
 }
 
 /**
  * Reads a regular file up to a maximum size. Rejects a FIFO or a device immediately, without blocking.
  * @param {string | URL} name
- * @param {number} most the maximum number of bytes
+ * @param {number} maxBytes the maximum number of bytes
  */
-export function readUserFile(name, most) {
-  return tried(`cannot read ${name}`, () => {
+export function readUserFile(name, maxBytes) {
+  return withFileError(`cannot read ${name}`, () => {
     const file = openSync(name, constants.O_RDONLY | constants.O_NONBLOCK | constants.O_NOCTTY);
     try {
-      return readRegular(file, most);
+      return readRegular(file, maxBytes);
     } finally {
       closeSync(file);
     }
@@ -124,28 +124,28 @@ export function readUserFile(name, most) {
  * Reads an open pipe or standard input to its end. Blocks until then.
  * @param {number} stream
  * @param {string} name
- * @param {number} most the maximum number of bytes
+ * @param {number} maxBytes the maximum number of bytes
  */
-export function readStream(stream, name, most) {
-  return tried(`cannot read ${name}`, () => readUpTo(stream, most));
+export function readStream(stream, name, maxBytes) {
+  return withFileError(`cannot read ${name}`, () => readToEnd(stream, maxBytes));
 }
 
 /**
  * Reads a user's text file.
  * @param {string | URL} name
- * @param {number} [most] the maximum number of bytes
+ * @param {number} [maxBytes] the maximum number of bytes
  */
-export function readUserText(name, most = MAX_USER_TEXT) {
-  return readUserFile(name, most).toString("utf8");
+export function readUserText(name, maxBytes = MAX_USER_TEXT) {
+  return readUserFile(name, maxBytes).toString("utf8");
 }
 
 // --- writing ---
 
 /** @type {Set<string>} the paths of temporary files to remove when the process exits */
-const pending = new Set();
+const temporaryFiles = new Set();
 
 process.on("exit", () => {
-  for (const name of pending) rmSync(name, { force: true });
+  for (const name of temporaryFiles) rmSync(name, { force: true });
 });
 
 /**
@@ -154,13 +154,13 @@ process.on("exit", () => {
  * @param {string} name
  */
 function followLinks(name) {
-  let place = resolve(name);
+  let path = resolve(name);
   for (let links = 0; ; links++) {
-    const stat = lstatSync(place, { throwIfNoEntry: false });
-    if (!stat || !stat.isSymbolicLink() || place.startsWith("/proc/")) return place;
-    if (links === MAX_LINKS) throw new Reason("too many symbolic links");
-    const folder = realpathSync(dirname(place));
-    place = resolve(folder, readlinkSync(place));
+    const stat = lstatSync(path, { throwIfNoEntry: false });
+    if (!stat || !stat.isSymbolicLink() || path.startsWith("/proc/")) return path;
+    if (links === MAX_LINKS) throw new FileErrorReason("too many symbolic links");
+    const folder = realpathSync(dirname(path));
+    path = resolve(folder, readlinkSync(path));
   }
 }
 
@@ -169,7 +169,7 @@ function randomName() {
   return createRequire(import.meta.url)("node:crypto").randomBytes(12).toString("hex");
 }
 
-/** A temporary file that will replace a target file in the same folder. It gets the target's mode and owner. */
+/** A temporary file that will replace a target file in the same folder, with the target's mode and owner. */
 export class Replacement {
   /**
    * @param {string} target a path without links
@@ -178,17 +178,17 @@ export class Replacement {
   constructor(target, bytes) {
     this.target = target;
     this.name = join(dirname(target), `.mcs4-${randomName()}`);
-    const before = statSync(target, { throwIfNoEntry: false });
-    if (before) checkWritable(target, before);
-    const file = openSync(this.name, "wx", before ? OWNER_ALONE : 0o666);
-    pending.add(this.name);
+    const oldStat = statSync(target, { throwIfNoEntry: false });
+    if (oldStat) checkWritable(target, oldStat);
+    const file = openSync(this.name, "wx", oldStat ? OWNER_ONLY_MODE : 0o666);
+    temporaryFiles.add(this.name);
     try {
       writeFileSync(file, bytes);
-      if (before) copyOwner(file, before);
+      if (oldStat) copyOwner(file, oldStat);
       fsyncSync(file);
-    } catch (thrown) {
+    } catch (error) {
       this.drop();
-      throw thrown;
+      throw error;
     } finally {
       closeSync(file);
     }
@@ -198,34 +198,34 @@ export class Replacement {
   put() {
     try {
       renameSync(this.name, this.target);
-      pending.delete(this.name);
-    } catch (thrown) {
+      temporaryFiles.delete(this.name);
+    } catch (error) {
       this.drop();
-      throw thrown;
+      throw error;
     }
   }
 
   /** Removes the temporary file. The target stays unchanged. */
   drop() {
     rmSync(this.name, { force: true });
-    pending.delete(this.name);
+    temporaryFiles.delete(this.name);
   }
 }
 
 /**
- * Throws a Reason if a target is read-only. This also applies to root, who could otherwise replace it.
+ * Throws a FileErrorReason if a target is read-only, even for root, who could replace the target.
  * @param {string} target
- * @param {import("node:fs").Stats} before
+ * @param {import("node:fs").Stats} oldStat
  */
 function checkWritable(target, { mode }) {
-  if ((mode & ANY_WRITER) === 0) throw new Reason("it is read-only");
+  if ((mode & WRITE_BITS) === 0) throw new FileErrorReason("it is read-only");
   accessSync(target, constants.W_OK);
 }
 
 /**
- * Gives a new file the owner and mode of its target. Throws a Reason if that is not allowed.
+ * Gives a new file the owner and mode of its target. Throws a FileErrorReason if that is not allowed.
  * @param {number} file
- * @param {import("node:fs").Stats} before
+ * @param {import("node:fs").Stats} oldStat
  */
 function copyOwner(file, { uid, gid, mode }) {
   const newStat = fstatSync(file);
@@ -233,10 +233,10 @@ function copyOwner(file, { uid, gid, mode }) {
     try {
       fchownSync(file, uid, gid);
     } catch {
-      throw new Reason("it belongs to another user or group, which a new file cannot have");
+      throw new FileErrorReason("it belongs to another user or group, which a new file cannot have");
     }
   }
-  fchmodSync(file, mode & ALL_MODES);
+  fchmodSync(file, mode & MODE_BITS);
 }
 
 /**
@@ -244,8 +244,8 @@ function copyOwner(file, { uid, gid, mode }) {
  * @param {string} name
  * @param {string | Uint8Array} bytes
  */
-export function replacementOf(name, bytes) {
-  return tried(`cannot write ${name}`, () => new Replacement(followLinks(name), bytes));
+export function prepareReplacement(name, bytes) {
+  return withFileError(`cannot write ${name}`, () => new Replacement(followLinks(name), bytes));
 }
 
 /**
@@ -262,19 +262,19 @@ function isStream(name) {
  * @param {string | Uint8Array} bytes
  */
 export function writeUserFile(name, bytes) {
-  tried(`cannot write ${name}`, () => {
+  withFileError(`cannot write ${name}`, () => {
     if (isStream(name)) writeFileSync(name, bytes, { flag: "a" });
-    else replacementOf(name, bytes).put();
+    else prepareReplacement(name, bytes).put();
   });
 }
 
 /**
  * Returns true if two names refer to the same file.
- * @param {string} one
- * @param {string} other
+ * @param {string} firstName
+ * @param {string} secondName
  */
-function isSameFile(one, other) {
-  const [first, second] = [one, other].map(statOfInput);
+function isSameFile(firstName, secondName) {
+  const [first, second] = [firstName, secondName].map(statInput);
   return first !== undefined && second !== undefined && first.dev === second.dev && first.ino === second.ino;
 }
 
@@ -297,7 +297,7 @@ function isWritable(folder) {
  * @param {number} count
  */
 function readBeginning(name, count) {
-  return tried(`cannot read ${name}`, () => {
+  return withFileError(`cannot read ${name}`, () => {
     const file = openSync(name, "r");
     try {
       const bytes = Buffer.alloc(count);
@@ -313,20 +313,20 @@ function readBeginning(name, count) {
  * inputs. New files, devices and pipes are accepted.
  * @param {string} name
  * @param {string} begin the text at the beginning of files of this kind
- * @param {string} why the reason to reject a file of another kind
+ * @param {string} reason the reason to reject a file of another kind
  * @param {string[]} inputs the names of the files that the command reads
  */
-export function checkOutputFile(name, begin, why, inputs) {
-  const stat = tried(`cannot write ${name}`, () => statSync(name, { throwIfNoEntry: false }));
+export function checkOutputFile(name, begin, reason, inputs) {
+  const stat = withFileError(`cannot write ${name}`, () => statSync(name, { throwIfNoEntry: false }));
   if (inputs.some((input) => isSameFile(name, input))) throw new UserFileError(say.isRead(name));
   if (stat && stat.isDirectory()) throw new UserFileError(say.isFolder(name));
-  tried(`cannot write ${name}`, () => {
+  withFileError(`cannot write ${name}`, () => {
     if (stat && !stat.isFile()) return accessSync(name, constants.W_OK);
     const target = followLinks(name);
     if (!isWritable(dirname(target))) throw new UserFileError(say.noFolderToWrite(name));
     return stat && checkWritable(target, stat);
   });
-  if (stat && stat.isFile() && stat.size > 0 && readBeginning(name, begin.length) !== begin) throw new UserFileError(say.isForeign(name, why));
+  if (stat && stat.isFile() && stat.size > 0 && readBeginning(name, begin.length) !== begin) throw new UserFileError(say.isForeign(name, reason));
 }
 
 // --- new files in a folder ---
@@ -344,9 +344,9 @@ function makeFolder(folder) {
       mkdirSync(name);
       madeFolders.unshift(name);
     }
-  } catch (thrown) {
+  } catch (error) {
     for (const name of madeFolders) rmdirSync(name);
-    throw thrown;
+    throw error;
   }
   return madeFolders;
 }
@@ -356,15 +356,15 @@ function makeFolder(folder) {
  * @param {Replacement[]} replacements
  */
 function putAll(replacements) {
-  const written = [];
+  const targets = [];
   try {
     for (const replacement of replacements) {
       replacement.put();
-      written.push(replacement.target);
+      targets.push(replacement.target);
     }
-  } catch (thrown) {
-    for (const name of written) rmSync(name, { force: true });
-    throw thrown;
+  } catch (error) {
+    for (const name of targets) rmSync(name, { force: true });
+    throw error;
   }
 }
 
@@ -375,20 +375,20 @@ function putAll(replacements) {
  * @param {string[]} names the names of files that must not exist in the folder
  */
 export function writeNewFiles(folder, files, names) {
-  const inFolder = (/** @type {() => any} */ act) => tried(`cannot write in ${folder}`, act);
-  const stat = inFolder(() => statSync(folder, { throwIfNoEntry: false }));
+  const withFolderError = (/** @type {() => any} */ operation) => withFileError(`cannot write in ${folder}`, operation);
+  const stat = withFolderError(() => statSync(folder, { throwIfNoEntry: false }));
   if (stat && !stat.isDirectory()) throw new UserFileError(say.isNoFolder(folder));
-  const existing = inFolder(() => names.map((name) => join(folder, name)).find((name) => lstatSync(name, { throwIfNoEntry: false })));
-  if (existing) throw new UserFileError(say.alreadyExists(existing));
-  const madeFolders = tried(`cannot make ${folder}`, () => makeFolder(folder));
+  const existingPath = withFolderError(() => names.map((name) => join(folder, name)).find((name) => lstatSync(name, { throwIfNoEntry: false })));
+  if (existingPath) throw new UserFileError(say.alreadyExists(existingPath));
+  const madeFolders = withFileError(`cannot make ${folder}`, () => makeFolder(folder));
   const replacements = [];
   try {
-    for (const { name, content } of files) replacements.push(replacementOf(join(folder, name), content));
-    tried(`cannot write in ${folder}`, () => putAll(replacements));
-  } catch (thrown) {
+    for (const { name, content } of files) replacements.push(prepareReplacement(join(folder, name), content));
+    withFileError(`cannot write in ${folder}`, () => putAll(replacements));
+  } catch (error) {
     for (const replacement of replacements) replacement.drop();
     for (const name of madeFolders) rmdirSync(name);
-    throw thrown;
+    throw error;
   }
 }
 
@@ -397,7 +397,7 @@ export function writeNewFiles(folder, files, names) {
  * @param {string} name
  */
 export function checkWritableFile(name) {
-  const stat = tried(`cannot read ${name}`, () => statSync(name));
+  const stat = withFileError(`cannot read ${name}`, () => statSync(name));
   if (!stat.isFile() && !stat.isDirectory()) throw new UserFileError(`cannot read ${name}: ${REASONS.ENXIO}`);
-  tried(`cannot write ${name}`, () => checkWritable(name, stat));
+  withFileError(`cannot write ${name}`, () => checkWritable(name, stat));
 }

@@ -1,21 +1,21 @@
-// The page: creates its parts and connects them to the current session. Every value on the page comes from the bench's answers.
+// The page: creates its components and connects them to the current session. Every value on the page is from the bench's answers.
 
-import { AskView } from "./ui/ask_view.js";
+import { ConfirmDialog } from "./ui/ask_view.js";
 import { Face } from "../core/board/face.js";
-import { makeCurrentSession, makeRecovery, makeRunning, makeServing } from "./core.js";
-import { connectSound, makeDrawing, makePressing, makeScope, makeSnapshotView } from "./compose_board.js";
+import { makeCurrentSession, makeRecovery, makeRunController, makeLineServer } from "./core.js";
+import { connectSound, makeDrawing, makeKeyPresser, makeScope, makeSnapshotView } from "./compose_board.js";
 import { makeBreakpoints, makeHeat, makeHistory, makeMistakes, makeTravel, makeValues, makeWatched } from "./compose_debug.js";
 import { lampNames } from "../core/board/face_board.js";
-import { currentWiredText, isTextOf, textsToKeep } from "../core/board/wired_text.js";
+import { currentWiredText, describesBoard, textsToStore } from "../core/board/wired_text.js";
 import { cellWords } from "../core/help/manual.js";
 import { Layout } from "./layout.js";
 import { LogView } from "./lines/log_view.js";
-import { titleOf } from "../core/session/session_summary.js";
-import { KeptPast } from "./session/kept_past.js";
-import { makeExport, makeRomFiles, makeSessionsController, makeSharing } from "./compose_session.js";
+import { sessionTitle } from "../core/session/session_summary.js";
+import { StoredHistory } from "./session/kept_past.js";
+import { makeExport, makeRomFiles, makeSessionsController, makeLinkSharing } from "./compose_session.js";
 import { makeEditors, makeExplore, makeProblems, makeSource, makeTests, makeTexts, nameCharacters } from "./compose_texts.js";
 import { CyclesView } from "./time/cycles_view.js";
-import { TextLooks } from "./text/text_looks.js";
+import { TextAppearance } from "./text/text_looks.js";
 import { WorkView } from "./ui/work_view.js";
 import * as say from "../words/page.js";
 
@@ -25,18 +25,18 @@ import * as say from "../words/page.js";
  * @typedef {import("./session/locks.js").Locks} Locks
  * @typedef {import("../core/help/manual.js").ManualSection} ManualSection
  * @typedef {import("./ui/notice.js").Notice} Notice
- * @typedef {import("../core/bench/protocol.js").Shown} Shown
+ * @typedef {import("../core/bench/protocol.js").PageState} PageState
  * @typedef {import("./session/store.js").SessionRecord} SessionRecord
  * @typedef {import("./session/store.js").SessionStore} SessionStore
- * @typedef {import("../core/bench/words.js").Words} Words
- * @typedef {{ bench: Bench, makeBench: () => Bench, store: SessionStore, locks: Locks, words: Words, notice: Notice, examples: Example[],
- *   manual: ManualSection[] }} Parts `makeBench` creates another bench in its own worker
+ * @typedef {import("../core/bench/words.js").ErrorMessages} ErrorMessages
+ * @typedef {{ bench: Bench, makeBench: () => Bench, store: SessionStore, locks: Locks, words: ErrorMessages, notice: Notice, examples:
+ *   Example[], manual: ManualSection[] }} PageServices the services that the page uses; `makeBench` creates another bench in a new worker
  */
 
 export class Page {
-  /** @param {Parts} parts */
-  constructor(parts) {
-    const { bench, makeBench, store, words, notice, manual } = parts;
+  /** @param {PageServices} services */
+  constructor(services) {
+    const { bench, makeBench, store, words, notice, manual } = services;
     this.cellWords = cellWords(manual);
     this.bench = bench;
     this.store = store;
@@ -44,36 +44,36 @@ export class Page {
     this.notice = notice;
     /** True if the computer's keyboard presses the board's keys. */
     this.isTyping = true;
-    this.past = new KeptPast();
-    this.current = makeCurrentSession(this);
+    this.storedHistory = new StoredHistory();
+    this.currentSession = makeCurrentSession(this);
     this.recovery = makeRecovery(this);
-    this.running = makeRunning(this);
-    this.serving = makeServing(this);
-    this.pressing = makePressing(this);
+    this.runController = makeRunController(this);
+    this.lineServer = makeLineServer(this);
+    this.keyPresser = makeKeyPresser(this);
     this.snapshotView = makeSnapshotView(this);
-    this.log = new LogView(words);
-    this.layout = new Layout(() => this.printed());
-    this.work = new WorkView();
+    this.logView = new LogView(words);
+    this.layout = new Layout(() => this.printContents());
+    this.workView = new WorkView();
     this.editors = makeEditors(this, manual);
     this.breakpoints = makeBreakpoints(this);
     this.source = makeSource(this);
-    this.values = makeValues(this);
-    this.watched = makeWatched(this);
-    this.heat = makeHeat(this);
-    this.cycles = new CyclesView(() => this.current.keep());
+    this.sourceValues = makeValues(this);
+    this.watchView = makeWatched(this);
+    this.heatView = makeHeat(this);
+    this.cyclesView = new CyclesView(() => this.currentSession.keep());
     this.travel = makeTravel(this);
-    this.history = makeHistory(this);
-    this.ask = new AskView();
-    this.tests = makeTests(this, manual);
-    this.explore = makeExplore(this, manual, makeBench);
-    this.appearance = new TextLooks(this.layout.choices, this.textEditors.map(({ editor }) => editor.editor));
-    this.mistakes = makeMistakes(this, makeProblems(this));
-    this.texts = makeTexts(this);
-    this.rom = makeRomFiles(this);
-    this.export = makeExport(this);
-    this.sessionsController = makeSessionsController(this, parts);
-    this.sharing = makeSharing(this);
-    this.drawing = makeDrawing(this);
+    this.historyView = makeHistory(this);
+    this.confirmDialog = new ConfirmDialog();
+    this.testsTab = makeTests(this, manual);
+    this.exploreTab = makeExplore(this, manual, makeBench);
+    this.appearance = new TextAppearance(this.layout.choices, this.textEditors.map(({ editor }) => editor.editor));
+    this.mistakesView = makeMistakes(this, makeProblems(this));
+    this.textsController = makeTexts(this);
+    this.romFiles = makeRomFiles(this);
+    this.exportView = makeExport(this);
+    this.sessionsController = makeSessionsController(this, services);
+    this.linkSharing = makeLinkSharing(this);
+    this.drawingController = makeDrawing(this);
     this.scope = makeScope(this);
   }
 
@@ -86,7 +86,7 @@ export class Page {
   }
 
   get textEditors() {
-    return [this.boardEditor, this.programEditor, this.tests.editor, this.explore.editor];
+    return [this.boardEditor, this.programEditor, this.testsTab.editor, this.exploreTab.editor];
   }
 
   get sessions() {
@@ -99,23 +99,23 @@ export class Page {
    */
   listener() {
     return {
-      frame: (frame) => this.running.handleFrame(frame),
-      failed: (fault) => this.recovery.failed(fault),
+      frame: (frame) => this.runController.handleFrame(frame),
+      failed: (fault) => this.recovery.reportFailure(fault),
       died: () => this.recovery.restart(),
     };
   }
 
   /** Compares the program's text with ROM. Called whenever either of them may have changed. */
   checkSource() {
-    return this.source.check().catch((fault) => this.recovery.failed(fault));
+    return this.source.check().catch((fault) => this.recovery.reportFailure(fault));
   }
 
   /**
    * Returns the name and the texts of the session for printing.
-   * @returns {import("./print_view.js").Printed}
+   * @returns {import("./print_view.js").PrintContents}
    */
-  printed() {
-    return { name: this.current.name, board: this.boardEditor.text, program: this.programEditor.text };
+  printContents() {
+    return { name: this.currentSession.name, board: this.boardEditor.text, program: this.programEditor.text };
   }
 
   /**
@@ -123,43 +123,43 @@ export class Page {
    * @param {SessionRecord} record
    */
   begin(record) {
-    this.past.begin(record.id);
+    this.storedHistory.begin(record.id);
     this.breakpoints.open(record);
-    this.pressing.forget();
+    this.keyPresser.forget();
     this.scope.forget();
     this.scope.view.open(record.rows);
-    this.tests.forget();
-    this.mistakes.clear();
-    this.history.begin();
-    this.values.forget();
-    this.heat.clear();
-    this.watched.open(record.watched);
-    this.texts.show(record);
-    this.drawing.begin();
-    this.explore.begin(record.id);
+    this.testsTab.forget();
+    this.mistakesView.clear();
+    this.historyView.begin();
+    this.sourceValues.forget();
+    this.heatView.clear();
+    this.watchView.open(record.watched);
+    this.textsController.show(record);
+    this.drawingController.begin();
+    this.exploreTab.begin(record.id);
     this.source.forget();
-    this.log.clear();
-    this.cycles.open(record.cycles);
+    this.logView.clear();
+    this.cyclesView.open(record.cycles);
   }
 
   /**
-   * Draws another board with the front panel that the board's text declares.
+   * Draws a board in place of the present one, with the front panel that the board's text declares.
    * @param {SessionRecord} record
    * @param {string[]} board the answers to `board`
    */
   draw(record, board) {
-    const { wiring } = this.editors;
-    const wired = wiring === null ? currentWiredText(board, this.boardEditor.text, record.wired)
-      : { text: wiring, board: board.join("\n") };
-    record.wired = textsToKeep(wired, record.wired);
+    const { pendingBoardText } = this.editors;
+    const wiredTexts = pendingBoardText === null ? currentWiredText(board, this.boardEditor.text, record.wired)
+      : { text: pendingBoardText, board: board.join("\n") };
+    record.wired = textsToStore(wiredTexts, record.wired);
     const { snapshotView } = this;
-    this.current.takeTitle(titleOf(wired.text, this.programEditor.text) || (board.length > 1 ? say.MY_BOARD : ""));
-    snapshotView.draw(board, wired.text);
-    this.drawing.handleBoard(board);
-    this.history.draw(snapshotView.board, lampNames(new Face(wired.text), snapshotView.board.lamps.length));
+    this.currentSession.takeTitle(sessionTitle(wiredTexts.text, this.programEditor.text) || (board.length > 1 ? say.MY_BOARD : ""));
+    snapshotView.draw(board, wiredTexts.text);
+    this.drawingController.handleBoard(board);
+    this.historyView.draw(snapshotView.board, lampNames(new Face(wiredTexts.text), snapshotView.board.lamps.length));
     this.editors.checkTexts(board.length === 1);
-    this.heat.updateWatch();
-    connectSound(this, wired.text);
+    this.heatView.updateWatch();
+    connectSound(this, wiredTexts.text);
     nameCharacters(this);
   }
 
@@ -168,37 +168,37 @@ export class Page {
    * @param {string} boardText
    */
   readFace(boardText) {
-    const { session } = this.current;
-    const [wired] = (session && session.record.wired) || [];
-    if (!session || !wired || !isTextOf(boardText, wired)) return;
-    session.record.wired = textsToKeep({ ...wired, text: boardText }, session.record.wired);
+    const { session } = this.currentSession;
+    const [wiredTexts] = (session && session.record.wired) || [];
+    if (!session || !wiredTexts || !describesBoard(boardText, wiredTexts)) return;
+    session.record.wired = textsToStore({ ...wiredTexts, text: boardText }, session.record.wired);
     this.snapshotView.readFace(boardText);
     connectSound(this, boardText);
   }
 
   /**
    * Shows a snapshot of the session.
-   * @param {Shown} shown
+   * @param {PageState} state
    * @param {boolean} [isPassing] true if time is running and another snapshot follows
    * @param {import("../core/engine/brightness_meter.js").LitShares | null} [litShares] the measured duty cycle of each lamp, from 0 to 1
    */
   show({ snapshot, file, board, total, reset, future, past, waves, printed, waiting }, isPassing = false, litShares = null) {
-    const { session } = this.current;
+    const { session } = this.currentSession;
     if (!session) return;
-    this.bench.giveBack(session.take(file));
-    this.running.pendingKeys.waiting = waiting;
-    this.past.take(past, { file: session.record.file, total, reset });
-    this.cycles.take({ total, reset }, this.running.clock.isRunning);
-    session.record.cycles = this.cycles.cycles.kept;
-    this.history.showFuture(future);
+    this.bench.returnBuffer(session.take(file));
+    this.runController.pendingKeys.waiting = waiting;
+    this.storedHistory.take(past, { file: session.record.file, total, reset });
+    this.cyclesView.update({ total, reset }, this.runController.clock.isRunning);
+    session.record.cycles = this.cyclesView.cycles.kept;
+    this.historyView.showFuture(future);
     if (board) this.draw(session.record, board);
     this.snapshotView.show(snapshot, isPassing, litShares);
     if (printed) {
       session.record.printed = printed;
-      this.snapshotView.printer.take(printed);
+      this.snapshotView.printer.showPrinted(printed);
     }
-    this.values.looked(total);
-    this.heat.handleSnapshot();
-    this.scope.take(waves);
+    this.sourceValues.updateFromSnapshot(total);
+    this.heatView.handleSnapshot();
+    this.scope.addPart(waves);
   }
 }

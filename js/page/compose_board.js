@@ -1,20 +1,20 @@
-// Creates the views and controllers that show and draw the board. The callbacks passed here connect each of them to the page's other parts.
+// Creates the views and controllers that show and draw the board. The callbacks connect each of them to the page's other components.
 
 import { partAtLine } from "../core/bench/part_lines.js";
-import { Cancelled } from "../core/bench/faults.js";
-import { keyOfKeyboard } from "../core/board/board_keys.js";
+import { CancelledError } from "../core/bench/faults.js";
+import { findBoardKey } from "../core/board/board_keys.js";
 import { Face } from "../core/board/face.js";
-import { buzzerOf } from "../core/board/face_board.js";
-import { Pressing, wantsKey } from "./board/pressing.js";
+import { findBuzzer } from "../core/board/face_board.js";
+import { KeyPresser, wantsKey } from "./board/pressing.js";
 import { DrawingController } from "./drawing/drawing_controller.js";
 import { insertKeyScan } from "./compose_texts.js";
-import { linesOfParts } from "../core/drawing/drawn_part_lines.js";
-import { wordsOfCell } from "../core/help/manual.js";
+import { drawnPartLines } from "../core/drawing/drawn_part_lines.js";
+import { describeCell } from "../core/help/manual.js";
 import { SnapshotView } from "./snapshot_view.js";
 import { isDialogOpen } from "./ui/dom.js";
 import { Scope } from "./waves/scope.js";
-import { catalogOf } from "../core/waves/wave_catalog.js";
-import { lineOfKey } from "../core/board/key_place.js";
+import { listRecordableLines } from "../core/waves/wave_catalog.js";
+import { keyLine } from "../core/board/key_place.js";
 import * as say from "../words/page.js";
 
 /** @typedef {import("./bench_page.js").Page} Page */
@@ -24,53 +24,53 @@ import * as say from "../words/page.js";
  * @returns {SnapshotView}
  */
 export function makeSnapshotView(page) {
-  const { running } = page;
+  const { runController } = page;
   return new SnapshotView({
-    listen: (node, key) => page.pressing.listen(node, key),
-    isRunning: () => running.clock.isRunning,
-    isFast: () => running.isFast,
-    isWiringShown: () => page.layout.tabs.shown === "wiring",
+    connectKey: (node, key) => page.keyPresser.listen(node, key),
+    isRunning: () => runController.clock.isRunning,
+    isFast: () => runController.isFast,
+    isWiringShown: () => page.layout.tabs.shownName === "wiring",
     ask: (lines) => page.bench.call("ask", [lines]),
-    act: (line) => page.serving.act(line),
-    wordsOfRefusal: (number) => page.words.ofRefusal(number),
-    explain: (name) => wordsOfCell(page.cellWords, name),
-    isAt: (counter) => page.source.showNext(counter, running.isFast || page.current.willRun),
-    breakAt: (breakpoints) => page.breakpoints.keeper.take(breakpoints),
+    serveLine: (line) => page.lineServer.serveLines(line),
+    describeRefusal: (number) => page.words.refusalMeaning(number),
+    explain: (name) => describeCell(page.cellWords, name),
+    showCounterLine: (counter) => page.source.showNext(counter, runController.isFast || page.currentSession.willRun),
+    takeBreakpoints: (breakpoints) => page.breakpoints.keeper.take(breakpoints),
     toggleBreakpoint: (address) => page.breakpoints.keeper.toggleAddress(address),
-    wentTo: (address) => page.source.reveal(address),
+    revealAddress: (address) => page.source.reveal(address),
     watchLamps: (face, number) => {
-      page.bench.call("watchLamps", [face, number]).catch((fault) => page.recovery.failed(fault));
+      page.bench.call("watchLamps", [face, number]).catch((fault) => page.recovery.reportFailure(fault));
     },
-    printOn: (printer) => {
-      page.bench.call("printOn", [printer]).catch((fault) => page.recovery.failed(fault));
+    setPrinter: (printer) => {
+      page.bench.call("printOn", [printer]).catch((fault) => page.recovery.reportFailure(fault));
     },
     clear: () => {
-      page.current.touch();
-      page.bench.call("clearPrintout", []).catch((fault) => page.recovery.failed(fault));
+      page.currentSession.touch();
+      page.bench.call("clearPrintout", []).catch((fault) => page.recovery.reportFailure(fault));
     },
-    timeOf: (cycles) => running.clock.timeOf(cycles),
-    failed: (fault) => page.recovery.failed(fault),
+    timeOf: (cycles) => runController.clock.timeOf(cycles),
+    reportFailure: (fault) => page.recovery.reportFailure(fault),
   });
 }
 
 /**
  * @param {Page} page
- * @returns {Pressing}
+ * @returns {KeyPresser}
  */
-export function makePressing(page) {
-  const { running } = page;
-  return new Pressing({
-    isRunning: () => running.clock.movesKeys,
-    isDown: (key) => running.willBeDown(key, page.snapshotView.front.isDown(key)),
-    press: (key) => running.queue("press", key),
-    release: (key) => running.queue("release", key),
+export function makeKeyPresser(page) {
+  const { runController } = page;
+  return new KeyPresser({
+    isRunning: () => runController.clock.movesKeys,
+    isDown: (key) => runController.willBeDown(key, page.snapshotView.front.isDown(key)),
+    press: (key) => runController.queueKeyChange("press", key),
+    release: (key) => runController.queueKeyChange("release", key),
     change: (word, key) => {
-      running.queue("forget", key);
-      page.serving.act(`${lineOfKey(word, key)}\n`);
+      runController.queueKeyChange("forget", key);
+      page.lineServer.serveLines(`${keyLine(word, key)}\n`);
     },
-    meant: (event) => {
+    keyForEvent: (event) => {
       if (event.ctrlKey || event.metaKey || event.altKey || !page.isTyping || isDialogOpen()) return undefined;
-      return wantsKey(event.target, event.key) ? undefined : keyOfKeyboard(page.snapshotView.front.keys, event.key);
+      return wantsKey(event.target, event.key) ? undefined : findBoardKey(page.snapshotView.front.keys, event.key);
     },
   });
 }
@@ -80,8 +80,8 @@ export function makePressing(page) {
  * @param {Page} page
  * @param {string} boardText
  */
-export function connectSound({ running, snapshotView }, boardText) {
-  running.sound.draw(buzzerOf(snapshotView.board, new Face(boardText)));
+export function connectSound({ runController, snapshotView }, boardText) {
+  runController.sound.draw(findBuzzer(snapshotView.board, new Face(boardText)));
 }
 
 /**
@@ -91,7 +91,7 @@ export function connectSound({ running, snapshotView }, boardText) {
  */
 export function makeDrawing(page) {
   const scanKeys = (/** @type {import("../core/bench/answers.js").Board} */ board) => insertKeyScan(page, board);
-  const { bench, boardEditor, current, snapshotView: { wiring } } = page;
+  const { bench, boardEditor, currentSession, snapshotView: { wiring } } = page;
   const { editor } = boardEditor;
   const { tabs } = page.layout;
   const drawing = new DrawingController(wiring, {
@@ -100,29 +100,29 @@ export function makeDrawing(page) {
     edit: (edits) => editor.edit(edits),
     undo: () => editor.undoOrRedo("undo"),
     redo: () => editor.undoOrRedo("redo"),
-    wordsOfRefusal: (number) => page.words.ofRefusal(number),
-    isInFront: () => tabs.shown === "wiring",
+    describeRefusal: (number) => page.words.refusalMeaning(number),
+    isInFront: () => tabs.shownName === "wiring",
     putInFront: () => tabs.choose("wiring"),
-    wire: async () => {
-      await page.editors.wire();
+    applyBoard: async () => {
+      await page.editors.applyBoard();
       return boardEditor.status.text;
     },
-    find: (part) => {
-      const lines = linesOfParts(editor.text).get(part);
+    showPartLines: (part) => {
+      const lines = drawnPartLines(editor.text).get(part);
       if (!lines) return;
       tabs.choose("board");
       editor.select(lines);
     },
     scanKeys,
-    session: () => current.session,
-    touched: () => current.touchAndKeep(),
-    failed: (fault) => page.recovery.failed(fault),
+    session: () => currentSession.session,
+    saveSession: () => currentSession.touchAndKeep(),
+    reportFailure: (fault) => page.recovery.reportFailure(fault),
   });
-  tabs.whenShown("wiring", () => {
+  tabs.onShown("wiring", () => {
     wiring.showLevels();
     drawing.followText();
   });
-  editor.caret = (line) => wiring.mark(partAtLine(linesOfParts(editor.text), line));
+  editor.onCaretMove = (line) => wiring.mark(partAtLine(drawnPartLines(editor.text), line));
   return drawing;
 }
 
@@ -132,29 +132,29 @@ export function makeDrawing(page) {
  */
 export function makeScope(page) {
   /** @type {(values: string[]) => { board: string, program: string, values: string[], watched: string[] }} */
-  const textsWith = (values) => ({ board: page.boardEditor.text, program: page.programEditor.text, values,
+  const textsWithValues = (values) => ({ board: page.boardEditor.text, program: page.programEditor.text, values,
     watched: page.breakpoints.keeper.watched });
   const scope = new Scope({
     goTo: (address) => page.snapshotView.goTo.show(address),
-    keep: (rows) => {
-      if (!page.current.session) return;
-      page.current.session.record.rows = rows;
-      page.current.keep();
+    storeRows: (rows) => {
+      if (!page.currentSession.session) return;
+      page.currentSession.session.record.rows = rows;
+      page.currentSession.keep();
     },
-    name: () => page.current.name,
-    offered: () => catalogOf(page.snapshotView.board, page.boardEditor.text),
-    isOn: (isOn) => page.layout.dock.mark("waves", isOn ? "records" : ""),
-    begin: (wanted, values) => resultOrReport(page, page.bench.call("recordLive", [textsWith(values), wanted])),
-    end: () => resultOrReport(page, page.bench.call("endRecording", [])),
+    name: () => page.currentSession.name,
+    boardLines: () => listRecordableLines(page.snapshotView.board, page.boardEditor.text),
+    showRecording: (isOn) => page.layout.dock.mark("waves", isOn ? "records" : ""),
+    startLive: (wanted, values) => resultOrReport(page, page.bench.call("recordLive", [textsWithValues(values), wanted])),
+    endLive: () => resultOrReport(page, page.bench.call("endRecording", [])),
     record: async (cycles, isBefore, values) => {
       // A recording continues from the present state, so time must be paused.
-      await page.running.pause();
+      await page.runController.pause();
       try {
-        return await page.work.show(say.RECORDING_LINES,
-          (signal, progress) => page.bench.call("record", [cycles, isBefore, textsWith(values)], { signal, progress }));
+        return await page.workView.show(say.RECORDING_LINES,
+          (signal, progress) => page.bench.call("record", [cycles, isBefore, textsWithValues(values)], { signal, progress }));
       } catch (fault) {
-        if (fault instanceof Cancelled) scope.status.set(say.NOTHING_RECORDED);
-        else page.recovery.failed(fault);
+        if (fault instanceof CancelledError) scope.status.set(say.NOTHING_RECORDED);
+        else page.recovery.reportFailure(fault);
         return null;
       }
     },
@@ -172,7 +172,7 @@ async function resultOrReport(page, call) {
   try {
     return await call;
   } catch (fault) {
-    page.recovery.failed(fault);
+    page.recovery.reportFailure(fault);
     return null;
   }
 }

@@ -1,12 +1,12 @@
-// Creates the page's commands and connects them to the page's parts, the palette and the keys.
+// Creates the page's commands, and connects them to the page's components, the palette and the keyboard.
 
-import { textOfKey } from "../core/board/key_place.js";
+import { formatKey } from "../core/board/key_place.js";
 import { COMMANDS, labelledCommand } from "./commands/command_table.js";
 import { fillEmptyPanels } from "./commands/empty_panels.js";
 import { listenToKeys } from "./commands/keys.js";
 import { PaletteView } from "./commands/palette_view.js";
-import { placesOf } from "./commands/palette_places.js";
-import { isOffered } from "./commands/offered.js";
+import { listDestinations } from "./commands/palette_places.js";
+import { isAvailable } from "./commands/offered.js";
 import { WelcomeView } from "./session/welcome_view.js";
 import { ToolbarView } from "./commands/toolbar_view.js";
 import { runToLine } from "./compose_debug.js";
@@ -27,16 +27,16 @@ import * as say from "../words/page_commands.js";
  * @typedef {import("./bench_page.js").Page} Page
  */
 
-/** The key of the stored choice that records that the welcome cards were shown. */
-const SEEN = "welcome";
+/** The name of the stored choice that says whether the welcome cards have been shown. */
+const SEEN_KEY = "welcome";
 
 /** @type {TextName[]} the texts in the order of the page's editors */
-const EDITORS = ["board", "program", "tests", "properties"];
+const EDITOR_NAMES = ["board", "program", "tests", "properties"];
 
 /**
  * Brings a text or a panel to the front.
  * @param {Page} page
- * @param {string} name the name of the text or panel; "" for a part that is always visible
+ * @param {string} name the name of the text or panel; "" to show nothing
  */
 function show({ layout }, name) {
   if (name in say.TEXTS) layout.showText(name);
@@ -44,7 +44,7 @@ function show({ layout }, name) {
 }
 
 /**
- * The parts that exist before the page: the theme, the tooltips and the toolbar.
+ * The components that are created before the page: the theme, the tooltips and the toolbar.
  * @typedef {{ theme: Theme, tips: Tooltips, toolbar: ToolbarView }} Shell
  * @returns {Shell}
  */
@@ -58,20 +58,20 @@ export function makeShell() {
  * Returns the callbacks for commands about projects, files and notices.
  * @param {Page} page
  */
-function projectCalls({ export: exports, notice, recovery, sessionsController, sharing }) {
+function projectCalls({ exportView, notice, recovery, sessionsController, linkSharing }) {
   const { manager, view } = sessionsController;
   return {
     open: () => field("file").click(),
     save: () => void manager.save(),
     saveSession: () => void manager.saveSession(),
-    exportFiles: () => exports.open(),
+    exportFiles: () => exportView.open(),
     projects: () => void view.open(),
     examples: () => void view.openExamples(),
     share: () => {
-      sharing.share().catch((fault) => recovery.failed(fault));
+      linkSharing.share().catch((fault) => recovery.reportFailure(fault));
     },
     notices: () => notice.list.open(),
-    hasNotices: () => notice.list.all.length > 0,
+    hasNotices: () => notice.list.messages.length > 0,
     print: () => print(),
   };
 }
@@ -81,19 +81,19 @@ function projectCalls({ export: exports, notice, recovery, sessionsController, s
  * @param {Page} page
  */
 function timeCalls(page) {
-  const { snapshotView, programEditor, running, serving, travel } = page;
+  const { snapshotView, programEditor, runController, lineServer, travel } = page;
   return {
-    isRunning: () => running.clock.isRunning,
-    runOrStop: () => running.runOrStop(),
-    step: () => void running.step(),
+    isRunning: () => runController.clock.isRunning,
+    runOrStop: () => runController.runOrStop(),
+    step: () => void runController.stepOnce(),
     goOn: travel.goOn.bind(travel),
     goBack: travel.goBack.bind(travel),
     goForward: () => void travel.goForward(),
     canGoForward: () => !button("forward").disabled,
     runToCursor: () => runToLine(page, programEditor.editor.editor.getCursor().line + 1),
     /** @param {string} line */
-    serve: (line) => void serving.act(line),
-    test: () => void serving.act(`test ${snapshotView.test.isOn ? 0 : 1}\n`),
+    serve: (line) => void lineServer.serveLines(line),
+    test: () => void lineServer.serveLines(`test ${snapshotView.test.isOn ? 0 : 1}\n`),
     /** @param {string} id */
     setSpeed: (id) => {
       const speeds = byId("speed", HTMLSelectElement);
@@ -109,21 +109,21 @@ function timeCalls(page) {
  */
 function textCalls(page) {
   const { layout, programEditor } = page;
-  const front = () => page.textEditors[EDITORS.findIndex((name) => name === layout.tabs.shown)];
+  const findFrontEditor = () => page.textEditors[EDITOR_NAMES.findIndex((name) => name === layout.tabs.shownName)];
   return {
     /** @param {TextName} name */
     send: (name) => {
       show(page, name);
-      page.textEditors[EDITORS.indexOf(name)].calls.send();
+      page.textEditors[EDITOR_NAMES.indexOf(name)].calls.send();
     },
     /** @param {boolean} isSource */
-    hasText: (isSource) => front() !== undefined && (!isSource || front() === programEditor),
-    /** @param {import("./commands/command_table.js").TextAct} what */
-    inText: (what) => front() && front().act(what),
-    /** @param {import("./machine/breakpoint_row.js").BreakpointField} [what] */
-    breakpoint: (what) => {
+    hasText: (isSource) => findFrontEditor() !== undefined && (!isSource || findFrontEditor() === programEditor),
+    /** @param {import("./commands/command_table.js").TextAct} textAction */
+    inText: (textAction) => findFrontEditor() && findFrontEditor().performAct(textAction),
+    /** @param {import("./machine/breakpoint_row.js").BreakpointField} [fieldName] */
+    breakpoint: (fieldName) => {
       show(page, "program");
-      if (what) programEditor.editBreakpoint(what);
+      if (fieldName) programEditor.editBreakpoint(fieldName);
       else programEditor.toggleBreakpoint();
     },
   };
@@ -134,12 +134,12 @@ function textCalls(page) {
  * @param {Page} page
  */
 function wordAtCaret({ textEditors }) {
-  const at = textEditors.find(({ editor }) => editor.editor.view.hasFocus);
-  if (!at) return "";
-  const { line, ch } = at.editor.editor.getCursor();
-  const text = at.editor.editor.getLine(line) || "";
-  const before = (/[A-Za-z]\w*$/.exec(text.slice(0, ch)) || [""])[0];
-  return before + (/^\w*/.exec(text.slice(ch)) || [""])[0];
+  const focusedEditor = textEditors.find(({ editor }) => editor.editor.view.hasFocus);
+  if (!focusedEditor) return "";
+  const { line, ch } = focusedEditor.editor.editor.getCursor();
+  const text = focusedEditor.editor.editor.getLine(line) || "";
+  const wordStart = (/[A-Za-z]\w*$/.exec(text.slice(0, ch)) || [""])[0];
+  return wordStart + (/^\w*/.exec(text.slice(ch)) || [""])[0];
 }
 
 /** The page's commands, the palette that lists them, and their keys. */
@@ -155,17 +155,17 @@ export class Commands {
     this.examples = examples;
     /** @type {{ id: string, name: string }[]} the saved projects when they were last listed */
     this.projects = [];
-    this.calls = this.callsOf(guide, theme);
-    this.welcome = this.welcomeOf(guide);
+    this.calls = this.makeCalls(guide, theme);
+    this.welcome = this.makeWelcome(guide);
     this.palette = new PaletteView({
-      commands: () => [...COMMANDS, ...this.ownCommands()].map((command) => this.entryOf(command)),
-      places: (wanted) => placesOf(wanted, this.placeCalls()),
+      commands: () => [...COMMANDS, ...this.ownCommands()].map((command) => this.makeEntry(command)),
+      places: (query) => listDestinations(query, this.createPlaceCallbacks()),
     });
-    theme.changed = () => page.scope.view.requestDrawing();
-    listenToKeys((command) => this.do(command), isDialogOpen);
-    toolbar.act = (command) => this.do(command);
-    fillEmptyPanels(toolbar.act);
-    page.running.showRunning = (isRunning) => {
+    theme.onChange = () => page.scope.view.requestDrawing();
+    listenToKeys((command) => this.execute(command), isDialogOpen);
+    toolbar.executeCommand = (command) => this.execute(command);
+    fillEmptyPanels(toolbar.executeCommand);
+    page.runController.showRunning = (isRunning) => {
       toolbar.showRunning(isRunning);
       page.layout.status.showRunning(isRunning);
     };
@@ -176,7 +176,7 @@ export class Commands {
    * @param {Theme} theme
    * @returns {CommandCalls}
    */
-  callsOf(guide, theme) {
+  makeCalls(guide, theme) {
     const { page } = this;
     return {
       ...timeCalls(page),
@@ -184,13 +184,13 @@ export class Commands {
       ...projectCalls(page),
       setTheme: (name) => theme.set(name),
       show: (name) => show(page, name),
-      press: (id, shown) => {
-        show(page, shown);
+      press: (id, containerName) => {
+        show(page, containerName);
         button(id).click();
       },
-      isOffered: (id) => isOffered(button(id)),
-      enter: (id, shown) => {
-        show(page, shown);
+      isOffered: (id) => isAvailable(button(id)),
+      enter: (id, containerName) => {
+        show(page, containerName);
         const details = block(id).closest("details");
         if (details) details.open = true;
         block(id).focus();
@@ -203,29 +203,29 @@ export class Commands {
       resetLayout: () => page.layout.panels.reset(),
       welcome: () => this.welcome.open(),
       toggleHelp: () => guide.help.toggle(wordAtCaret(page)),
-      help: (wanted) => guide.help.open(wanted),
+      help: (query) => guide.help.open(query),
       palette: (begin) => this.open(begin),
     };
   }
 
   /** @param {Guide} guide */
-  welcomeOf(guide) {
+  makeWelcome(guide) {
     const { layout, sessionsController } = this.page;
     return new WelcomeView(this.examples, {
       beginTour: () => void guide.tour.begin(),
       begin: (name) => sessionsController.beginNamed(name),
-      draw: () => show(this.page, "wiring"),
-      seen: () => layout.choices.set(SEEN, "yes"),
+      showWiring: () => show(this.page, "wiring"),
+      storeSeen: () => layout.choices.set(SEEN_KEY, "yes"),
     });
   }
 
   /** Shows the welcome cards on the first visit in this browser. */
-  welcomeFirst() {
-    if (!this.page.layout.choices.get(SEEN)) this.welcome.open();
+  showFirstWelcome() {
+    if (!this.page.layout.choices.get(SEEN_KEY)) this.welcome.open();
   }
 
   /** @returns {import("./commands/palette_places.js").PlaceCalls} */
-  placeCalls() {
+  createPlaceCallbacks() {
     const { page, calls, examples } = this;
     return {
       map: () => page.source.map,
@@ -247,14 +247,14 @@ export class Commands {
    * @returns {Command[]}
    */
   ownCommands() {
-    const { snapshotView, pressing, sessionsController } = this.page;
+    const { snapshotView, keyPresser, sessionsController } = this.page;
     return [
       ...this.examples.map((example) => labelledCommand(`example.${example.name}`, say.openExample(example.name), "example",
         () => void sessionsController.begin(example), "examples")),
-      ...snapshotView.front.keys.map((key) => labelledCommand(`key.${textOfKey(key.key)}`,
-        say.pressKey(key.legend || textOfKey(key.key)), "key", () => {
-        pressing.down(key, false);
-        pressing.up(key.key);
+      ...snapshotView.front.keys.map((key) => labelledCommand(`key.${formatKey(key.key)}`,
+        say.pressKey(key.legend || formatKey(key.key)), "key", () => {
+        keyPresser.down(key, false);
+        keyPresser.up(key.key);
       })),
     ];
   }
@@ -263,7 +263,7 @@ export class Commands {
    * @param {Command} command
    * @returns {Entry}
    */
-  entryOf(command) {
+  makeEntry(command) {
     const { calls } = this;
     const { words, group, keys, icon, wordsNow } = command;
     const name = wordsNow ? wordsNow(calls) : words;
@@ -274,9 +274,9 @@ export class Commands {
    * Executes a command, or shows the reason why it cannot run now.
    * @param {Command} command
    */
-  do(command) {
-    const why = command.whyNot(this.calls);
-    if (why) this.page.running.showMessage(say.notDone(command.words, why));
+  execute(command) {
+    const reason = command.whyNot(this.calls);
+    if (reason) this.page.runController.showMessage(say.notDone(command.words, reason));
     else command.act(this.calls);
   }
 
@@ -287,9 +287,9 @@ export class Commands {
   open(begin) {
     const { recovery, sessionsController } = this.page;
     this.palette.open(begin);
-    sessionsController.manager.kept().then((records) => {
+    sessionsController.manager.savedSessions().then((records) => {
       this.projects = records.map(({ id, name }) => ({ id, name }));
       this.palette.refresh();
-    }, (fault) => recovery.failed(fault));
+    }, (fault) => recovery.reportFailure(fault));
   }
 }

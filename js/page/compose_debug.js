@@ -1,18 +1,18 @@
-// Creates the debugger's parts: breakpoints, steps back and forward, and values. The callbacks passed here connect each of them to the
-// page's other parts.
+// Creates the debugger's components: breakpoints, steps back and forward, and values. The callbacks connect each of them to the page's
+// other components.
 
-import { Cancelled, WorkerDied } from "../core/bench/faults.js";
+import { CancelledError, WorkerDiedError } from "../core/bench/faults.js";
 import { hex } from "../core/bench/numbers.js";
 import { NO_ADDRESS } from "../words/machine.js";
 import { wordsOfLastChange, wordsOfAddress } from "../words/stops.js";
 import { BreakpointsController } from "./machine/breakpoints_controller.js";
 import { HeatView } from "./machine/heat_view.js";
 import { LastChangeView } from "./machine/last_change_view.js";
-import { listenToCaret, listenToHere } from "./machine/run_to.js";
+import { listenForRunToCaret, listenForRunToLine } from "./machine/run_to.js";
 import { SourceValues } from "../core/machine/source_values.js";
-import { namesOfWatched } from "../core/debug/watched.js";
+import { collectWatchNames } from "../core/debug/watched.js";
 import { MistakesView } from "./machine/usual_view.js";
-import { WatchedView } from "./machine/watched_view.js";
+import { WatchView } from "./machine/watched_view.js";
 import { nameCharacters } from "./compose_texts.js";
 import { HistoryView } from "./time/history_view.js";
 import { Travel } from "../core/time/travel.js";
@@ -25,9 +25,9 @@ import { block } from "./ui/dom.js";
  * @param {Page} page
  * @param {number} line
  */
-export function runToLine({ source, running, travel }, line) {
+export function runToLine({ source, runController, travel }, line) {
   const address = source.map ? source.map.addressOf(line) : undefined;
-  if (address === undefined) running.showMessage(NO_ADDRESS);
+  if (address === undefined) runController.showMessage(NO_ADDRESS);
   else travel.goOn({ kind: "here", address });
 }
 
@@ -37,11 +37,11 @@ export function runToLine({ source, running, travel }, line) {
  */
 export function makeBreakpoints(page) {
   return new BreakpointsController(page.bench, {
-    session: () => page.current.session,
-    touched: () => page.current.touchAndKeep(),
-    texts: () => ({ board: page.boardEditor.text, program: page.programEditor.sent }),
-    served: (result) => page.serving.take(result),
-    showSession: (result) => page.show(result, page.running.clock.isRunning),
+    session: () => page.currentSession.session,
+    saveSession: () => page.currentSession.touchAndKeep(),
+    texts: () => ({ board: page.boardEditor.text, program: page.programEditor.benchText }),
+    handleResult: (result) => page.lineServer.handleResult(result),
+    showSession: (result) => page.show(result, page.runController.clock.isRunning),
     showMarks: (lines, addresses) => {
       page.programEditor.showBreakpoints(lines);
       page.snapshotView.showBreakpoints(addresses);
@@ -49,61 +49,61 @@ export function makeBreakpoints(page) {
     goTo: (address) => page.snapshotView.goTo.show(address),
     reveal: (line) => page.programEditor.reveal(line),
     showBelow: (line, node) => page.programEditor.editor.editor.showBelow(line - 1, node),
-    whenMeasured: (act) => page.programEditor.editor.editor.whenMeasured(act),
+    callAfterLayout: (action) => page.programEditor.editor.editor.callAfterLayout(action),
     showSource: () => page.layout.showText("program"),
     focusSource: () => page.programEditor.editor.editor.focus(),
     runTo: (line) => runToLine(page, line),
-    freshSource: () => page.source.fresh(),
+    freshSource: () => page.source.waitForCheck(),
     checkSource: () => page.source.check(),
     showMessage: (words) => page.snapshotView.message.show(words),
-    failed: (fault) => page.recovery.failed(fault),
+    reportFailure: (fault) => page.recovery.reportFailure(fault),
   });
 }
 
 /** @param {Page} page */
 export function makeTravel(page) {
-  const { running } = page;
+  const { runController } = page;
   return new Travel(page.bench, {
-    stand: () => running.pause(),
+    pause: () => runController.pause(),
     texts: () => page.breakpoints.texts(),
-    aim: (goal) => running.aim(goal),
-    change: (words, work) => page.serving.change(words, work),
-    runTo: (goal) => running.run(goal),
+    aim: (goal) => runController.storeGoal(goal),
+    change: (words, work) => page.lineServer.performWork(words, work),
+    runTo: (goal) => runController.run(goal),
     counted: (tally) => page.breakpoints.count(tally),
-    reasonOf: (stop, goal) => running.reasonOf(stop, goal),
-    where: () => running.where,
+    reasonOf: (stop, goal) => runController.describeStop(stop, goal),
+    where: () => runController.counterText,
     breakpoint: (id) => page.breakpoints.keeper.list.get(id),
-    showMessage: (words) => running.showMessage(words),
+    showMessage: (words) => runController.showMessage(words),
   });
 }
 
 /** @param {Page} page */
 export function makeHistory(page) {
-  const { travel, snapshotView, programEditor, running } = page;
-  listenToHere(snapshotView.listing.block, (node) => snapshotView.listing.rows.addressAt(node), (address) => {
+  const { travel, snapshotView, programEditor, runController } = page;
+  listenForRunToLine(snapshotView.listing.block, (node) => snapshotView.listing.rows.addressAt(node), (address) => {
     travel.goOn({ kind: "here", address });
   });
-  listenToCaret(block("program-editor"), () => runToLine(page, programEditor.editor.editor.getCursor().line + 1));
+  listenForRunToCaret(block("program-editor"), () => runToLine(page, programEditor.editor.editor.getCursor().line + 1));
   makeLastChanges(page);
   return new HistoryView({
     goOn: (goal) => travel.goOn(goal),
     goBack: (goal) => travel.goBack(goal),
     goForward: () => travel.goForward(),
-    names: () => namesOfPage(page),
-    showMessage: (words) => running.showMessage(words),
+    names: () => pageNames(page),
+    showMessage: (words) => runController.showMessage(words),
   });
 }
 
 /** @param {Page} page */
-function makeLastChanges({ bench, snapshotView, source, running, recovery }) {
+function makeLastChanges({ bench, snapshotView, source, runController, recovery }) {
   return new LastChangeView([block("processor"), block("watched"), block("memory")], {
-    isRunning: () => running.clock.isRunning,
-    pokedAt: (cell) => snapshotView.editor.poked.get(cell),
-    wordsOf: async ({ place, name }, signal) => {
+    isRunning: () => runController.clock.isRunning,
+    editableCellAt: (cell) => snapshotView.editor.editableCells.get(cell),
+    describeLastChange: async ({ place, name }, signal) => {
       try {
         return wordsOfLastChange(name, await bench.call("lastChange", [place], { signal }), source.map);
       } catch (fault) {
-        if (!(fault instanceof Cancelled) && !(fault instanceof WorkerDied)) recovery.failed(fault);
+        if (!(fault instanceof CancelledError) && !(fault instanceof WorkerDiedError)) recovery.reportFailure(fault);
         return "";
       }
     },
@@ -115,19 +115,19 @@ function makeLastChanges({ bench, snapshotView, source, running, recovery }) {
  * @returns {SourceValues}
  */
 export function makeValues(page) {
-  const { snapshotView, running, source, editors } = page;
+  const { snapshotView, runController, source, editors } = page;
   return new SourceValues({
     snapshot: () => snapshotView.reader.snapshot,
-    isRunning: () => running.clock.isRunning,
+    isRunning: () => runController.clock.isRunning,
     nameOf: (word) => {
       const name = source.map && source.map.names.get(word);
       return name ? { ...name, words: source.meaningOf(word) } : undefined;
     },
-    doesOf: (word) => (editors.instructions.get(word) || { does: "" }).does,
+    describeInstruction: (word) => (editors.instructions.get(word) || { does: "" }).does,
     map: () => source.map,
-    showWatched: () => page.watched.show(),
+    showWatched: () => page.watchView.show(),
     showLines: (lines) => editors.program.lineValues.show(lines),
-    changed: () => editors.program.moved(),
+    changed: () => editors.program.scheduleDescription(),
   });
 }
 
@@ -136,18 +136,18 @@ export function makeValues(page) {
  * @returns {HeatView}
  */
 export function makeHeat(page) {
-  const { bench, snapshotView, running, recovery } = page;
+  const { bench, snapshotView, runController, recovery } = page;
   return new HeatView(page.layout.choices, {
-    isRunning: () => running.clock.isRunning,
-    count: (cycles, signal) => bench.call("heat", [cycles], { signal }).catch((fault) => {
-      if (!(fault instanceof Cancelled) && !(fault instanceof WorkerDied)) recovery.failed(fault);
+    isRunning: () => runController.clock.isRunning,
+    countChanges: (cycles, signal) => bench.call("heat", [cycles], { signal }).catch((fault) => {
+      if (!(fault instanceof CancelledError) && !(fault instanceof WorkerDiedError)) recovery.reportFailure(fault);
       return null;
     }),
-    watch: (isOn) => {
-      bench.call("watchRam", [isOn]).catch((fault) => recovery.failed(fault));
+    setWatch: (isOn) => {
+      bench.call("watchRam", [isOn]).catch((fault) => recovery.reportFailure(fault));
     },
-    show: (warm) => snapshotView.ram.showWarm(warm),
-    nameOf: (place) => snapshotView.ram.nameOf(place),
+    showCells: (heatByPlace) => snapshotView.ram.showHeat(heatByPlace),
+    placeName: (place) => snapshotView.ram.placeName(place),
     map: () => page.source.map,
   });
 }
@@ -156,26 +156,26 @@ export function makeHeat(page) {
  * Returns the names that expressions can use: names from the board in use, from the program in ROM, and from the watch.
  * @param {Page} page
  */
-function namesOfPage({ snapshotView, source, breakpoints }) {
-  return { face: snapshotView.face, board: snapshotView.board, map: source.map, watched: namesOfWatched(breakpoints.keeper.watched) };
+function pageNames({ snapshotView, source, breakpoints }) {
+  return { face: snapshotView.face, board: snapshotView.board, map: source.map, watched: collectWatchNames(breakpoints.keeper.watched) };
 }
 
 /**
  * @param {Page} page
- * @returns {WatchedView}
+ * @returns {WatchView}
  */
 export function makeWatched(page) {
-  const { current, snapshotView } = page;
-  return new WatchedView({
-    offer: (cell, { place, name }) => snapshotView.editor.offer(cell, { place, name, digits: 1 }),
-    standing: () => page.values.standing,
-    names: () => namesOfPage(page),
-    listed: () => nameCharacters(page),
-    keep: (texts) => {
-      if (!current.session) return;
-      current.session.record.watched = texts;
-      page.breakpoints.keeper.takeWatched(texts);
-      current.keep();
+  const { currentSession, snapshotView } = page;
+  return new WatchView({
+    makeEditable: (cell, { place, name }) => snapshotView.editor.makeEditable(cell, { place, name, digits: 1 }),
+    pausedState: () => page.sourceValues.machineState,
+    names: () => pageNames(page),
+    handleListChange: () => nameCharacters(page),
+    storeExpressions: (texts) => {
+      if (!currentSession.session) return;
+      currentSession.session.record.watched = texts;
+      page.breakpoints.keeper.setWatchExpressions(texts);
+      currentSession.keep();
     },
   });
 }
@@ -188,13 +188,13 @@ export function makeWatched(page) {
 export function makeMistakes(page, problems) {
   const { choices } = page.layout;
   return new MistakesView({
-    wordsOf: (address) => wordsOfAddress(hex(address, 3), page.source.map),
+    describeAddress: (address) => wordsOfAddress(hex(address, 3), page.source.map),
     goTo: (address) => page.snapshotView.goTo.show(address),
-    stopAt: (kinds) => {
-      page.bench.call("stopAtFaults", [kinds]).catch((fault) => page.recovery.failed(fault));
+    stopAtMistakes: (kinds) => {
+      page.bench.call("stopAtFaults", [kinds]).catch((fault) => page.recovery.reportFailure(fault));
     },
-    counted: (count) => problems.showBugCount(count),
-    chosen: () => choices.get("stops"),
-    choose: (kinds) => choices.set("stops", kinds),
+    showCount: (count) => problems.showBugCount(count),
+    storedKinds: () => choices.get("stops"),
+    storeKinds: (kinds) => choices.set("stops", kinds),
   });
 }

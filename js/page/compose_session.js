@@ -1,4 +1,4 @@
-// Creates the parts for sessions, files and guides. The callbacks passed here connect each of them to the page's other parts.
+// Creates the components for sessions, files and guides. The callbacks connect each of them to the page's other components.
 
 import { Guide } from "./help/guide.js";
 import { forgetStory } from "./session/address.js";
@@ -6,38 +6,38 @@ import { ExportView } from "./session/export_view.js";
 import { newRecord } from "./session/kept_session.js";
 import { RomFiles } from "../core/session/rom_files.js";
 import { SessionsController } from "./session/sessions_controller.js";
-import { Sharing } from "./session/sharing.js";
+import { LinkSharing } from "./session/sharing.js";
 import { byId } from "./ui/dom.js";
 import * as say from "../words/page.js";
 
 /**
  * @typedef {import("../core/help/manual.js").ManualSection} ManualSection
  * @typedef {import("./bench_page.js").Page} Page
- * @typedef {import("./bench_page.js").Parts} Parts
+ * @typedef {import("./bench_page.js").PageServices} PageServices
  */
 
 /**
  * @param {Page} page
- * @param {Parts} parts
+ * @param {PageServices} services
  */
-export function makeSessionsController(page, parts) {
-  const { current } = page;
-  return new SessionsController(parts, {
-    session: () => current.session,
-    keep: () => current.keep(),
-    use: (record, release, example) => current.use(record, release, example),
-    rename: (name) => current.rename(name),
+export function makeSessionsController(page, services) {
+  const { currentSession } = page;
+  return new SessionsController(services, {
+    session: () => currentSession.session,
+    keep: () => currentSession.keep(),
+    useSession: (record, release, example) => currentSession.use(record, release, example),
+    rename: (name) => currentSession.rename(name),
     showLines: () => page.layout.dock.show("console"),
-    link: (link) => page.sharing.open(link),
-    texts: (name, texts) => page.texts.open(name, texts),
-    speed: (id) => {
+    openLink: (link) => page.linkSharing.open(link),
+    loadTexts: (name, texts) => page.textsController.open(name, texts),
+    setSpeed: (id) => {
       const speeds = byId("speed", HTMLSelectElement);
       speeds.value = id;
       speeds.dispatchEvent(new Event("change"));
     },
-    image: async (name, bytes) => {
-      const message = await page.rom.load(name, bytes);
-      if (message) page.notice.show(message, "file", { word: say.DISASSEMBLE_ROM, act: () => page.texts.takeFromRom() });
+    loadImage: async (name, bytes) => {
+      const message = await page.romFiles.load(name, bytes);
+      if (message) page.notice.show(message, "file", { word: say.DISASSEMBLE_ROM, act: () => page.textsController.disassembleRom() });
     },
   });
 }
@@ -47,36 +47,36 @@ export function makeSessionsController(page, parts) {
  * @returns {RomFiles}
  */
 export function makeRomFiles(page) {
-  const { running } = page;
+  const { runController } = page;
   return new RomFiles({
     ask: async (lines) => page.bench.call("ask", [lines]),
-    act: (lines) => page.serving.act(lines),
-    stop: () => running.pause(),
+    act: (lines) => page.lineServer.serveLines(lines),
+    stop: () => runController.pause(),
   });
 }
 
 /** @param {Page} page */
 export function makeExport(page) {
   return new ExportView({
-    name: () => page.current.name,
+    name: () => page.currentSession.name,
     board: () => page.boardEditor.text,
     program: () => page.programEditor.text,
-    hex: () => page.rom.hex(),
-    image: () => page.rom.image(),
-    failed: (fault) => page.recovery.failed(fault),
+    hex: () => page.romFiles.hex(),
+    image: () => page.romFiles.image(),
+    reportFailure: (fault) => page.recovery.reportFailure(fault),
   });
 }
 
 /**
  * @param {Page} page
- * @returns {Sharing}
+ * @returns {LinkSharing}
  */
-export function makeSharing(page) {
-  const { current, sessionsController } = page;
-  return new Sharing(page.bench, page.ask, page.notice, page.words, {
-    shown: () => current.session && current.session.record,
-    address: () => current.showName(),
-    begin: (texts, file, runs) => sessionsController.manager.useNew(async () => newRecord(texts.name || "session", file, texts, runs)),
+export function makeLinkSharing(page) {
+  const { currentSession, sessionsController } = page;
+  return new LinkSharing(page.bench, page.confirmDialog, page.notice, page.words, {
+    currentTexts: () => currentSession.session && currentSession.session.record,
+    showSessionAddress: () => currentSession.showName(),
+    begin: (texts, file, runs) => sessionsController.manager.openNew(async () => newRecord(texts.name || "session", file, texts, runs)),
     save: () => sessionsController.manager.save(),
   });
 }
@@ -86,7 +86,7 @@ export function makeSharing(page) {
  * @param {Page} page
  * @returns {import("../core/help/story_acts.js").ActCalls}
  */
-function actsOf({ layout, snapshotView, pressing, running, source, travel }) {
+function makeActCalls({ layout, snapshotView, keyPresser, runController, source, travel }) {
   return {
     addressOf: (label) => {
       const name = source.map && source.map.names.get(label);
@@ -95,10 +95,10 @@ function actsOf({ layout, snapshotView, pressing, running, source, travel }) {
     keys: () => snapshotView.front.keys,
     run: async () => {
       // A run up to a goal must end first, so that the next run continues without that goal.
-      if (running.goal) await running.pause();
-      running.run();
+      if (runController.goal) await runController.pause();
+      runController.run();
     },
-    stand: () => running.pause(),
+    pause: () => runController.pause(),
     goOn: (goal) => travel.goOn(goal),
     goBack: (goal) => travel.goBack(goal),
     goForward: () => travel.goForward(),
@@ -106,11 +106,11 @@ function actsOf({ layout, snapshotView, pressing, running, source, travel }) {
       layout.showText("program");
       snapshotView.goTo.show(address);
     },
-    isRunning: () => running.clock.movesKeys,
-    isDown: ({ key }) => running.willBeDown(key, snapshotView.front.isDown(key)),
+    isRunning: () => runController.clock.movesKeys,
+    isDown: ({ key }) => runController.willBeDown(key, snapshotView.front.isDown(key)),
     press: (boardKey) => {
-      pressing.down(boardKey, false);
-      pressing.up(boardKey.key);
+      keyPresser.down(boardKey, false);
+      keyPresser.up(boardKey.key);
     },
     showText: (name) => layout.showText(name),
     showPanel: (name) => layout.showPanel(name),
@@ -118,32 +118,32 @@ function actsOf({ layout, snapshotView, pressing, running, source, travel }) {
 }
 
 /**
- * Creates the guide and connects it to the page's parts. The page itself never calls the guide.
+ * Creates the guide and connects it to the page's components. The page itself never calls the guide.
  * @param {Page} page
  * @param {ManualSection[]} manual
  */
 export function makeGuide(page, manual) {
   const { layout, programEditor } = page;
   const guide = new Guide(manual, {
-    send: (lines) => page.serving.send(lines),
-    wordsOf: (answer) => page.log.wordsOf(answer),
+    send: (lines) => page.lineServer.serveTyped(lines),
+    formatAnswer: (answer) => page.logView.formatAnswer(answer),
     begin: (example) => page.sessionsController.begin(example),
     showSource: () => layout.tabs.choose("program"),
     program: () => programEditor.text,
-    edit: (program) => programEditor.replaceText(program),
+    replaceSource: (program) => programEditor.replaceText(program),
     reveal: (target) => {
       if (target === "key") layout.showPanel("front");
       else if (target === "ram") layout.showPanel("memory");
       else layout.showText("program");
     },
-    replace: (program, words) => page.texts.replace("program", program, words),
-    acts: actsOf(page),
-    left: forgetStory,
-    refuse: (words) => page.notice.show(words, "session"),
+    replace: (program, words) => page.textsController.replace("program", program, words),
+    acts: makeActCalls(page),
+    handleTourEnd: forgetStory,
+    showRefusal: (words) => page.notice.show(words, "session"),
   });
-  page.sessionsController.used = () => guide.endStory();
+  page.sessionsController.onSessionOpened = () => guide.endStory();
   page.sessionsController.showExample = (example) => guide.showStory(example.name, [example]);
   page.snapshotView.watcher = guide.tour;
-  page.running.ended = (why) => guide.tour.noteEnd(why);
+  page.runController.onRunEnd = (endReason) => guide.tour.recordEnd(endReason);
   return guide;
 }

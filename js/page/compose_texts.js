@@ -1,13 +1,13 @@
-// Creates the text editors, with their tests and searches. The callbacks passed here connect each of them to the page's other parts.
+// Creates the text editors, with their tests and searches. The callbacks connect each of them to the page's other components.
 
-import { countOfFaults } from "../core/bench/words.js";
+import { formatErrorCount } from "../core/bench/words.js";
 import { ExploreTab } from "./explore/explore_tab.js";
 import { Explorer } from "../core/explore/explorer.js";
 import { Prover } from "../core/prove/prover.js";
-import { keyScanOf, placeOfRoutine } from "../core/drawing/scan_routine.js";
-import { namesOfCharacters } from "../core/machine/ram_names.js";
+import { keyScanSource, routineInsertion } from "../core/drawing/scan_routine.js";
+import { nibbleNames } from "../core/machine/ram_names.js";
 import { SourceSync } from "../core/machine/source_sync.js";
-import { titleOf } from "../core/session/session_summary.js";
+import { sessionTitle } from "../core/session/session_summary.js";
 import { newRecord } from "./session/kept_session.js";
 import { TextsController } from "./session/texts_controller.js";
 import { TestsTab } from "./testing/tests_tab.js";
@@ -25,27 +25,27 @@ import * as say from "../words/page.js";
  * @param {ManualSection[]} manual
  */
 export function makeEditors(page, manual) {
-  const { running } = page;
+  const { runController } = page;
   return new Editors(page.bench, page.words, manual, {
-    edited: (edits) => {
+    handleEdits: (edits) => {
       page.breakpoints.keeper.edited(edits);
-      page.texts.edited();
-      page.drawing.edited();
+      page.textsController.handleEdit();
+      page.drawingController.handleEdit();
     },
-    assembled: (isBegun) => page.breakpoints.assembled(isBegun),
-    act: (lines) => page.serving.act(lines),
-    stop: () => running.pause(),
-    run: () => running.run(),
+    handleAssembly: (isBegun) => page.breakpoints.handleAssembly(isBegun),
+    serveLines: (lines) => page.lineServer.serveLines(lines),
+    pauseTime: () => runController.pause(),
+    resumeTime: () => runController.run(),
     counter: () => page.snapshotView.counter,
-    toggleBreakpoint: (line) => page.breakpoints.toggleLine(line).catch((fault) => page.recovery.failed(fault)),
-    editBreakpoint: (line, what) => page.breakpoints.editLine(line, what).catch((fault) => page.recovery.failed(fault)),
-    askedMargin: (line, point) => page.breakpoints.openMenu(line, point),
-    meaningOf: (name) => page.source.meaningOf(name),
-    valuesAt: (text, at) => page.values.at(text, at),
-    offer: (cell, { place, name }) => page.snapshotView.editor.offer(cell, { place, name, digits: 1 }),
-    replaceBoard: (text, words) => page.texts.replace("board", text, words),
-    hasFaults: (name, count) => page.layout.tabs.mark(name, count > 0 ? countOfFaults(count) : ""),
-    failed: (fault) => page.recovery.failed(fault),
+    toggleBreakpoint: (line) => page.breakpoints.toggleLine(line).catch((fault) => page.recovery.reportFailure(fault)),
+    editBreakpoint: (line, what) => page.breakpoints.editLine(line, what).catch((fault) => page.recovery.reportFailure(fault)),
+    openMarginMenu: (line, point) => page.breakpoints.openMenu(line, point),
+    describeName: (name) => page.source.meaningOf(name),
+    valuesAt: (text, at) => page.sourceValues.at(text, at),
+    makeEditable: (cell, { place, name }) => page.snapshotView.editor.makeEditable(cell, { place, name, digits: 1 }),
+    replaceBoard: (text, words) => page.textsController.replace("board", text, words),
+    showFaultCount: (name, count) => page.layout.tabs.mark(name, count > 0 ? formatErrorCount(count) : ""),
+    reportFailure: (fault) => page.recovery.reportFailure(fault),
   });
 }
 
@@ -55,15 +55,15 @@ export function makeEditors(page, manual) {
  */
 export function makeProblems(page) {
   /** @type {Record<string, import("./text/text_editor_view.js").EditorView>} */
-  const editors = { program: page.programEditor, board: page.boardEditor, tests: page.tests.editor, properties: page.explore.editor };
+  const editors = { program: page.programEditor, board: page.boardEditor, tests: page.testsTab.editor, properties: page.exploreTab.editor };
   const problems = new ProblemsView({
     goTo: (name, fault) => {
       page.layout.showText(name);
       editors[name].goToFault(fault);
     },
-    counted: (count) => page.layout.dock.mark("problems", count > 0 ? String(count) : ""),
+    showCount: (count) => page.layout.dock.mark("problems", count > 0 ? String(count) : ""),
   });
-  for (const [name, editor] of Object.entries(editors)) editor.listed = (faults) => problems.take(name, faults);
+  for (const [name, editor] of Object.entries(editors)) editor.onFaultsChange = (faults) => problems.setFaults(name, faults);
   return problems;
 }
 
@@ -71,8 +71,8 @@ export function makeProblems(page) {
  * Shows names at the RAM view's nibbles. The names come from the watch and from the source.
  * @param {Page} page
  */
-export function nameCharacters({ snapshotView, watched, source }) {
-  snapshotView.ram.showNames(namesOfCharacters(snapshotView.board, watched.all, source.map));
+export function nameCharacters({ snapshotView, watchView, source }) {
+  snapshotView.ram.showNames(nibbleNames(snapshotView.board, watchView.expressions, source.map));
 }
 
 /**
@@ -81,15 +81,15 @@ export function nameCharacters({ snapshotView, watched, source }) {
  */
 export function makeSource(page) {
   const source = new SourceSync({
-    text: () => page.programEditor.sent,
+    text: () => page.programEditor.benchText,
     check: (text) => page.bench.call("checkProgram", [text]),
     changed: (map, words) => {
       page.snapshotView.nameLines(map, words);
       page.layout.status.showRom(map !== null, words);
       nameCharacters(page);
-      page.breakpoints.keeper.takeMap(map, words);
+      page.breakpoints.keeper.setSourceMap(map, words);
     },
-    wordsOfRefusal: (number) => page.words.ofRefusal(number),
+    describeRefusal: (number) => page.words.refusalMeaning(number),
   });
   source.editor = page.programEditor;
   return source;
@@ -100,24 +100,25 @@ export function makeSource(page) {
  * @returns {TextsController}
  */
 export function makeTexts(page) {
-  const { current } = page;
-  return new TextsController(page.boardEditor, page.programEditor, page.tests.editor, page.explore.editor, page.ask, page.notice, {
-    session: () => current.session,
-    touch: () => current.touch(),
-    keep: () => current.keep(),
-    edited: () => page.explore.proofs.edited(),
-    named: (boardText) => {
+  const { currentSession } = page;
+  const { boardEditor, programEditor, testsTab, exploreTab, confirmDialog, notice } = page;
+  return new TextsController(boardEditor, programEditor, testsTab.editor, exploreTab.editor, confirmDialog, notice, {
+    session: () => currentSession.session,
+    touch: () => currentSession.touch(),
+    keep: () => currentSession.keep(),
+    handleEdit: () => page.exploreTab.proofs.handleEdit(),
+    updateNames: (boardText) => {
       page.readFace(boardText);
-      current.takeTitle(titleOf(boardText, page.programEditor.text));
+      currentSession.takeTitle(sessionTitle(boardText, page.programEditor.text));
       page.checkSource();
     },
     source: () => page.bench.call("source", []),
     isNoProgram: (text) => page.editors.isNoProgram(text),
-    took: (seen, lines) => {
-      page.layout.tabs.choose(seen);
+    handleLoadedTexts: (shownName, lines) => {
+      page.layout.tabs.choose(shownName);
       page.sessionsController.lines.offer(lines);
     },
-    failed: (fault) => page.recovery.failed(fault),
+    reportFailure: (fault) => page.recovery.reportFailure(fault),
   });
 }
 
@@ -128,8 +129,8 @@ export function makeTexts(page) {
  */
 export function insertKeyScan({ layout, programEditor }, board) {
   const { text, editor } = programEditor;
-  const code = keyScanOf(board, text);
-  const { edit, first, isEnd } = placeOfRoutine(text, editor.caretLine, code);
+  const code = keyScanSource(board, text);
+  const { edit, first, isEnd } = routineInsertion(text, editor.caretLine, code);
   editor.edit([edit]);
   layout.showText("program");
   editor.select({ from: first, to: first + code.trimEnd().split("\n").length - 1 });
@@ -142,7 +143,7 @@ export function insertKeyScan({ layout, programEditor }, board) {
  * @returns {TestsTab}
  */
 export function makeTests(page, manual) {
-  const { bench, running, words } = page;
+  const { bench, runController, words } = page;
   const tab = new TestsTab(manual, {
     texts: () => ({ boardText: page.boardEditor.text, programText: page.programEditor.text }),
     labels: () => (page.source.map ? [...page.source.map.labels.values()].flat() : []),
@@ -150,21 +151,21 @@ export function makeTests(page, manual) {
     sample: (texts) => bench.call("sampleTest", [texts]),
     run: async (texts) => {
       // The worker serves one call at a time. Without this pause, the tests would stop time without an explanation.
-      await running.pause();
-      return page.work.show(say.RUNNING_TESTS, (signal, progress) => bench.call("runTests", [texts], { signal, progress }));
+      await runController.pause();
+      return page.workView.show(say.RUNNING_TESTS, (signal, progress) => bench.call("runTests", [texts], { signal, progress }));
     },
-    wordsOfRefusal: (number) => words.ofRefusal(number),
+    describeRefusal: (number) => words.refusalMeaning(number),
     showCounts: (report, programText) => {
       if (report && report.coverage && programText === page.programEditor.text) page.programEditor.counts.show(report.coverage.lines);
       else page.programEditor.counts.clear();
     },
     goTo: (address) => page.snapshotView.goTo.show(address),
-    open: (name, file, texts) => page.sessionsController.manager.useNew(async () => newRecord(name, file, texts)),
-    mark: (label, isGood) => page.layout.tabs.mark("tests", label, isGood),
-    edited: () => page.texts.edited(),
-    failed: (fault) => page.recovery.failed(fault),
+    open: (name, file, texts) => page.sessionsController.manager.openNew(async () => newRecord(name, file, texts)),
+    showMark: (label, isGood) => page.layout.tabs.mark("tests", label, isGood),
+    handleEdit: () => page.textsController.handleEdit(),
+    reportFailure: (fault) => page.recovery.reportFailure(fault),
   });
-  page.layout.tabs.whenShown("tests", () => tab.refresh());
+  page.layout.tabs.onShown("tests", () => tab.refresh());
   return tab;
 }
 
@@ -173,33 +174,33 @@ export function makeTests(page, manual) {
  * @param {Page} page
  * @param {string} test
  */
-function addTest({ tests, texts }, test) {
-  const { text } = tests.editor;
+function addTest({ testsTab, textsController }, test) {
+  const { text } = testsTab.editor;
   if (text.includes(test.trimEnd())) return say.HAS_TEST;
-  texts.replace("tests", text.trim() === "" ? test : `${text.trimEnd()}\n\n${test}`, say.TEST_ADDED);
+  textsController.replace("tests", text.trim() === "" ? test : `${text.trimEnd()}\n\n${test}`, say.TEST_ADDED);
   return say.TEST_AT_END;
 }
 
 /**
  * Opens a new session with the texts and executes lines in it, so that the user can step back through them.
  * @param {Page} page
- * @param {{ name: string, lines: string, message: string }} wanted
+ * @param {{ name: string, lines: string, message: string }} scenario
  * @param {import("../core/explore/exploring.js").ExploredTexts} texts
  */
-async function openAfter(page, { name, lines, message }, texts) {
+async function openWithLines(page, { name, lines, message }, texts) {
   const { boardText, programText } = texts;
-  const make = async () => {
+  const makeRecord = async () => {
     const example = { name, title: "", board: boardText, program: programText, tests: "", properties: "", lines: "", project: "" };
-    return newRecord(name, await page.bench.call("make", [example]), { ...texts, testText: page.tests.editor.text });
+    return newRecord(name, await page.bench.call("make", [example]), { ...texts, testText: page.testsTab.editor.text });
   };
   const { sessionsController } = page;
-  const before = page.current.session;
-  if (!(await sessionsController.manager.useNew(make))) return;
-  await page.serving.act(lines);
-  // `act` hides the notice about the previous session, because it changes the new one. Show that notice again.
-  if (before && !before.isUntouched) sessionsController.reportLeft(before.record);
+  const previousSession = page.currentSession.session;
+  if (!(await sessionsController.manager.openNew(makeRecord))) return;
+  await page.lineServer.serveLines(lines);
+  // `serveLines` hides the notice about the previous session, because it changes the new one. Show that notice again.
+  if (previousSession && !previousSession.isUntouched) sessionsController.reportLeft(previousSession.record);
   page.layout.showText("program");
-  page.running.showMessage(message);
+  page.runController.showMessage(message);
 }
 
 /**
@@ -212,26 +213,26 @@ export function makeExplore(page, manual, makeBench) {
   const { bench, words } = page;
   const [explorer, prover] = [new Explorer(makeBench), new Prover(makeBench)];
   const tab = new ExploreTab(manual, {
-    texts: () => ({ boardText: page.boardEditor.text, programText: page.programEditor.text, testText: page.tests.editor.text }),
+    texts: () => ({ boardText: page.boardEditor.text, programText: page.programEditor.text, testText: page.testsTab.editor.text }),
     labels: () => (page.source.map ? [...page.source.map.labels.values()].flat() : []),
     faults: (texts) => bench.call("propertyFaults", [texts]),
-    explore: (texts, asked, signal, showProgress) => explorer.explore(texts, asked, signal, showProgress),
-    wordsOfRefusal: (number) => words.ofRefusal(number),
+    explore: (texts, request, signal, showProgress) => explorer.explore(texts, request, signal, showProgress),
+    describeRefusal: (number) => words.refusalMeaning(number),
     goToSource: (line) => {
       page.layout.tabs.choose("program");
       page.programEditor.editor.select({ from: line, to: line });
     },
     open: (name, file, texts) => {
-      const testText = page.tests.editor.text;
-      page.sessionsController.manager.useNew(async () => newRecord(name, file, { ...texts, testText }));
+      const testText = page.testsTab.editor.text;
+      page.sessionsController.manager.openNew(async () => newRecord(name, file, { ...texts, testText }));
     },
     prove: prover.prove.bind(prover),
-    openAfter: (name, lines, texts, message) => openAfter(page, { name, lines, message }, texts),
+    openWithLines: (name, lines, texts, message) => openWithLines(page, { name, lines, message }, texts),
     addTest: (test) => addTest(page, test),
-    mark: (label, isGood) => page.layout.tabs.mark("properties", label, isGood),
-    edited: () => page.texts.edited(),
-    failed: (fault) => page.recovery.failed(fault),
+    showMark: (label, isGood) => page.layout.tabs.mark("properties", label, isGood),
+    handleEdit: () => page.textsController.handleEdit(),
+    reportFailure: (fault) => page.recovery.reportFailure(fault),
   });
-  page.layout.tabs.whenShown("properties", () => tab.refresh());
+  page.layout.tabs.onShown("properties", () => tab.refresh());
   return tab;
 }

@@ -1,11 +1,11 @@
-// Creates the parts that run the board, serve lines and save the session. The callbacks passed here connect each of them to the page's
-// other parts.
+// Creates the components that run the board, execute session lines and save the session. The callbacks connect each of them to the page's
+// other components.
 
 import { wordsOfAddress, wordsOfWhen } from "../words/stops.js";
-import { Serving } from "./lines/serving.js";
+import { LineServer } from "./lines/serving.js";
 import { Recovery } from "./recovery.js";
 import { CurrentSession } from "./session/current_session.js";
-import { Running } from "./time/running.js";
+import { RunController } from "./time/running.js";
 
 /** @typedef {import("./bench_page.js").Page} Page */
 
@@ -18,16 +18,16 @@ export function makeCurrentSession(page) {
     begin: (record) => page.begin(record),
     show: (shown) => page.show(shown),
     checkSource: () => page.checkSource(),
-    run: () => page.running.run(),
-    halted: (words) => page.running.endRun(words),
-    standStill: () => page.running.stopRun(),
-    where: () => page.running.where,
-    touched: () => page.sessionsController.touched(),
-    ran: () => page.log.take(),
-    showRan: (ran, fault) => page.log.showRan(ran, fault),
-    notKept: (words) => (words ? page.notice.show(words, "kept") : page.notice.hide("kept")),
-    saved: (state) => page.layout.status.showSaved(state),
-  }, page.past);
+    run: () => page.runController.run(),
+    showPaused: (words) => page.runController.endRun(words),
+    stopTime: () => page.runController.stopRun(),
+    describeCounter: () => page.runController.counterText,
+    handleSessionChange: () => page.sessionsController.handleSessionChange(),
+    takeRuns: () => page.logView.takeRuns(),
+    logRuns: (ran, fault) => page.logView.showRuns(ran, fault),
+    showSaveError: (words) => (words ? page.notice.show(words, "kept") : page.notice.hide("kept")),
+    showSaveState: (state) => page.layout.status.showSaved(state),
+  }, page.storedHistory);
 }
 
 /**
@@ -36,13 +36,13 @@ export function makeCurrentSession(page) {
  */
 export function makeRecovery(page) {
   return new Recovery(page.bench, page.words, page.notice, {
-    session: () => page.current.session,
-    isRunning: () => page.running.clock.isRunning,
-    stopClock: () => page.running.clock.stop(),
-    halted: (words) => page.running.endRun(words),
-    ran: (frame) => page.running.handleFrame(frame),
-    openAgain: async (record) => {
-      page.show(await page.current.callOpen(record));
+    session: () => page.currentSession.session,
+    isRunning: () => page.runController.clock.isRunning,
+    stopClock: () => page.runController.clock.stop(),
+    showPaused: (words) => page.runController.endRun(words),
+    showLastFrame: (frame) => page.runController.handleFrame(frame),
+    reopenSession: async (record) => {
+      page.show(await page.currentSession.callOpen(record));
       page.breakpoints.keeper.again();
     },
   });
@@ -50,58 +50,58 @@ export function makeRecovery(page) {
 
 /**
  * @param {Page} page
- * @returns {Running}
+ * @returns {RunController}
  */
-export function makeRunning(page) {
-  const { current } = page;
-  return new Running(page.bench, current, {
-    began: () => page.mistakes.clear(),
-    stood: () => page.scope.showPaused(),
-    took: (frame) => {
-      page.log.collect(frame.ran);
-      page.mistakes.show(frame.tally.usual);
-      page.heat.handleFrame(frame);
+export function makeRunController(page) {
+  const { currentSession } = page;
+  return new RunController(page.bench, currentSession, {
+    handleRunStart: () => page.mistakesView.clear(),
+    handleRunEnd: () => page.scope.showPaused(),
+    showFrame: (frame) => {
+      page.logView.collect(frame.ran);
+      page.mistakesView.show(frame.tally.usual);
+      page.heatView.handleFrame(frame);
       page.show(frame, true, frame.litShares);
       page.breakpoints.count(frame.tally);
     },
-    drawRest: () => page.snapshotView.showRest(),
+    drawSlowViews: () => page.snapshotView.showSlowViews(),
     drawListing: () => page.snapshotView.showListing(),
-    isOwed: () => {
+    isSecondCyclePending: () => {
       const { registers } = page.snapshotView.reader;
       return registers !== null && registers.owed === "1";
     },
-    cycles: () => page.cycles.cycles.total,
-    where: () => wordsOfAddress(page.snapshotView.counter, page.source.map),
-    when: (id) => wordsOfWhen(page.breakpoints.keeper.list.get(id), page.breakpoints.keeper.faults.get(id)),
-    unreadable: () => page.breakpoints.keeper.faults.size,
-    wordsOfRefusal: (number) => page.words.ofRefusal(number),
-    step: () => page.serving.act("step\n"),
-    failed: (fault) => page.recovery.failed(fault),
+    cycles: () => page.cyclesView.cycles.total,
+    describeCounter: () => wordsOfAddress(page.snapshotView.counter, page.source.map),
+    describeCondition: (id) => wordsOfWhen(page.breakpoints.keeper.list.get(id), page.breakpoints.keeper.faults.get(id)),
+    countUnreadable: () => page.breakpoints.keeper.faults.size,
+    describeRefusal: (number) => page.words.refusalMeaning(number),
+    step: () => page.lineServer.serveLines("step\n"),
+    reportFailure: (fault) => page.recovery.reportFailure(fault),
   });
 }
 
 /**
  * @param {Page} page
- * @returns {Serving}
+ * @returns {LineServer}
  */
-export function makeServing(page) {
-  const { current, running } = page;
-  return new Serving(page.bench, page.words, page.notice, {
+export function makeLineServer(page) {
+  const { currentSession, runController } = page;
+  return new LineServer(page.bench, page.words, page.notice, {
     map: () => page.source.map,
-    work: (words, work) => page.work.show(words, (signal, progress) => work({ signal, progress })),
+    work: (words, work) => page.workView.show(words, (signal, progress) => work({ signal, progress })),
     counter: () => page.snapshotView.counter,
     show: (result) => {
       if (result.touchesRom) page.snapshotView.forgetRom();
       page.show(result);
     },
     checkSource: () => page.checkSource(),
-    keep: () => current.touchAndKeep(),
-    log: (entries, fault) => page.log.show(entries, fault),
-    counted: (tally) => page.breakpoints.count(tally),
-    isRunning: () => running.clock.isRunning,
-    forgetGoal: () => running.forgetGoal(),
-    reasonOf: (stop) => running.reasonOf(stop, null),
-    showMessage: (words) => running.showMessage(words),
-    failed: (fault) => page.recovery.failed(fault),
+    keep: () => currentSession.touchAndKeep(),
+    log: (entries, fault) => page.logView.show(entries, fault),
+    countHits: (tally) => page.breakpoints.count(tally),
+    isRunning: () => runController.clock.isRunning,
+    forgetGoal: () => runController.forgetGoal(),
+    describeStop: (stop) => runController.describeStop(stop, null),
+    showMessage: (words) => runController.showMessage(words),
+    reportFailure: (fault) => page.recovery.reportFailure(fault),
   });
 }

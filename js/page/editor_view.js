@@ -1,18 +1,18 @@
-// The board view of the editor extension: lamps, displays and keys, drawn by the page's own views. The extension sends changes
+// The board view of the editor extension: lamps, displays and keys, drawn by the page's views. The extension sends changes
 // (adapter/shown_board.js) and receives key presses. editors/vsix bundles this module into one script. The HTML is in
 // editors/vscode/board_view.html.
 
 import { readBoard } from "../core/bench/answers.js";
-import { keyOfKeyboard } from "../core/board/board_keys.js";
+import { findBoardKey } from "../core/board/board_keys.js";
 import { Face } from "../core/board/face.js";
-import { pinKey, textOfKey } from "../core/board/key_place.js";
+import { pinKey, formatKey } from "../core/board/key_place.js";
 import { FrontView } from "./board/front_view.js";
-import { Pressing, wantsKey } from "./board/pressing.js";
+import { KeyPresser, wantsKey } from "./board/pressing.js";
 import { PrinterView } from "./board/printer_view.js";
 import { block, button, field } from "./ui/dom.js";
 
 /**
- * @typedef {import("../core/adapter/shown_board.js").ShownNews} ShownNews
+ * @typedef {import("../core/adapter/shown_board.js").BoardNews} BoardNews
  * @typedef {import("../core/board/key_place.js").Key} Key
  */
 
@@ -21,42 +21,42 @@ const editor = globalThis.acquireVsCodeApi();
 let isRunning = false;
 
 /** @type {(key: Key, isDown: boolean) => void} */
-const sendKey = (key, isDown) => editor.postMessage({ place: textOfKey(key), isDown });
+const sendKey = (key, isDown) => editor.postMessage({ place: formatKey(key), isDown });
 
-/** @type {Pressing} */
-const pressing = new Pressing({
+/** @type {KeyPresser} */
+const keyPresser = new KeyPresser({
   isRunning: () => isRunning,
   isDown: (key) => front.isDown(key),
   press: (key) => sendKey(key, true),
   release: (key) => sendKey(key, false),
   change: (word, key) => sendKey(key, word === "press"),
-  meant: (event) => {
+  keyForEvent: (event) => {
     if (event.ctrlKey || event.metaKey || event.altKey || !field("typing").checked || wantsKey(event.target, event.key)) return undefined;
-    return keyOfKeyboard(front.keys, event.key);
+    return findBoardKey(front.keys, event.key);
   },
 });
 /**
- * The front panel. It shows the perceived brightness of lamps while time is running, and their state at that instant while time is paused.
+ * The front panel. Lamps show their perceived brightness while time is running, and their present state while time is paused.
  */
-const front = new FrontView((node, key) => pressing.listen(node, key), () => {});
-/** The printer view. The debug adapter keeps the printout from the moment the board was drawn. */
-const printer = new PrinterView({ printOn: () => {}, clear: () => editor.postMessage({ isTorn: true }) });
-pressing.listenToKeyboard();
-button("test").addEventListener("click", () => sendKey(pinKey(front.level === "1" ? 0 : 1), true));
+const front = new FrontView((node, key) => keyPresser.listen(node, key), () => {});
+/** The printer view. The debug adapter stores the printout since the board was drawn. */
+const printer = new PrinterView({ setPrinter: () => {}, clear: () => editor.postMessage({ isTorn: true }) });
+keyPresser.listenToKeyboard();
+button("test").addEventListener("click", () => sendKey(pinKey(front.testLevel === "1" ? 0 : 1), true));
 
 /**
  * Shows changes of the board.
- * @param {ShownNews | null} news null after the end of debugging
+ * @param {BoardNews | null} news null after the end of debugging
  */
 function show(news) {
   block("front").hidden = news === null;
   block("nothing").hidden = news !== null;
   if (news === null) {
-    pressing.forget();
+    keyPresser.forget();
     return;
   }
   if (news.board) {
-    pressing.forget();
+    keyPresser.forget();
     const [board, face] = [readBoard(news.board), new Face(news.boardText || "")];
     front.draw(board, face);
     printer.draw(board, face);
@@ -67,10 +67,10 @@ function show(news) {
     button("test").textContent = `TEST ${news.test}`;
     button("test").setAttribute("aria-pressed", String(news.test === "1"));
   }
-  if (news.printed) printer.take(news.printed);
+  if (news.printed) printer.showPrinted(news.printed);
   if (news.keys) front.showKeys(news.keys);
   const marks = news.lamps ?? front.marks;
-  if (news.litShares) front.shine(marks, news.litShares, Infinity);
+  if (news.litShares) front.showBrightness(marks, news.litShares, Infinity);
   else if (!isRunning) front.showLamps(marks);
 }
 

@@ -11,14 +11,14 @@ import { StatusView } from "./ui/status_view.js";
 import { Tabs } from "./ui/tabs.js";
 
 /**
- * @typedef {import("./print_view.js").Printed} Printed
+ * @typedef {import("./print_view.js").PrintContents} Printed
  * @typedef {import("./ui/splitter.js").Border} Border
  */
 
-const TEXTS = ["program", "board", "wiring", "tests", "properties"];
-const DOCK = ["disassembly", "waves", "console", "problems"];
+const TEXT_TABS = ["program", "board", "wiring", "tests", "properties"];
+const DOCK_TABS = ["disassembly", "waves", "console", "problems"];
 /** @type {Record<string, string>} the dock tab that shows each panel of the dock */
-const DOCKED = { listing: "disassembly", scope: "waves", talk: "console", problems: "problems" };
+const DOCK_TAB_BY_PANEL = { listing: "disassembly", scope: "waves", talk: "console", problems: "problems" };
 
 /** @type {Border[]} */
 const BORDERS = [
@@ -30,21 +30,21 @@ const BORDERS = [
 ];
 
 export class Layout {
-  /** @param {() => Printed} printed returns the contents to print */
-  constructor(printed) {
+  /** @param {() => Printed} readContents returns the contents to print */
+  constructor(readContents) {
     this.choices = new Choices();
     const { choices } = this;
     this.regions = new Regions(choices);
-    this.tabs = new Tabs(TEXTS, choices.get("text"), (name) => {
+    this.tabs = new Tabs(TEXT_TABS, choices.get("text"), (name) => {
       choices.set("text", name);
       this.regions.reveal(block("texts"));
     });
-    this.dock = new Tabs(DOCK, choices.get("dock"), (name) => {
+    this.dock = new Tabs(DOCK_TABS, choices.get("dock"), (name) => {
       choices.set("dock", name);
       this.regions.reveal(block("dock"));
     });
     this.status = new StatusView();
-    this.print = new PrintView(printed);
+    this.print = new PrintView(readContents);
     this.splitters = BORDERS.map((border) => new Splitter(choices, border));
     this.folds = makeFolds(choices);
     this.panels = new Panels(choices, () => this.reset());
@@ -54,8 +54,8 @@ export class Layout {
   reset() {
     for (const splitter of this.splitters) splitter.reset();
     for (const id of this.folds) unfold(id);
-    this.tabs.choose(TEXTS[0]);
-    this.dock.choose(DOCK[0]);
+    this.tabs.choose(TEXT_TABS[0]);
+    this.dock.choose(DOCK_TABS[0]);
     this.regions.show("board");
   }
 
@@ -64,7 +64,7 @@ export class Layout {
    * @param {string} name
    */
   showText(name) {
-    const isText = TEXTS.includes(name);
+    const isText = TEXT_TABS.includes(name);
     this.panels.open(isText ? "texts" : "dock", true);
     (isText ? this.tabs : this.dock).choose(name);
   }
@@ -74,8 +74,8 @@ export class Layout {
    * @param {string} id
    */
   showPanel(id) {
-    if (id in DOCKED) this.dock.choose(DOCKED[id]);
-    this.panels.open(id in DOCKED ? "dock" : id, true);
+    if (id in DOCK_TAB_BY_PANEL) this.dock.choose(DOCK_TAB_BY_PANEL[id]);
+    this.panels.open(id in DOCK_TAB_BY_PANEL ? "dock" : id, true);
     unfold(id);
     this.regions.reveal(block(id));
     block(id).scrollIntoView({ block: "nearest" });

@@ -9,11 +9,11 @@ import { fromBase64 } from "../core/session/base64.js";
 import { Locks } from "./session/locks.js";
 import { Notice } from "./ui/notice.js";
 import { Page } from "./bench_page.js";
-import { storyOf } from "./session/address.js";
+import { requestedStory } from "./session/address.js";
 import { makeGuide } from "./compose_session.js";
-import { SPEEDS, speedOf } from "../core/time/speeds.js";
-import { inTime, MemoryStore, Store } from "./session/store.js";
-import { Words } from "../core/bench/words.js";
+import { SPEEDS, findSpeed } from "../core/time/speeds.js";
+import { withTimeout, MemoryStore, Store } from "./session/store.js";
+import { ErrorMessages } from "../core/bench/words.js";
 import * as say from "../words/page.js";
 
 /**
@@ -47,30 +47,30 @@ function missingFeature() {
  */
 async function openStore(hasLocks) {
   try {
-    return await inTime(Store.open(hasLocks));
+    return await withTimeout(Store.open(hasLocks));
   } catch {
     return new MemoryStore();
   }
 }
 
 /**
- * Returns the text of an embedded part of the page.
+ * Returns the text of an embedded script element of the page.
  * @param {string} id
  */
-function textOf(id) {
+function partText(id) {
   return (block(id).textContent || "").trim();
 }
 
 /**
- * Returns the decompressed bytes of an embedded part of the page.
+ * Returns the decompressed bytes of an embedded script element of the page.
  * @param {string} id
  */
 function unpackedPart(id) {
-  return inflateRaw(fromBase64(textOf(id)));
+  return inflateRaw(fromBase64(partText(id)));
 }
 
 /**
- * Returns a function that creates a bench in its own worker. The worker's script is embedded in the page.
+ * Returns a function that creates a bench in a new worker. The worker's script is embedded in the page.
  * @param {Example[]} examples
  */
 function benchMaker(examples) {
@@ -81,29 +81,29 @@ function benchMaker(examples) {
 
 /** @param {Page} page */
 function listenToButtons(page) {
-  onClick(button("test"), () => page.serving.act(`test ${page.snapshotView.test.isOn ? 0 : 1}\n`));
-  onClick(button("from-rom"), () => page.texts.takeFromRom());
+  onClick(button("test"), () => page.lineServer.serveLines(`test ${page.snapshotView.test.isOn ? 0 : 1}\n`));
+  onClick(button("from-rom"), () => page.textsController.disassembleRom());
   listenToChoices(page);
 }
 
 /** @param {Page} page */
 function listenToChoices(page) {
   const speed = byId("speed", HTMLSelectElement);
-  const typing = field("typing");
+  const typingField = field("typing");
   const { choices } = page.layout;
-  const chosen = SPEEDS.find(({ id }) => id === choices.get("speed"));
-  if (chosen) page.running.clock.setSpeed(chosen);
+  const speedChoice = SPEEDS.find(({ id }) => id === choices.get("speed"));
+  if (speedChoice) page.runController.clock.setSpeed(speedChoice);
   const show = () => {
-    speed.value = page.running.clock.speed.id;
-    typing.checked = page.isTyping;
+    speed.value = page.runController.clock.speed.id;
+    typingField.checked = page.isTyping;
   };
   speed.replaceChildren(...SPEEDS.map(({ id, words }) => element("option", { value: id }, words)));
   speed.addEventListener("change", () => {
     choices.set("speed", speed.value);
-    page.running.setSpeed(speedOf(speed.value)).catch((fault) => page.recovery.failed(fault));
+    page.runController.setSpeed(findSpeed(speed.value)).catch((fault) => page.recovery.reportFailure(fault));
   });
-  typing.addEventListener("change", () => {
-    page.isTyping = typing.checked;
+  typingField.addEventListener("change", () => {
+    page.isTyping = typingField.checked;
   });
   show();
   // When the user returns to the page, a browser may restore old values of the fields.
@@ -115,24 +115,24 @@ function listenToChoices(page) {
  * @param {Page} page
  */
 function listenToLeaving(page) {
-  document.addEventListener("visibilitychange", () => page.running.setHidden(document.hidden));
-  addEventListener("pagehide", () => page.current.keepNow());
+  document.addEventListener("visibilitychange", () => page.runController.setHidden(document.hidden));
+  addEventListener("pagehide", () => page.currentSession.keepNow());
   addEventListener("beforeunload", (event) => {
-    if (!page.store.keeps) event.preventDefault();
+    if (!page.store.isPersistent) event.preventDefault();
   });
   // Report uncaught errors to the user.
   addEventListener("error", (event) => {
     // Browsers report this harmless message when an observed resize causes another resize.
     if (!event.error && /^ResizeObserver loop/.test(event.message)) return;
-    page.recovery.failed(event.error || event.message);
+    page.recovery.reportFailure(event.error || event.message);
   });
-  addEventListener("unhandledrejection", (event) => page.recovery.failed(event.reason));
-  addEventListener("hashchange", () => page.sessionsController.follow());
+  addEventListener("unhandledrejection", (event) => page.recovery.reportFailure(event.reason));
+  addEventListener("hashchange", () => page.sessionsController.followAddress());
 }
 
 /**
  * Creates the page and opens its first session.
- * @param {Words} words
+ * @param {ErrorMessages} words
  * @param {Notice} notice
  * @param {import("./compose_commands.js").Shell} shell
  * @param {Data} data
@@ -144,19 +144,19 @@ async function start(words, notice, shell, { examples, manual }) {
   const [store] = await Promise.all([openStore(locks.areAvailable), bench.start()]);
   const page = new Page({ bench, makeBench, store, locks, words, notice, examples, manual });
   bench.listener = page.listener();
-  if (!store.keeps) notice.show(say.NO_STORE, "store");
+  if (!store.isPersistent) notice.show(say.NO_STORE, "store");
   const guide = makeGuide(page, manual);
-  const story = storyOf(location.search);
+  const story = requestedStory(location.search);
   const commands = new Commands(page, guide, examples, shell);
-  const isFirst = location.hash === "" && !story && (await page.sessionsController.manager.kept()).length === 0;
-  page.pressing.listenToKeyboard();
+  const isFirst = location.hash === "" && !story && (await page.sessionsController.manager.savedSessions()).length === 0;
+  page.keyPresser.listenToKeyboard();
   listenToButtons(page);
   listenToLeaving(page);
   await page.sessionsController.openFirst(story);
   if (story) guide.showStory(story, examples);
-  if (isFirst) commands.welcomeFirst();
+  if (isFirst) commands.showFirstWelcome();
   // When the user leaves the page, Firefox 153 runs a function only if it has run before, so save once now.
-  page.current.keepNow();
+  page.currentSession.keepNow();
   // The startup time in milliseconds.
   document.body.dataset.ready = String(Math.round(performance.now()));
 }
@@ -166,18 +166,18 @@ async function main() {
   const notice = new Notice();
   // The block `needs` is visible only in browsers that cannot run this script.
   block("needs").hidden = true;
-  const missing = missingFeature();
-  if (missing) {
-    notice.show(say.hasNo(missing, textOf("needs")));
+  const missingName = missingFeature();
+  if (missingName) {
+    notice.show(say.hasNo(missingName, partText("needs")));
     return;
   }
   /** @type {Data} */
   const data = JSON.parse(new TextDecoder().decode(unpackedPart("data")));
-  const words = new Words(data.refusals);
+  const words = new ErrorMessages(data.refusals);
   try {
     await start(words, notice, shell, data);
   } catch (fault) {
-    notice.show(say.cannotStart(words.ofFault(fault), textOf("needs")));
+    notice.show(say.cannotStart(words.errorMessage(fault), partText("needs")));
   }
 }
 

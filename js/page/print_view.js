@@ -1,14 +1,14 @@
-// The printed page: the lamps as they are now, and both texts in full. An editor alone would print only its visible part.
+// The printed page: the present state of the lamps, and both texts in full. An editor would print only its visible lines.
 
 import { block, element } from "./ui/dom.js";
 import * as say from "../words/page.js";
 
-/** @typedef {{ name: string, board: string, program: string }} Printed */
+/** @typedef {{ name: string, board: string, program: string }} PrintContents */
 
 export class PrintView {
-  /** @param {() => Printed} printed returns the contents to print */
-  constructor(printed) {
-    this.printed = printed;
+  /** @param {() => PrintContents} readContents returns the contents to print */
+  constructor(readContents) {
+    this.readContents = readContents;
     this.block = block("print");
     addEventListener("beforeprint", () => this.fill());
     addEventListener("afterprint", () => this.block.replaceChildren());
@@ -18,8 +18,8 @@ export class PrintView {
   }
 
   fill() {
-    const { name, board, program } = this.printed();
-    this.block.replaceChildren(...textOf(say.sourceOf(name), program), ...textOf(say.boardOf(name), board));
+    const { name, board, program } = this.readContents();
+    this.block.replaceChildren(...textNodes(say.sourceOf(name), program), ...textNodes(say.boardOf(name), board));
   }
 }
 
@@ -27,7 +27,7 @@ export class PrintView {
  * @param {string} title
  * @param {string} text
  */
-function textOf(title, text) {
+function textNodes(title, text) {
   const lines = text.replace(/\n$/, "").split("\n").map((line) => element("li", {}, element("code", {}, line)));
   return text === "" ? [] : [element("h2", {}, title), element("ol", {}, ...lines)];
 }

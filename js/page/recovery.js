@@ -5,8 +5,8 @@ import * as say from "../words/page.js";
 /**
  * @typedef {import("../core/bench/bench_client.js").Bench} Bench
  * @typedef {import("../core/bench/protocol.js").Frame} Frame
- * @typedef {import("../core/bench/words.js").Words} Words
- * @typedef {import("./session/kept_session.js").KeptSession} KeptSession
+ * @typedef {import("../core/bench/words.js").ErrorMessages} ErrorMessages
+ * @typedef {import("./session/kept_session.js").OpenSession} OpenSession
  * @typedef {import("./session/store.js").SessionRecord} SessionRecord
  * @typedef {import("./ui/notice.js").Notice} Notice
  */
@@ -14,19 +14,19 @@ import * as say from "../words/page.js";
 /**
  * The callbacks of Recovery.
  * @typedef {object} RecoveryCalls
- * @property {() => KeptSession | null} session Returns the current session, or null if there is none.
+ * @property {() => OpenSession | null} session Returns the current session, or null if there is none.
  * @property {() => boolean} isRunning Returns true if time is running.
  * @property {() => void} stopClock Stops the page's clock without a request to the worker.
- * @property {(words: string) => void} halted Shows that time is paused, and the reason.
- * @property {(frame: Frame) => void} ran Shows the last frame of a run before the error.
- * @property {(record: SessionRecord) => Promise<void>} openAgain Opens a session in a new worker and shows the session. Rejects if the new
- *   worker fails, too.
+ * @property {(words: string) => void} showPaused Shows that time is paused, and the reason.
+ * @property {(frame: Frame) => void} showLastFrame Shows the last frame of a run before the error.
+ * @property {(record: SessionRecord) => Promise<void>} reopenSession Opens a session in a new worker and shows the session. Rejects if the
+ *   new worker fails, too.
  */
 
 export class Recovery {
   /**
    * @param {Bench} bench
-   * @param {Words} words
+   * @param {ErrorMessages} words
    * @param {Notice} notice
    * @param {RecoveryCalls} calls
    */
@@ -43,17 +43,17 @@ export class Recovery {
    * Reports a failed call and pauses time. The failed call has not changed the session.
    * @param {unknown} fault
    */
-  failed(fault) {
+  reportFailure(fault) {
     const { bench, notice, words, calls } = this;
     console.error(fault);
     // While a new worker starts, calls to the dead one still fail. `restart` reports the death of the worker.
     if (this.isRestarting) return;
-    notice.show(words.ofFailure(fault));
+    notice.show(words.failureMessage(fault));
     if (!calls.session()) return;
     const isRunning = calls.isRunning();
-    calls.halted(say.PAUSED);
-    // Save the part of the run before the error.
-    if (isRunning) bench.call("halt", []).then(calls.ran).catch(() => {});
+    calls.showPaused(say.PAUSED);
+    // Save the cycles that ran before the error.
+    if (isRunning) bench.call("halt", []).then(calls.showLastFrame).catch(() => {});
   }
 
   /** Starts a new worker after the old one has died. The session continues from the page's copy of its last record. */
@@ -66,11 +66,11 @@ export class Recovery {
       notice.show(say.WORKER_RESTARTED);
       const session = calls.session();
       if (!session) return;
-      await calls.openAgain(session.record);
+      await calls.reopenSession(session.record);
       this.isRestarting = false;
-      calls.halted(say.PAUSED);
+      calls.showPaused(say.PAUSED);
     } catch (fault) {
-      notice.show(say.cannotRestart(words.ofFault(fault)));
+      notice.show(say.cannotRestart(words.errorMessage(fault)));
     } finally {
       this.isRestarting = false;
     }

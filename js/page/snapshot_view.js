@@ -1,6 +1,6 @@
 // All views of the board and its processor. Reads each snapshot and passes the changes on to the views.
 
-import { readBoard, refusalOf } from "../core/bench/answers.js";
+import { readBoard, parseRefusal } from "../core/bench/answers.js";
 import { CellEditor } from "./machine/cell_editor.js";
 import { Changes } from "./machine/changes.js";
 import { Cell, Switch, block, button } from "./ui/dom.js";
@@ -20,39 +20,40 @@ import * as say from "../words/page.js";
 
 /**
  * @typedef {import("../core/board/board_keys.js").BoardKey} BoardKey
- * @typedef {import("../core/bench/snapshot.js").Changed} Changed
- * @typedef {import("../core/bench/snapshot.js").ChangedFront} ChangedFront
+ * @typedef {import("../core/bench/snapshot.js").StateChanges} StateChanges
+ * @typedef {import("../core/bench/snapshot.js").FrontPanelChanges} FrontPanelChanges
  * @typedef {import("../core/machine/source_map.js").SourceMap} SourceMap
  */
 
 /**
  * The callbacks of SnapshotView.
  * @typedef {object} SnapshotOwnCalls
- * @property {(node: HTMLButtonElement, key: BoardKey) => void} listen Connects a button to its key.
+ * @property {(node: HTMLButtonElement, key: BoardKey) => void} connectKey Connects a button to its key.
  * @property {() => boolean} isRunning Returns true if time is running.
  * @property {() => boolean} isFast Returns true if the speed is too high for the disassembly to follow each instruction.
  * @property {() => boolean} isWiringShown Returns true if the Wiring tab's picture is in front.
  * @property {(lines: string) => Promise<string[]>} ask Resolves to the bench's answers to queries.
- * @property {(line: string) => Promise<string | null>} act Serves a line. Resolves to its answer, or to null after a failure. A failure has
- *   already been reported.
- * @property {(number: number) => string} wordsOfRefusal Returns the message of a refusal.
+ * @property {(line: string) => Promise<string | null>} serveLine Serves a line. Resolves to its answer, or to null after a failure. A
+ *   failure has already been reported.
+ * @property {(number: number) => string} describeRefusal Returns the message of a refusal.
  * @property {(name: string) => string} explain Returns the description of a place, or of a name in the program.
- * @property {(counter: number) => void} isAt Shows the program counter's line in the source.
- * @property {(breakpoints: string[]) => void} breakAt Passes on the addresses of the bench's breakpoints, each as three hexadecimal digits.
+ * @property {(counter: number) => void} showCounterLine Shows the program counter's line in the source.
+ * @property {(breakpoints: string[]) => void} takeBreakpoints Passes on the addresses of the bench's breakpoints, each as three hexadecimal
+ *   digits.
  * @property {(address: number) => void} toggleBreakpoint Sets or removes the breakpoint at an address.
- * @property {(address: number) => void} wentTo Shows an address in the source after the disassembly has moved to it.
+ * @property {(address: number) => void} revealAddress Shows an address in the source after the disassembly has moved to it.
  * @property {(face: string, number: number) => void} watchLamps Asks the bench to measure lamp duty cycles for a front panel, by its text
  *   and number.
  * @property {(cycles: number) => number} timeOf Returns the duration of a number of cycles in milliseconds at the current speed; Infinity
  *   at full speed.
- * @property {(fault: unknown) => void} failed Reports an error that a call threw.
+ * @property {(fault: unknown) => void} reportFailure Reports an error that a call threw.
  */
 
 /** @typedef {import("./board/printer_view.js").PrinterCalls & SnapshotOwnCalls} SnapshotCalls */
 
-/** @typedef {{ seeLamps: (lamps: string) => void, seeKeys: (keysDown: number) => void }} Watcher */
+/** @typedef {{ handleLamps: (lamps: string) => void, handleKeyCount: (keysDown: number) => void }} Watcher */
 
-/** The interval in milliseconds at which slower views are updated while time is running fast. Their values change too quickly to read. */
+/** The update interval in milliseconds, while time is running fast, of the views whose values change too quickly to read. */
 const DRAW_INTERVAL = 100;
 
 export class SnapshotView {
@@ -63,14 +64,14 @@ export class SnapshotView {
     this.face = new Face("");
     this.reader = new SnapshotReader();
     /** The time of the last complete update, in milliseconds. */
-    this.lastDrawn = 0;
+    this.lastDrawTime = 0;
     this.changes = new Changes();
-    this.front = new FrontView(calls.listen, calls.watchLamps);
+    this.front = new FrontView(calls.connectKey, calls.watchLamps);
     this.printer = new PrinterView(calls);
     this.message = new PopupMessage();
     this.editor = new CellEditor({
-      poke: async (place, value) => this.refusalOf(await calls.act(`poke ${place} ${value}\n`)),
-      showMessage: (words, at) => this.message.show(words, at),
+      poke: async (place, value) => this.refusalMessage(await calls.serveLine(`poke ${place} ${value}\n`)),
+      showMessage: (words, cell) => this.message.show(words, cell),
     });
     this.registers = new RegistersView(this.changes, this.editor, calls.explain);
     this.ram = new RamView(this.changes, this.editor, (bank, source, isSet, cell) => (
@@ -82,34 +83,34 @@ export class SnapshotView {
     this.listing = new ListingView(calls.ask, calls.toggleBreakpoint, () => this.showListing());
     this.goTo = new GoToView(this.listing, calls.toggleBreakpoint, (address) => {
       this.showListing();
-      calls.wentTo(address);
+      calls.revealAddress(address);
     });
     this.stack = new StackView(this.changes, calls.explain, calls.ask, (address) => this.goTo.show(address));
     this.sourceStatus = new Cell(block("source-status"));
-    this.testWord = new Cell(button("test"));
+    this.testText = new Cell(button("test"));
     /** True if the TEST pin is at 1. */
     this.test = new Switch((isOn) => button("test").setAttribute("aria-pressed", String(isOn)));
   }
 
   /**
-   * Sets or clears a watch. Shows a refusal near the click.
+   * Sets or clears a watch. If the bench rejects the command, shows its message near the click.
    * @param {boolean} isSet
    * @param {string} place
-   * @param {HTMLElement} [at]
+   * @param {HTMLElement} [anchor]
    */
-  async toggleWatch(isSet, place, at) {
-    const refusal = this.refusalOf(await this.calls.act(`${isSet ? "un" : ""}watch ${place}\n`));
-    if (refusal) this.message.show(say.notSet(refusal), at);
+  async toggleWatch(isSet, place, anchor) {
+    const refusal = this.refusalMessage(await this.calls.serveLine(`${isSet ? "un" : ""}watch ${place}\n`));
+    if (refusal) this.message.show(say.notSet(refusal), anchor);
   }
 
   /**
-   * Returns the message if an answer is a refusal, "" for any other answer.
+   * Returns the message of an answer that rejects a command, or "" for any other answer.
    * @param {string | null} answer
    */
-  refusalOf(answer) {
+  refusalMessage(answer) {
     if (answer === null) return say.NOT_DONE;
-    const refusal = refusalOf(answer);
-    return refusal ? `${this.calls.wordsOfRefusal(refusal.number)}.` : "";
+    const refusal = parseRefusal(answer);
+    return refusal ? `${this.calls.describeRefusal(refusal.number)}.` : "";
   }
 
   /** The program counter as three hexadecimal digits, or "" before the first snapshot. */
@@ -118,7 +119,7 @@ export class SnapshotView {
   }
 
   /**
-   * Draws another board.
+   * Draws a board in place of the present one.
    * @param {string[]} answers the answers to `board`
    * @param {string} boardText the board's text, which declares its front panel
    */
@@ -147,8 +148,8 @@ export class SnapshotView {
   readFace(boardText) {
     const face = new Face(boardText);
     this.face = face;
-    this.front.change(this.board, face);
-    this.printer.change(this.board, face);
+    this.front.changeFace(this.board, face);
+    this.printer.changeFace(this.board, face);
   }
 
   /**
@@ -159,7 +160,7 @@ export class SnapshotView {
   nameLines(map, words) {
     this.sourceStatus.set(words);
     this.listing.nameLines(map);
-    this.goTo.takeNames(map);
+    this.goTo.setNames(map);
     this.showListing();
   }
 
@@ -170,19 +171,19 @@ export class SnapshotView {
    * @param {import("../core/engine/brightness_meter.js").LitShares | null} [litShares] the measured duty cycle of each lamp
    */
   show(snapshot, isPassing = false, litShares = null) {
-    const changed = this.reader.take(snapshot);
-    this.showLamps(changed.lamps, isPassing && this.calls.isRunning() ? litShares : null);
-    this.showFront(changed);
-    if (isPassing && this.calls.isFast() && performance.now() - this.lastDrawn < DRAW_INTERVAL) return;
-    this.showRest();
-    if (this.calls.isRunning()) this.changes.runs();
-    else this.changes.stops();
+    const changedValues = this.reader.take(snapshot);
+    this.showLamps(changedValues.lamps, isPassing && this.calls.isRunning() ? litShares : null);
+    this.showFront(changedValues);
+    if (isPassing && this.calls.isFast() && performance.now() - this.lastDrawTime < DRAW_INTERVAL) return;
+    this.showSlowViews();
+    if (this.calls.isRunning()) this.changes.handleRunning();
+    else this.changes.handlePaused();
   }
 
   /** Updates the views that `show` can delay. */
-  showRest() {
-    this.lastDrawn = performance.now();
-    this.showChanged(this.reader.readRest());
+  showSlowViews() {
+    this.lastDrawTime = performance.now();
+    this.showChanged(this.reader.readOtherChanges());
   }
 
   /**
@@ -193,26 +194,26 @@ export class SnapshotView {
   showLamps(lamps, litShares) {
     const { front } = this;
     const marks = lamps === undefined ? front.marks : lamps;
-    if (litShares && litShares.face === front.faces) front.shine(marks, litShares, this.calls.timeOf(litShares.cycles));
-    else if (lamps !== undefined || front.isShining) front.showLamps(marks);
+    if (litShares && litShares.face === front.faceNumber) front.showBrightness(marks, litShares, this.calls.timeOf(litShares.cycles));
+    else if (lamps !== undefined || front.showsBrightness) front.showLamps(marks);
   }
 
-  /** @param {ChangedFront} changed */
+  /** @param {FrontPanelChanges} changedValues */
   showFront({ lamps, keys, test }) {
     if (keys) this.front.showKeys(keys);
     if (test !== undefined) {
-      this.testWord.set(`TEST ${test}`);
+      this.testText.set(`TEST ${test}`);
       this.test.set(test === "1");
       this.front.showTest(test);
       this.wiring.showTest(test === "1");
     }
     if (this.watcher && (keys || lamps !== undefined)) {
-      this.watcher.seeKeys(this.front.down.count);
-      this.watcher.seeLamps(this.front.marks);
+      this.watcher.handleKeyCount(this.front.keysDown.count);
+      this.watcher.handleLamps(this.front.marks);
     }
   }
 
-  /** @param {Changed} changed */
+  /** @param {StateChanges} changedValues */
   showChanged({ registers, ports, breakpoints, watches, ram = [] }) {
     if (ports) {
       this.ports.show(ports);
@@ -228,7 +229,7 @@ export class SnapshotView {
       this.wiring.showRam(entry);
     }
     if (watches) this.ram.showWatches(watches);
-    if (breakpoints) this.calls.breakAt(breakpoints);
+    if (breakpoints) this.calls.takeBreakpoints(breakpoints);
     if (registers || breakpoints || this.listing.lines.length === 0) this.showListing();
   }
 
@@ -239,9 +240,9 @@ export class SnapshotView {
   }
 
   showListing() {
-    this.calls.isAt(this.listing.counter);
+    this.calls.showCounterLine(this.listing.counter);
     const isRunning = this.calls.isRunning();
-    this.listing.show(this.calls.isFast()).catch(this.calls.failed);
-    this.stack.explain(this.listing.map, isRunning).catch(this.calls.failed);
+    this.listing.show(this.calls.isFast()).catch(this.calls.reportFailure);
+    this.stack.explain(this.listing.map, isRunning).catch(this.calls.reportFailure);
   }
 }

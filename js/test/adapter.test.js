@@ -2,7 +2,7 @@
 import assert from "node:assert/strict";
 import { test } from "node:test";
 import { readFileSync } from "node:fs";
-import { MAX_MESSAGE, framed } from "../core/server/framing.js";
+import { MAX_MESSAGE, frameMessage } from "../core/server/framing.js";
 import { EYE_CYCLES } from "../core/time/mcs4_time.js";
 import { FILES, FakeFile, LOCK, SOURCE, engine, served } from "./served_adapter.js";
 
@@ -14,8 +14,8 @@ test("messages are answered in their order, each by a number of its own; what is
   assert.equal((await answer("nothing")).message, "unsupported request: nothing");
   assert.equal((await answer("toString")).message, "unsupported request: toString");
   assert.equal((await answer("stackTrace", { threadId: 1 })).message, "nothing is launched yet");
-  connection.take(framed({ seq: 70, type: "request" }));
-  connection.take(framed([]));
+  connection.take(frameMessage({ seq: 70, type: "request" }));
+  connection.take(frameMessage([]));
   connection.take(new TextEncoder().encode("Content-Length: 3\r\n\r\n{x}"));
   connection.take(new TextEncoder().encode(`Content-Length: ${MAX_MESSAGE + 1}\r\n\r\n`));
   connection.take(new Uint8Array(MAX_MESSAGE + 1));

@@ -2,7 +2,7 @@
 // targets.
 import assert from "node:assert/strict";
 import { test } from "node:test";
-import { framed } from "../core/server/framing.js";
+import { frameMessage } from "../core/server/framing.js";
 import { FILES, FakeFile, LOCK, engine, served } from "./served_adapter.js";
 
 const SHOW = 0x71;
@@ -278,10 +278,10 @@ test("what is asked while a stop is written to the session file is answered", as
 
 test("of a message whose rest does not come the client gets the error", () => {
   const { connection, messages } = served();
-  connection.take(framed({ seq: 1, type: "request", command: "initialize", arguments: {} }).subarray(0, 60));
-  assert.match(connection.refuseIncomplete(), /^only \d+ of the \d+ bytes that Content-Length announces have arrived$/);
+  connection.take(frameMessage({ seq: 1, type: "request", command: "initialize", arguments: {} }).subarray(0, 60));
+  assert.match(connection.reportIncomplete(), /^only \d+ of the \d+ bytes that Content-Length announces have arrived$/);
   assert.equal(messages[0].message, connection.reader.incomplete);
   const other = served();
   other.connection.take(new TextEncoder().encode("Content-Len"));
-  assert.equal(other.connection.refuseIncomplete(), "only a part of the head of a message has arrived");
+  assert.equal(other.connection.reportIncomplete(), "only a part of the head of a message has arrived");
 });

@@ -2,15 +2,15 @@
 import assert from "node:assert/strict";
 import { test } from "node:test";
 import {
-  isStop, readBoard, readListing, readMap, readMarks, readRam, readRegisters, readRun, refusalOf, watchedPlaces,
+  isStop, readBoard, readListing, readMap, readItems, readRam, readRegisters, readRun, parseRefusal, watchedPlaces,
 } from "../core/bench/answers.js";
-import { ADDRESSES, NO_BYTE, bytesOf } from "../core/bench/rom_bytes.js";
-import { Answers, readTraced, valuesOf } from "../core/engine/tracing.js";
+import { ADDRESS_COUNT, NO_BYTE, parseRomBytes } from "../core/bench/rom_bytes.js";
+import { Answers, parseTraceLine, rowValues } from "../core/engine/tracing.js";
 
 test("refusals, with a line and without", () => {
-  assert.deepEqual(refusalOf("no 34 line 2"), { number: 34, line: 2 });
-  assert.deepEqual(refusalOf("no 90"), { number: 90, line: 0 });
-  for (const other of ["ok 5", "no", "no way", "no 34 line", "xno 34"]) assert.equal(refusalOf(other), null);
+  assert.deepEqual(parseRefusal("no 34 line 2"), { number: 34, line: 2 });
+  assert.deepEqual(parseRefusal("no 90"), { number: 90, line: 0 });
+  for (const other of ["ok 5", "no", "no way", "no 34 line", "xno 34"]) assert.equal(parseRefusal(other), null);
 });
 
 test("the answer to a run", () => {
@@ -37,15 +37,16 @@ test("RAM", () => {
 });
 
 test("the bytes of ROM, of one and two digits that are not 0", () => {
-  const bytes = bytesOf(["list 0 4", "000 D3    LDM 3", "001 24 5F FIM P2 0x5F", "003 40 0C JUN 0x00C", "FFE 50 A0 JMS 0x0A0", "ok 3"]);
+  const answer = ["list 0 4", "000 D3    LDM 3", "001 24 5F FIM P2 0x5F", "003 40 0C JUN 0x00C", "FFE 50 A0 JMS 0x0A0", "ok 3"];
+  const bytes = parseRomBytes(answer);
   const found = [...bytes].flatMap((byte, address) => (byte === NO_BYTE ? [] : [[address, byte]]));
   assert.deepEqual(found, [[0, 0xD3], [1, 0x24], [2, 0x5F], [3, 0x40], [4, 0x0C], [0xFFE, 0x50], [0xFFF, 0xA0]]);
-  assert.equal(bytes.length, ADDRESSES);
+  assert.equal(bytes.length, ADDRESS_COUNT);
 });
 
 test("marks", () => {
-  assert.deepEqual(readMarks("breaks 000 003"), ["000", "003"]);
-  assert.deepEqual(readMarks("watches -"), []);
+  assert.deepEqual(readItems("breaks 000 003"), ["000", "003"]);
+  assert.deepEqual(readItems("watches -"), []);
 });
 
 test("what is watched", () => {
@@ -66,7 +67,7 @@ test("what a run would do, among other answers", () => {
   const answers = new Answers(["trace ran 3 end lines 2 0 -", "0 000 1 -", "2 00A 2 *", "count ran 3 code lines 2", "000 1", "00A 12 3",
     "ok 7 ran 3 code", "no 11"]);
   const { row, lines, cycles } = answers.takeTrace();
-  assert.deepEqual([valuesOf(row), lines.map(readTraced), cycles],
+  assert.deepEqual([rowValues(row), lines.map(parseTraceLine), cycles],
     [["0", "-"], [{ cycles: 0, address: 0, row: " 1 -" }, { cycles: 2, address: 10, row: " 2 *" }], 3]);
   assert.deepEqual(answers.takeCounts(), [{ address: 0, begun: 1, jumped: -1 }, { address: 10, begun: 12, jumped: 3 }]);
   assert.deepEqual([answers.takeRun(), answers.takeRun()], [{ cycles: 3, end: "code" }, { cycles: 0, end: "no 11" }]);

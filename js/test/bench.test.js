@@ -2,7 +2,7 @@
 import assert from "node:assert/strict";
 import { mock, test } from "node:test";
 import { Bench } from "../core/bench/bench_client.js";
-import { Cancelled, WorkerDied } from "../core/bench/faults.js";
+import { CancelledError, WorkerDiedError } from "../core/bench/faults.js";
 
 /** Returns a bench over workers that behave as the test says. */
 function begin() {
@@ -73,7 +73,7 @@ test("long work reports its progress, and can be cancelled", async () => {
   controller.abort();
   assert.deepEqual(worker.sent[worker.sent.length - 1], { kind: "cancel", number });
   worker.deliver({ kind: "reply", number, fault: { kind: "cancelled", words: "", number: 0 } });
-  await assert.rejects(served, Cancelled);
+  await assert.rejects(served, CancelledError);
   assert.deepEqual(received, [[1, 4]]);
   mock.timers.tick(5000);
   assert.equal(worker.ended, false);
@@ -87,7 +87,7 @@ test("a worker that does not hear that it is to stop is ended", async () => {
   const served = bench.call("serve", ["seq\n"], { signal: controller.signal });
   controller.abort();
   mock.timers.tick(2000);
-  await assert.rejects(served, WorkerDied);
+  await assert.rejects(served, WorkerDiedError);
   assert.deepEqual([worker.ended, died], [true, 1]);
 });
 
@@ -102,7 +102,7 @@ test("a worker that owes something and gives no sign of life is ended; one that 
   }
   assert.equal(worker.ended, false);
   mock.timers.tick(12000);
-  await assert.rejects(asked, WorkerDied);
+  await assert.rejects(asked, WorkerDiedError);
   assert.equal(worker.ended, true);
 });
 
@@ -110,8 +110,8 @@ test("a script fault in the worker ends it, and another one can be started", asy
   const { bench, workers, worker } = await started();
   const asked = bench.call("ask", ["seq\n"]);
   worker.listeners.error({ preventDefault: () => {} });
-  await assert.rejects(asked, WorkerDied);
-  await assert.rejects(bench.call("ask", ["seq\n"]), WorkerDied);
+  await assert.rejects(asked, WorkerDiedError);
+  await assert.rejects(bench.call("ask", ["seq\n"]), WorkerDiedError);
   const start = bench.start();
   workers[1].reply(5);
   await start;
@@ -125,8 +125,8 @@ test("a script fault in the worker ends it, and another one can be started", asy
 test("arrays of files go back to the worker with the next request, but no others", async () => {
   const { bench, worker } = await started();
   const count = worker.sent.length;
-  bench.giveBack(new ArrayBuffer(4));
-  bench.giveBack(new ArrayBuffer(5));
+  bench.returnBuffer(new ArrayBuffer(4));
+  bench.returnBuffer(new ArrayBuffer(5));
   assert.equal(worker.sent.length, count);
   bench.call("ask", ["seq\n"]);
   bench.call("ask", ["seq\n"]);
@@ -137,7 +137,7 @@ test("at full speed they go back at once", async () => {
   const { bench, worker } = await started();
   const count = worker.sent.length;
   bench.isRunning = true;
-  bench.giveBack(new ArrayBuffer(4));
-  bench.giveBack(new ArrayBuffer(5));
+  bench.returnBuffer(new ArrayBuffer(4));
+  bench.returnBuffer(new ArrayBuffer(5));
   assert.deepEqual(worker.sent.slice(count).map(({ kind }) => kind), ["spare"]);
 });

@@ -2,17 +2,17 @@
 import assert from "node:assert/strict";
 import { readFileSync } from "node:fs";
 import { test } from "node:test";
-import { refusalOf } from "../core/bench/answers.js";
-import { LINE_NAMES, MAX_COLUMNS, MAX_PARTS, RANGES, boardLines } from "../core/bench/board_form.js";
+import { parseRefusal } from "../core/bench/answers.js";
+import { LINE_NAMES, MAX_COLUMNS, MAX_PARTS, VALUE_RANGES, boardLines } from "../core/bench/board_form.js";
 import { readErrors, readWiring } from "../core/bench/text_judgement.js";
 import { Engine } from "../core/engine/engine.js";
 import { TextBench } from "../core/server/text_bench.js";
-import { errorOfBoard } from "../core/text/board_error.js";
+import { createBoardError } from "../core/text/board_error.js";
 import { BoardReader, readBoardText } from "../core/text/board_reader.js";
 import { completeBoard } from "../core/text/board_completion.js";
 import { commentAt } from "../core/text/text_fault.js";
 import { readProjectToml } from "../core/project/project_toml.js";
-import { begin, moduleOfPage } from "./page_session.js";
+import { begin, pageModule } from "./page_session.js";
 import { boardTables, helpForBoard, tableAt } from "../core/text/text_help.js";
 
 // The table of the manual, as page/build reads it.
@@ -21,10 +21,10 @@ const rows = manual.split("### The keys of the text")[1].split("###")[0].split("
   .map((line) => line.slice(1, -1).split("|").map((cell) => cell.trim()));
 const tables = boardTables([{ title: "The keys of the text", tables: [{ caption: "", head: [], rows }] }]);
 
-const bench = new TextBench(new Engine(new globalThis.WebAssembly.Module(moduleOfPage)));
+const bench = new TextBench(new Engine(new globalThis.WebAssembly.Module(pageModule)));
 const errorOf = (text) => {
   const error = bench.wiring(text);
-  return error && errorOfBoard(text, error, tables, (number) => `words of ${number}`);
+  return error && createBoardError(text, error, tables, (number) => `words of ${number}`);
 };
 const wordsOf = (text) => {
   const error = errorOf(text);
@@ -52,14 +52,14 @@ test("answers are read", () => {
   assert.deepEqual(readWiring("no 23 line 1 rom"), { number: 23, line: 1, ...none, section: "rom" });
   assert.deepEqual(readWiring("no 25 line 6 lamp 2 key line"), { number: 25, line: 6, section: "lamp", index: 2, key: "line" });
   assert.deepEqual(readWiring("no 27 line 9 keys key columns"), { number: 27, line: 9, section: "keys", index: 0, key: "columns" });
-  assert.deepEqual(refusalOf("no 25 line 6 lamp 2 key line"), { number: 25, line: 6 });
+  assert.deepEqual(parseRefusal("no 25 line 6 lamp 2 key line"), { number: 25, line: 6 });
   assert.deepEqual(readErrors(["errors 2", "error 2 31", "error 3 30"]), [{ line: 2, number: 31 }, { line: 3, number: 30 }]);
   assert.deepEqual(readErrors(["no 13"]), []);
 });
 
 test("what a board can have is what the bench takes, to each edge", async () => {
   const calls = await begin("three lamps");
-  const numberOf = async (text) => (refusalOf((await calls.serve(`wire\n${text}.\n`)).first) || { number: 0 }).number;
+  const numberOf = async (text) => (parseRefusal((await calls.serve(`wire\n${text}.\n`)).first) || { number: 0 }).number;
   const rom = (chip, port = "0000") => `[[rom]]\nchip = ${chip}\nport = "${port}"\n`;
   const chain = (chips) => `[[chain]]\nclock = "rom8.0"\ndata = "rom8.1"\nchips = ${chips}\n`;
   const keys = (columns, values = {}) => {
@@ -75,8 +75,8 @@ test("what a board can have is what the bench takes, to each edge", async () => 
     "keys.first": (value) => roms + chain(8) + keys([column], { first: value }),
     "keys.rows": (value) => roms + chain(1) + keys([column], { rows: value }),
   };
-  assert.deepEqual(Object.keys(boards), Object.keys(RANGES));
-  for (const [key, { from, to }] of Object.entries(RANGES)) {
+  assert.deepEqual(Object.keys(boards), Object.keys(VALUE_RANGES));
+  for (const [key, { from, to }] of Object.entries(VALUE_RANGES)) {
     const numbers = [];
     for (const value of [from - 1, from, to, to + 1]) numbers.push(await numberOf(boards[key](value)));
     assert.deepEqual(numbers, [23, 0, 0, 23], key);

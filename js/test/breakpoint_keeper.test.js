@@ -3,7 +3,7 @@ import assert from "node:assert/strict";
 import { test } from "node:test";
 import { BreakpointKeeper } from "../core/debug/breakpoint_keeper.js";
 import { isSoft } from "../core/debug/soft_breakpoints.js";
-import { detailsOfBreakpoint, marksOf } from "../core/machine/breakpoint_marks.js";
+import { describeDetails, breakpointMarks } from "../core/machine/breakpoint_marks.js";
 import { SourceMap } from "../core/machine/source_map.js";
 import { hex } from "../core/bench/numbers.js";
 
@@ -44,7 +44,7 @@ const linesOf = ({ list }) => list.all.map(({ line, address }) => [line, address
 
 test("opening a session asks for nothing where it has no breakpoints, and touches nothing", async () => {
   const { keeper, seen } = begin(undefined);
-  keeper.takeMap(MAP, "");
+  keeper.setSourceMap(MAP, "");
   await keeper.settled;
   assert.deepEqual([seen.set, seen.touched, seen.failed], [[], 0, []]);
 });
@@ -52,14 +52,14 @@ test("opening a session asks for nothing where it has no breakpoints, and touche
 test("breakpoints of a session that has none beside it are taken, and get lines once the source is known", async () => {
   const { keeper, seen } = begin(undefined, ["000", "7FF"]);
   assert.deepEqual(linesOf(keeper), [[0, 0], [0, 0x7FF]]);
-  keeper.takeMap(MAP, "");
+  keeper.setSourceMap(MAP, "");
   await keeper.settled;
   assert.deepEqual([linesOf(keeper), seen.set.length, seen.touched], [[[2, 0], [0, 0x7FF]], 1, 0]);
 });
 
 test("one at a line without bytes goes to the next instruction, and says so; a second click takes it away", async () => {
   const { keeper, seen, bench } = begin([]);
-  keeper.takeMap(MAP, "");
+  keeper.setSourceMap(MAP, "");
   keeper.toggleLine(3);
   await keeper.settled;
   assert.deepEqual([linesOf(keeper), bench.breaks], [[[4, 2]], ["002"]]);
@@ -73,7 +73,7 @@ test("one at a line without bytes goes to the next instruction, and says so; a s
 
 test("one inside an instruction goes to the next one, and says so", async () => {
   const { keeper, seen, bench } = begin([]);
-  keeper.takeMap(MAP, "");
+  keeper.setSourceMap(MAP, "");
   keeper.take(["001"]);
   await keeper.settled;
   assert.deepEqual([linesOf(keeper), bench.breaks], [[[4, 2]], ["002"]]);
@@ -82,7 +82,7 @@ test("one inside an instruction goes to the next one, and says so", async () => 
 
 test("lines break and unbreak that were typed are followed", async () => {
   const { keeper, bench } = begin([]);
-  keeper.takeMap(MAP, "");
+  keeper.setSourceMap(MAP, "");
   keeper.take(["000"]);
   await keeper.settled;
   assert.deepEqual(linesOf(keeper), [[2, 0]]);
@@ -99,7 +99,7 @@ test("lines break and unbreak that were typed are followed", async () => {
 
 test("a line break that is typed while the bench is yet to have the list is followed, too", async () => {
   const { keeper, bench } = begin([]);
-  keeper.takeMap(MAP, "");
+  keeper.setSourceMap(MAP, "");
   // The bench has served the line after it was asked, and reports it before the request is done.
   const { calls } = keeper;
   const { set } = calls;
@@ -118,7 +118,7 @@ test("a line break that is typed while the bench is yet to have the list is foll
 
 test("a change is sent before the bench has answered the one before, and the answers are taken in that order", async () => {
   const { keeper } = begin([{ line: 2, address: 0 }]);
-  keeper.takeMap(MAP, "");
+  keeper.setSourceMap(MAP, "");
   await keeper.settled;
   const [{ id }] = keeper.list.all;
   /** The requests sent to the bench, and the answer to each. */
@@ -137,7 +137,7 @@ test("a change is sent before the bench has answered the one before, and the ans
 
 test("words are kept as they are typed, and the bench gets them once they are entered", async () => {
   const { keeper, seen } = begin([{ line: 2, address: 0, isOn: true, condition: "", from: 1, note: "" }, { line: 4, address: 2 }]);
-  keeper.takeMap(MAP, "");
+  keeper.setSourceMap(MAP, "");
   await keeper.settled;
   const [{ id }] = keeper.list.all;
   const before = seen.set.length;
@@ -156,7 +156,7 @@ test("words are kept as they are typed, and the bench gets them once they are en
 
 test("a bench that fails is reported once, and the next list is sent", async () => {
   const { keeper, seen, bench } = begin([]);
-  keeper.takeMap(MAP, "");
+  keeper.setSourceMap(MAP, "");
   const { set } = keeper.calls;
   keeper.calls.set = async () => { throw new Error("it died"); };
   keeper.toggleAddress(0x700);
@@ -168,27 +168,27 @@ test("a bench that fails is reported once, and the next list is sent", async () 
 
 test("a text that is not what stands in ROM takes breakpoints, which stop once it is assembled", async () => {
   const { keeper, seen, bench } = begin([]);
-  keeper.takeMap(null, "Source and ROM differ from line 4 (0x002). Assemble to update.");
+  keeper.setSourceMap(null, "Source and ROM differ from line 4 (0x002). Assemble to update.");
   keeper.toggleLine(4);
   await keeper.settled;
   assert.deepEqual([linesOf(keeper), bench.breaks], [[[4, -1]], []]);
   assert.match(seen.messages[0], /Assemble to update\. Until then this breakpoint stops nothing\.$/);
-  assert.deepEqual([...marksOf(keeper.list.all, keeper.faults).lines.values()],
+  assert.deepEqual([...breakpointMarks(keeper.list.all, keeper.faults).lines.values()],
     [{ mark: "\u25CB", words: "breakpoint: it stops once the source is assembled" }]);
-  keeper.takeMap(MAP, "");
+  keeper.setSourceMap(MAP, "");
   await keeper.settled;
   assert.deepEqual(bench.breaks, ["002"]);
 });
 
 test("a program that is assembled anew has its breakpoints where their lines are: the old ones go, in one call", async () => {
   const { keeper, seen, bench } = begin([{ line: 2, address: 0 }, { line: 4, address: 2 }], ["000", "002"]);
-  keeper.takeMap(MAP, "");
+  keeper.setSourceMap(MAP, "");
   await keeper.settled;
   keeper.edited([{ from: { line: 0, ch: 7 }, to: { line: 0, ch: 7 }, text: ["", "NOP"], removed: [""] }]);
-  keeper.takeMap(null, "assemble it");
+  keeper.setSourceMap(null, "assemble it");
   await keeper.settled;
   assert.deepEqual([linesOf(keeper), bench.breaks], [[[3, 0], [5, 2]], ["000", "002"]]);
-  keeper.takeMap(new SourceMap(["map lines 5 names 0", "line 1 000 0", "line 2 000 1", "line 3 001 2", "line 4 003 0", "line 5 003 1"],
+  keeper.setSourceMap(new SourceMap(["map lines 5 names 0", "line 1 000 0", "line 2 000 1", "line 3 001 2", "line 4 003 0", "line 5 003 1"],
     TEXT.replace("\n", "\nNOP\n")), "");
   await keeper.settled;
   assert.deepEqual([bench.breaks, seen.set.length], [["001", "003"], 2]);
@@ -196,13 +196,13 @@ test("a program that is assembled anew has its breakpoints where their lines are
 
 test("what cannot be read is reported; one that is off is kept; hits are counted", async () => {
   const { keeper, bench } = begin([{ line: 2, address: 0, condition: "no" }, { line: 4, address: 2, isOn: false }]);
-  keeper.takeMap(MAP, "");
+  keeper.setSourceMap(MAP, "");
   await keeper.settled;
   const [first, second] = keeper.list.all;
   assert.deepEqual([[...keeper.faults], bench.breaks], [[[first.id, "it is none"]], []]);
   keeper.count({ hits: [[second.id, 2], [second.id, 1]], notes: [], noted: 0 });
   assert.equal(second.hits, 3);
-  assert.deepEqual([...marksOf(keeper.list.all, keeper.faults).lines.values()].map(({ mark, words }) => `${mark} ${words}`),
+  assert.deepEqual([...breakpointMarks(keeper.list.all, keeper.faults).lines.values()].map(({ mark, words }) => `${mark} ${words}`),
     ["\u25CF breakpoint if no: it stops every time, because of an error: it is none", "\u25CB breakpoint: it is off"]);
   assert.deepEqual(keeper.list.kept[1], { line: 4, address: 2, isOn: false, condition: "", from: 1, note: "" });
 });
@@ -211,14 +211,14 @@ test("one more than the bench has is kept, and off", async () => {
   const { keeper, seen } = begin([]);
   for (let address = 0x100; address < 0x121; address++) keeper.toggleAddress(address);
   await keeper.settled;
-  assert.deepEqual([keeper.list.countOn, keeper.list.all.length, seen.messages.length], [32, 33, 1]);
+  assert.deepEqual([keeper.list.enabledCount, keeper.list.all.length, seen.messages.length], [32, 33, 1]);
   const off = keeper.list.all.find(({ isOn }) => !isOn);
   keeper.change(off.id, { isOn: true });
-  assert.deepEqual([keeper.list.countOn, seen.messages.length], [32, 2]);
+  assert.deepEqual([keeper.list.enabledCount, seen.messages.length], [32, 2]);
   keeper.remove(keeper.list.all[0].id);
   keeper.change(off.id, { isOn: true });
   await keeper.settled;
-  assert.deepEqual([keeper.list.countOn, seen.set.pop().length], [32, 32]);
+  assert.deepEqual([keeper.list.enabledCount, seen.set.pop().length], [32, 32]);
 });
 
 const KEPT = [{ line: 2, address: 0, isOn: true, condition: "r5 = 13", from: 3, note: "" },
@@ -228,11 +228,11 @@ const OTHERS = { short: "; a\n NOP", long: "; a\n; b\n NOP\n NOP\n; c" };
 for (const [what, other] of Object.entries(OTHERS)) {
   test(`a text that is replaced by a ${what} one has its breakpoints and their words again once it is back`, async () => {
     const { keeper } = begin(KEPT, ["000"]);
-    keeper.takeMap(MAP, "");
+    keeper.setSourceMap(MAP, "");
     keeper.edited(replacing(TEXT, other));
-    keeper.takeMap(null, "assemble it");
+    keeper.setSourceMap(null, "assemble it");
     // The other text is assembled: its lines are elsewhere.
-    keeper.takeMap(new SourceMap(["map lines 2 names 0", "line 1 000 0", "line 2 000 1"], OTHERS.short), "");
+    keeper.setSourceMap(new SourceMap(["map lines 2 names 0", "line 1 000 0", "line 2 000 1"], OTHERS.short), "");
     await keeper.settled;
     keeper.edited(replacing(other, TEXT));
     assert.deepEqual(keeper.list.kept, KEPT);
@@ -247,7 +247,7 @@ for (const [what, other] of Object.entries(OTHERS)) {
 
 test("the bench has the breakpoints of a text that is back, whatever the source is found to be", async () => {
   const { keeper, bench } = begin([{ line: 4, address: 2 }], ["002"]);
-  keeper.takeMap(MAP, "");
+  keeper.setSourceMap(MAP, "");
   keeper.edited(replacing(TEXT, OTHERS.short));
   await keeper.settled;
   assert.deepEqual(bench.breaks, []);
@@ -259,7 +259,7 @@ test("the bench has the breakpoints of a text that is back, whatever the source 
 test("what is done with breakpoints while another text is there stays", () => {
   const { keeper } = begin(KEPT);
   keeper.edited(replacing(TEXT, OTHERS.long));
-  keeper.change(keeper.list.atAddress(0).id, { condition: "r5 = 14" });
+  keeper.change(keeper.list.findByAddress(0).id, { condition: "r5 = 14" });
   keeper.toggleAddress(0x700);
   assert.deepEqual(linesOf(keeper), [[0, 0], [0, 2], [0, 0x700]]);
   keeper.edited(replacing(OTHERS.long, TEXT));
@@ -283,7 +283,7 @@ test("no more come back than there can be on", () => {
   keeper.edited(replacing(many, ""));
   for (let address = 0x100; address < 0x110; address++) keeper.toggleAddress(address);
   keeper.edited(replacing("", many));
-  assert.deepEqual([keeper.list.countOn, keeper.list.all.length, keeper.list.all[31].isOn], [32, 48, true]);
+  assert.deepEqual([keeper.list.enabledCount, keeper.list.all.length, keeper.list.all[31].isOn], [32, 48, true]);
 });
 
 test("words that are no others change nothing, but end what was typed", async () => {
@@ -300,8 +300,8 @@ test("words that are no others change nothing, but end what was typed", async ()
 
 test("what a breakpoint does is described in words; of one that always stops there is nothing to report", () => {
   const plain = { condition: "", from: 1, note: " " };
-  assert.equal(detailsOfBreakpoint(plain), "");
-  assert.equal(detailsOfBreakpoint({ ...plain, condition: " r9 = 9 ", from: 2 }), "if r9 = 9 from hit 2 on");
-  assert.equal(detailsOfBreakpoint({ ...plain, note: "R9 is {r9}" }), 'logs "R9 is {r9}" and continues');
-  assert.equal(detailsOfBreakpoint({ ...plain, from: 3, note: "x" }), 'from hit 3 on: logs "x" and continues');
+  assert.equal(describeDetails(plain), "");
+  assert.equal(describeDetails({ ...plain, condition: " r9 = 9 ", from: 2 }), "if r9 = 9 from hit 2 on");
+  assert.equal(describeDetails({ ...plain, note: "R9 is {r9}" }), 'logs "R9 is {r9}" and continues');
+  assert.equal(describeDetails({ ...plain, from: 3, note: "x" }), 'from hit 3 on: logs "x" and continues');
 });

@@ -2,16 +2,16 @@
 import assert from "node:assert/strict";
 import { readFileSync } from "node:fs";
 import { test } from "node:test";
-import { Brightness, brightnessOf } from "../core/board/brightness.js";
+import { Brightness, perceivedBrightness } from "../core/board/brightness.js";
 import { matrixKey } from "../core/board/key_place.js";
 import { EYE_MS } from "../core/time/mcs4_time.js";
-import { shownNumber } from "../core/board/digit_patterns.js";
+import { displayedNumber } from "../core/board/digit_patterns.js";
 import { DisplayText } from "../core/board/display_text.js";
 import { Face } from "../core/board/face.js";
-import { SoundPieces, samplesOf } from "../core/board/sound_samples.js";
+import { SoundPieces, soundSamples } from "../core/board/sound_samples.js";
 import { BenchCalls } from "../core/engine/bench_calls.js";
-import { SeenText } from "../core/engine/seen_text.js";
-import { examplesOfPage, moduleOfPage } from "./page_session.js";
+import { PerceivedText } from "../core/engine/seen_text.js";
+import { examplesOfPage, pageModule } from "./page_session.js";
 
 /** A frame of a screen that shows 60 a second, in cycles and in milliseconds. */
 const FRAME = 1543;
@@ -42,7 +42,7 @@ const REFRESHED = { board: textOf("two_digits.toml"), program: textOf("two_digit
 
 async function begin({ board, program }) {
   const calls = new BenchCalls(async () => true);
-  await calls.load(moduleOfPage, []);
+  await calls.load(pageModule, []);
   calls.open(calls.make({ name: "own", title: "", board, program, tests: "", properties: "", lines: "", project: "" }));
   calls.watchLamps(board, 7);
   return calls;
@@ -114,7 +114,7 @@ test("digits that are lit by turns show what they show longest while they are li
   const trace = (...rows) => [`trace ran ${rows.length * 100} end lines ${rows.length - 1} ${rows[0]}`,
     ...rows.slice(1).map((row, at) => `${at * 100 + 99} 000 ${row}`)];
   const read = (...rows) => {
-    const { number, names } = new SeenText(face, 12).read(trace(...rows));
+    const { number, names } = new PerceivedText(face, 12).read(trace(...rows));
     return [number, names];
   };
   // 4, with a ghost of the digit before; 2 with its point; and the third one is never on.
@@ -133,7 +133,7 @@ test("the edges of a line are reported to the cycle, and its samples have its pi
   for (const cycles of [3, 40, FRAME, 1]) {
     const lampLines = calls.ask(`lamps\n${"run 1\nlamps\n".repeat(cycles)}`).filter((line) => line.startsWith("lamps")).slice(0, cycles);
     const wanted = lampLines.map((line) => (line["lamps ".length] === "*" ? 1 : -1));
-    assert.deepEqual([...samplesOf(calls.advance(cycles).heard)], wanted);
+    assert.deepEqual([...soundSamples(calls.advance(cycles).heard)], wanted);
   }
   const pieces = new SoundPieces(4200);
   let [rises, count] = [0, 0];
@@ -170,7 +170,7 @@ test("a lamp that flickers from now on is seen to 63 % after the persistence, an
   assert.ok(Math.abs(seen.lamps[0] - Math.exp(-1)) < 1e-9);
   seen.begin("*");
   assert.equal(seen.lamps[0], 1);
-  assert.deepEqual([0, 0.25, 1, 2].map(brightnessOf), [0, 0.53, 1, 1]);
+  assert.deepEqual([0, 0.25, 1, 2].map(perceivedBrightness), [0, 0.53, 1, 1]);
 });
 
 test("a lamp that stands still is full at once, and fades when it goes out; one that is lit for a moment is seen, and is not lit", () => {
@@ -219,7 +219,7 @@ test("digits that are shifted in are shown at once when they stand, and nothing 
   const seen = new Brightness(new Face(example.board), 43);
   const pass = (cycles, key = null) => {
     seen.add(calls.advance(cycles, key).litShares, (FRAME_TIME * cycles) / FRAME);
-    return seen.patterns.map(shownNumber).join(" ");
+    return seen.patterns.map(displayedNumber).join(" ");
   };
   for (let frame = 0; frame < 60; frame++) pass(FRAME);
   let isAtOnce = 0;
@@ -248,7 +248,7 @@ test("a display that is refreshed in the main loop shows its number in each fram
   for (let frame = 0; frame < 150; frame++) {
     const { litShares, snapshot } = calls.advance(FRAME);
     seen.add(litShares, FRAME_TIME);
-    numbers.add(seen.patterns.map(shownNumber).join(" "));
+    numbers.add(seen.patterns.map(displayedNumber).join(" "));
     matches += Number(instants.read(/ lamps (\S+) /.exec(snapshot[0])[1]).number === "42");
   }
   assert.deepEqual([...numbers], ["42"]);

@@ -17,12 +17,12 @@ test("what differs from the stop before is marked, however long ago it changed",
   const changes = new Changes();
   const [first, second] = [fakeCell(), fakeCell()];
   for (const cell of [first, second]) changes.set(cell, "0");
-  changes.stops();
+  changes.handlePaused();
   assert.deepEqual([first.isMarked(), second.isMarked()], [false, false]);
   changes.set(first, "5");
-  for (let frame = 0; frame < 200; frame++) changes.runs();
+  for (let frame = 0; frame < 200; frame++) changes.handleRunning();
   assert.equal(first.isMarked(), false);
-  changes.stops();
+  changes.handlePaused();
   assert.deepEqual([first.isMarked(), second.isMarked()], [true, false]);
 });
 
@@ -31,9 +31,9 @@ test("a value that has come back to what it was is not marked", () => {
   const cell = fakeCell();
   changes.set(cell, "1");
   changes.set(cell, "2");
-  changes.runs();
+  changes.handleRunning();
   changes.set(cell, "1");
-  changes.stops();
+  changes.handlePaused();
   assert.equal(cell.isMarked(), false);
 });
 
@@ -42,10 +42,10 @@ test("marks stay where nothing has happened, and go when time runs", () => {
   const cell = fakeCell();
   changes.set(cell, "1");
   changes.set(cell, "2");
-  changes.stops();
-  changes.stops();
+  changes.handlePaused();
+  changes.handlePaused();
   assert.equal(cell.isMarked(), true);
-  changes.runs();
+  changes.handleRunning();
   assert.equal(cell.isMarked(), false);
 });
 
@@ -54,9 +54,9 @@ test("the next stop compares with this one", () => {
   const [first, second] = [fakeCell(), fakeCell()];
   for (const cell of [first, second]) changes.set(cell, "0");
   changes.set(first, "1");
-  changes.stops();
+  changes.handlePaused();
   changes.set(second, "1");
-  changes.stops();
+  changes.handlePaused();
   assert.deepEqual([first.isMarked(), second.isMarked()], [false, true]);
 });
 
@@ -65,13 +65,13 @@ test("cells of another board begin without marks", () => {
   const cell = fakeCell();
   changes.set(cell, "1");
   changes.set(cell, "2");
-  changes.stops();
+  changes.handlePaused();
   changes.forget();
   assert.equal(cell.isMarked(), false);
   changes.set(cell, "2");
-  changes.stops();
+  changes.handlePaused();
   assert.equal(cell.isMarked(), false);
   changes.set(cell, "3");
-  changes.stops();
+  changes.handlePaused();
   assert.equal(cell.isMarked(), true);
 });

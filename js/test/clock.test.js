@@ -4,7 +4,7 @@ import { mock, test } from "node:test";
 import { Clock } from "../page/time/clock.js";
 import { matrixKey } from "../core/board/key_place.js";
 import { CYCLES_PER_SECOND } from "../core/time/mcs4_time.js";
-import { SPEEDS, speedOf } from "../core/time/speeds.js";
+import { SPEEDS, findSpeed } from "../core/time/speeds.js";
 
 /** Returns a clock that runs from 0 on, and its calls; `to` moves to a time, with a frame there. */
 function begin(speed = "real") {
@@ -22,12 +22,12 @@ function begin(speed = "real") {
       calls.push(key ? [cycles, key] : [cycles]);
       return seen.waiting || Promise.resolve();
     },
-    instruct: async () => { calls.push(["instruction"]); },
+    runInstruction: async () => { calls.push(["instruction"]); },
     runFull: async () => { calls.push(["full"]); },
-    stoodStill: () => { seen.gaps += 1; },
-    failed: (fault) => seen.fails.push(fault),
+    reportStandstill: () => { seen.gaps += 1; },
+    reportFailure: (fault) => seen.fails.push(fault),
   });
-  clock.setSpeed(speedOf(speed));
+  clock.setSpeed(findSpeed(speed));
   clock.start();
   const wait = (time) => { now = time; };
   const to = async (time) => {

@@ -8,7 +8,7 @@ import { SourceMap } from "../core/machine/source_map.js";
 import { sentText } from "../core/text/text_fault.js";
 import { readProgram } from "../core/engine/program_check.js";
 import { Engine } from "../core/engine/engine.js";
-import { moduleOfPage } from "./page_session.js";
+import { pageModule } from "./page_session.js";
 
 const BOARD = `rom = [{ chip = 0, port = "0000" }, { chip = 1, port = "iiii" }]
 ram = [{ bank = 0, chips = 1 }]
@@ -18,7 +18,7 @@ lamp = [{ line = "rom0.0" }]
 /** @type {Engine} */
 let engine;
 before(async () => {
-  engine = await Engine.load(moduleOfPage);
+  engine = await Engine.load(pageModule);
 });
 
 /** A session with a program, whose lines are known. */
@@ -121,11 +121,11 @@ test("where lamps wait for a key it is looked for once they are reported, and re
   const wanted = now.advance(1543).tally.usual;
   assert.equal(wanted.length, 1);
   const hurried = later.advance(1543, true);
-  assert.deepEqual([hurried.tally.usual, later.late], [[], []], "nothing is looked for before that");
-  later.lookBack();
-  later.lookBack();
+  assert.deepEqual([hurried.tally.usual, later.lateMistakes], [[], []], "nothing is looked for before that");
+  later.checkLastLines();
+  later.checkLastLines();
   assert.deepEqual(later.advance(1543, true).tally.usual, wanted);
-  later.lookBack();
+  later.checkLastLines();
   assert.deepEqual(later.advance(1543).tally.usual, [], "it is reported once");
   now.advance(1543);
   now.advance(1543);

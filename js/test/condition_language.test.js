@@ -3,31 +3,33 @@
 import assert from "node:assert/strict";
 import { readFileSync, readdirSync } from "node:fs";
 import { before, test } from "node:test";
-import { valueOfExpression } from "../core/adapter/expression_values.js";
+import { evaluateExpression } from "../core/adapter/expression_values.js";
 import { Console } from "../core/adapter/console.js";
 import { replaceNames } from "../core/bench/names_in_lines.js";
-import { conditionOf, expressionOf, testConditionOf, tracedConditionOf } from "../core/conditions/condition_language.js";
+import {
+  compileCondition, compileExpression, compileTestCondition, compileTracedCondition,
+} from "../core/conditions/condition_language.js";
 import { MAX_DEPTH, MAX_LENGTH } from "../core/conditions/parser.js";
 import { readSetting } from "../core/conditions/setting.js";
 import { DebugSession } from "../core/debug/debug_session.js";
-import { goalOfText } from "../core/debug/becoming.js";
-import { noteOf, softBreakpointOf } from "../core/debug/soft_breakpoints.js";
-import { MachineState } from "../core/debug/standing.js";
+import { parseGoal } from "../core/debug/becoming.js";
+import { compileNote, compileBreakpoint } from "../core/debug/soft_breakpoints.js";
+import { MachineState } from "../core/debug/machine_state.js";
 import { textOf } from "../core/debug/value_words.js";
-import { namesOfWatched, readWatched } from "../core/debug/watched.js";
+import { collectWatchNames, parseWatch } from "../core/debug/watched.js";
 import { readCampaign } from "../core/explore/campaign.js";
-import { randomFrom } from "../core/explore/walks.js";
+import { createRandom } from "../core/explore/walks.js";
 import { Engine } from "../core/engine/engine.js";
 import { Prompt } from "../core/prompt/debugger_prompt.js";
-import { Account } from "../core/testing/account.js";
+import { ExecutionRecorder } from "../core/testing/account.js";
 import { TestSession } from "../core/testing/test_session.js";
 import { readTests } from "../core/testing/test_text.js";
-import { linesOfBoard } from "../core/waves/wave_lines.js";
+import { createBoardLines } from "../core/waves/wave_lines.js";
 import { readTrigger } from "../core/waves/trigger.js";
-import { dataOfPage } from "../node/page_parts.mjs";
-import { moduleOfPage } from "./page_session.js";
+import { readPageData } from "../node/page_parts.mjs";
+import { pageModule } from "./page_session.js";
 
-const engine = new Engine(new globalThis.WebAssembly.Module(moduleOfPage));
+const engine = new Engine(new globalThis.WebAssembly.Module(pageModule));
 const BOARD = `# lamp 0: 1 2 4 8
 # lamp 4: or
 # row 0: A = no #
@@ -107,7 +109,7 @@ let names;
 before(() => {
   session = new DebugSession(engine, { board: BOARD, program: PROGRAM });
   assert.deepEqual(session.refused, []);
-  names = { ...session.names, watched: namesOfWatched(WATCHED) };
+  names = { ...session.names, watched: collectWatchNames(WATCHED) };
 });
 
 const upTo = (random, most) => Math.floor(random() * most);
@@ -151,8 +153,8 @@ before(() => {
   const put = (words) => {
     printed = words;
   };
-  const calls = { print: put, complain: put, pause: async () => {}, source: () => null, isByHand: false, view: null };
-  prompt = new Prompt(launched, dataOfPage(), calls);
+  const calls = { print: put, complain: put, pause: async () => {}, source: () => null, isInteractive: false, view: null };
+  prompt = new Prompt(launched, readPageData(), calls);
 });
 
 /** By the place of use: whether a condition is accepted there, and holds now; otherwise the error. */
@@ -161,10 +163,10 @@ const USES = {
     const { tests: [{ steps: [{ action }] }], faults } = readTests(`test t\n expect ${text}\n`, names);
     if (faults.length > 0) return faults[0].words;
     const { file } = session.debugger.session;
-    return new TestSession(engine, file, new Account(new Uint8Array(4096)), async () => {}).check(action.condition).holds;
+    return new TestSession(engine, file, new ExecutionRecorder(new Uint8Array(4096)), async () => {}).check(action.condition).holds;
   },
   Watch: (text) => {
-    const { watched, fault } = readWatched(text, names);
+    const { watched, fault } = parseWatch(text, names);
     const look = ["state\n", "ram 0\n"].map((line) => session.debugger.session.ask(line).join("\n"));
     return fault || textOf(watched.pieces(new MachineState(look), names)) === "true";
   },
@@ -174,17 +176,17 @@ const USES = {
     return /^(true|false)$/.test(printed) ? printed === "true" : printed;
   },
   breakpoint: (text) => {
-    const { soft, fault } = softBreakpointOf({ id: 1, address: 0, condition: text, from: 1, note: "", hits: 0 }, names);
+    const { soft, fault } = compileBreakpoint({ id: 1, address: 0, condition: text, from: 1, note: "", hits: 0 }, names);
     return fault || soft.holds(now(soft));
   },
   "log message": (text) => {
-    const { note, fault } = noteOf(`{${text}}`, names);
+    const { note, fault } = compileNote(`{${text}}`, names);
     return fault || note.words(now(note)) === "true";
   },
-  evaluate: (text) => orFault(() => valueOfExpression(text, known()) === "true"),
+  evaluate: (text) => orFault(() => evaluateExpression(text, known()) === "true"),
   console: (text) => orFault(async () => (await new Console({ isMoving: false }, known(), null, {}).serveLine(text)).words === "true"),
   trigger: (text) => {
-    const { trigger, fault } = readTrigger(text, linesOfBoard(names.board, BOARD, true, []), names);
+    const { trigger, fault } = readTrigger(text, createBoardLines(names.board, BOARD, true, []), names);
     return fault || trigger.holds(now(trigger));
   },
   property: (text) => {
@@ -195,7 +197,7 @@ const USES = {
 
 for (const [use, holds] of Object.entries(USES)) {
   test(`${use}: what is typed means what was meant`, async () => {
-    const random = randomFrom(83);
+    const random = createRandom(83);
     const seen = new Map();
     const isLive = use !== "trigger" && use !== "property";
     for (let round = 0; round < 60; round++) {
@@ -212,18 +214,18 @@ for (const [use, holds] of Object.entries(USES)) {
 }
 
 test("A names the accumulator where the user has given A to nothing", () => {
-  for (const text of ["A = 10", "a == 0xA"]) assert.deepEqual(conditionOf(text, names).condition.places, ["acc"], text);
-  const watched = { ...names, watched: namesOfWatched(["A = r3"]) };
-  assert.deepEqual(conditionOf("A = 10", watched).condition.places, ["r3"]);
+  for (const text of ["A = 10", "a == 0xA"]) assert.deepEqual(compileCondition(text, names).condition.places, ["acc"], text);
+  const watched = { ...names, watched: collectWatchNames(["A = r3"]) };
+  assert.deepEqual(compileCondition("A = 10", watched).condition.places, ["r3"]);
   const label = { ...names, map: { ...names.map, names: new Map([["A", { value: 10, isLabel: true }]]) } };
-  assert.deepEqual(conditionOf("A = 10", label).condition.places, []);
+  assert.deepEqual(compileCondition("A = 10", label).condition.places, []);
 });
 
 test("an error in a condition is the same in each place of use; a breakpoint with it stops every time", async () => {
   for (const [use, holds] of Object.entries(USES)) {
     assert.match(String(await holds("accu = 10")), /accu: no such place; the accumulator is acc/, use);
   }
-  const { soft, fault } = softBreakpointOf({ id: 1, address: 0, condition: "accu = 10", from: 1, note: "", hits: 0 }, names);
+  const { soft, fault } = compileBreakpoint({ id: 1, address: 0, condition: "accu = 10", from: 1, note: "", hits: 0 }, names);
   assert.equal(fault, "accu: no such place; the accumulator is acc (column 1)");
   assert.equal(soft.holds([]), true);
 });
@@ -240,7 +242,7 @@ function isNow() {
 
 test("searches of the past, and on: a condition is found where it became true, instruction by instruction", async () => {
   const own = new DebugSession(engine, { board: BOARD, program: SEARCHED });
-  Object.defineProperty(own, "names", { configurable: true, value: { ...own.names, watched: namesOfWatched(WATCHED) } });
+  Object.defineProperty(own, "names", { configurable: true, value: { ...own.names, watched: collectWatchNames(WATCHED) } });
   const kept = session;
   session = own;
   try {
@@ -267,7 +269,7 @@ test("searches of the past, and on: a condition is found where it became true, i
     assert.ok(compared > 12, String(compared));
     // On, from power-on.
     const begun = new DebugSession(engine, { board: BOARD, program: SEARCHED });
-    Object.defineProperty(begun, "names", { configurable: true, value: { ...begun.names, watched: namesOfWatched(WATCHED) } });
+    Object.defineProperty(begun, "names", { configurable: true, value: { ...begun.names, watched: collectWatchNames(WATCHED) } });
     for (const [text, meant] of MEANT) {
       const [first] = all.flatMap(({ is, total }, at) => (at > 0 && meant(is) && !meant(all[at - 1].is) ? [total] : []));
       if (first === undefined) continue;
@@ -284,7 +286,9 @@ test("searches of the past, and on: a condition is found where it became true, i
 });
 
 test("what no trace shows is refused where nothing else is asked", () => {
-  for (const [text] of MEANT_THERE) assert.match(tracedConditionOf(text, names).fault, /^no run changes .*: ask for it at a breakpoint$/);
+  for (const [text] of MEANT_THERE) {
+    assert.match(compileTracedCondition(text, names).fault, /^no run changes .*: ask for it at a breakpoint$/);
+  }
 });
 
 test("errors point at their column, and propose", () => {
@@ -301,7 +305,7 @@ test("errors point at their column, and propose", () => {
     [`${"(".repeat(MAX_DEPTH + 1)}r5 = 1`, MAX_DEPTH, "parentheses can be nested at most 30 deep"],
     ["x".repeat(MAX_LENGTH + 1), MAX_LENGTH - 1, "a condition has at most 2000 characters"],
   ]) {
-    const read = conditionOf(text, names);
+    const read = compileCondition(text, names);
     assert.deepEqual([read.fault, read.column], [fault, column], text);
   }
 });
@@ -312,14 +316,15 @@ test("a text of any kind is read in time, and an error is in a column of it", ()
     "at", "@turn", "count", "limit", "foo", "on", "off", "down", "up", "not", "!", "and", "&&", "or", "||", "(", ")", "=", "==", "!=",
     "<", "<=", ">", ">=", "+", "-", "&", "10", "0xA", "0b1", "99999999999999999999", "1x", '"', '"a b"', "?", "*.", "none", "cycles",
     "é", "\u0000", "", "😀", "__proto__", "constructor", "toString", "\t", "ret", "test", "owed", "P2", "="];
-  const random = randomFrom(1971);
+  const random = createRandom(1971);
   const began = process.cpuUsage();
   let taken = 0;
   for (let each = 0; each < 10000; each++) {
     const count = upTo(random, each % 100 === 0 ? 1500 : 14);
     const glue = upTo(random, 4) === 0 ? "" : " ";
     const text = Array.from({ length: count }, () => pieces[upTo(random, pieces.length)]).join(glue);
-    const readers = [conditionOf, expressionOf, testConditionOf, tracedConditionOf, (all) => readSetting(all, names.map, names.board)];
+    const setting = (all) => readSetting(all, names.map, names.board);
+    const readers = [compileCondition, compileExpression, compileTestCondition, compileTracedCondition, setting];
     for (const read of readers) {
       const { fault, column } = read(text, names);
       if (fault === "") taken += 1;
@@ -334,8 +339,8 @@ test("a text of any kind is read in time, and an error is in a column of it", ()
     const line = heads[upTo(random, heads.length)] + text.replace("+", ",") + [", never cy 1", "", " for 5 ms"][upTo(random, 3)];
     readCampaign(line, { names, instructions: [] });
     readTests(`test t\nexpect ${text}\nuntil ${text} within 5\nset ${text}\n`, names);
-    for (const fault of [readWatched(text, names).fault, readWatched(`x = ${text}`, names).fault, goalOfText(text, names).fault,
-      noteOf(`a {${text}} b`, names).fault, replaceNames(`set ${text}`, session.map).words]) {
+    for (const fault of [parseWatch(text, names).fault, parseWatch(`x = ${text}`, names).fault, parseGoal(text, names).fault,
+      compileNote(`a {${text}} b`, names).fault, replaceNames(`set ${text}`, session.map).words]) {
       const column = / \(column (\d+)\)\.?$/.exec(fault);
       assert.ok(fault === "" || column === null || Number(column[1]) <= text.length + 8, `${text}: ${fault}`);
     }
@@ -369,12 +374,12 @@ function conditionsOfExamples() {
 }
 
 test("the conditions of the examples' tests mean the same here", () => {
-  const random = randomFrom(7);
+  const random = createRandom(7);
   let compared = 0;
   for (const { board, program, conditions } of conditionsOfExamples()) {
     const { names: own } = new DebugSession(engine, { board, program });
     for (const text of conditions) {
-      const [old, read] = [testConditionOf(text, own), conditionOf(text, own)];
+      const [old, read] = [compileTestCondition(text, own), compileCondition(text, own)];
       assert.equal(old.fault, "", text);
       // Forms for the lines of a test only are rejected, as before.
       if (old.condition.needs.some((need) => need !== "test")) {

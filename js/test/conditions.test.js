@@ -3,11 +3,11 @@ import assert from "node:assert/strict";
 import { before, test } from "node:test";
 import { readBoard } from "../core/bench/answers.js";
 import { Face } from "../core/board/face.js";
-import { MOST_PLACES } from "../core/bench/inputs.js";
-import { conditionOf, testConditionOf } from "../core/conditions/condition_language.js";
-import { durationOf, wholeDuration } from "../core/conditions/durations.js";
+import { MAX_PLACES } from "../core/bench/inputs.js";
+import { compileCondition, compileTestCondition } from "../core/conditions/condition_language.js";
+import { parseDuration, parseWholeDuration } from "../core/conditions/durations.js";
 import { SourceMap } from "../core/machine/source_map.js";
-import { Answers, valuesOf } from "../core/engine/tracing.js";
+import { Answers, rowValues } from "../core/engine/tracing.js";
 import { begin } from "./page_session.js";
 
 const WIRED = [
@@ -33,11 +33,11 @@ before(async () => {
 
 /** Returns the current values of a condition's places. */
 function valuesNow(calls, { places }) {
-  return places.length === 0 ? [] : valuesOf(new Answers(calls.ask(`trace 1 ${places.join(" ")}\n`)).takeTrace().row);
+  return places.length === 0 ? [] : rowValues(new Answers(calls.ask(`trace 1 ${places.join(" ")}\n`)).takeTrace().row);
 }
 
 const read = (text) => {
-  const { condition, fault } = conditionOf(text, names);
+  const { condition, fault } = compileCondition(text, names);
   assert.equal(fault, "", text);
   return condition;
 };
@@ -83,9 +83,9 @@ test("places are reported once, and what a query takes is not exceeded", () => {
   assert.deepEqual(read("lamp 3 on and lamps none").places, ["lamps"]);
   assert.deepEqual(read("@end").address, 11);
   assert.deepEqual([read("not @end").address, read("pc > 3").address, read("@end and acc 1").address], [-1, -1, -1]);
-  const many = Array.from({ length: MOST_PLACES }, (_, at) => `r${at} 0`).join(" and ");
-  assert.equal(read(many).places.length, MOST_PLACES);
-  assert.equal(conditionOf(`${many} and acc 1`, names).fault, "it reads 17 places; at most 16 are allowed");
+  const many = Array.from({ length: MAX_PLACES }, (_, at) => `r${at} 0`).join(" and ");
+  assert.equal(read(many).places.length, MAX_PLACES);
+  assert.equal(compileCondition(`${many} and acc 1`, names).fault, "it reads 17 places; at most 16 are allowed");
 });
 
 test("what cannot be read is reported, with what the board has", () => {
@@ -116,30 +116,30 @@ test("what cannot be read is reported, with what the board has", () => {
     ["ram.0.0 4 < 5", "<: a condition ends before this; join two by and, or"], ["= 3", "a value is missing before ="],
   ];
   for (const [text, fault] of faults) {
-    const shown = conditionOf(text, names).fault;
+    const shown = compileCondition(text, names).fault;
     assert.ok(shown.startsWith(fault), `${text}: ${shown}`);
   }
   const bare = { ...names, face: new Face(WIRED) };
-  assert.equal(conditionOf("lamp red on", bare).fault, "the board has no lamp red; its text names no lamps (`# lamp 0: NAME ..`)");
-  assert.equal(conditionOf("display 3", bare).fault, "the board's text names no display (`# display 0: 4 digits`)");
-  assert.match(conditionOf("printed 3", bare).fault, /^the board's text names no printer /);
+  assert.equal(compileCondition("lamp red on", bare).fault, "the board has no lamp red; its text names no lamps (`# lamp 0: NAME ..`)");
+  assert.equal(compileCondition("display 3", bare).fault, "the board's text names no display (`# display 0: 4 digits`)");
+  assert.match(compileCondition("printed 3", bare).fault, /^the board's text names no printer /);
   const printing = { ...names, face: new Face(`${WIRED}\n# printer rom0.0: ram0.0 0 1 feed\n`) };
-  assert.match(conditionOf("printed 3", printing).fault, /^printed text arrives line by line/);
+  assert.match(compileCondition("printed 3", printing).fault, /^printed text arrives line by line/);
 });
 
 test("the lines of a test ask for what no trace shows as well", () => {
-  const ofTest = (text) => testConditionOf(text, names);
+  const ofTest = (text) => compileTestCondition(text, names);
   const { condition } = ofTest("test 1");
   assert.deepEqual([condition.places, condition.needs], [[], ["test"]]);
-  const beside = { test: "1", owed: "1", keys: "", cycles: 538, seen: [], printed: [] };
+  const extraValues = { test: "1", owed: "1", keys: "", cycles: 538, seen: [], printed: [] };
   const both = ofTest("r9 = 3 and (test = 1 or cycles at most 5)").condition;
   assert.deepEqual([both.places, both.needs], [["r9"], ["cycles", "test"]]);
-  const held = [both.holds(["3"], beside), both.holds(["3"], { ...beside, test: "0" }), both.holds(["4"], beside)];
+  const held = [both.holds(["3"], extraValues), both.holds(["3"], { ...extraValues, test: "0" }), both.holds(["4"], extraValues)];
   assert.deepEqual(held, [true, false, false]);
-  assert.equal(condition.holds([], beside), true);
-  assert.equal(ofTest("cycles at most 6 ms").condition.holds([], beside), true);
-  assert.equal(ofTest("cycles 537").condition.explain([], beside), "cycles are 538, but must be 537");
-  assert.equal(ofTest("@end").condition.explain(["00B"], beside), "pc is 00B (end), within an instruction, but must be @end");
+  assert.equal(condition.holds([], extraValues), true);
+  assert.equal(ofTest("cycles at most 6 ms").condition.holds([], extraValues), true);
+  assert.equal(ofTest("cycles 537").condition.explain([], extraValues), "cycles are 538, but must be 537");
+  assert.equal(ofTest("@end").condition.explain(["00B"], extraValues), "pc is 00B (end), within an instruction, but must be @end");
   assert.equal(ofTest("cycles").fault, "write `cycles TIME`, `cycles at most TIME` or `cycles at least TIME`");
 });
 
@@ -147,6 +147,6 @@ test("times", () => {
   const shown = [["538", 538], ["538 cycles", 538], ["1 cycle", 1], ["20 ms", 1852], ["20ms", 1852], ["1.5 s", 138889], ["0", 0],
     ["1.5", 0], ["ms", 0], ["", 0],
     ["3 x", 0], ["1000000001", 0], ["-3", 0], ["1.5.2 ms", 0]];
-  for (const [text, cycles] of shown) assert.equal(wholeDuration(text.split(" ")), cycles, text);
-  assert.deepEqual(durationOf(["pace", "43", "ms", "1", "s"], 1), { cycles: 3981, words: 2 });
+  for (const [text, cycles] of shown) assert.equal(parseWholeDuration(text.split(" ")), cycles, text);
+  assert.deepEqual(parseDuration(["pace", "43", "ms", "1", "s"], 1), { cycles: 3981, words: 2 });
 });

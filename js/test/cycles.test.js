@@ -1,26 +1,26 @@
 import assert from "node:assert/strict";
 import { test } from "node:test";
-import { CycleCount, acceptedOf } from "../core/engine/accepted.js";
-import { Cycles, wordsOfCycles } from "../core/time/cycles.js";
+import { CycleCount, findAcceptedCommands } from "../core/engine/accepted.js";
+import { Cycles, formatCycles } from "../core/time/cycles.js";
 import { readBoard } from "../core/bench/answers.js";
 import { readInputs } from "../core/bench/inputs.js";
-import { placeOf } from "../core/conditions/places.js";
+import { parsePlace } from "../core/conditions/places.js";
 import { SourceMap } from "../core/machine/source_map.js";
 import { wordsOfHalt, wordsOfMove, wordsOfAddress, wordsOfStop } from "../words/stops.js";
 
 test("cycles in words: 10.8 microseconds each", () => {
-  assert.deepEqual([1, 926, 92593, 1000000].map(wordsOfCycles),
+  assert.deepEqual([1, 926, 92593, 1000000].map(formatCycles),
     ["1 cycle, 0.011 ms", "926 cycles, 10.001 ms", "92,593 cycles, 1.000 s", "1,000,000 cycles, 10.800 s"]);
 });
 
 test("accepted commands, their cycles, and resets", () => {
   const inputs = readInputs("run 5\nfoo\nregs\nwire\n[[rom]]\n.\nreset\nstep\n");
-  const accepted = acceptedOf(inputs, [["ok 1 ran 5 end"], ["no 10"], ["acc 0"], ["no 22"], ["ok 2"], ["ok 3 ran 2 end"]]);
+  const accepted = findAcceptedCommands(inputs, [["ok 1 ran 5 end"], ["no 10"], ["acc 0"], ["no 22"], ["ok 2"], ["ok 3 ran 2 end"]]);
   assert.deepEqual(accepted.map(({ line, cycles }) => [line, cycles]), [["run 5", 5], ["reset", 0], ["step", 2]]);
   const count = new CycleCount(100, 10);
   count.add(accepted);
   assert.deepEqual([count.total, count.reset], [107, 105]);
-  assert.equal(acceptedOf(readInputs("asm\nNOP\n.\n"), [["ok 1 bytes 1"]])[0].line, "asm\nNOP\n.");
+  assert.equal(findAcceptedCommands(readInputs("asm\nNOP\n.\n"), [["ok 1 bytes 1"]])[0].line, "asm\nNOP\n.");
 });
 
 test("since the last stop: the stretch that ended there, until another one begins", () => {
@@ -54,7 +54,7 @@ test("places by their names", () => {
     'clock = "ram0.0.0"', 'data = "ram0.0.1"', "chips = 2", "[[lamp]]", 'line = "ram0.0.3"', "[[lamp]]", 'line = "chain0.5"']);
   /** Returns the words by which `trace` reports a place, and its value if it reports one. */
   const linesOf = (name, ...values) => {
-    const place = placeOf(name);
+    const place = parsePlace(name);
     return [place.name, place.probesOn(board).join(" "), place.value(values)];
   };
   assert.deepEqual([
@@ -68,10 +68,10 @@ test("places by their names", () => {
     ["lamps", "lamps", ".*"],
   ]);
   const lacking = ["ram.1.0", "ram.0.0x40", "st.0.4.0", "rom3.1", "rom0", "ram0.1", "ram1.0.0", "chain0.20", "chain1.0", "lamp 2"];
-  assert.deepEqual(lacking.map((name) => placeOf(name).probesOn(board)), lacking.map(() => []));
-  assert.deepEqual(placeOf("lamps").probesOn(readBoard(["board"])), []);
+  assert.deepEqual(lacking.map((name) => parsePlace(name).probesOn(board)), lacking.map(() => []));
+  assert.deepEqual(parsePlace("lamps").probesOn(readBoard(["board"])), []);
   const others = ["", "r16", "pc 4", "ram.8.0", "ram.0.256", "st.0.1.4", "rom16.0", "chain4.0", "key 3"];
-  assert.deepEqual(others.map(placeOf), others.map(() => null));
+  assert.deepEqual(others.map(parsePlace), others.map(() => null));
 });
 
 test("why time stopped, in words", () => {

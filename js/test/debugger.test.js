@@ -5,9 +5,9 @@ import { Face } from "../core/board/face.js";
 import { readBoard } from "../core/bench/answers.js";
 import { BreakpointList } from "../core/debug/breakpoints.js";
 import { DebugSession } from "../core/debug/debug_session.js";
-import { noteOf } from "../core/debug/soft_breakpoints.js";
+import { compileNote } from "../core/debug/soft_breakpoints.js";
 import { Engine } from "../core/engine/engine.js";
-import { moduleOfPage } from "./page_session.js";
+import { pageModule } from "./page_session.js";
 
 const BOARD = `# lamp 0: one two
 [[rom]]
@@ -43,7 +43,7 @@ const LINE = { turn: 4, blank: 5, increment: 6, show: 8, write: 9, wait: 11, bac
 /** @type {Engine} */
 let engine;
 before(async () => {
-  engine = await Engine.load(moduleOfPage);
+  engine = await Engine.load(pageModule);
 });
 
 const open = (program = PROGRAM) => new DebugSession(engine, { board: BOARD, program });
@@ -300,7 +300,7 @@ test("notes report lamps by their names and ports as digits", () => {
   const face = new Face(BOARD);
   const lamps = [0, 1].flatMap((line) => ["[[lamp]]", `line = "ram0.0.${line}"`]);
   const board = readBoard(["board", "[[rom]]", "chip = 0", 'port = "0000"', ...lamps]);
-  const { note, fault } = noteOf("{one}{two} rom {rom0} {", { board, face, map: null });
+  const { note, fault } = compileNote("{one}{two} rom {rom0} {", { board, face, map: null });
   assert.deepEqual([fault, note.places.length], ["", 3]);
   assert.equal(note.words(["1", "0", "9"]), "*. rom 9 {");
 });

@@ -2,8 +2,8 @@
 import assert from "node:assert/strict";
 import { test } from "node:test";
 import { readBoard } from "../core/bench/answers.js";
-import { linesOfBoard } from "../core/waves/wave_lines.js";
-import { firstChoice } from "../core/waves/wave_catalog.js";
+import { createBoardLines } from "../core/waves/wave_lines.js";
+import { chooseFirstLines } from "../core/waves/wave_catalog.js";
 import { find, readSearch } from "../core/waves/wave_search.js";
 import { readTrigger } from "../core/waves/trigger.js";
 import { vcdParts } from "../core/waves/vcd.js";
@@ -15,7 +15,7 @@ const BOARD = readBoard([
   "[[chain]]", 'clock = "rom0.0"', 'data = "rom0.1"', "chips = 1",
   "[keys]", "chain = 0", "first = 1", "rows = 2", 'columns = ["rom1.2", "rom1.0"]',
 ]);
-const LINES = linesOfBoard(BOARD, "# row 0: 7 CE\n", false);
+const LINES = createBoardLines(BOARD, "# row 0: 7 CE\n", false);
 const numberOf = (waves, name) => waves.lines.findIndex((line) => line.name === name);
 
 /** A recording: the moments at which each line changes, from 0 on, by their names. */
@@ -117,7 +117,7 @@ test("a file has decoders as texts without blanks, and they are shown at first w
   const file = [...vcdParts(waves, [numberOf(waves, "scan.keys")])].join("");
   assert.match(file, /\$var string 1 A scan\.keys \$end/);
   assert.match(file, /#2160\nsrow_0:_7 A\n/);
-  const names = firstChoice(waves).map((line) => waves.lines[line].name);
+  const names = chooseFirstLines(waves).map((line) => waves.lines[line].name);
   assert.deepEqual(names.slice(-2), ["scan.keys", "pc"]);
 });
 

@@ -2,19 +2,19 @@
 import assert from "node:assert/strict";
 import { test } from "node:test";
 import { readBoard } from "../core/bench/answers.js";
-import { Face, faceFaults } from "../core/board/face.js";
-import { linesOfPrinter, missingParts } from "../core/board/face_board.js";
-import { SHELF, actOn, matchesBench } from "../core/drawing/acts.js";
+import { Face, findFaceErrors } from "../core/board/face.js";
+import { printerLines, missingParts } from "../core/board/face_board.js";
+import { SHELF_PARTS, applyAction, matchesBench } from "../core/drawing/acts.js";
 import { boardLines } from "../core/bench/board_form.js";
-import { canWire, sourcesOf, targetsOf, wiringOf, withBuzzer } from "../core/drawing/board_lines.js";
-import { fieldsOf } from "../core/drawing/fields.js";
+import { canWire, possibleSources, possibleTargets, inputLines, boardWithBuzzer } from "../core/drawing/board_lines.js";
+import { selectionForm } from "../core/drawing/fields.js";
 import { edited, inverseEdits } from "../core/drawing/text_edits.js";
-import { headOf } from "../core/board/face_words.js";
+import { parseFaceLine } from "../core/board/face_words.js";
 import { sentText } from "../core/text/text_fault.js";
 import { Engine } from "../core/engine/engine.js";
-import { examplesOfPage, moduleOfPage } from "./page_session.js";
+import { examplesOfPage, pageModule } from "./page_session.js";
 
-const loading = Engine.load(moduleOfPage);
+const loading = Engine.load(pageModule);
 /** @type {Engine} */
 let engine;
 /** A session without a board. */
@@ -79,12 +79,12 @@ function wired(board, line, target) {
 
 const comments = (text) => text.split("\n").flatMap((line) => {
   const found = /#.*$/.exec(line.replace(/"[^"]*"/g, ""));
-  return found && !headOf(line) ? [found[0]] : [];
+  return found && !parseFaceLine(line) ? [found[0]] : [];
 });
 
 /** An action is right: the bench accepts the text and reports the intended board, the comments stay, and the edits can be undone. */
 function check(name, text, act, wanted) {
-  const done = actOn(text, act);
+  const done = applyAction(text, act);
   const said = `${name}: ${JSON.stringify(act)}`;
   assert.equal(done.refusal, "", said);
   const [first, after] = ask([text, done.text]);
@@ -93,7 +93,7 @@ function check(name, text, act, wanted) {
   if (wanted) assert.deepEqual(readBoard(after.board), wanted, said);
   assert.equal(edited(text, done.edits), done.text);
   assert.equal(edited(done.text, inverseEdits(text, done.edits)), text);
-  assert.ok(faceFaults(done.text).length <= faceFaults(text).length, said);
+  assert.ok(findFaceErrors(done.text).length <= findFaceErrors(text).length, said);
   const faults = (boardText, board) => missingParts(new Face(boardText), board).length;
   assert.ok(faults(done.text, readBoard(after.board)) <= faults(text, readBoard(first.board)), `${said}\n${done.text}`);
   assert.match(done.words, /^[A-Z].*\.$/);
@@ -112,7 +112,7 @@ onBench("a text that is read otherwise is not edited", () => {
     const [{ first, board }] = ask([text]);
     assert.deepEqual([first, matchesBench(text, board)], ["ok 1", false]);
   }
-  assert.match(actOn("[[rom\n", { kind: "add", part: "ram" }).refusal, /has errors/);
+  assert.match(applyAction("[[rom\n", { kind: "add", part: "ram" }).refusal, /has errors/);
 });
 
 onBench("a buzzer keeps its line, goes with it, and is found again where chains are numbered anew", () => {
@@ -121,9 +121,9 @@ onBench("a buzzer keeps its line, goes with it, and is found again where chains 
   const first = (done) => done.text.split("\n")[0];
   assert.equal(first(check("horn", text, { kind: "delete", part: "chain 0" })), "# buzzer chain0.12: horn");
   assert.equal(first(check("horn", text, { kind: "delete", part: "chain 1" })), "[[rom]]");
-  assert.match(actOn(text, { kind: "chips", chain: 1, chips: 1 }).refusal, /The buzzer is at chain1.12: give it another line first/);
+  assert.match(applyAction(text, { kind: "chips", chain: 1, chips: 1 }).refusal, /The buzzer is at chain1.12: give it another line first/);
   const atPort = text.replace("chain1.12", "rom0.3");
-  assert.match(actOn(atPort, { kind: "port", line: "rom0.3", as: "i" }).refusal, /The buzzer is at rom0.3/);
+  assert.match(applyAction(atPort, { kind: "port", line: "rom0.3", as: "i" }).refusal, /The buzzer is at rom0.3/);
   check("horn", atPort, { kind: "port", line: "rom0.2", as: "i" });
   const atRam = "# buzzer ram0.1.3: horn\n[[ram]]\nbank = 0\nchips = 2\n";
   assert.equal(first(check("horn", atRam, { kind: "delete", part: "ram 0.1" })), "[[ram]]");
@@ -134,21 +134,22 @@ onBench("a buzzer comes from the shelf, is wired, named and deleted, and goes wi
   const added = check("nothing", "", { kind: "add", part: "buzzer" });
   assert.equal(added.text, '# buzzer rom0.0: buzzer\n\n[[rom]]\nchip = 0\nport = "0000"\n');
   assert.equal(added.words, "The buzzer was added, with ROM 0.");
-  assert.match(actOn(added.text, { kind: "add", part: "buzzer" }).refusal, /^A board has one buzzer/);
+  assert.match(applyAction(added.text, { kind: "add", part: "buzzer" }).refusal, /^A board has one buzzer/);
   // Its line is in use.
   assert.match(check("buzzer", added.text, { kind: "add", part: "chain" }).text, /clock = "rom0.1"/);
   const moved = check("buzzer", added.text, { kind: "wire", line: "rom0.2", target: "buzzer 0" });
   assert.deepEqual([first(moved), moved.words], ["# buzzer rom0.2: buzzer", "Line rom0.2 is wired to the buzzer."]);
   const named = check("buzzer", moved.text, { kind: "name", part: "buzzer", name: "the horn" });
   assert.deepEqual([first(named), named.words], ["# buzzer rom0.2: the horn", "The buzzer is called the horn."]);
-  assert.equal(actOn(named.text, { kind: "name", part: "buzzer", name: " " }).refusal, "A buzzer needs a name.");
-  const inputs = actOn(named.text, { kind: "add", part: "inputs" }).text;
-  assert.match(actOn(inputs, { kind: "wire", line: "rom1.0", target: "buzzer 0" }).refusal, /rom1.0 is an input line: the buzzer needs/);
+  assert.equal(applyAction(named.text, { kind: "name", part: "buzzer", name: " " }).refusal, "A buzzer needs a name.");
+  const inputs = applyAction(named.text, { kind: "add", part: "inputs" }).text;
+  const { refusal } = applyAction(inputs, { kind: "wire", line: "rom1.0", target: "buzzer 0" });
+  assert.match(refusal, /rom1.0 is an input line: the buzzer needs/);
   assert.equal(check("buzzer", named.text, { kind: "delete", part: "buzzer" }).text, '[[rom]]\nchip = 0\nport = "0000"\n');
   assert.equal(check("buzzer", named.text, { kind: "delete", part: "rom 0" }).words, "ROM 0 was deleted, and with it the buzzer.");
   const board = { ...named.board, buzzer: "rom0.2" };
-  assert.deepEqual(targetsOf(board, "rom0.3"), ["buzzer 0"]);
-  const { title, fields, buttons } = fieldsOf(board, new Face(named.text), "buzzer 0");
+  assert.deepEqual(possibleTargets(board, "rom0.3"), ["buzzer 0"]);
+  const { title, fields, buttons } = selectionForm(board, new Face(named.text), "buzzer 0");
   assert.deepEqual([title, ...fields.map(({ value }) => value), ...buttons.map(({ word }) => word)],
     ["The buzzer", "the horn", "rom0.2", "Delete"]);
 });
@@ -167,8 +168,8 @@ for (const { name, text } of BOARDS) {
 
   onBench(`${name}: what the shelf offers can be added, and goes again without a trace`, () => {
     const board = read();
-    for (const part of SHELF) {
-      if (actOn(text, { kind: "add", part }).refusal) continue;
+    for (const part of SHELF_PARTS) {
+      if (applyAction(text, { kind: "add", part }).refusal) continue;
       const done = check(name, text, { kind: "add", part });
       assert.deepEqual(comments(done.text), comments(text), `${name}: ${part}`);
       const isMore = textOf(board).length < textOf(done.board).length || ["button", "switch", "buzzer", "ram"].includes(part);
@@ -186,11 +187,11 @@ for (const { name, text } of BOARDS) {
     const lines = boardLines(board).map((line) => line.name);
     const some = lines.filter((_, at) => lines.length < 30 || at % 13 === 0);
     for (const line of some) {
-      for (const target of targetsOf(board, line).filter((_, at) => at % 5 === 0 || board.lamps.length < 8)) {
+      for (const target of possibleTargets(board, line).filter((_, at) => at % 5 === 0 || board.lamps.length < 8)) {
         const done = check(name, text, { kind: "wire", line, target }, wired(board, line, target));
         assert.deepEqual(comments(done.text), comments(text));
-        const old = wiringOf(board).get(target);
-        assert.ok(sourcesOf(done.board, target).includes(old));
+        const old = inputLines(board).get(target);
+        assert.ok(possibleSources(done.board, target).includes(old));
         assert.deepEqual(check(name, done.text, { kind: "wire", line: old, target }, board).board, board);
       }
     }
@@ -222,19 +223,19 @@ for (const { name, text } of BOARDS) {
     }
     for (const { chip, port } of board.roms) {
       for (const line of [0, 1, 2, 3]) {
-        const used = [...wiringOf(board).values()].includes(`rom${chip}.${line}`);
+        const used = [...inputLines(board).values()].includes(`rom${chip}.${line}`);
         const act = { kind: "port", line: `rom${chip}.${line}`, as: port[3 - line] === "i" ? "1" : "i" };
         const { printer } = new Face(text);
-        if (used) assert.match(actOn(text, act).refusal, /is wired to/);
-        else if (printer && linesOfPrinter(printer).includes(act.line)) assert.match(actOn(text, act).refusal, /The printer is at/);
+        if (used) assert.match(applyAction(text, act).refusal, /is wired to/);
+        else if (printer && printerLines(printer).includes(act.line)) assert.match(applyAction(text, act).refusal, /The printer is at/);
         else assert.equal(check(name, text, act).board.roms.find((rom) => rom.chip === chip).port[3 - line], act.as);
       }
     }
     const parts = [...board.roms.map(({ chip }) => `rom ${chip}`), ...board.chains.map((_, at) => `chain ${at}`)];
     for (const part of [...parts, ...(board.lamps.length > 0 ? ["lamp 0"] : []), ...(board.banks.length > 0 ? ["ram 0.0"] : [])]) {
-      if (!actOn(text, { kind: "copy", part }).refusal) check(name, text, { kind: "copy", part });
+      if (!applyAction(text, { kind: "copy", part }).refusal) check(name, text, { kind: "copy", part });
     }
-    if (board.matrix && !actOn(text, { kind: "column" }).refusal) {
+    if (board.matrix && !applyAction(text, { kind: "column" }).refusal) {
       const { columns } = check(name, text, { kind: "column" }).board.matrix;
       assert.deepEqual(columns.slice(0, -1), board.matrix.columns);
     }
@@ -258,7 +259,7 @@ for (const { name, text } of BOARDS) {
       // A lamp may have the name that is the number of this one on the grid.
       const { grid, lamps } = new Face(text);
       const isTaken = grid.length > 0 && [...lamps].some(([at, faceText]) => at !== lamp && faceText.text === `${lamp}`);
-      if (isTaken) assert.match(actOn(text, unnamed).refusal, /Another lamp would then be/);
+      if (isTaken) assert.match(applyAction(text, unnamed).refusal, /Another lamp would then be/);
       else assert.equal(new Face(check(name, text, unnamed, board).text).lamps.has(lamp), false);
     });
     for (let row = 0; row < board.rows; row++) {
@@ -283,9 +284,9 @@ function checkLeft(old, oldFace, { board, text }, part) {
   const number = Number(part.split(" ")[1]);
   const isGone = (line) => (part.startsWith("rom ") && line.startsWith(`rom${number}.`)) || (part.startsWith("ram ")
     && line.startsWith(`${part.replace(" ", "")}.`)) || (part.startsWith("chain ") && line.startsWith(`chain${number}.`));
-  const goneChains = old.chains.map(({ clock, data }, at) => isGone(clock) || isGone(data) || part === `chain ${at}`);
-  const newLine = (line) => line.replace(/^chain(\d+)/, (_, at) => `chain${at - goneChains.slice(0, at).filter(Boolean).length}`);
-  const isLineGone = (line) => isGone(line) || (line.startsWith("chain") && goneChains[Number(/\d+/.exec(line)[0])]);
+  const deletedChains = old.chains.map(({ clock, data }, at) => isGone(clock) || isGone(data) || part === `chain ${at}`);
+  const newLine = (line) => line.replace(/^chain(\d+)/, (_, at) => `chain${at - deletedChains.slice(0, at).filter(Boolean).length}`);
+  const isLineGone = (line) => isGone(line) || (line.startsWith("chain") && deletedChains[Number(/\d+/.exec(line)[0])]);
   const isIn = ({ first, rows, columns, by }, lamp) => (by < 0 ? first <= lamp && lamp < first + rows * columns
     : (first <= lamp && lamp < first + columns) || (by <= lamp && lamp < by + rows));
   const groupOf = (lamp) => oldFace.groups.find((group) => isIn(group, lamp));
@@ -298,7 +299,7 @@ function checkLeft(old, oldFace, { board, text }, part) {
     assert.equal((face.lamps.get(at) || {}).text, (oldFace.lamps.get(from) || {}).text, `${part}: name of ${from}\n${text}`);
     assert.equal((face.colours.get(at) || {}).text, (oldFace.colours.get(from) || {}).text, `${part}: colour of ${from}\n${text}`);
   });
-  assert.deepEqual(board.chains, old.chains.filter((_, at) => !goneChains[at]), part);
+  assert.deepEqual(board.chains, old.chains.filter((_, at) => !deletedChains[at]), part);
   const groups = oldFace.groups.filter(({ first }) => !gone[first]);
   assert.deepEqual(face.groups.map(({ kind, first, by }) => [kind, first, by]),
     groups.map(({ kind, first, by }) => [kind, kept.indexOf(first), by < 0 ? by : kept.indexOf(by)]));
@@ -310,7 +311,7 @@ onBench("what may be wired is what the bench takes, and all of it is offered", (
   const some = examples.filter((each) => ["lock", "counter", "first", "traffic light"].includes(each.name));
   for (const { name, text } of [...some, OTHERS[3]]) {
     const board = readBoard(ask([text])[0].board);
-    const pairs = boardLines(board).flatMap((line) => [...wiringOf(board).keys()].map((target) => ({ line, target })));
+    const pairs = boardLines(board).flatMap((line) => [...inputLines(board).keys()].map((target) => ({ line, target })));
     const answers = ask(pairs.map(({ line, target }) => textOf(wired(board, line.name, target))));
     pairs.forEach(({ line, target }, at) => {
       assert.equal(canWire(board, line, target), answers[at].first.startsWith("ok"),
@@ -332,14 +333,14 @@ function chances(seed) {
 function anyAct(pick, board, face) {
   const lines = boardLines(board).map((line) => line.name);
   const parts = ["", ...board.roms.map(({ chip }) => `rom ${chip}`), ...board.banks.map(({ bank }) => `ram ${bank}.0`),
-    ...board.chains.map((_, at) => `chain ${at}`), ...(board.matrix ? ["keys"] : []), ...wiringOf(board).keys(), ...lines];
-  const { fields, buttons } = fieldsOf(board, face, pick(parts));
+    ...board.chains.map((_, at) => `chain ${at}`), ...(board.matrix ? ["keys"] : []), ...inputLines(board).keys(), ...lines];
+  const { fields, buttons } = selectionForm(board, face, pick(parts));
   const line = pick([...lines, ""]);
   const field = pick([...fields, null]);
   const words = ["", "a", "b c", "0", "3", "x:y", "#", "_", "red", "**"];
   return pick([
-    { kind: "add", part: pick(SHELF), digits: pick([1, 2, 3]) },
-    { kind: "wire", line, target: pick([...targetsOf(board, line), "lamp 0"]) },
+    { kind: "add", part: pick(SHELF_PARTS), digits: pick([1, 2, 3]) },
+    { kind: "wire", line, target: pick([...possibleTargets(board, line), "lamp 0"]) },
     ...(field ? [field.act(field.options ? pick(field.options).value : pick(words))] : []),
     ...buttons.map(({ act }) => act).slice(0, 1 + Number(pick([0, 0, 1]))),
   ]);
@@ -354,8 +355,8 @@ onBench("whatever is done one after the other, the bench takes the text, comment
     const back = [];
     for (let step = 0; step < 25; step++) {
       const face = new Face(text);
-      const act = anyAct(pick, withBuzzer(readBoard(ask([text])[0].board), face), face);
-      if (actOn(text, act).refusal) refused += 1;
+      const act = anyAct(pick, boardWithBuzzer(readBoard(ask([text])[0].board), face), face);
+      if (applyAction(text, act).refusal) refused += 1;
       else {
         const next = check(`seed ${seed}`, text, act);
         assert.deepEqual(comments(next.text), comments(text), `seed ${seed}: ${JSON.stringify(act)}`);
@@ -371,7 +372,7 @@ onBench("whatever is done one after the other, the bench takes the text, comment
 
 onBench("a wire that cannot be is refused in words", () => {
   const { text } = OTHERS[3];
-  const refusal = (line, target) => actOn(text, { kind: "wire", line, target }).refusal;
+  const refusal = (line, target) => applyAction(text, { kind: "wire", line, target }).refusal;
   assert.equal(refusal("rom1.0", "clock 0"), "rom1.0 is an input line: the clock of chain 0 needs an output line.");
   assert.equal(refusal("chain0.3", "data 0"),
     "chain0.3 is a bit of a chain: the data of chain 0 needs an output line of a ROM or a RAM chip.");
@@ -381,8 +382,8 @@ onBench("a wire that cannot be is refused in words", () => {
 });
 
 onBench("what a board has no room for is not offered, and says why", () => {
-  const fill = (part, times) => Array.from({ length: times }).reduce((text) => actOn(text, { kind: "add", part }).text, "");
-  const refusal = (part, times) => actOn(fill(part, times), { kind: "add", part }).refusal;
+  const fill = (part, times) => Array.from({ length: times }).reduce((text) => applyAction(text, { kind: "add", part }).text, "");
+  const refusal = (part, times) => applyAction(fill(part, times), { kind: "add", part }).refusal;
   assert.deepEqual([refusal("rom", 15), refusal("rom", 16)], ["", "A board has at most 16 ROMs."]);
   assert.deepEqual([refusal("ram", 31), refusal("ram", 32)], ["", "A board has at most 8 banks of 4 RAM chips."]);
   assert.deepEqual([refusal("chain", 3), refusal("chain", 4)], ["", "A board has at most 4 chains."]);
@@ -390,9 +391,9 @@ onBench("what a board has no room for is not offered, and says why", () => {
   assert.deepEqual([refusal("lamp", 63), refusal("lamp", 64)], ["", "A board has at most 64 lamps; it has 64."]);
   assert.match(refusal("button", 1), /delete that one/);
   const chain = fill("chain", 1);
-  assert.equal(actOn(chain, { kind: "chips", chain: 0, chips: 8 }).refusal, "");
-  assert.equal(actOn(chain, { kind: "chips", chain: 0, chips: 9 }).refusal, "A chain has at most 8 chips.");
-  assert.equal(actOn(chain, { kind: "chips", chain: 0, chips: 0 }).refusal, "A chain has at least one chip; or delete the chain.");
+  assert.equal(applyAction(chain, { kind: "chips", chain: 0, chips: 8 }).refusal, "");
+  assert.equal(applyAction(chain, { kind: "chips", chain: 0, chips: 9 }).refusal, "A chain has at most 8 chips.");
+  assert.equal(applyAction(chain, { kind: "chips", chain: 0, chips: 0 }).refusal, "A chain has at least one chip; or delete the chain.");
 });
 
 onBench("from nothing to four keys and four lamps", () => {
@@ -416,8 +417,8 @@ onBench("a display of digits, and of seven segments", () => {
     assert.deepEqual([kind, rows, columns, board.lamps[0]], ["display", digits, part === "digit" ? 4 : 7, first]);
     assert.equal(board.lamps.length, rows * columns);
   }
-  assert.match(actOn("", { kind: "add", part: "segments", digits: 10 }).refusal, /at most 64/);
-  assert.match(actOn("", { kind: "add", part: "digit", digits: 0.5 }).refusal, /whole number/);
+  assert.match(applyAction("", { kind: "add", part: "segments", digits: 10 }).refusal, /at most 64/);
+  assert.match(applyAction("", { kind: "add", part: "digit", digits: 0.5 }).refusal, /whole number/);
 });
 
 onBench("a display that is lit by turns comes, is counted anew, and goes whole", () => {
@@ -432,13 +433,13 @@ onBench("a display that is lit by turns comes, is counted anew, and goes whole",
     const { board: left, text: gone } = check("its lamps", later, { kind: "delete", part: `lamp ${lamp}` });
     assert.deepEqual([left.lamps, new Face(gone).groups], [["rom0.3"], []]);
   }
-  assert.match(actOn(text, { kind: "copy", part: "lamp 0" }).refusal, /belong together/);
-  assert.match(actOn("", { kind: "add", part: "scanned", digits: 17 }).refusal, /1 to 16/);
+  assert.match(applyAction(text, { kind: "copy", part: "lamp 0" }).refusal, /belong together/);
+  assert.match(applyAction("", { kind: "add", part: "scanned", digits: 17 }).refusal, /1 to 16/);
 });
 
 onBench("a name that the face cannot have is refused in its words", () => {
   const { text } = examples.find(({ name }) => name === "lock");
-  const refusal = (part, name) => actOn(text, { kind: "name", part, name }).refusal;
+  const refusal = (part, name) => applyAction(text, { kind: "name", part, name }).refusal;
   assert.match(refusal("lamp 1", "alarm"), /^The lamp alarm is named/);
   assert.match(refusal("lamp 1", "**"), /pattern/);
   assert.match(refusal("key 0 0", "9"), /^The key 9 is named/);

@@ -3,18 +3,18 @@ import assert from "node:assert/strict";
 import { test } from "node:test";
 import { readBoard } from "../core/bench/answers.js";
 import { Face } from "../core/board/face.js";
-import { actOn } from "../core/drawing/acts.js";
-import { sourcesOf } from "../core/drawing/board_lines.js";
+import { applyAction } from "../core/drawing/acts.js";
+import { possibleSources } from "../core/drawing/board_lines.js";
 import { Drawing } from "../core/drawing/board_drawing.js";
-import { titleOf } from "../core/session/session_summary.js";
-import { fieldsOf } from "../core/drawing/fields.js";
+import { sessionTitle } from "../core/session/session_summary.js";
+import { selectionForm } from "../core/drawing/fields.js";
 import { lampLabels } from "../core/drawing/lamp_labels.js";
 import { MovedParts } from "../core/drawing/moved_parts.js";
 import { edited, inverseEdits } from "../core/drawing/text_edits.js";
 import { Engine } from "../core/engine/engine.js";
-import { examplesOfPage, moduleOfPage } from "./page_session.js";
+import { examplesOfPage, pageModule } from "./page_session.js";
 
-const loading = Engine.load(moduleOfPage);
+const loading = Engine.load(pageModule);
 const examples = examplesOfPage;
 const boardOf = (wanted) => examples.find(({ name }) => name === wanted).board;
 
@@ -40,11 +40,11 @@ async function drawn(text = "") {
       return last !== undefined;
     },
     redo: () => false,
-    wordsOfRefusal: (number) => `refusal ${number}`,
+    describeRefusal: (number) => `refusal ${number}`,
   }, (shown) => {
     desk.shown = shown;
   });
-  await desk.drawing.look();
+  await desk.drawing.refresh();
   return desk;
 }
 
@@ -53,19 +53,19 @@ test("an empty bench: parts come with what they need, and a wire goes from pin t
   const { drawing } = desk;
   assert.deepEqual([desk.shown.fault, [...desk.shown.shelf.values()].every((why) => why === "")], ["", true]);
   await drawing.act({ kind: "add", part: "keys" });
-  assert.equal(desk.shown.said, "The keys were added, with ROM 0, chain 0 and ROM 1.");
+  assert.equal(desk.shown.lastMessage, "The keys were added, with ROM 0, chain 0 and ROM 1.");
   assert.deepEqual([desk.shown.chosen, desk.shown.shelf.get("keys")],
     ["keys", "A board has one key matrix: give it more rows and columns."]);
   await drawing.act({ kind: "add", part: "lamp" });
   await drawing.pressed("rom0.2");
-  assert.equal(desk.shown.said, "Wire from line rom0.2: it can end at 3 pins.");
+  assert.equal(desk.shown.lastMessage, "Wire from line rom0.2: it can end at 3 pins.");
   assert.deepEqual([...desk.shown.ends], ["clock 0", "data 0", "lamp 0"]);
   await drawing.pressed("lamp 0");
-  assert.equal(desk.shown.said, "Line rom0.2 is wired to lamp 0.");
+  assert.equal(desk.shown.lastMessage, "Line rom0.2 is wired to lamp 0.");
   assert.deepEqual([desk.shown.board.lamps, desk.shown.chosen, desk.shown.begun], [["rom0.2"], "lamp 0", ""]);
   for (const wanted of ["Undone.", "Undone.", "Undone.", "There is nothing to undo."]) {
     await drawing.undoOrRedo("undo");
-    assert.equal(desk.shown.said, wanted);
+    assert.equal(desk.shown.lastMessage, wanted);
   }
   assert.deepEqual([desk.text, desk.shown.chosen], ["", ""]);
 });
@@ -74,12 +74,12 @@ test("a wire may begin at what takes it; one that cannot be is none, and Escape 
   const desk = await drawn(boardOf("lock"));
   const { drawing } = desk;
   await drawing.pressed("column 1");
-  assert.deepEqual([...desk.shown.ends], sourcesOf(desk.shown.board, "column 1").filter((line) => line !== "rom1.1"));
+  assert.deepEqual([...desk.shown.ends], possibleSources(desk.shown.board, "column 1").filter((line) => line !== "rom1.1"));
   await drawing.pressed("rom0.3");
   assert.deepEqual([desk.shown.begun, desk.shown.chosen, desk.text], ["rom0.3", "rom0.3", boardOf("lock")]);
-  drawing.leave();
-  assert.deepEqual([desk.shown.begun, desk.shown.chosen, desk.shown.said], ["", "rom0.3", "No wire was drawn."]);
-  drawing.leave();
+  drawing.cancelWire();
+  assert.deepEqual([desk.shown.begun, desk.shown.chosen, desk.shown.lastMessage], ["", "rom0.3", "No wire was drawn."]);
+  drawing.cancelWire();
   assert.equal(desk.shown.chosen, "");
   await drawing.pressed("rom0.3");
   await drawing.pressed("rom0.3");
@@ -99,7 +99,7 @@ test("what cannot be is refused in words, and the text stays", async () => {
     [{ kind: "colour", lamp: 0, colour: "amber" }, /^No change\.$/],
   ]) {
     await desk.drawing.act(act);
-    assert.match(desk.shown.said, words);
+    assert.match(desk.shown.lastMessage, words);
   }
   assert.equal(desk.text, boardOf("lock"));
 });
@@ -107,17 +107,17 @@ test("what cannot be is refused in words, and the text stays", async () => {
 test("a text with faults is not drawn in; what was drawn last stays", async () => {
   const desk = await drawn(boardOf("lock"));
   desk.text = `${desk.text}\n[[lamp]]\n`;
-  await desk.drawing.look();
+  await desk.drawing.refresh();
   assert.match(desk.shown.fault, /^The bench rejects the board's text: refusal 2[02]\. Board shows where\.$/);
   assert.equal(desk.shown.board.lamps.length, 3);
   const text = desk.text.replace("\n[[lamp]]\n", "");
   desk.text = text.replace('"rom1.0"', '"rom1\\u002e0"');
-  await desk.drawing.look();
+  await desk.drawing.refresh();
   assert.match(desk.shown.fault, /the picture cannot change/);
   await desk.drawing.act({ kind: "add", part: "rom" });
-  assert.match(desk.shown.said, /^It was not done\. .* the picture cannot change/);
+  assert.match(desk.shown.lastMessage, /^It was not done\. .* the picture cannot change/);
   desk.text = text;
-  await desk.drawing.look();
+  await desk.drawing.refresh();
   assert.equal(desk.shown.fault, "");
 });
 
@@ -126,7 +126,7 @@ test("what is longer than the bench takes is not done", async () => {
   const desk = await drawn(long);
   assert.equal(desk.shown.fault, "");
   await desk.drawing.act({ kind: "add", part: "rom" });
-  assert.match(desk.shown.said, /^It was not done\. The bench rejects the board's text: refusal 13\./);
+  assert.match(desk.shown.lastMessage, /^It was not done\. The bench rejects the board's text: refusal 13\./);
   assert.equal(desk.text, long);
 });
 
@@ -158,15 +158,15 @@ test("lamps of a display are called by what they are in it", () => {
 });
 
 test("a line of a face is no title", () => {
-  assert.deepEqual([titleOf("# lamp 0: a\n[[rom]]\n", "; a program. x\n"), titleOf("# My board\n# lamp 0: a\n", "")],
+  assert.deepEqual([sessionTitle("# lamp 0: a\n[[rom]]\n", "; a program. x\n"), sessionTitle("# My board\n# lamp 0: a\n", "")],
     ["A program.", "My board."]);
 });
 
 test("a board is known to be the one that is wired", async () => {
   const desk = await drawn(boardOf("lock"));
   assert.equal(desk.shown.isWired, false);
-  desk.drawing.takeWired(desk.drawing.answers);
-  await desk.drawing.look();
+  desk.drawing.setSessionBoard(desk.drawing.answers);
+  await desk.drawing.refresh();
   assert.equal(desk.shown.isWired, true);
   await desk.drawing.act({ kind: "colour", lamp: 0, colour: "blue" });
   assert.equal(desk.shown.isWired, true);
@@ -184,16 +184,16 @@ test("each value that a field offers can be set, or is refused in words; each bu
     const names = ["", "rom 0", "ram 0.0", "chain 0", "keys", "lamp 0", "lamps", "test", "rom0.2", "clock 0", "column 0", "row 0"];
     for (const chosen of names) {
       const isThere = board.chains.length > 0 || !/chain|keys|clock|column|row/.test(chosen);
-      const { title, fields, buttons } = fieldsOf(board, face, isThere ? chosen : "");
+      const { title, fields, buttons } = selectionForm(board, face, isThere ? chosen : "");
       assert.ok(title.length > 3);
       for (const { label, value, options, act } of fields) {
         if (options) assert.ok(options.some((each) => each.value === value), `${name}: ${chosen}: ${label} is ${value}`);
         for (const wanted of options ? options.map((each) => each.value) : ["Other"]) {
-          const { refusal, words } = actOn(text, act(wanted));
+          const { refusal, words } = applyAction(text, act(wanted));
           assert.ok(refusal !== "" || words !== "", `${name}: ${label} ${wanted}`);
         }
       }
-      for (const { act } of buttons) assert.ok(actOn(text, act).refusal !== "" || actOn(text, act).edits.length > 0);
+      for (const { act } of buttons) assert.ok(applyAction(text, act).refusal !== "" || applyAction(text, act).edits.length > 0);
     }
   }
 });

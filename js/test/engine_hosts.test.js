@@ -11,21 +11,21 @@ import { BenchRefusal } from "../core/bench/faults.js";
 /* global WebAssembly */
 import { Engine } from "../core/engine/engine.js";
 import { readBoard } from "../core/bench/answers.js";
-import { withoutStops } from "../core/engine/without_stops.js";
+import { copyWithoutStops } from "../core/engine/without_stops.js";
 import { neededLines, recordPieces } from "../core/engine/wave_stream.js";
 import { runTests } from "../core/testing/test_suite.js";
-import { coverageText, lcovOf } from "../core/testing/coverage_text.js";
+import { coverageText, lcovText } from "../core/testing/coverage_text.js";
 import { profileText } from "../core/testing/profile_text.js";
-import { tapOfTests } from "../core/testing/tap.js";
+import { testsTap } from "../core/testing/tap.js";
 import { SessionTrace } from "../core/trace/session_trace.js";
 import { chooseLines } from "../core/waves/line_choice.js";
 import { VcdText } from "../core/waves/vcd.js";
 import { NativeEngine, ProgramError } from "../node/native_engine.mjs";
-import { moduleOfPage } from "../node/page_parts.mjs";
+import { readPageModule } from "../node/page_parts.mjs";
 
 const top = fileURLToPath(new URL("../..", import.meta.url));
 const program = process.env.MCS4 || join(top, "shipped/mcs4");
-const module = new Engine(new WebAssembly.Module(moduleOfPage()));
+const module = new Engine(new WebAssembly.Module(readPageModule()));
 const hasProgram = spawnSync(program, [], { stdio: "ignore" }).error === undefined;
 const native = hasProgram ? new NativeEngine(program) : null;
 const hosts = native ? { module, native } : { module };
@@ -102,7 +102,7 @@ onBoth("a trace goes through breakpoints, its last lines end at one, and the ses
 });
 
 onBoth("a VCD file is written piece by piece", async (engine) => {
-  const state = withoutStops(engine, stateAfter(engine, `${BOARD}${PROGRAM}`));
+  const state = copyWithoutStops(engine, stateAfter(engine, `${BOARD}${PROGRAM}`));
   const board = readBoard(engine.ask(state, "board\n").answers);
   const all = chooseLines(board, "", false, ["ram0.0", "acc", "pc", "ram0.0[3:0]"]);
   const { lines, chosen } = neededLines(all.lines, all.chosen);
@@ -197,7 +197,7 @@ onBoth("tests, coverage and profile of examples", async (engine) => {
     const sources = [{ name: `${name}.test`, text: example(`${name}/${name}.test`).replace("cycles 538", "cycles 540") }];
     const { outcomes, coverage, profile } = await runTests(engine, { ...texts(name), sources }, async () => true);
     const { text, before } = { text: texts(name).programText, before: 0 };
-    printed.push(tapOfTests(outcomes), coverageText(coverage, { text, before }), lcovOf(coverage, { name, before }), profileText(profile));
+    printed.push(testsTap(outcomes), coverageText(coverage, { text, before }), lcovText(coverage, { name, before }), profileText(profile));
   }
   assert.ok(printed[0].includes("not ok 2"));
   return printed;

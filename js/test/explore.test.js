@@ -2,26 +2,26 @@
 import assert from "node:assert/strict";
 import { test } from "node:test";
 import { isDeepStrictEqual } from "node:util";
-import { WorkerDied } from "../core/bench/faults.js";
+import { WorkerDiedError } from "../core/bench/faults.js";
 import { CampaignRun } from "../core/explore/campaign_run.js";
 import { readCampaign } from "../core/explore/campaign.js";
-import { countWalk, followsFromLooks } from "../core/explore/counting.js";
+import { countWalk, isCountingSufficient } from "../core/explore/counting.js";
 import { Coverage } from "../core/explore/search_coverage.js";
 import { markOf, wordsOfEnd, wordsOfFigures, wordsOfProperty } from "../words/explored.js";
 import { Explorer } from "../core/explore/explorer.js";
-import { Exploring, readToExplore } from "../core/explore/exploring.js";
-import { KeptFiles } from "../core/explore/kept_files.js";
+import { SlicedSearch, prepareSearch } from "../core/explore/exploring.js";
+import { DeltaFiles } from "../core/explore/kept_files.js";
 import { Snapshots } from "../core/explore/read_places.js";
-import { Places, PlaceValues } from "../core/explore/place_questions.js";
-import { isRight, joinReports, tapOf, testsOfReport } from "../core/explore/report.js";
+import { PlaceQueries, PlaceValues } from "../core/explore/place_questions.js";
+import { hasExpectedResult, joinReports, formatTap, formatReportTests } from "../core/explore/report.js";
 import { Search } from "../core/explore/search.js";
-import { subjectOf } from "../core/explore/subject.js";
-import { chooseStep, downAfter, downAtFirst, isSound, randomFrom, sinceAfter, sinceAtFirst } from "../core/explore/walks.js";
+import { createSubject } from "../core/explore/subject.js";
+import { chooseStep, downInputsAfter, initialDownInputs, areAllowed, createRandom, nextAges, initialAges } from "../core/explore/walks.js";
 import { Watcher } from "../core/explore/watching.js";
 import { Engine } from "../core/engine/engine.js";
-import { moduleOfPage } from "./page_session.js";
+import { pageModule } from "./page_session.js";
 
-const engine = new Engine(new globalThis.WebAssembly.Module(moduleOfPage));
+const engine = new Engine(new globalThis.WebAssembly.Module(pageModule));
 
 // Key A switches the lamp `on` on, if it is down for 20 cycles; B switches it off. C at TEST: a fourth call; D: a BBL without one.
 const BOARD = `# row 0: A B C D
@@ -78,7 +78,7 @@ three:  JMS four
         BBL 0
 four:   BBL 0
 `;
-const subject = subjectOf(engine, BOARD, PROGRAM);
+const subject = createSubject(engine, BOARD, PROGRAM);
 const campaignOf = (text) => readCampaign(text, subject);
 const faultsOf = (text) => campaignOf(text).faults.map(({ line, words }) => `${line}: ${words}`);
 
@@ -92,7 +92,7 @@ async function explore(text, seconds = 20, confirm = () => true, seed = 1) {
   const run = new CampaignRun(subject, campaign, seed, confirm, PATIENCE);
   const asked = campaign.properties.filter(({ line }) => line > 0).length;
   const end = performance.now() + 1000 * seconds;
-  while (performance.now() < end && run.found.slice(0, asked).includes(null)) await run.goOn(20);
+  while (performance.now() < end && run.found.slice(0, asked).includes(null)) await run.runFor(20);
   return run;
 }
 
@@ -118,7 +118,7 @@ test("what is wrong with a text of properties is reported with what there is", (
 });
 
 test("nothing that may change is a fault, but where the face has a key or TEST, all of them may", () => {
-  const bare = subjectOf(engine, BOARD.replace(/^#.*\n/gm, ""), PROGRAM);
+  const bare = createSubject(engine, BOARD.replace(/^#.*\n/gm, ""), PROGRAM);
   assert.match(readCampaign("never lamp 0 on\n", bare).faults[0].words, /^nothing may change/);
   assert.deepEqual(readCampaign("test\n", bare).campaign.inputs.map(({ downWords }) => downWords), ["set test 0"]);
   assert.deepEqual(campaignOf("").campaign.inputs.map(({ name }) => name), ["A", "B", "C", "D", "WALK"]);
@@ -149,7 +149,7 @@ test("a fourth call and a BBL without a call are seen, with no property of them"
   const run = new CampaignRun(subject, campaign, 1, () => true, PATIENCE);
   const of = (form) => run.found[campaign.properties.findIndex((each) => each.form === form)];
   const end = performance.now() + 60000;
-  while (performance.now() < end && !(of("calls") && of("returns"))) await run.goOn(20);
+  while (performance.now() < end && !(of("calls") && of("returns"))) await run.runFor(20);
   assert.ok(found[0]);
   assert.match(of("calls").test, /press C\n {2}run \d+\n {2}expect not @four\n$/);
   assert.match(of("returns").test, /press [CD]\n {2}run \d+\n {2}expect not pc 0x000\n$/);
@@ -157,7 +157,7 @@ test("a fourth call and a BBL without a call are seen, with no property of them"
 
 test("what holds for all inputs is proved first, and is not searched for", async () => {
   const board = 'lamp = [{ line = "ram0.0.0" }, { line = "ram0.0.1" }]\n[[rom]]\nchip = 0\nport = "0000"\n[[ram]]\nbank = 0\nchips = 1\n';
-  const small = subjectOf(engine, board, "look: JCN 1, lit\n LDM 0\n JUN put\nlit: LDM 1\nput: WMP\n JUN look\n");
+  const small = createSubject(engine, board, "look: JCN 1, lit\n LDM 0\n JUN put\nlit: LDM 1\nput: WMP\n JUN look\n");
   const text = "test\nwait 1 to 20\nnever lamp 1 on\nnever lamp 0 on\nreach lamp 1 on\nreach lamp 0 on\nnever lamp 0 on for 1 s\n";
   const { campaign } = readCampaign(text, small);
   const run = new CampaignRun(small, campaign, 1, () => true, PATIENCE, null, undefined, 30000);
@@ -166,18 +166,18 @@ test("what holds for all inputs is proved first, and is not searched for", async
   // At the snapshots, accumulator and lamp are both 0, or both 1.
   const expected = ["2 false", "0 true", "2 false", "0 true", "0 false", "2 false", "2 false", "2 false"];
   const end = performance.now() + 60000;
-  do await run.goOn(20); while (performance.now() < end && !isDeepStrictEqual(reported(), expected));
+  do await run.runFor(20); while (performance.now() < end && !isDeepStrictEqual(reported(), expected));
   assert.deepEqual(reported(), expected);
 });
 
 test("a program that runs for long without a read does not hold up the search", async () => {
   const board = 'rom = [{ chip = 0, port = "0000" }]\n';
   const loops = ["R1", "R2", "R3", "R4", "R5"].map((register) => ` ISZ ${register}, more\n`).join("");
-  const slow = subjectOf(engine, board, `all: INC R0\nmore: NOP\n${loops} JUN all\n`);
+  const slow = createSubject(engine, board, `all: INC R0\nmore: NOP\n${loops} JUN all\n`);
   const { campaign } = readCampaign("test\nnever r6 = 1\n", slow);
   const run = new CampaignRun(slow, campaign, 1, () => true, PATIENCE, null, undefined, 100);
   const before = process.cpuUsage();
-  await run.goOn(20);
+  await run.runFor(20);
   // In microseconds; a thousand stretches of a million cycles take minutes.
   assert.ok(process.cpuUsage(before).user < 10000000);
 });
@@ -186,7 +186,7 @@ test("a model says what the display has to show, and what is wrong with it is re
   const board = BOARD.replace("# lamp 0: on", "# display 0: 1 digit")
     .replace("lamp = [", 'lamp = [{ line = "ram0.0.3" }, { line = "ram0.0.2" }, ')
     .replace('{ line = "ram0.0.0" }, { line = "ram0.0.1" }', '{ line = "ram0.0.1" }, { line = "ram0.0.0" }');
-  const shown = subjectOf(engine, board, PROGRAM);
+  const shown = createSubject(engine, board, PROGRAM);
   const { campaign, faults } = readCampaign("press A B\npace 300 200\nmodel ./says\n", shown);
   assert.deepEqual(faults, []);
   const asked = [];
@@ -196,11 +196,11 @@ test("a model says what the display has to show, and what is wrong with it is re
     return { shown: chains.map((keys) => (keys.includes("A") ? "1" : "0")), fault: "" };
   };
   const run = new CampaignRun(shown, campaign, 1, () => true, PATIENCE, says);
-  while (!run.found[0]) await run.goOn(20);
+  while (!run.found[0]) await run.runFor(20);
   assert.equal(run.found[0].test, "test model ./says\n  pace 300 200\n  keys A B\n  expect display 1\n");
   assert.match(asked[0], /^[AB]( [AB])*$/);
   const wrong = new CampaignRun(shown, campaign, 1, () => true, PATIENCE, () => ({ shown: [], fault: "it died" }));
-  await wrong.goOn(20);
+  await wrong.runFor(20);
   assert.equal(wrong.fault, "it died");
 });
 
@@ -212,11 +212,11 @@ test("a model whose command may not be run is reported as not run, and is not ri
     properties: [reported("model ./says", isSkipped), reported("never lamp 1 on", false)],
     seeds: [1], steps: 3, states: 2, seconds: 0, covered: "", instructions: [], isStopped: false,
   });
-  const [plan, ...lines] = tapOf(report(true)).split("\n").slice(1);
+  const [plan, ...lines] = formatTap(report(true)).split("\n").slice(1);
   assert.equal(plan, "1..1");
   assert.deepEqual(lines.filter((line) => /ok|run:/.test(line)), ["ok 1 - never lamp 1 on # 3 steps, 2 states",
     "# not run: model ./says (x.props:2): it runs a command of your shell; --allow-model allows it"]);
-  assert.deepEqual(report(true).properties.map(isRight), [false, true]);
+  assert.deepEqual(report(true).properties.map(hasExpectedResult), [false, true]);
   assert.deepEqual([[true, true], [true, false]].map((all) => joinReports(all.map(report)).properties[0].isSkipped), [true, false]);
 });
 
@@ -234,38 +234,38 @@ test("the same seed makes the same walks", () => {
 test("a find that no test confirms is not counted, and its property is given up", async () => {
   const run = await explore("press A\nwait 20 to 300\nnever lamp on on", 5, () => false);
   assert.equal(run.found[0], null);
-  assert.equal(run.doubts.length, 3);
+  assert.equal(run.unconfirmedTests.length, 3);
 });
 
 test("walks keep to how many keys are down, for how long, and how far apart", () => {
   const { campaign } = campaignOf("press A B C D\ntogether 3\nwait 1 to 60\nheld at most 90\napart at least 40\n");
-  const random = randomFrom(7);
+  const random = createRandom(7);
   const steps = [];
-  let [down, since] = [downAtFirst(campaign), sinceAtFirst(campaign)];
+  let [down, since] = [initialDownInputs(campaign), initialAges(campaign)];
   for (let count = 0; count < 5000; count++) {
     const step = chooseStep(campaign, down, since, random);
     assert.ok(step.wait >= 1 && step.wait <= 60);
-    [down, since] = [downAfter(down, step), sinceAfter(since, step)];
+    [down, since] = [downInputsAfter(down, step), nextAges(since, step)];
     steps.push(step);
   }
-  assert.ok(isSound(campaign, steps));
-  assert.ok(steps.some((_, at) => steps.slice(0, at).reduce(downAfter, []).length === 3 && at < 200));
-  assert.ok(!isSound(campaign, [{ wait: 10, kind: "down", input: 0 }, { wait: 91, kind: "up", input: 0 }]));
-  assert.ok(!isSound(campaign, [{ wait: 10, kind: "up", input: 0 }]));
+  assert.ok(areAllowed(campaign, steps));
+  assert.ok(steps.some((_, at) => steps.slice(0, at).reduce(downInputsAfter, []).length === 3 && at < 200));
+  assert.ok(!areAllowed(campaign, [{ wait: 10, kind: "down", input: 0 }, { wait: 91, kind: "up", input: 0 }]));
+  assert.ok(!areAllowed(campaign, [{ wait: 10, kind: "up", input: 0 }]));
 });
 
 test("keys that are down together at first go up in time, one after the other", () => {
   const { campaign: read } = campaignOf("press A B C\ntogether 3\nwait 10 to 60\nheld at most 20\n");
   const campaign = { ...read, inputs: read.inputs.map((input) => ({ ...input, isDown: true })) };
-  const random = randomFrom(3);
+  const random = createRandom(3);
   const steps = [];
-  let [down, since] = [downAtFirst(campaign), sinceAtFirst(campaign)];
+  let [down, since] = [initialDownInputs(campaign), initialAges(campaign)];
   while (down.length > 0) {
     const step = chooseStep(campaign, down, since, random);
-    [down, since] = [downAfter(down, step), sinceAfter(since, step)];
+    [down, since] = [downInputsAfter(down, step), nextAges(since, step)];
     steps.push(step);
   }
-  assert.ok(isSound(campaign, steps));
+  assert.ok(areAllowed(campaign, steps));
   assert.ok(steps.every(({ wait }) => wait >= 1));
 });
 
@@ -296,23 +296,23 @@ stay:   JUN stay
 `;
 
 test("a find is made short where keys are held for a short time, and waits are as long as a run can be", async () => {
-  const late = subjectOf(engine, BOARD, LATE);
+  const late = createSubject(engine, BOARD, LATE);
   const { campaign } = readCampaign("press A B\ntogether 1\nheld at most 1000\nwait 100 to 100000\nnever lamp on on\n", late);
   const run = new CampaignRun(late, campaign, 3, () => true, 4 * PATIENCE);
-  while (run.found[0] === null) await run.goOn(20);
+  while (run.found[0] === null) await run.runFor(20);
   assert.deepEqual(run.found[0].test.split("\n").slice(1, 6), ["  run 100", "  press A", "  run 100", "  release A", "  run 100000"]);
 });
 
 test("what stands at places is what trace reports of them", () => {
   const names = ["lamps", "acc", "cy", "pc", "dcl", "r0", "r7", "r15", "ram.0.0x1F", "ram.5.64", "ram.5.200", "st.0.3.2", "st.5.4.1",
     "ram0.0", "ram5.1", "ram5.2", "ram3.0", "rom1", "chain0", "src", "ret"];
-  const two = subjectOf(engine, BOARD.replace("chips = 1 }]", "chips = 1 }, { bank = 5, chips = 2 }]"), PROGRAM);
+  const two = createSubject(engine, BOARD.replace("chips = 1 }]", "chips = 1 }, { bank = 5, chips = 2 }]"), PROGRAM);
   const looks = new Snapshots(names, two.names.board);
-  const places = new Places(looks.names);
+  const places = new PlaceQueries(looks.names);
   assert.deepEqual([...looks.names].sort(), [...names].sort());
   // Only trace reports what a chip or a bank lacks, and lines that are inputs.
   assert.deepEqual(looks.rest.names, ["ram.5.200", "ram5.2", "ram3.0", "rom1", "chain0", "src", "ret"]);
-  const random = randomFrom(3);
+  const random = createRandom(3);
   const file = two.file.slice();
   for (let times = 0; times < 40; times++) {
     const poke = ["acc", "r0", "r7", "r15", "ram.0.0x1F", "ram.5.64", "st.0.3.2", "st.5.4.1", "ram0.0", "ram5.1"]
@@ -333,22 +333,22 @@ test("a count that is refused reports nothing", () => {
 });
 
 test("a walk that is counted leaves what one that is watched does", () => {
-  const three = subjectOf(engine, BOARD, PROGRAM.replace("JMS four", "NOP"));
+  const three = createSubject(engine, BOARD, PROGRAM.replace("JMS four", "NOP"));
   const { campaign } = readCampaign("press A B C\nreset\nwait 1 to 90\nnever lamp on on for 1 s\n", three);
   const { properties } = campaign;
   const all = [...properties.keys()];
   const watcher = new Watcher(three, campaign, new Coverage());
-  const random = randomFrom(5);
+  const random = createRandom(5);
   const depths = new Set();
   let lit = 0;
   for (let times = 0; times < 80; times++) {
-    let [down, since] = [downAtFirst(campaign), sinceAtFirst(campaign)];
+    let [down, since] = [initialDownInputs(campaign), initialAges(campaign)];
     const steps = [...Array(12)].map(() => {
       const step = chooseStep(campaign, down, since, random);
-      [down, since] = [downAfter(down, step), sinceAfter(since, step)];
+      [down, since] = [downInputsAfter(down, step), nextAges(since, step)];
       return step;
     });
-    const start = { file: three.file, time: 7, down: downAtFirst(campaign), memories: properties.map(({ from }) => from(7, 0)) };
+    const start = { file: three.file, time: 7, down: initialDownInputs(campaign), memories: properties.map(({ from }) => from(7, 0)) };
     const { broken, after } = watcher.watch(start, steps, all);
     assert.equal(broken, null);
     const counted = countWalk({ subject: three, campaign, coverage: new Coverage() }, start, steps);
@@ -363,13 +363,13 @@ test("a walk that is counted leaves what one that is watched does", () => {
   }
   assert.deepEqual([...depths].sort(), [0, 1, 2, 3]);
   assert.ok(lit > 10);
-  assert.equal(followsFromLooks(properties, all, [properties.map(() => false)]), true);
-  assert.equal(followsFromLooks(properties, all, [properties.map((_, at) => at === 0)]), false);
-  assert.equal(followsFromLooks(campaignOf("@look at most once for each press").campaign.properties, [0], [[false]]), false);
+  assert.equal(isCountingSufficient(properties, all, [properties.map(() => false)]), true);
+  assert.equal(isCountingSufficient(properties, all, [properties.map((_, at) => at === 0)]), false);
+  assert.equal(isCountingSufficient(campaignOf("@look at most once for each press").campaign.properties, [0], [[false]]), false);
 });
 
 test("files that are kept come back as they were", () => {
-  const files = new KeptFiles(subject.file);
+  const files = new DeltaFiles(subject.file);
   const other = subject.file.slice();
   engine.serve(other, "press 0 1\nrun 500\n", other);
   const kept = files.keep(other);
@@ -388,11 +388,11 @@ test("reports are joined: the shortest finds, and all that was run", async () =>
   assert.equal(joined.steps, one.steps + other.steps);
   assert.deepEqual(joined.seeds, [1, 2]);
   assert.equal(joinReports([one, { ...other, sums: "2" }]), null);
-  const tap = tapOf(joined);
+  const tap = formatTap(joined);
   assert.match(tap, /^TAP version 13\n1\.\.5\nnot ok 1 - never lamp on on # broken, 0 steps\n/);
   assert.match(tap, /\nnot ok 2 - reach lamp 1 on # [\d,]+ steps, \d+ states\n/);
   assert.match(tap, /\n# seeds 1 2: /);
-  assert.match(testsOfReport(joined), /^# Found by mcs4 explore: .*\n\n# x.props:3\ntest shorter\n$/);
+  assert.match(formatReportTests(joined), /^# Found by mcs4 explore: .*\n\n# x.props:3\ntest shorter\n$/);
 });
 
 test("what was run is reported with what was not", () => {
@@ -401,7 +401,7 @@ test("what was run is reported with what was not", () => {
   assert.ok(!coverage.add([{ address: 2, begun: 1, jumped: 1 }]));
   assert.ok(coverage.add([{ address: 2, begun: 1, jumped: 0 }]));
   assert.equal(new Coverage(coverage.text).text, "107");
-  const at = (line, address, hasWays) => ({ line, address, hasWays });
+  const at = (line, address, isBranch) => ({ line, address, isBranch });
   assert.deepEqual(coverage.summary([at(1, 0, false), at(2, 2, true), at(3, 4, true)]),
     { run: 2, all: 3, ways: 2, allWays: 4, left: [3], oneWay: [] });
 });
@@ -413,12 +413,12 @@ const all = async () => {};
 
 test("a campaign can begin from a state of tests, with its lines before each find", async () => {
   const propertiesText = "from both\npress A B\nwait 20 to 300\nnever lamp on on\n";
-  const { readable, faults } = await readToExplore(engine, { ...texts, propertiesText });
+  const { searchSetup, faults } = await prepareSearch(engine, { ...texts, propertiesText });
   assert.deepEqual(faults, []);
-  assert.deepEqual(downAtFirst(readable.campaign), [0, 1]);
-  const exploring = new Exploring(engine, texts, readable, { seed: 1, seconds: 5 }, all);
-  let progress = await exploring.goOn(1000);
-  while (progress.found.length === 0) progress = await exploring.goOn(1000);
+  assert.deepEqual(initialDownInputs(searchSetup.campaign), [0, 1]);
+  const exploring = new SlicedSearch(engine, texts, searchSetup, { seed: 1, seconds: 5 }, all);
+  let progress = await exploring.runFor(1000);
+  while (progress.found.length === 0) progress = await exploring.runFor(1000);
   const [property] = progress.report.properties;
   assert.match(property.found.test, /^test never lamp on on\n {2}press A\n {2}run 400\n {2}press B\n {2}run 200\n/);
   assert.match(property.found.test, /\n {2}expect not lamp on on\n$/);
@@ -428,7 +428,7 @@ test("a campaign can begin from a state of tests, with its lines before each fin
 
 test("what is wrong with the state to begin with is reported", async () => {
   const faultOf = async (line, testText = SAVING) => {
-    const { faults } = await readToExplore(engine, { ...texts, testText, propertiesText: `${line}\n` });
+    const { faults } = await prepareSearch(engine, { ...texts, testText, propertiesText: `${line}\n` });
     return faults.map(({ line: at, words }) => `${at}: ${words}`).join();
   };
   assert.equal(await faultOf("from there"), "1: no test saves a state there; there is: lit both");
@@ -442,11 +442,11 @@ test("what is wrong with the state to begin with is reported", async () => {
 });
 
 test("the same seed makes the same find, however long it may take", async () => {
-  const { readable } = await readToExplore(engine, { ...texts, propertiesText: "press A B\nwait 20 to 300\nnever lamp on on\n" });
+  const { searchSetup } = await prepareSearch(engine, { ...texts, propertiesText: "press A B\nwait 20 to 300\nnever lamp on on\n" });
   const finds = [];
   for (const slice of [1, 500]) {
-    const exploring = new Exploring(engine, texts, readable, { seed: 3, seconds: 5 }, all);
-    while (!exploring.run.found[0]) await exploring.goOn(slice);
+    const exploring = new SlicedSearch(engine, texts, searchSetup, { seed: 3, seconds: 5 }, all);
+    while (!exploring.run.found[0]) await exploring.runFor(slice);
     finds.push(exploring.run.found[0]);
   }
   assert.deepEqual(finds[0], finds[1]);
@@ -488,11 +488,11 @@ test("a search ends with its time, where it is stopped, and where its worker die
   assert.deepEqual(await run(explorerOf(looking, ends)), { faults: [], isStopped: false });
   assert.deepEqual([reported.length, ends], [3, ["ended"]]);
   assert.deepEqual(await run(explorerOf({ ...looking, explore: () => ["a fault"] })), { faults: ["a fault"], isStopped: false });
-  const dying = { ...looking, exploreOn: () => Promise.reject(new WorkerDied()) };
+  const dying = { ...looking, exploreOn: () => Promise.reject(new WorkerDiedError()) };
   assert.deepEqual(await run(explorerOf(dying)), { faults: [], isStopped: true });
   const controller = new AbortController();
   controller.signal.addEventListener("abort", () => reported.push("stopped"));
-  const stopped = explorerOf({ ...looking, exploreOn: () => (controller.abort(), Promise.reject(new WorkerDied())) }, ends);
+  const stopped = explorerOf({ ...looking, exploreOn: () => (controller.abort(), Promise.reject(new WorkerDiedError())) }, ends);
   assert.deepEqual(await run(stopped, controller), { faults: [], isStopped: true });
   assert.equal(ends.length, 3);
 });
@@ -500,10 +500,10 @@ test("a search ends with its time, where it is stopped, and where its worker die
 test("before a find stand shared steps in the place of `do`, and what is repeated", async () => {
   const testText = "steps on\n  press A\n  reset\ntest it is lit\n  repeat 2\n    run 5\n    do on\n  end\n  save lit\n";
   const propertiesText = "from lit\npress A B\nnever lamp on on\n";
-  const { readable, faults } = await readToExplore(engine, { ...texts, testText, propertiesText });
+  const { searchSetup, faults } = await prepareSearch(engine, { ...texts, testText, propertiesText });
   assert.deepEqual(faults, []);
-  assert.deepEqual(readable.campaign.before, ["  repeat 2", "  run 5", "  press A", "  reset", "  end"]);
+  assert.deepEqual(searchSetup.campaign.before, ["  repeat 2", "  run 5", "  press A", "  reset", "  end"]);
   // After a power cycle it is not known how many calls are open.
-  assert.equal(readable.campaign.calls.least, 0);
-  assert.ok(readable.campaign.calls.most > 0);
+  assert.equal(searchSetup.campaign.calls.least, 0);
+  assert.ok(searchSetup.campaign.calls.most > 0);
 });

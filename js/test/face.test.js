@@ -3,7 +3,7 @@ import { readFileSync } from "node:fs";
 import { test } from "node:test";
 import { readBoard } from "../core/bench/answers.js";
 import { DisplayText } from "../core/board/display_text.js";
-import { Face, faceFaults, moreFaults } from "../core/board/face.js";
+import { Face, findFaceErrors, moreErrors } from "../core/board/face.js";
 import { missingParts } from "../core/board/face_board.js";
 
 /** The samples: comments of a board, and their meaning. */
@@ -40,7 +40,7 @@ for (const name of ["all", "faults", "many", "none", "printer", "scanned", "show
     const wanted = sample(`${name}.expected`).split("\n").filter(Boolean);
     const patterns = wanted.filter((line) => line.startsWith("shows ")).map((line) => line.split(" ")[1]);
     const face = new Face(text);
-    assert.deepEqual(wordsOf(face, [...faceFaults(text), ...missingParts(face, board)], patterns), wanted);
+    assert.deepEqual(wordsOf(face, [...findFaceErrors(text), ...missingParts(face, board)], patterns), wanted);
   });
 }
 
@@ -59,7 +59,7 @@ test("a face takes no more time than its text has letters", () => {
 });
 
 test("of many faults the first ones are reported", () => {
-  assert.deepEqual([moreFaults([1, 2], 2), moreFaults([1, 2], 1), moreFaults(new Array(1020), 20)], ["", "And 1 more.", "And 1,000 more."]);
+  assert.deepEqual([moreErrors([1, 2], 2), moreErrors([1, 2], 1), moreErrors(new Array(1020), 20)], ["", "And 1 more.", "And 1,000 more."]);
 });
 
 /** Lamps of digits, four each, the highest bit first; `width` 5 has a point after each. */
@@ -85,5 +85,5 @@ test("displays of digits alone, with a sign or none; and no display is guessed f
 });
 
 test("a name of every object is no part of a face", () => {
-  assert.deepEqual(faceFaults("# constructor 0: a\n# toString: b\n# __proto__: c\n"), []);
+  assert.deepEqual(findFaceErrors("# constructor 0: a\n# toString: b\n# __proto__: c\n"), []);
 });

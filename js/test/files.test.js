@@ -1,13 +1,13 @@
 import assert from "node:assert/strict";
 import { test } from "node:test";
-import { NO_BYTE, bytesOf } from "../core/bench/rom_bytes.js";
+import { NO_BYTE, parseRomBytes } from "../core/bench/rom_bytes.js";
 import { readBytes, readHex, writeHex } from "../core/bench/rom_image.js";
-import { openedFile } from "../core/session/opened_file.js";
+import { readOpenedFile } from "../core/session/opened_file.js";
 import { RomFiles } from "../core/session/rom_files.js";
-import { textsOfBytes } from "../core/text/assembling.js";
+import { createByteTexts } from "../core/text/assembling.js";
 
 const bytes = (/** @type {string} */ text) => new TextEncoder().encode(text);
-const opened = (/** @type {string} */ name, /** @type {string} */ text) => openedFile(name, bytes(text));
+const opened = (/** @type {string} */ name, /** @type {string} */ text) => readOpenedFile(name, bytes(text));
 
 const NO_TEXTS = { board: null, program: null, tests: null, properties: null, lines: "" };
 
@@ -33,12 +33,12 @@ test("lines for the bench have a board, a program and other lines", () => {
 });
 
 test("letters of one byte in a comment are read", () => {
-  assert.equal(openedFile("a.asm", Uint8Array.of(59, 0xfc, 10)).texts.program, ";\u00fc\n");
+  assert.equal(readOpenedFile("a.asm", Uint8Array.of(59, 0xfc, 10)).texts.program, ";\u00fc\n");
 });
 
 test("what is nothing for the bench is refused in words", () => {
   const picture = Uint8Array.of(137, 80, 78, 71, 13, 10, 26, 10, 0);
-  assert.throws(() => openedFile("a.png", picture), /^Error: not a text, a session or a project; supported are projects/);
+  assert.throws(() => readOpenedFile("a.png", picture), /^Error: not a text, a session or a project; supported are projects/);
   assert.throws(() => opened("a.jpg", "no session at all"), /^Error: not a kind of text that the bench has; supported are projects/);
   assert.throws(() => opened("a.asm", "\n"), /^Error: it is empty; supported are projects/);
   assert.throws(() => opened("a.asm", "x".repeat(65537)), /a text of 65,537 characters; at most 65,536 are accepted/);
@@ -80,10 +80,10 @@ test("an image that is bytes alone begins at 000", () => {
 });
 
 test("texts that put an image into ROM have room in the bench", () => {
-  const texts = textsOfBytes(new Int16Array(4096).fill(255));
+  const texts = createByteTexts(new Int16Array(4096).fill(255));
   assert.equal(texts.length, 2);
   assert.ok(texts.every((text) => text.length <= 16384 && text.split("\n").every((line) => line.length <= 255)));
-  assert.equal(textsOfBytes(readHex(":03000000D1E2F05A\n:00000001FF\n")).join(), "ORG 0x000\nDB 209,226,240\n");
+  assert.equal(createByteTexts(readHex(":03000000D1E2F05A\n:00000001FF\n")).join(), "ORG 0x000\nDB 209,226,240\n");
 });
 
 test("an image comes into the ROMs of the board, and goes into a file", async () => {
@@ -113,5 +113,5 @@ test("an image comes into the ROMs of the board, and goes into a file", async ()
   const file = await rom.image();
   assert.deepEqual([file.length, file[0], file[256]], [512, 0, 209]);
   assert.equal((await rom.hex()).split("\n").length, 18);
-  assert.equal(bytesOf(lines)[511], 209);
+  assert.equal(parseRomBytes(lines)[511], 209);
 });

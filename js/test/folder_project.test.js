@@ -1,9 +1,9 @@
 // A folder with a project file, as it is dropped on the page: its texts, or why it has none.
 import assert from "node:assert/strict";
 import { test } from "node:test";
-import { folderOfFiles, foldersOf, readFolder } from "../page/session/folder_files.js";
-import { textsOfFolder } from "../page/session/folder_project.js";
-import { openedFile } from "../core/session/opened_file.js";
+import { folderFromFiles, droppedFolders, readFolder } from "../page/session/folder_files.js";
+import { readFolderTexts } from "../page/session/folder_project.js";
+import { readOpenedFile } from "../core/session/opened_file.js";
 
 const PROJECT = "board = \"b/wires.toml\"\nprogram = \"main.asm\"\ntests = [\"a.test\", \"c.test\"]\nspeed = \"tenth\"\n";
 const TEXTS = {
@@ -21,20 +21,20 @@ function folder(texts, name = "lights") {
 }
 
 test("the texts of a folder", async () => {
-  const { texts, speed, words } = await textsOfFolder(folder(TEXTS));
+  const { texts, speed, words } = await readFolderTexts(folder(TEXTS));
   assert.deepEqual([texts.name, texts.board, texts.program, texts.tests, texts.properties], ["lights", TEXTS["b/wires.toml"], "NOP\n",
     TEXTS["a.test"], ""]);
   assert.deepEqual([speed, words], ["tenth", "The page has one text of each kind: c.test is left out."]);
   // Boards and programs may be in a script.
   const script = "wire\n[[rom]]\nchip = 0\nport = \"0000\"\n.\nasm\nNOP\n.\n";
-  const both = await textsOfFolder(folder({ "mcs4.toml": "board = \"s.txt\"\nprogram = \"s.txt\"\n", "s.txt": script }, ""));
+  const both = await readFolderTexts(folder({ "mcs4.toml": "board = \"s.txt\"\nprogram = \"s.txt\"\n", "s.txt": script }, ""));
   assert.deepEqual([both.texts.name, both.texts.program, both.speed, both.words], ["s", "NOP\n", "", ""]);
 });
 
 test("a folder that is no project", async () => {
   const refused = async (texts) => {
     try {
-      await textsOfFolder(folder(texts));
+      await readFolderTexts(folder(texts));
       return "";
     } catch (fault) {
       return fault.message;
@@ -46,7 +46,7 @@ test("a folder that is no project", async () => {
   assert.equal(await refused({ "mcs4.toml": PROJECT, "main.asm": "" }), "mcs4.toml: line 1: board: there is no file b/wires.toml");
   assert.match(await refused({ ...TEXTS, "mcs4.toml": PROJECT.replace("main.asm", "holiday.jpg") }), /not a text|zero|empty/);
   assert.equal(await refused({ ...TEXTS, "mcs4.toml": PROJECT.replace("a.test", "main.asm") }), "main.asm has no text of tests");
-  assert.throws(() => openedFile("mcs4.toml", new TextEncoder().encode(PROJECT)), /drop its folder on the page/);
+  assert.throws(() => readOpenedFile("mcs4.toml", new TextEncoder().encode(PROJECT)), /drop its folder on the page/);
 });
 
 test("folders and files as a browser has them", async () => {
@@ -60,8 +60,8 @@ test("folders and files as a browser has them", async () => {
   const { name, files } = await readFolder(dropped);
   assert.deepEqual([name, [...files.keys()]], ["lights", ["mcs4.toml", "main.asm", "b/wires.toml"]]);
   const items = [{ kind: "string" }, { kind: "file", webkitGetAsEntry: () => dropped }, { kind: "file", webkitGetAsEntry: () => null }];
-  assert.deepEqual(foldersOf({ items }), [dropped]);
-  assert.deepEqual(foldersOf(null), []);
-  assert.equal(folderOfFiles([file("mcs4.toml", "")]), null);
-  assert.deepEqual([...folderOfFiles([file("a.asm", ""), file("mcs4.toml", "")]).files.keys()], ["a.asm", "mcs4.toml"]);
+  assert.deepEqual(droppedFolders({ items }), [dropped]);
+  assert.deepEqual(droppedFolders(null), []);
+  assert.equal(folderFromFiles([file("mcs4.toml", "")]), null);
+  assert.deepEqual([...folderFromFiles([file("a.asm", ""), file("mcs4.toml", "")]).files.keys()], ["a.asm", "mcs4.toml"]);
 });

@@ -2,13 +2,13 @@
 import assert from "node:assert/strict";
 import { readFileSync } from "node:fs";
 import { test } from "node:test";
-import { PARTS, headOf, lastFolded } from "../core/text/folding.js";
+import { PARTS, findFoldStart, findFoldEnd } from "../core/text/folding.js";
 
 /** Returns each line below which something folds away, with the last one of that, from 1. */
-function foldsOf(text, parts) {
+function findFolds(text, parts) {
   const lines = text.split("\n");
   const lineAt = (line) => lines[line];
-  return lines.map((_, line) => [line + 1, lastFolded(lineAt, line, parts) + 1]).filter(([line, last]) => last > line);
+  return lines.map((_, line) => [line + 1, findFoldEnd(lineAt, line, parts) + 1]).filter(([line, last]) => last > line);
 }
 
 const PROGRAM = `; two lines
@@ -36,29 +36,29 @@ last:   NOP
 `;
 
 test("a subroutine folds with its loops, a loop alone, and lines of comment", () => {
-  assert.deepEqual(foldsOf(PROGRAM, PARTS.program), [[1, 2], [7, 14], [8, 14], [17, 18], [20, 22]]);
+  assert.deepEqual(findFolds(PROGRAM, PARTS.program), [[1, 2], [7, 14], [8, 14], [17, 18], [20, 22]]);
 });
 
 test("a loop ends where another label or another part begins", () => {
-  assert.deepEqual(foldsOf("a: NOP\nb: NOP\n NOP\nc: NOP\n NOP\n\nd: NOP\n NOP\n", PARTS.program), [[1, 5], [2, 3], [4, 5], [7, 8]]);
+  assert.deepEqual(findFolds("a: NOP\nb: NOP\n NOP\nc: NOP\n NOP\n\nd: NOP\n NOP\n", PARTS.program), [[1, 5], [2, 3], [4, 5], [7, 8]]);
 });
 
 test("tables of a board, and tests", () => {
   const board = "# face\n# more\n[[rom]]\nchip = 0\n\n[[ram]]\nbank = 0\nchips = 1\n\n# about keys\n[keys]\nfirst = 0\n";
-  assert.deepEqual(foldsOf(board, PARTS.board), [[1, 2], [3, 4], [6, 8], [11, 12]]);
-  assert.deepEqual(foldsOf("# a\ntest one\n  run 1\ntest two\n  run 2\n  expect cycles 2\n", PARTS.tests), [[2, 3], [4, 6]]);
-  assert.deepEqual(foldsOf("", PARTS.program), []);
+  assert.deepEqual(findFolds(board, PARTS.board), [[1, 2], [3, 4], [6, 8], [11, 12]]);
+  assert.deepEqual(findFolds("# a\ntest one\n  run 1\ntest two\n  run 2\n  expect cycles 2\n", PARTS.tests), [[2, 3], [4, 6]]);
+  assert.deepEqual(findFolds("", PARTS.program), []);
 });
 
 test("the part that a line is in, the innermost one", () => {
   const lines = PROGRAM.split("\n");
-  const headAt = (line) => headOf((at) => lines[at], line - 1, PARTS.program) + 1;
+  const headAt = (line) => findFoldStart((at) => lines[at], line - 1, PARTS.program) + 1;
   assert.deepEqual([2, 3, 7, 9, 14, 16, 21].map(headAt), [1, 0, 7, 8, 8, 0, 20]);
 });
 
 test("parts are apart, or one is in the other", () => {
   const text = readFileSync(new URL("../../examples/calculator/calculator.asm", import.meta.url), "utf8");
-  const folds = foldsOf(text, PARTS.program);
+  const folds = findFolds(text, PARTS.program);
   assert.ok(folds.length > 50);
   for (const [line, last] of folds) {
     for (const [other, end] of folds) {

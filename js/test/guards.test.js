@@ -4,13 +4,13 @@ import assert from "node:assert/strict";
 import { test } from "node:test";
 import { CampaignRun } from "../core/explore/campaign_run.js";
 import { readCampaign } from "../core/explore/campaign.js";
-import { subjectOf } from "../core/explore/subject.js";
-import { randomFrom } from "../core/explore/walks.js";
+import { createSubject } from "../core/explore/subject.js";
+import { createRandom } from "../core/explore/walks.js";
 import { Engine } from "../core/engine/engine.js";
 import { runTests } from "../core/testing/test_suite.js";
-import { moduleOfPage } from "./page_session.js";
+import { pageModule } from "./page_session.js";
 
-const engine = new Engine(new globalThis.WebAssembly.Module(moduleOfPage));
+const engine = new Engine(new globalThis.WebAssembly.Module(pageModule));
 
 // The reaction timer: START begins to wait, the lamp `go` comes on, and PRESS, at TEST, stops it. PRESS while it waits is a foul.
 const BOARD = `# row 0: START
@@ -55,17 +55,17 @@ end:    JUN end
 const LATE = PROGRAM.replace("wait:   JCN pressed, foul\n        ISZ R4, wait", "wait:   ISZ R4, wait\n        JCN pressed, foul");
 const INPUTS = "press START PRESS\nwait 20 to 200\nnote lamps\nheld at most 30\n";
 
-const campaignOf = (text, program = PROGRAM) => readCampaign(INPUTS + text, subjectOf(engine, BOARD, program));
+const campaignOf = (text, program = PROGRAM) => readCampaign(INPUTS + text, createSubject(engine, BOARD, program));
 const faultOf = (text) => campaignOf(text).faults.map(({ words }) => words).join();
 
 /** Returns the counterexample of the first property within some seconds, null for none. */
 async function found(text, program, seconds) {
-  const subject = subjectOf(engine, BOARD, program);
+  const subject = createSubject(engine, BOARD, program);
   const { campaign, faults } = readCampaign(INPUTS + text, subject);
   assert.deepEqual(faults, []);
   const run = new CampaignRun(subject, campaign, 1, () => true, 5e6);
   const end = performance.now() + 1000 * seconds;
-  while (performance.now() < end && run.found[0] === null) await run.goOn(20);
+  while (performance.now() < end && run.found[0] === null) await run.runFor(20);
   return run.found[0];
 }
 
@@ -145,8 +145,8 @@ function brokenBy(property, { c, g, acts }) {
   let broken = -1;
   const notify = (event, time, input = "") => {
     const isState = event === "values";
-    const opens = isState || event === "down" ? opensAt(time) : [];
-    const when = property.see(memory, event, { time, changed: time, address: -1, holds: isState && c[time], opens, input, isDown: 0 });
+    const areOpen = isState || event === "down" ? opensAt(time) : [];
+    const when = property.update(memory, event, { time, changed: time, address: -1, holds: isState && c[time], areOpen, input, isDown: 0 });
     if (when >= 0 && (broken < 0 || when < broken)) broken = when;
   };
   let began = 0;
@@ -212,7 +212,7 @@ const READ = {
 };
 
 test("guards mean what the manual says, cycle by cycle", () => {
-  const random = randomFrom(11);
+  const random = createRandom(11);
   const { campaign } = campaignOf(`never lamp go on
 always lamp go on
 never lamp go on for 7

@@ -1,12 +1,12 @@
 // How often and how lately characters of RAM change, on the module of the page itself.
 import assert from "node:assert/strict";
 import { test } from "node:test";
-import { Cancelled } from "../core/bench/faults.js";
+import { CancelledError } from "../core/bench/faults.js";
 import { pinKey } from "../core/board/key_place.js";
-import { PassingHeat, heatLevels, wordsOfHeat, wordsOfChanges, wordsOfPassing, wordsOfSeen } from "../core/machine/warmth.js";
-import { bytesOfSource, namesOfCharacters } from "../core/machine/ram_names.js";
+import { PassingHeat, heatLevels, describeHeat, describeChanges, describeHeatStatus, describeSeenChanges } from "../core/machine/warmth.js";
+import { namedSrcBytes, nibbleNames } from "../core/machine/ram_names.js";
 import { SourceMap } from "../core/machine/source_map.js";
-import { readWatched } from "../core/debug/watched.js";
+import { parseWatch } from "../core/debug/watched.js";
 import { begin } from "./page_session.js";
 
 const BOARD = `[[rom]]
@@ -78,8 +78,8 @@ test("of several chips one is looked at in each frame, and of full speed a sampl
   assert.equal(calls.advance(50000).warmed, null);
   const { warmed } = calls.bench.session.measureAhead();
   assert.deepEqual([warmed.chips, warmed.cycles, warmed.cells.length], [3, 2778, 1]);
-  assert.equal(wordsOfPassing(warmed, false), "Counted while running, in one of 3 chips at a time, at full speed in samples.");
-  assert.equal(wordsOfPassing({ chips: 1 }, true), "Counted while running.");
+  assert.equal(describeHeatStatus(warmed, false), "Counted while running, in one of 3 chips at a time, at full speed in samples.");
+  assert.equal(describeHeatStatus({ chips: 1 }, true), "Counted while running.");
 });
 
 test("what changed is counted over the past, to the cycle, and nothing is undone", async () => {
@@ -122,8 +122,8 @@ test("long runs are looked through in parts, with the same result", async () => 
 
 test("it is cancelled like other long work, and a board without RAM has none", async () => {
   const calls = await ran(SETUP + 20 * TURN);
-  calls.bench.goesOn = async () => false;
-  await assert.rejects(calls.heat(1000), Cancelled);
+  calls.bench.shouldContinue = async () => false;
+  await assert.rejects(calls.heat(1000), CancelledError);
   const bare = await begin("three lamps");
   await bare.serve("wire\n[[rom]]\nchip = 0\nport = \"0000\"\n.\nrun 20\n");
   assert.deepEqual(await bare.heat(1000), { cycles: 0, cells: [] });
@@ -141,27 +141,27 @@ test("five steps of warmth, and words", () => {
   assert.deepEqual([...heatLevels(HEAT, "often").values()], [1, 5, 3]);
   assert.deepEqual([...heatLevels(HEAT, "lately").values()], [1, 5, 3]);
   assert.deepEqual([...heatLevels({ cycles: 5, cells: [{ ...HEAT.cells[0], ago: 0 }] }, "often").values()], [5]);
-  assert.equal(wordsOfChanges(HEAT.cells[1], null), "100 times, last by 009, 1 cycle, 0.011 ms ago");
-  assert.equal(wordsOfChanges({ ...HEAT.cells[2], count: 1, ago: 0 }, null), "once by the line poke c 1");
-  assert.equal(wordsOfSeen(HEAT.cells[1], null), "100 times as seen while running, last seen by 009");
-  assert.equal(wordsOfSeen({ ...HEAT.cells[2], count: 1 }, null), "once as seen while running, last seen by the line poke c 1");
-  assert.equal(wordsOfHeat(HEAT, 2000, (place) => place.toUpperCase(), null), "In the last 1,000 cycles, 10.800 ms (no more is "
+  assert.equal(describeChanges(HEAT.cells[1], null), "100 times, last by 009, 1 cycle, 0.011 ms ago");
+  assert.equal(describeChanges({ ...HEAT.cells[2], count: 1, ago: 0 }, null), "once by the line poke c 1");
+  assert.equal(describeSeenChanges(HEAT.cells[1], null), "100 times as seen while running, last seen by 009");
+  assert.equal(describeSeenChanges({ ...HEAT.cells[2], count: 1 }, null), "once as seen while running, last seen by the line poke c 1");
+  assert.equal(describeHeat(HEAT, 2000, (place) => place.toUpperCase(), null), "In the last 1,000 cycles, 10.800 ms (no more is "
     + "remembered), 3 characters have changed: most often B, 100 times; last B, by 009, 1 cycle, 0.011 ms ago.");
-  assert.equal(wordsOfHeat({ cycles: 9, cells: [] }, 9, String, null), "In the last 9 cycles, 0.097 ms, no character of RAM has changed.");
-  assert.equal(wordsOfHeat({ cycles: 100, cells: [HEAT.cells[0]] }, 100, String, null), "In the last 100 cycles, 1.080 ms, one character "
+  assert.equal(describeHeat({ cycles: 9, cells: [] }, 9, String, null), "In the last 9 cycles, 0.097 ms, no character of RAM has changed.");
+  assert.equal(describeHeat({ cycles: 100, cells: [HEAT.cells[0]] }, 100, String, null), "In the last 100 cycles, 1.080 ms, one character "
     + "has changed: a, once by 000, 1,000 cycles, 10.800 ms ago.");
-  assert.match(wordsOfHeat({ cycles: 0, cells: [] }, 9, String, null), /^No earlier cycle/);
+  assert.match(describeHeat({ cycles: 0, cells: [] }, 9, String, null), /^No earlier cycle/);
 });
 
 test("names: those of values, and those that FIM puts into a pair of an SRC", async () => {
   const calls = await begin("three lamps");
   await calls.serve(`wire\n${BOARD}.\n`);
   const map = new SourceMap(calls.checkProgram(PROGRAM).map, PROGRAM);
-  assert.deepEqual(bytesOfSource(map), [{ name: "digit", byte: 0x12 }, { name: "other", byte: 0x41 }]);
+  assert.deepEqual(namedSrcBytes(map), [{ name: "digit", byte: 0x12 }, { name: "other", byte: 0x41 }]);
   const texts = ["count = R5", "sum = ram 2 0x41", "ram 0 0x13", "mode = st 0 1 2", "digit = ram 0 0x12"];
-  const watched = texts.map((text) => readWatched(text).watched);
+  const watched = texts.map((text) => parseWatch(text).watched);
   const board = { banks: [{ bank: 0, chips: 1 }, { bank: 2, chips: 2 }] };
-  assert.deepEqual([...namesOfCharacters(board, watched, map)], [
+  assert.deepEqual([...nibbleNames(board, watched, map)], [
     ["ram.2.0x41", ["sum", "other"]], ["st.0.1.2", ["mode"]], ["ram.0.0x12", ["digit"]], ["ram.2.0x12", ["digit"]]]);
-  assert.deepEqual([...namesOfCharacters(board, [], null)], []);
+  assert.deepEqual([...nibbleNames(board, [], null)], []);
 });

@@ -1,6 +1,6 @@
 import assert from "node:assert/strict";
 import { test } from "node:test";
-import { endOfInputs, joinLines, matchAnswers, readInputs } from "../core/bench/inputs.js";
+import { findInputEnd, joinLines, matchAnswers, readInputs } from "../core/bench/inputs.js";
 
 const kinds = (lines) => readInputs(lines).map(({ kind, text }) => (text.length > 0 ? `${kind}+${text.length}` : kind));
 
@@ -17,10 +17,10 @@ test("inputs: a text opens with its word alone, and a line that is too long is o
 
 test("lines are cut between inputs, never within a text", () => {
   const lines = "run 1\nasm\nNOP\nNOP\n.\nseq\n";
-  const ends = [1, 6, 7, 20, 100].map((size) => lines.slice(0, endOfInputs(lines, 0, size)));
+  const ends = [1, 6, 7, 20, 100].map((size) => lines.slice(0, findInputEnd(lines, 0, size)));
   assert.deepEqual(ends, ["run 1\n", "run 1\n", "run 1\nasm\nNOP\nNOP\n.\n", "run 1\nasm\nNOP\nNOP\n.\n", lines]);
-  assert.equal(endOfInputs("asm\nNOP\nNOP", 0, 1), 11);
-  assert.equal(endOfInputs("seq", 0, 1), 3);
+  assert.equal(findInputEnd("asm\nNOP\nNOP", 0, 1), 11);
+  assert.equal(findInputEnd("seq", 0, 1), 3);
 });
 
 test("pieces of lines have the inputs of the whole", () => {
@@ -28,7 +28,7 @@ test("pieces of lines have the inputs of the whole", () => {
   for (let size = 1; size < lines.length; size++) {
     const found = [];
     for (let at = 0; at < lines.length;) {
-      const end = endOfInputs(lines, at, size);
+      const end = findInputEnd(lines, at, size);
       found.push(...readInputs(lines.slice(at, end)));
       at = end;
     }

@@ -2,12 +2,12 @@
 import assert from "node:assert/strict";
 import { test } from "node:test";
 import { readBoard } from "../core/bench/answers.js";
-import { keyScanOf, placeOfRoutine } from "../core/drawing/scan_routine.js";
+import { keyScanSource, routineInsertion } from "../core/drawing/scan_routine.js";
 import { sentText } from "../core/text/text_fault.js";
 import { Engine } from "../core/engine/engine.js";
-import { examplesOfPage, moduleOfPage } from "./page_session.js";
+import { examplesOfPage, pageModule } from "./page_session.js";
 
-const loading = Engine.load(moduleOfPage);
+const loading = Engine.load(pageModule);
 
 /** A board with these keys; the chain's lines, and how many chips it has. */
 const boardOf = ({ clock = "rom0.0", data = "rom0.1", chips = 1, first = 0, rows = 4, columns }) => `
@@ -63,7 +63,7 @@ for (const [name, text] of Object.entries(BOARDS)) {
     const wired = answersOf(engine, session, `wire\n${sentText(text, "#")}.\n`);
     assert.match(wired[0], /^ok/, wired.join());
     const board = readBoard(engine.ask(session, "board\n").answers);
-    const code = keyScanOf(board, "; a source without instructions\n");
+    const code = keyScanSource(board, "; a source without instructions\n");
     const [assembled] = answersOf(engine, session, `asm\n${sentText(code, ";")}.\n`);
     assert.match(assembled, /^ok \d+ bytes \d+$/, code);
     const { rows, columns } = board.matrix;
@@ -87,17 +87,17 @@ for (const [name, text] of Object.entries(BOARDS)) {
 
 test("labels of the source are not used again, and a source with instructions keeps its begin", async () => {
   const board = { chains: [{ clock: "rom0.0", data: "rom0.1", chips: 1 }], matrix: { chain: 0, first: 0, rows: 1, columns: ["rom0.2"] } };
-  const one = keyScanOf(board, "loop: NOP\n JUN loop\n");
+  const one = keyScanSource(board, "loop: NOP\n JUN loop\n");
   assert.match(one, /^; Scans the keys: bit 0 of chain 0 drives row 0; columns are read at the port of ROM 0\.\n/);
   assert.match(one, /^keys_scan: +LDM 0$/m);
-  assert.match(keyScanOf(board, one), /^keys1_scan: /m);
-  assert.match(keyScanOf(board, one + keyScanOf(board, one)), /^keys2_scan: /m);
-  assert.equal(keyScanOf({ ...board, matrix: null }, ""), "");
+  assert.match(keyScanSource(board, one), /^keys1_scan: /m);
+  assert.match(keyScanSource(board, one + keyScanSource(board, one)), /^keys2_scan: /m);
+  assert.equal(keyScanSource({ ...board, matrix: null }, ""), "");
 });
 
 test("a routine comes behind the line of the caret, else to the end, with blank lines around it", () => {
   const put = (text, line) => {
-    const { edit, first, isEnd } = placeOfRoutine(text, line, "scan: BBL 0\n");
+    const { edit, first, isEnd } = routineInsertion(text, line, "scan: BBL 0\n");
     return [text.slice(0, edit.from) + edit.insert + text.slice(edit.to), first, isEnd];
   };
   assert.deepEqual(put("", 0), ["scan: BBL 0\n", 1, true]);

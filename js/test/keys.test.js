@@ -1,9 +1,9 @@
 import assert from "node:assert/strict";
 import { test } from "node:test";
-import { hintOfKeys, keyOfKeyboard, keysOf } from "../core/board/board_keys.js";
+import { keyHint, findBoardKey, boardKeys } from "../core/board/board_keys.js";
 import { Face } from "../core/board/face.js";
-import { KeysDown, isSameKey, keyOfText, lineOfKey, matrixKey, pinKey, textOfKey } from "../core/board/key_place.js";
-import { KeyQueue, LONGEST_RUN } from "../core/engine/key_queue.js";
+import { PressedKeys, isSameKey, parseKey, keyLine, matrixKey, pinKey, formatKey } from "../core/board/key_place.js";
+import { KeyQueue, MAX_RUN_CYCLES } from "../core/engine/key_queue.js";
 import { KEY_DOWN_CYCLES, KEY_UP_CYCLES } from "../core/time/mcs4_time.js";
 
 const lines = (queue, cycles) => queue.plan(cycles).map((step) => step.line);
@@ -15,28 +15,28 @@ test("legends come from the comments of a board's text", () => {
 });
 
 test("keys have places, legends and letters that are their own", () => {
-  const keys = keysOf({ rows: 2, columns: 2 }, new Face("# row 0: CE _\n# row 1: C x\n"));
-  assert.deepEqual(keys.map(({ key, legend, letter, isNamed }) => [textOfKey(key), legend, letter, isNamed]),
+  const keys = boardKeys({ rows: 2, columns: 2 }, new Face("# row 0: CE _\n# row 1: C x\n"));
+  assert.deepEqual(keys.map(({ key, legend, letter, isNamed }) => [formatKey(key), legend, letter, isNamed]),
     [["0 0", "CE", "c", true], ["0 1", "", "", false], ["1 0", "C", "C", true], ["1 1", "x", "x", true]]);
-  assert.equal(new Set(keysOf({ rows: 10, columns: 8 }, new Face("")).map(({ letter }) => letter).filter(Boolean)).size, 36);
+  assert.equal(new Set(boardKeys({ rows: 10, columns: 8 }, new Face("")).map(({ letter }) => letter).filter(Boolean)).size, 36);
 });
 
 test("keys of the keyboard: own letters, named keys, then the other case", () => {
-  const keys = keysOf({ rows: 1, columns: 5 }, new Face("# row 0: = C c x .\n"));
-  const meant = (typed) => keyOfKeyboard(keys, typed)?.legend;
+  const keys = boardKeys({ rows: 1, columns: 5 }, new Face("# row 0: = C c x .\n"));
+  const meant = (typed) => findBoardKey(keys, typed)?.legend;
   assert.deepEqual(["Enter", "Escape", "c", "C", "X", ",", "Shift", "y"].map(meant), ["=", "C", "c", "C", "x", ".", undefined, undefined]);
 });
 
 test("what is at TEST is the last key, with a letter of its own", () => {
-  const keys = keysOf({ rows: 1, columns: 1 }, new Face("# row 0: w\n# test: button WALK_NOW\n"));
+  const keys = boardKeys({ rows: 1, columns: 1 }, new Face("# row 0: w\n# test: button WALK_NOW\n"));
   const wanted = { key: pinKey(0), legend: "WALK NOW", words: "button WALK NOW, at TEST", isNamed: true, isSwitch: false, letter: "a" };
   assert.deepEqual(keys[1], wanted);
-  const [only] = keysOf({ rows: 0, columns: 0 }, new Face("# test: switch R to 1"));
+  const [only] = boardKeys({ rows: 0, columns: 0 }, new Face("# test: switch R to 1"));
   assert.deepEqual([only.key, only.isSwitch, only.letter], [pinKey(1), true, "R"]);
 });
 
 test("the lines of presses: keys by their places, TEST by its level", () => {
-  const linesOf = (key) => [lineOfKey("press", key), lineOfKey("release", key)];
+  const linesOf = (key) => [keyLine("press", key), keyLine("release", key)];
   assert.deepEqual(linesOf(matrixKey(0, 1)), ["press 0 1", "release 0 1"]);
   assert.deepEqual([pinKey(0), pinKey(1)].map(linesOf), [["test 0", "test 1"], ["test 1", "test 0"]]);
   const queue = new KeyQueue();
@@ -47,13 +47,13 @@ test("the lines of presses: keys by their places, TEST by its level", () => {
 
 test("a key is a value: its text is read back, and it is compared by what it is", () => {
   const keys = [matrixKey(0, 0), matrixKey(1, 0), matrixKey(0, 1), matrixKey(12, 7), pinKey(0), pinKey(1)];
-  assert.deepEqual(keys.map((key) => keyOfText(textOfKey(key))), keys);
+  assert.deepEqual(keys.map((key) => parseKey(formatKey(key))), keys);
   for (const one of keys) for (const other of keys) assert.equal(isSameKey(one, { ...other }), one === other);
-  for (const text of ["", "0", "0.0", "0 0 0", " 0 0", "1234 0", "test", "test 2", "r4"]) assert.equal(keyOfText(text), null, text);
+  for (const text of ["", "0", "0.0", "0 0 0", " 0 0", "1234 0", "test", "test 2", "r4"]) assert.equal(parseKey(text), null, text);
 });
 
 test("the keys that are down, by an answer and the level of TEST", () => {
-  const down = new KeysDown(["0.2", "12.7"]);
+  const down = new PressedKeys(["0.2", "12.7"]);
   assert.equal(down.count, 2);
   assert.deepEqual([matrixKey(0, 2), matrixKey(12, 7), matrixKey(2, 0), matrixKey(1, 2)].map((key) => down.has(key, "1")),
     [true, true, false, false]);
@@ -61,14 +61,14 @@ test("the keys that are down, by an answer and the level of TEST", () => {
 });
 
 test("what is reported below the keys", () => {
-  assert.equal(hintOfKeys([]), "This board has no keys.");
-  assert.match(hintOfKeys(keysOf({ rows: 1, columns: 1 }, new Face(""))), /# row 0: 7 8 9/);
-  assert.doesNotMatch(hintOfKeys(keysOf({ rows: 1, columns: 1 }, new Face("# row 0: 7"))), /# row 0/);
+  assert.equal(keyHint([]), "This board has no keys.");
+  assert.match(keyHint(boardKeys({ rows: 1, columns: 1 }, new Face(""))), /# row 0: 7 8 9/);
+  assert.doesNotMatch(keyHint(boardKeys({ rows: 1, columns: 1 }, new Face("# row 0: 7"))), /# row 0/);
 });
 
 test("without keys the cycles are runs of at most 100,000", () => {
   assert.deepEqual(lines(new KeyQueue(), 1543), ["run 1543"]);
-  assert.deepEqual(lines(new KeyQueue(), 2 * LONGEST_RUN + 5), ["run 100000", "run 100000", "run 5"]);
+  assert.deepEqual(lines(new KeyQueue(), 2 * MAX_RUN_CYCLES + 5), ["run 100000", "run 100000", "run 5"]);
 });
 
 test("a press stays down and then up for its time, over several plans", () => {

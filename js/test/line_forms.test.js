@@ -2,13 +2,13 @@
 import assert from "node:assert/strict";
 import { test } from "node:test";
 import { ANSWER_FORMS } from "../core/bench/answer_table.js";
-import { refusalOf } from "../core/bench/answers.js";
-import { faultOfLine } from "../core/bench/line_forms.js";
+import { parseRefusal } from "../core/bench/answers.js";
+import { findLineError } from "../core/bench/line_forms.js";
 import { Engine } from "../core/engine/engine.js";
 import { LINES_BY_GROUPS } from "../words/lines.js";
-import { moduleOfPage } from "./page_session.js";
+import { pageModule } from "./page_session.js";
 
-const engine = new Engine(new globalThis.WebAssembly.Module(moduleOfPage));
+const engine = new Engine(new globalThis.WebAssembly.Module(pageModule));
 const OF_LINES = [10, 11, 12, 14];
 const WORDS = [...ANSWER_FORMS.keys(), ...`acc cy pc dcl r0 r15 r16 rx
   rom.0 rom.4096 rom.x ram.0.0 ram.7.255 ram.8.1 ram.0.256 ram.0 ram0.0 ram0.4
@@ -27,11 +27,11 @@ function seeded(seed) {
 
 /** Returns the number by which the bench rejects a line because of its form, 0 for none. */
 function refused(line) {
-  const refusal = refusalOf(engine.ask(engine.begin(), `${line}\n`).answers[0] || "");
+  const refusal = parseRefusal(engine.ask(engine.begin(), `${line}\n`).answers[0] || "");
   return refusal && OF_LINES.includes(refusal.number) ? refusal.number : 0;
 }
 
-const numberOf = (line) => (faultOfLine(line) || { number: 0 }).number;
+const numberOf = (line) => (findLineError(line) || { number: 0 }).number;
 
 test("each line of words is rejected as the bench does", () => {
   const next = seeded(4004);
@@ -82,8 +82,8 @@ test("the words name the word at fault", () => {
     ["seq é", "a line has ASCII characters and tabs; this one has é"],
     ["seq \x01", "a line has ASCII characters and tabs; this one has the byte 01"],
     ["x".repeat(300), "the line has 300 characters; a line has at most 255"],
-  ]) assert.equal(faultOfLine(line).words, words, line);
-  assert.equal(faultOfLine("poke ram.0.0x3F 15"), null);
+  ]) assert.equal(findLineError(line).words, words, line);
+  assert.equal(findLineError("poke ram.0.0x3F 15"), null);
 });
 
 test("the help has each line of the bench once", () => {

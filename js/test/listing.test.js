@@ -3,7 +3,7 @@
 import assert from "node:assert/strict";
 import test from "node:test";
 import { ListingReader } from "../core/machine/listing_reader.js";
-import { isInsideLine, stretchOf } from "../core/machine/listing_stretch.js";
+import { isInsideLine, visibleLines } from "../core/machine/listing_stretch.js";
 
 /** A small generator of numbers that are the same at each run. */
 function seeded(seed) {
@@ -54,7 +54,7 @@ function beginnings(bytes) {
 }
 
 async function stretch(reader, from, anchor, rows) {
-  return stretchOf(await reader.read({ from, anchor }, rows), from, rows);
+  return visibleLines(await reader.read({ from, anchor }, rows), from, rows);
 }
 
 test("a line begins at the anchor, wherever it is, and all rows have a line", async () => {

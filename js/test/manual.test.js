@@ -1,19 +1,21 @@
 import assert from "node:assert/strict";
 import { execFileSync } from "node:child_process";
 import { test } from "node:test";
-import { cellWords, fittingLines, instructionsOf, linesOfBench, piecesOf, plain, searchManual, wordsOfCell } from "../core/help/manual.js";
+import {
+  cellWords, matchLines, readInstructions, readLineForms, splitCell, cellText, searchManual, describeCell,
+} from "../core/help/manual.js";
 
 const SCRIPT = "import json; from manual_tables import manual_tables; print(json.dumps(manual_tables()))";
 const PAGE = new URL("../../page/", import.meta.url);
 const MANUAL = JSON.parse(execFileSync("python3", ["-B", "-c", SCRIPT], { cwd: PAGE, encoding: "utf8" }));
 
 test("a cell is cut into text and code", () => {
-  assert.deepEqual(piecesOf("`wire`, then a text"), [{ text: "wire", isCode: true }, { text: ", then a text", isCode: false }]);
-  assert.equal(plain("`ram b` and `lamps`"), "ram b and lamps");
+  assert.deepEqual(splitCell("`wire`, then a text"), [{ text: "wire", isCode: true }, { text: ", then a text", isCode: false }]);
+  assert.equal(cellText("`ram b` and `lamps`"), "ram b and lamps");
 });
 
 test("all 45 instructions are reported, each with its cycles", () => {
-  const found = instructionsOf(MANUAL);
+  const found = readInstructions(MANUAL);
   assert.equal(found.size, 45);
   assert.deepEqual([...found.values()].filter(({ cycles }) => cycles === "2").map(({ form }) => form.split(" ")[0]),
     ["JCN", "FIM", "FIN", "JUN", "JMS", "ISZ"]);
@@ -21,8 +23,8 @@ test("all 45 instructions are reported, each with its cycles", () => {
 });
 
 test("a line of the bench is found by what is typed of it", () => {
-  const lines = linesOfBench(MANUAL);
-  const forms = (typed) => fittingLines(lines, typed).map(({ form }) => form);
+  const lines = readLineForms(MANUAL);
+  const forms = (typed) => matchLines(lines, typed).map(({ form }) => form);
   assert.deepEqual(forms("r"), ["release r c", "run n", "reset", "regs", "ram b"]);
   assert.deepEqual(forms("run 100"), ["run n"]);
   assert.deepEqual(forms(""), []);
@@ -42,7 +44,7 @@ test("a search finds rows, and whole sections by their titles", () => {
 test("cells have words", () => {
   const words = cellWords(MANUAL);
   for (const name of ["acc", "owed", "dcl", "ret 3", "R", "latch", "SRC, ROMs"]) assert.ok(words.has(name), name);
-  assert.equal(wordsOfCell(words, "R15"), words.get("R"));
-  assert.equal(wordsOfCell(words, "bank 3"), words.get("bank"));
-  assert.equal(wordsOfCell(words, "lines 3 to 0"), "");
+  assert.equal(describeCell(words, "R15"), words.get("R"));
+  assert.equal(describeCell(words, "bank 3"), words.get("bank"));
+  assert.equal(describeCell(words, "lines 3 to 0"), "");
 });

@@ -4,9 +4,9 @@ import { test } from "node:test";
 import { matrixKey } from "../core/board/key_place.js";
 import { BenchCalls } from "../core/engine/bench_calls.js";
 import { Engine } from "../core/engine/engine.js";
-import { examplesOfPage, moduleOfPage } from "./page_session.js";
+import { examplesOfPage, pageModule } from "./page_session.js";
 
-const [module, examples] = [moduleOfPage, examplesOfPage];
+const [module, examples] = [pageModule, examplesOfPage];
 const calculator = examples.find(({ name }) => name === "calculator");
 
 async function begin(example) {

@@ -21,24 +21,24 @@ function browser() {
 test("an opening that came to an end leaves nothing, also where it was refused", async () => {
   const { load, words, wait, settle } = browser();
   const openings = load();
-  await openings.during("one", async () => {
+  await openings.runOpening("one", async () => {
     wait(3000);
-    assert.equal(load().isUnended("one"), true);
+    assert.equal(load().hasUnendedOpening("one"), true);
   });
-  assert.equal(load().isUnended("one"), true);
-  await assert.rejects(openings.during("two", async () => { throw new Error("no 51"); }), /no 51/);
+  assert.equal(load().hasUnendedOpening("one"), true);
+  await assert.rejects(openings.runOpening("two", async () => { throw new Error("no 51"); }), /no 51/);
   settle();
-  assert.deepEqual([words.size, load().isUnended("one"), load().isUnended("two")], [0, false, false]);
+  assert.deepEqual([words.size, load().hasUnendedOpening("one"), load().hasUnendedOpening("two")], [0, false, false]);
 });
 
 test("one that did not is known at the next start, and forgotten once it did", async () => {
   const { load, words, wait, settle } = browser();
-  load().during("one", () => new Promise(() => {}));
-  await load().during("two", async () => {});
+  load().runOpening("one", () => new Promise(() => {}));
+  await load().runOpening("two", async () => {});
   settle();
   wait(3000);
-  assert.deepEqual([load().isUnended("one"), load().isUnended("two")], [true, false]);
-  await load().during("one", async () => {});
+  assert.deepEqual([load().hasUnendedOpening("one"), load().hasUnendedOpening("two")], [true, false]);
+  await load().runOpening("one", async () => {});
   settle();
   assert.equal(words.size, 0);
 });
@@ -46,22 +46,22 @@ test("one that did not is known at the next start, and forgotten once it did", a
 test("a page that is left at once was not hung; one that is left later may have been", () => {
   const { load, wait } = browser();
   const openings = load();
-  openings.during("one", () => new Promise(() => {}));
-  openings.leave();
+  openings.runOpening("one", () => new Promise(() => {}));
+  openings.handleLeave();
   wait(3000);
-  assert.equal(load().isUnended("one"), false);
-  openings.during("two", () => new Promise(() => {}));
+  assert.equal(load().hasUnendedOpening("one"), false);
+  openings.runOpening("two", () => new Promise(() => {}));
   wait(3000);
-  openings.leave();
-  assert.equal(load().isUnended("two"), true);
+  openings.handleLeave();
+  assert.equal(load().hasUnendedOpening("two"), true);
 });
 
 test("a page that is left while it shows a session was not hung by it, however long the opening took", async () => {
   const { load, wait } = browser();
   const openings = load();
-  await openings.during("one", async () => wait(3000));
-  openings.leave();
-  assert.equal(load().isUnended("one"), false);
+  await openings.runOpening("one", async () => wait(3000));
+  openings.handleLeave();
+  assert.equal(load().hasUnendedOpening("one"), false);
 });
 
 test("a page that is left learns so from each of two events, since a browser may pass over one", async () => {
@@ -70,31 +70,31 @@ test("a page that is left learns so from each of two events, since a browser may
     const openings = load();
     const target = new EventTarget();
     openings.listen(target);
-    assert.equal(openings.begun.size, 0);
-    await openings.during("one", async () => {});
+    assert.equal(openings.pendingOpenings.size, 0);
+    await openings.runOpening("one", async () => {});
     target.dispatchEvent(new Event(name));
     wait(3000);
-    assert.equal(load().isUnended("one"), false, name);
+    assert.equal(load().hasUnendedOpening("one"), false, name);
   }
 });
 
 test("another tab may just be opening it", () => {
   const { load, wait } = browser();
-  load().during("one", () => new Promise(() => {}));
+  load().runOpening("one", () => new Promise(() => {}));
   wait(1999);
-  assert.equal(load().isUnended("one"), false);
+  assert.equal(load().hasUnendedOpening("one"), false);
   wait(1);
-  assert.equal(load().isUnended("one"), true);
+  assert.equal(load().hasUnendedOpening("one"), true);
 });
 
 test("a session that is opened twice in a row is settled by its last opening", async () => {
   const { load, wait, settle } = browser();
   const openings = load();
-  await openings.during("one", async () => {});
-  openings.begun.set("one", { time: 0, isEnded: false });
+  await openings.runOpening("one", async () => {});
+  openings.pendingOpenings.set("one", { time: 0, isEnded: false });
   settle();
   wait(3000);
-  assert.equal(load().isUnended("one"), true);
+  assert.equal(load().hasUnendedOpening("one"), true);
 });
 
 test("a browser that keeps nothing", async () => {
@@ -102,7 +102,7 @@ test("a browser that keeps nothing", async () => {
   for (const store of [null, { getItem: broken, setItem: broken, removeItem: broken }]) {
     const openings = new Openings(store, (act) => act());
     let isOpen = false;
-    await openings.during("one", async () => { isOpen = true; });
-    assert.deepEqual([isOpen, openings.isUnended("one")], [true, false]);
+    await openings.runOpening("one", async () => { isOpen = true; });
+    assert.deepEqual([isOpen, openings.hasUnendedOpening("one")], [true, false]);
   }
 });

@@ -2,11 +2,11 @@
 import assert from "node:assert/strict";
 import { readFileSync } from "node:fs";
 import { test } from "node:test";
-import { COMMANDS, commandOf } from "../page/commands/command_table.js";
-import { commandOfKey, editorKeys, keyNameOf, listenToKeys } from "../page/commands/keys.js";
-import { keyRows, withKeys } from "../page/commands/key_list.js";
-import { placesOf } from "../page/commands/palette_places.js";
-import { found, rankOf } from "../page/commands/palette_search.js";
+import { COMMANDS, commandById } from "../page/commands/command_table.js";
+import { commandForKey, editorKeys, formatKey, listenToKeys } from "../page/commands/keys.js";
+import { keyRows, addKeyRows } from "../page/commands/key_list.js";
+import { listDestinations } from "../page/commands/palette_places.js";
+import { searchEntries, rankEntry } from "../page/commands/palette_search.js";
 import * as say from "../words/page_commands.js";
 
 const NONE_HELD = { ctrlKey: false, metaKey: false, altKey: false, shiftKey: false, defaultPrevented: false };
@@ -53,29 +53,29 @@ test("a command that cannot be done says why", () => {
   const calls = { canGoForward: () => false, isOffered: () => false, hasText: () => false, hasNotices: () => false, hasKeys: () => false };
   const whys = COMMANDS.map((command) => [command.id, command.whyNot(calls)]).filter(([, why]) => why);
   assert.ok(whys.length > 30);
-  assert.equal(commandOf("time.redo").whyNot(calls), say.NOTHING_UNDONE);
-  assert.equal(commandOf("text.find").whyNot(calls), say.NO_EDITOR);
-  assert.equal(commandOf("waves.save").whyNot(calls), say.NO_WAVES);
+  assert.equal(commandById("time.redo").whyNot(calls), say.NOTHING_UNDONE);
+  assert.equal(commandById("text.find").whyNot(calls), say.NO_EDITOR);
+  assert.equal(commandById("waves.save").whyNot(calls), say.NO_WAVES);
   for (const [id, why] of whys) assert.match(why, /^[a-z].*[a-z]$/, id);
 });
 
 test("the keys are those of VS Code and DevTools, and the old ones go on", () => {
   const ids = { F5: "time.continue", F8: "time.continue", F10: "time.over", F11: "time.into", F9: "debug.breakpoint", F1: "help.open" };
-  for (const [key, id] of Object.entries(ids)) assert.equal(commandOfKey(typed(key)).id, id, key);
+  for (const [key, id] of Object.entries(ids)) assert.equal(commandForKey(typed(key)).id, id, key);
   const shifted = { F8: "time.lastPause", F11: "time.out", F9: "debug.condition" };
-  for (const [key, id] of Object.entries(shifted)) assert.equal(commandOfKey(typed(key, { shiftKey: true })).id, id, key);
+  for (const [key, id] of Object.entries(shifted)) assert.equal(commandForKey(typed(key, { shiftKey: true })).id, id, key);
   const controlled = { s: "project.save", S: "project.save", o: "project.open", p: "go.to", k: "settings.palette", F11: "time.stepBack" };
   for (const [key, id] of Object.entries(controlled)) {
-    assert.equal(commandOfKey(typed(key, { ctrlKey: true })).id, id, key);
-    assert.equal(commandOfKey(typed(key, { metaKey: true })).id, id, key);
+    assert.equal(commandForKey(typed(key, { ctrlKey: true })).id, id, key);
+    assert.equal(commandForKey(typed(key, { metaKey: true })).id, id, key);
   }
-  assert.equal(commandOfKey(typed("P", { ctrlKey: true, shiftKey: true })).id, "settings.palette");
+  assert.equal(commandForKey(typed("P", { ctrlKey: true, shiftKey: true })).id, "settings.palette");
 });
 
 test("other keys are the browser's, and a key that another part has taken is its own", () => {
   for (const [key, held] of [["a", {}], ["a", { ctrlKey: true }], ["s", {}], ["s", { ctrlKey: true, altKey: true }],
     ["F5", { ctrlKey: true }], ["F9", { defaultPrevented: true }], ["F10", { ctrlKey: true }]]) {
-    assert.equal(commandOfKey(typed(key, held)), undefined, `${key} ${JSON.stringify(held)}`);
+    assert.equal(commandForKey(typed(key, held)), undefined, `${key} ${JSON.stringify(held)}`);
   }
 });
 
@@ -106,8 +106,8 @@ test("while a dialog is open keys do nothing, and the browser does nothing with 
 });
 
 test("names of keys, as the table and as an editor has them", () => {
-  assert.equal(keyNameOf(typed("p", { metaKey: true, shiftKey: true })), "Ctrl+Shift+P");
-  assert.equal(keyNameOf(typed("[", { ctrlKey: true, altKey: true, shiftKey: true })), "Ctrl+Alt+Shift+[");
+  assert.equal(formatKey(typed("p", { metaKey: true, shiftKey: true })), "Ctrl+Shift+P");
+  assert.equal(formatKey(typed("[", { ctrlKey: true, altKey: true, shiftKey: true })), "Ctrl+Alt+Shift+[");
   assert.deepEqual(Object.keys(editorKeys("text.foldAll", () => {})), ["Ctrl-Alt-Shift-[", "Cmd-Alt-Shift-["]);
   assert.deepEqual(Object.keys(editorKeys("text.comment", () => {})), ["Ctrl-/", "Cmd-/"]);
   assert.deepEqual(Object.keys(editorKeys("debug.condition", () => {})), ["Shift-F9"]);
@@ -117,7 +117,7 @@ const entry = (words, hint = "", keys = []) => ({ words, hint, why: "", keys, ac
 
 test("the palette finds by words in any order, what begins with them first", () => {
   const entries = [entry("Show Source"), entry("Save project"), entry("Step over", "Time", ["F10"]), entry("Zoom to fit")];
-  const names = (query) => found(entries, query).map(({ words }) => words);
+  const names = (query) => searchEntries(entries, query).map(({ words }) => words);
   assert.deepEqual(names(""), ["Show Source", "Save project", "Step over", "Zoom to fit"]);
   assert.deepEqual(names("s"), ["Show Source", "Save project", "Step over"]);
   assert.deepEqual(names("over st"), ["Step over"]);
@@ -126,7 +126,7 @@ test("the palette finds by words in any order, what begins with them first", () 
   assert.deepEqual(names("f10"), ["Step over"]);
   assert.deepEqual(names("sou"), ["Show Source"]);
   assert.deepEqual(names("xyz"), []);
-  assert.ok(rankOf(entry("Step over"), ["step"]) < rankOf(entry("Show a step"), ["step"]));
+  assert.ok(rankEntry(entry("Step over"), ["step"]) < rankEntry(entry("Show a step"), ["step"]));
 });
 
 test("places: texts, labels, typed addresses and lines, projects, examples", () => {
@@ -137,7 +137,7 @@ test("places: texts, labels, typed addresses and lines, projects, examples", () 
   const calls = { map: () => map, examples: () => ["clock"], projects: () => [{ id: "4", name: "mine" }], show: go("show"),
     line: go("line"), address: go("address"), example: go("example"), project: go("project") };
   const first = (wanted) => {
-    const [place] = found(placesOf(wanted, calls), wanted);
+    const [place] = searchEntries(listDestinations(wanted, calls), wanted);
     place.act();
     return [place.words, place.hint, went.pop()];
   };
@@ -148,12 +148,12 @@ test("places: texts, labels, typed addresses and lines, projects, examples", () 
   assert.deepEqual(first("wav"), ["Waves", "text", "show waves"]);
   assert.deepEqual(first("mine"), ["mine", "project", "project 4"]);
   assert.deepEqual(first("clo"), ["clock", "Example", "example clock"]);
-  assert.deepEqual(found(placesOf("nowhere", calls), "nowhere"), []);
-  assert.equal(placesOf("", { ...calls, map: () => null }).some(({ words }) => words === "loop"), false);
+  assert.deepEqual(searchEntries(listDestinations("nowhere", calls), "nowhere"), []);
+  assert.equal(listDestinations("", { ...calls, map: () => null }).some(({ words }) => words === "loop"), false);
 });
 
 test("the help's section of the keyboard begins with the keys of the commands", () => {
-  const [one, two] = withKeys([{ title: "The keyboard", tables: [{ caption: "", head: [], rows: [] }] }, { title: "Other", tables: [] }]);
+  const [one, two] = addKeyRows([{ title: "The keyboard", tables: [{ caption: "", head: [], rows: [] }] }, { title: "Other", tables: [] }]);
   assert.deepEqual([one.tables.length, two.tables.length], [2, 0]);
   assert.deepEqual(one.tables[0].rows, keyRows());
   assert.deepEqual(keyRows()[0], ["`F5`, `F8`", "Continue"]);

@@ -2,14 +2,14 @@
 import * as page from "../node/page_parts.mjs";
 import { BenchCalls } from "../core/engine/bench_calls.js";
 
-export const moduleOfPage = page.moduleOfPage();
-const { examples } = page.dataOfPage();
+export const pageModule = page.readPageModule();
+const { examples } = page.readPageData();
 export const examplesOfPage = examples;
 
 /** A session from an example, after some lines. */
 export async function begin(name, lines = "") {
   const calls = new BenchCalls(async () => true);
-  await calls.load(moduleOfPage, examples);
+  await calls.load(pageModule, examples);
   calls.open(calls.make(examples.find((each) => each.name === name)));
   if (lines) await calls.serve(lines);
   return calls;

@@ -3,21 +3,21 @@ import assert from "node:assert/strict";
 import { readFileSync } from "node:fs";
 import { test } from "node:test";
 import { readBoard } from "../core/bench/answers.js";
-import { valueIn } from "../core/bench/state_line.js";
+import { stateValue } from "../core/bench/state_line.js";
 import { Face } from "../core/board/face.js";
 import { Engine } from "../core/engine/engine.js";
 import { sessionProgram } from "../core/engine/session_program.js";
 import { romCodes } from "../core/engine/rom_codes.js";
-import { lampRowsOf, textOfCell } from "../core/panel/lamp_rows.js";
-import { largeRows } from "../core/panel/large_digits.js";
+import { buildLampRows, formatCell } from "../core/panel/lamp_rows.js";
+import { largeDigitRows } from "../core/panel/large_digits.js";
 import { Panel } from "../core/panel/terminal_panel.js";
-import { Screen, hasRoom, middleRows } from "../core/panel/screen.js";
-import { keysIn } from "../core/panel/terminal_keys.js";
+import { Screen, fitsPanel, middleRows } from "../core/panel/screen.js";
+import { splitKeys } from "../core/panel/terminal_keys.js";
 import { sentText } from "../core/text/text_fault.js";
 import { PanelTerminal } from "../node/panel_terminal.mjs";
-import { moduleOfPage } from "./page_session.js";
+import { pageModule } from "./page_session.js";
 
-const engine = new Engine(new globalThis.WebAssembly.Module(moduleOfPage));
+const engine = new Engine(new globalThis.WebAssembly.Module(pageModule));
 const read = (name) => readFileSync(new URL(`../../examples/${name}`, import.meta.url), "utf8");
 const CALCULATOR = { board: read("calculator/board.toml"), program: read("calculator/calculator.asm") };
 const PRINTING = { board: read("printing_calculator/board.toml"), program: read("printing_calculator/printing_calculator.asm") };
@@ -43,14 +43,14 @@ async function begun({ board, program }, { lines = "", isPaused = false, hasSour
   const of = {
     name: "s.mcs", board: readBoard(await ask("board\n")), face: new Face(board), note: "", isPaused,
     source: hasSource ? sourceOf() : null,
-    wordsOfRefusal: (number) => `words of ${number}`,
+    describeRefusal: (number) => `words of ${number}`,
   };
   const panel = new Panel(ask, of, 0);
   const screen = new Screen(panel);
   await panel.begin();
   let now = 0;
   const typed = async (keys) => {
-    for (const key of keysIn(keys)) {
+    for (const key of splitKeys(keys)) {
       await panel.type(key, now);
       await panel.seen.take(middleRows(SIZE));
     }
@@ -67,10 +67,10 @@ async function begun({ board, program }, { lines = "", isPaused = false, hasSour
   return { panel, screen, ask, typed, pass, rows, text: (size = SIZE) => rows(size).map((row) => row.trimEnd()).join("\n") };
 }
 
-const keysDown = async (ask) => valueIn((await ask("state\n"))[0], "keys");
+const keysDown = async (ask) => stateValue((await ask("state\n"))[0], "keys");
 
 test("keys in what a terminal sends", () => {
-  const keysOf = (input) => keysIn(input).map(({ kind, text }) => `${kind} ${JSON.stringify(text)}`);
+  const keysOf = (input) => splitKeys(input).map(({ kind, text }) => `${kind} ${JSON.stringify(text)}`);
   assert.deepEqual(keysOf("a\r\u00e9"), ['character "a"', 'character "\\r"', 'character "\u00e9"']);
   assert.deepEqual(keysOf("\u001b[C\u001bOD\u001bOC1"), ['arrow "right"', 'arrow "left"', 'arrow "right"', 'character "1"']);
   assert.deepEqual(keysOf("\u001b[21~\u001bx\u001b\u001b[D"),
@@ -78,14 +78,14 @@ test("keys in what a terminal sends", () => {
 });
 
 test("large digits", () => {
-  const rows = (number) => largeRows(number).map((row) => row.trimEnd());
+  const rows = (number) => largeDigitRows(number).map((row) => row.trimEnd());
   assert.deepEqual(rows("4.2"), ["         ###", "#   #       #", " ###     ###", "    #   #", "      #  ###"]);
   assert.deepEqual(rows("-?"), ["       ###", "          #", " ###   ###", "      #", ""]);
 });
 
 test("rows of lamps: a die, a matrix, a grid, and others with names", () => {
-  const shown = (text, count, isLit) => lampRowsOf(new Face(text), count)
-    .map((row) => row.map((cell) => textOfCell(cell, cell.seen && cell.seen.isLit(isLit) ? 3 : 0)).join("").trimEnd());
+  const shown = (text, count, isLit) => buildLampRows(new Face(text), count)
+    .map((row) => row.map((cell) => formatCell(cell, cell.seen && cell.seen.isLit(isLit) ? 3 : 0)).join("").trimEnd());
   assert.deepEqual(shown("# die 0: 7 lamps\n", 7, "*..*..*"), ["*       .", ".   *   .", ".       *", ""]);
   assert.deepEqual(shown("# matrix 0: 2 rows of 2 scanned by 2\n", 4, ".**."), [". *", ". .", ""]);
   assert.deepEqual(shown("# lamp 0: red go_on _ far\n# grid 0: red 2\n# grid 1: _ go_on\n", 4, "*..*"),
@@ -222,7 +222,7 @@ test("rows fit the terminal, and no text of others controls it", async () => {
   assert.match(text(), /\( \) go\\x9B31m/);
   // eslint-disable-next-line no-control-regex
   assert.doesNotMatch(text(), /[\u0000-\u0009\u000b-\u001f\u007f-\u009f]/);
-  assert.deepEqual([hasRoom(SIZE), hasRoom({ rows: 23, columns: 80 }), hasRoom({ rows: 24, columns: 79 })], [true, false, false]);
+  assert.deepEqual([fitsPanel(SIZE), fitsPanel({ rows: 23, columns: 80 }), fitsPanel({ rows: 24, columns: 79 })], [true, false, false]);
 });
 
 test("a terminal that is restored gets no more pictures: a signal can come while one is made", () => {

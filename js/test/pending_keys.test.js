@@ -4,7 +4,7 @@ import assert from "node:assert/strict";
 import test from "node:test";
 import { PendingKeys } from "../core/board/pending_keys.js";
 import { matrixKey } from "../core/board/key_place.js";
-import { Pressing } from "../page/board/pressing.js";
+import { KeyPresser } from "../page/board/pressing.js";
 import { begin } from "./page_session.js";
 
 const KEY = { key: matrixKey(0, 0), isSwitch: false };
@@ -19,13 +19,13 @@ async function typing() {
     words.push(word);
     onTheWay.push([word, asked.send({ word, key: KEY.key })]);
   };
-  const pressing = new Pressing({
+  const pressing = new KeyPresser({
     isRunning: () => true,
     isDown: (key) => asked.willBeDown(key, isDown),
     press: () => send("press"),
     release: () => send("release"),
     change: () => {},
-    meant: () => undefined,
+    keyForEvent: () => undefined,
   });
   const arrive = () => {
     for (const [word, arrived] of onTheWay) {

@@ -2,8 +2,8 @@
 
 import assert from "node:assert/strict";
 import test from "node:test";
-import { lineOfKey, matrixKey, textOfKey } from "../core/board/key_place.js";
-import { Pressing } from "../page/board/pressing.js";
+import { keyLine, matrixKey, formatKey } from "../core/board/key_place.js";
+import { KeyPresser } from "../page/board/pressing.js";
 
 global.window = global;
 
@@ -22,17 +22,17 @@ function bench(isRunning) {
   const down = new Set();
   const done = [];
   const note = (word, key) => {
-    done.push(lineOfKey(word, key));
-    if (word === "press") down.add(textOfKey(key));
-    else down.delete(textOfKey(key));
+    done.push(keyLine(word, key));
+    if (word === "press") down.add(formatKey(key));
+    else down.delete(formatKey(key));
   };
-  const pressing = new Pressing({
+  const pressing = new KeyPresser({
     isRunning: () => isRunning,
-    isDown: (key) => down.has(textOfKey(key)),
+    isDown: (key) => down.has(formatKey(key)),
     press: (key) => note("press", key),
     release: (key) => note("release", key),
     change: note,
-    meant: () => undefined,
+    keyForEvent: () => undefined,
   });
   const buttons = [matrixKey(0, 0), matrixKey(0, 1)].map((key) => {
     const button = new FakeButton();

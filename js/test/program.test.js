@@ -2,49 +2,49 @@
 import assert from "node:assert/strict";
 import { readFileSync } from "node:fs";
 import { test } from "node:test";
-import { editDistance, similarWords } from "../core/text/alike.js";
+import { editDistance, findSimilarWords } from "../core/text/alike.js";
 import { counted } from "../core/bench/numbers.js";
-import { programTexts, wordsOfAssembled } from "../core/text/assembling.js";
-import { namesOf, partsOf, tokensOf, wordAt } from "../core/text/assembly.js";
+import { programTexts, describeAssembled } from "../core/text/assembling.js";
+import { findDefinedNames, splitStatement, tokenizeLine, wordAt } from "../core/text/assembly.js";
 import { completeProgram } from "../core/text/completion.js";
-import { instructionsOf } from "../core/help/manual.js";
+import { readInstructions } from "../core/help/manual.js";
 import { findProgramFaults, isNoProgram } from "../core/text/program_faults.js";
-import { wordsOfProgramLine } from "../core/text/program_words.js";
-import { LONGEST_TEXT, faultsOfLines, sentText } from "../core/text/text_fault.js";
+import { explainProgramLine } from "../core/text/program_words.js";
+import { LONGEST_TEXT, findLineFaults, sentText } from "../core/text/text_fault.js";
 import { helpForProgram } from "../core/text/text_help.js";
 
 // The table of the manual, as page/build reads it.
 const page = readFileSync(new URL("../../docs/MANUAL.md", import.meta.url), "utf8");
 const rows = page.split("### The 45 instructions")[1].split("### What SRC")[0].split("\n").filter((line) => /^\| `[A-Z]/.test(line))
   .map((line) => line.slice(1, -1).split("|").map((cell) => cell.trim()));
-const instructions = instructionsOf([{ title: "The 45 instructions", tables: [{ caption: "", head: [], rows }] }]);
-const facts = (text) => ({ instructions, names: namesOf(text.split("\n")) });
-const wordsOf = (line, number = 30, text = line) => (wordsOfProgramLine(line, number, facts(text)) || { words: "" }).words;
-const wordAtFault = (line, number = 30) => (wordsOfProgramLine(line, number, facts(line)) || { word: { text: "" } }).word.text;
+const instructions = readInstructions([{ title: "The 45 instructions", tables: [{ caption: "", head: [], rows }] }]);
+const facts = (text) => ({ instructions, names: findDefinedNames(text.split("\n")) });
+const wordsOf = (line, number = 30, text = line) => (explainProgramLine(line, number, facts(text)) || { words: "" }).words;
+const wordAtFault = (line, number = 30) => (explainProgramLine(line, number, facts(line)) || { word: { text: "" } }).word.text;
 
 test("all 45 instructions are there", () => {
   assert.equal(instructions.size, 45);
 });
 
 test("the parts of a line", () => {
-  const { label, head, operands, comment } = partsOf("next:   ISZ R2 , loop ; again");
+  const { label, head, operands, comment } = splitStatement("next:   ISZ R2 , loop ; again");
   assert.deepEqual([label.text, head.text, operands.map(({ text }) => text), comment], ["next", "ISZ", ["R2", "loop"], 22]);
-  assert.equal(partsOf("zero = 4").defines, true);
-  assert.deepEqual(partsOf(" DB 1,,2").operands.map(({ text }) => text), ["1", "", "2"]);
-  assert.equal(partsOf("; a: b").label, null);
+  assert.equal(splitStatement("zero = 4").defines, true);
+  assert.deepEqual(splitStatement(" DB 1,,2").operands.map(({ text }) => text), ["1", "", "2"]);
+  assert.equal(splitStatement("; a: b").label, null);
 });
 
 test("a line's words have colours, the comment whatever is in it", () => {
-  const kinds = tokensOf("a: LDM 5 ; LDM", (word) => instructions.has(word)).map(({ kind }) => kind);
+  const kinds = tokenizeLine("a: LDM 5 ; LDM", (word) => instructions.has(word)).map(({ kind }) => kind);
   assert.deepEqual(kinds, ["label", "instruction", "number", "comment"]);
-  assert.deepEqual(tokensOf("LDX P0, 5G", () => false).map(({ kind }) => kind), ["unknown", "register", "unknown"]);
+  assert.deepEqual(tokenizeLine("LDX P0, 5G", () => false).map(({ kind }) => kind), ["unknown", "register", "unknown"]);
 });
 
 test("words that are alike", () => {
   assert.deepEqual([editDistance("strat", "start"), editDistance("LDX", "LDM"), editDistance("", "abc")], [1, 1, 3]);
-  assert.deepEqual(similarWords("strat", ["start", "stop", "far"]), ["start"]);
-  assert.deepEqual(similarWords("Loop", ["loop"]), ["loop"]);
-  assert.deepEqual(similarWords("xyz", ["start"]), []);
+  assert.deepEqual(findSimilarWords("strat", ["start", "stop", "far"]), ["start"]);
+  assert.deepEqual(findSimilarWords("Loop", ["loop"]), ["loop"]);
+  assert.deepEqual(findSimilarWords("xyz", ["start"]), []);
 });
 
 test("what is not an instruction, and what may be meant", () => {
@@ -109,16 +109,16 @@ test("all errors of lines get their words and characters; lines that cannot be s
   const found = await findProgramFaults(text, instructions, () => "", bench);
   assert.deepEqual(found.faults.map(({ line, from, words }) => [line, from, words.split(";")[0]]),
     [[1, 7, "LDX is not an instruction"], [2, 9, "strat is not defined"], [3, 3, "\u00e9 is not an ASCII character"]]);
-  assert.deepEqual([found.areAll, found.rest, bench.asked.refused], [true, null, 0]);
+  assert.deepEqual([found.isWhole, found.rest, bench.asked.refused], [true, null, 0]);
   assert.deepEqual(bench.asked.sent, ["start: LDX 5\nFIM P0, strat\n\n"]);
 });
 
 test("a program without errors is tried on the board; 100 errors may not be all", async () => {
   const bench = asking([], 42);
   const found = await findProgramFaults("NOP\n", instructions, () => "", bench);
-  assert.deepEqual(found, { faults: [], areAll: true, rest: { number: 42, line: 0 } });
+  assert.deepEqual(found, { faults: [], isWhole: true, rest: { number: 42, line: 0 } });
   const many = asking(Array.from({ length: 100 }, (_, at) => ({ line: at + 1, number: 30 })));
-  assert.equal((await findProgramFaults("LDX\n".repeat(101), instructions, () => "", many)).areAll, false);
+  assert.equal((await findProgramFaults("LDX\n".repeat(101), instructions, () => "", many)).isWhole, false);
 });
 
 test("a text is sent line for line, without comments and indentation", () => {
@@ -127,7 +127,7 @@ test("a text is sent line for line, without comments and indentation", () => {
   assert.equal(sentText("a = \"\"\"\n  b # \u00e9\n\"\"\"\n", "#"), "a = \"\"\"\n  b #  \n\"\"\"\n");
   assert.equal(sentText("", ";"), "");
   assert.equal(sentText("NOP\n\t", ";"), "NOP\n\n");
-  assert.deepEqual(faultsOfLines("NOP\n\t", ";"), []);
+  assert.deepEqual(findLineFaults("NOP\n\t", ";"), []);
   assert.equal(sentText("NOP\n . ; no end\n.\n", ";"), "NOP\n .\n.\n");
   assert.equal(sentText("\tNOP ; .\n\t. ; a dot alone\n  . \nx: ;\n ; y\n\n  LDM 1", ";"), "NOP\n .\n .\nx:\n\n\nLDM 1\n");
   assert.equal(sentText("a = 'x#\"' # \"d\"\ny = \"\\\"#\" # e\nz = \"no end # f\n", "#"), "a = 'x#\"'\ny = \"\\\"#\"\nz = \"no end # f\n");
@@ -135,10 +135,10 @@ test("a text is sent line for line, without comments and indentation", () => {
 
 test("lines that cannot be sent, at their places in the text", () => {
   /** @type {(text: string) => (number | string)[][]} */
-  const faults = (text) => faultsOfLines(text, ";").map(({ line, from, to, number }) => [line, from, to, number]);
+  const faults = (text) => findLineFaults(text, ";").map(({ line, from, to, number }) => [line, from, to, number]);
   assert.deepEqual(faults("  caf\u00e9: NOP ; \u00e9\n"), [[1, 5, 6, 14]]);
   assert.deepEqual(faults("NOP\n.\nNOP\n"), [[2, 0, 1, 0]]);
-  assert.equal(faultsOfLines("\ufeffNOP\n", ";")[0].words, "an invisible character (U+FEFF); delete it");
+  assert.equal(findLineFaults("\ufeffNOP\n", ";")[0].words, "an invisible character (U+FEFF); delete it");
   assert.deepEqual(faults("NOP\n . ; no end\n"), []);
   assert.deepEqual(faults(`NOP\n  ${"x".repeat(256)}\n`), [[2, 257, 258, 12]]);
   assert.deepEqual(faults(`NOP ;${"x".repeat(256)}\n`), []);
@@ -178,7 +178,7 @@ test("a program comes into ROM alone, by one text where it has room", () => {
 });
 
 test("what assembling alone leaves, in words", () => {
-  assert.equal(wordsOfAssembled({ size: 3, left: [0x41, 0x42] }, "012"),
+  assert.equal(describeAssembled({ size: 3, left: [0x41, 0x42] }, "012"),
     "3 bytes assembled. 2 bytes from before stay in ROM, from 0x041. The counter stays at 012; nothing was reset.");
   assert.deepEqual([counted(1, "byte"), counted(0, "byte"), counted(1543, "cycle"), counted(2, "property is", "properties are")],
     ["1 byte", "0 bytes", "1,543 cycles", "2 properties are"]);
@@ -186,11 +186,11 @@ test("what assembling alone leaves, in words", () => {
 
 test("a text with an error in each line of code is hardly a program", () => {
   const at = (...lines) => lines.map((line) => ({ number: 30, line, from: 0, to: 1, words: "" }));
-  assert.equal(isNoProgram("hello there\n\n; a remark\nand more\n", { faults: at(1, 4), areAll: true, rest: null }), true);
-  assert.equal(isNoProgram("hello there\n NOP\n", { faults: at(1), areAll: true, rest: null }), false);
+  assert.equal(isNoProgram("hello there\n\n; a remark\nand more\n", { faults: at(1, 4), isWhole: true, rest: null }), true);
+  assert.equal(isNoProgram("hello there\n NOP\n", { faults: at(1), isWhole: true, rest: null }), false);
   // At most this many are searched.
   const long = "prose\n".repeat(500);
-  assert.equal(isNoProgram(long, { faults: at(...Array.from({ length: 20 }, (_, line) => line + 1)), areAll: false, rest: null }), true);
-  assert.equal(isNoProgram(`NOP\n${long}`, { faults: at(2, 3), areAll: false, rest: null }), false);
-  for (const empty of ["", "; a remark\n"]) assert.equal(isNoProgram(empty, { faults: [], areAll: true, rest: null }), false);
+  assert.equal(isNoProgram(long, { faults: at(...Array.from({ length: 20 }, (_, line) => line + 1)), isWhole: false, rest: null }), true);
+  assert.equal(isNoProgram(`NOP\n${long}`, { faults: at(2, 3), isWhole: false, rest: null }), false);
+  for (const empty of ["", "; a remark\n"]) assert.equal(isNoProgram(empty, { faults: [], isWhole: true, rest: null }), false);
 });

@@ -2,12 +2,12 @@
 import assert from "node:assert/strict";
 import { test } from "node:test";
 import { readFileSync, readdirSync } from "node:fs";
-import { changesOf, faultOfLayout, formattedLines } from "../core/text/program_format.js";
+import { findLineChanges, findLayoutError, formatProgramLines } from "../core/text/program_format.js";
 
 const EXAMPLES = new URL("../../examples/", import.meta.url);
 const isHead = (word) => ["ORG", "DB", "LD", "LDM", "FIM", "JUN", "JMS", "JCN", "NOP", "SRC", "WRM", "BBL"].includes(word);
 const BLANKS = { tabSize: 8, insertSpaces: true };
-const formatted = (text, layout = BLANKS) => formattedLines(text.split("\n"), isHead, layout).join("\n");
+const formatted = (text, layout = BLANKS) => formatProgramLines(text.split("\n"), isHead, layout).join("\n");
 
 test("labels, instructions, operands and comments have columns", () => {
   assert.equal(formatted("start:LDM 5;five\n\tld r3 ;three\nb:  DB  1,2 ,3"), [
@@ -52,19 +52,19 @@ test("the examples keep their words, and are the same after a second time", () =
     if (name.includes(".")) continue;
     const lines = readFileSync(new URL(`${name}/${name}.asm`, EXAMPLES), "utf8").split("\n");
     for (const layout of [BLANKS, { tabSize: 8, insertSpaces: false }, { tabSize: 3, insertSpaces: false }]) {
-      const once = formattedLines(lines, () => true, layout);
+      const once = formatProgramLines(lines, () => true, layout);
       assert.deepEqual(once.map(words), lines.map(words), name);
-      assert.deepEqual(formattedLines(once, () => true, layout), once, name);
+      assert.deepEqual(formatProgramLines(once, () => true, layout), once, name);
     }
   }
 });
 
 test("a change has the characters that differ, and a text that would be too long is reported", () => {
-  assert.deepEqual(changesOf(["a: NOP", "same", "LD R3"], ["a:      NOP", "same", "LD  R3"]), [
+  assert.deepEqual(findLineChanges(["a: NOP", "same", "LD R3"], ["a:      NOP", "same", "LD  R3"]), [
     { line: 0, from: 3, to: 3, text: "     " }, { line: 2, from: 3, to: 3, text: " " }]);
-  assert.equal(faultOfLayout(["NOP"]), "");
-  assert.match(faultOfLayout(Array(2000).fill("        a: NOP NOP NOP")), /would have 30,000 characters; at most 16,384/);
-  assert.match(faultOfLayout(Array(2000).fill(`NOP ;${"x".repeat(40)}`)), /; at most 65,536/);
+  assert.equal(findLayoutError(["NOP"]), "");
+  assert.match(findLayoutError(Array(2000).fill("        a: NOP NOP NOP")), /would have 30,000 characters; at most 16,384/);
+  assert.match(findLayoutError(Array(2000).fill(`NOP ;${"x".repeat(40)}`)), /; at most 65,536/);
 });
 
 test("long lines of blanks are read in a time that grows with their length alone", () => {

@@ -1,8 +1,8 @@
 import assert from "node:assert/strict";
 import { test } from "node:test";
 import { checksum } from "../core/session/checksum.js";
-import { NotAProject, isProject, projectText, readProject, wordsOfLength } from "../core/session/project_file.js";
-import { breakpointsIn, partsOfProject, valuesIn } from "../core/session/project_parts.js";
+import { InvalidProject, isProject, projectText, readProject, tooLongMessage } from "../core/session/project_file.js";
+import { parseBreakpoints, splitProject, parseWatchLines } from "../core/session/project_parts.js";
 
 const SIZE = 163856;
 const encode = (text) => new TextEncoder().encode(text);
@@ -72,9 +72,9 @@ test("a text that the editors would not take is refused, and its project is not 
   const boardText = `#${" ".repeat(65535)}\n`;
   const words = "the board's text has 65,537 characters; at most 65,536 are accepted";
   assert.throws(() => read(projectText(project({ boardText }))), { message: words });
-  assert.equal(wordsOfLength({ boardText, programText: "" }), words);
-  assert.equal(wordsOfLength({ boardText: boardText.slice(1), programText: "x".repeat(65536) }), "");
-  assert.match(wordsOfLength({ boardText: "", programText: "x".repeat(65537) }), /^the source has 65,537 characters/);
+  assert.equal(tooLongMessage({ boardText, programText: "" }), words);
+  assert.equal(tooLongMessage({ boardText: boardText.slice(1), programText: "x".repeat(65536) }), "");
+  assert.match(tooLongMessage({ boardText: "", programText: "x".repeat(65537) }), /^the source has 65,537 characters/);
 });
 
 test("each cut of a project is refused in words", () => {
@@ -89,7 +89,7 @@ test("each single byte that is another one is refused", () => {
   for (let at = 0; at < bytes.length; at++) {
     const changed = bytes.slice();
     changed[at] ^= 1;
-    assert.throws(() => readProject(changed, SIZE), NotAProject, `byte ${at}`);
+    assert.throws(() => readProject(changed, SIZE), InvalidProject, `byte ${at}`);
   }
 });
 
@@ -147,18 +147,18 @@ test("values are in the head, and come back as they were", () => {
 });
 
 test("a project is files of a folder, and their texts are its parts again", () => {
-  const breakpoints = breakpointsIn('break line 14 at 0x00F off from 5 if "r4 = 7" log "R4 is {r4}"\r\nbreak at 0x000\n');
-  const watched = valuesIn("count = R5\ndigit = ram 0 0x12");
+  const breakpoints = parseBreakpoints('break line 14 at 0x00F off from 5 if "r4 = 7" log "R4 is {r4}"\r\nbreak at 0x000\n');
+  const watched = parseWatchLines("count = R5\ndigit = ram 0 0x12");
   const whole = project({ breakpoints, watched, testText: "test one\n" });
-  const parts = new Map(partsOfProject(whole).map(({ name, content }) => [name, content]));
+  const parts = new Map(splitProject(whole).map(({ name, content }) => [name, content]));
   const names = ["mcs4.toml", "board.toml", "program.asm", "program.test", "breakpoints", "values", "session.mcs", "name"];
   assert.deepEqual([...parts.keys()], names);
   assert.match(parts.get("mcs4.toml"), /^# .*\nboard = "board.toml"\nprogram = "program.asm"\ntests = \["program.test"\]\n$/);
-  assert.deepEqual([breakpointsIn(parts.get("breakpoints")), valuesIn(parts.get("values"))], [breakpoints, watched]);
+  assert.deepEqual([parseBreakpoints(parts.get("breakpoints")), parseWatchLines(parts.get("values"))], [breakpoints, watched]);
   assert.deepEqual([parts.get("name"), parts.get("board.toml"), parts.get("session.mcs")], ["a lock\n", "# b\n", whole.file]);
-  assert.throws(() => breakpointsIn("break line 1\nbreak\n"), /line 2 is not a breakpoint/);
-  assert.throws(() => breakpointsIn("break line 1\n".repeat(257)), /it has 257 breakpoints, more than a project can have \(256\)/);
-  assert.throws(() => valuesIn("a = R1\n \n"), /line 2 is empty/);
+  assert.throws(() => parseBreakpoints("break line 1\nbreak\n"), /line 2 is not a breakpoint/);
+  assert.throws(() => parseBreakpoints("break line 1\n".repeat(257)), /it has 257 breakpoints, more than a project can have \(256\)/);
+  assert.throws(() => parseWatchLines("a = R1\n \n"), /line 2 is empty/);
 });
 
 test("a text that is too long for the editors is read if that is asked for; zero bytes never are", () => {

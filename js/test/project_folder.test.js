@@ -4,7 +4,7 @@ import { mkdirSync, mkdtempSync, rmSync, symlinkSync, writeFileSync } from "node
 import { tmpdir } from "node:os";
 import { join } from "node:path";
 import { test } from "node:test";
-import { ProjectFault, readProject } from "../core/project/project_folder.js";
+import { ProjectError, readProject } from "../core/project/project_folder.js";
 import { readProjectToml } from "../core/project/project_toml.js";
 import { projectIn } from "../node/project_on_disk.mjs";
 
@@ -43,9 +43,9 @@ test("a project's files must be in its folder", () => {
   const paths = readProject(bytesOf(GOOD), () => "");
   assert.deepEqual(paths, { board: "board.toml", program: "main.asm", tests: [], properties: [], speed: "" });
   assert.throws(() => readProject(bytesOf(GOOD), (path) => (path === "main.asm" ? "there is no file main.asm" : "")),
-    new ProjectFault("mcs4.toml", "program: there is no file main.asm", 2));
+    new ProjectError("mcs4.toml", "program: there is no file main.asm", 2));
   for (const bytes of [bytesOf(""), new Uint8Array(20000), bytesOf("board\0")]) {
-    assert.throws(() => readProject(bytes, () => ""), ProjectFault);
+    assert.throws(() => readProject(bytes, () => ""), ProjectError);
   }
 });
 

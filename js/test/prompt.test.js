@@ -3,23 +3,23 @@ import assert from "node:assert/strict";
 import { readFileSync } from "node:fs";
 import { test } from "node:test";
 import { DebugSession } from "../core/debug/debug_session.js";
-import { COMMANDS, commandOf, helpOf } from "../core/prompt/prompt_commands.js";
+import { COMMANDS, findCommand, commandHelp } from "../core/prompt/prompt_commands.js";
 import { Prompt } from "../core/prompt/debugger_prompt.js";
-import { View, sizeOf } from "../core/prompt/view.js";
-import { countIn, cyclesIn, instructionIn } from "../core/prompt/words_of_line.js";
+import { View, viewSize } from "../core/prompt/view.js";
+import { parseCountArgument, parseCycles, findInstruction } from "../core/prompt/words_of_line.js";
 import { Engine } from "../core/engine/engine.js";
-import { dataOfPage } from "../node/page_parts.mjs";
-import { moduleOfPage } from "./page_session.js";
+import { readPageData } from "../node/page_parts.mjs";
+import { pageModule } from "./page_session.js";
 
-const engine = new Engine(new globalThis.WebAssembly.Module(moduleOfPage));
-const data = dataOfPage();
+const engine = new Engine(new globalThis.WebAssembly.Module(pageModule));
+const data = readPageData();
 const read = (name) => readFileSync(new URL(`../../examples/${name}`, import.meta.url), "utf8");
 const BOARD = read("three_lamps/board.toml");
 const PROGRAM = read("three_lamps/three_lamps.asm");
 const LOCK = { board: read("lock/board.toml"), program: read("lock/lock.asm") };
 
 /** Returns a prompt, with files, and its output and errors since the last query. */
-async function prompted({ board, program } = { board: BOARD, program: PROGRAM }, isByHand = false, files = {}) {
+async function prompted({ board, program } = { board: BOARD, program: PROGRAM }, isInteractive = false, files = {}) {
   let printed = [];
   const session = new DebugSession(engine, { board, program });
   const launched = {
@@ -35,7 +35,7 @@ async function prompted({ board, program } = { board: BOARD, program: PROGRAM },
       files[name] = text;
     },
     files: (begin) => Object.keys(files).filter((name) => name.startsWith(begin)),
-    isByHand,
+    isInteractive,
     view: null,
   };
   const prompt = new Prompt(launched, data, calls);
@@ -53,29 +53,29 @@ test("the table of commands: each is there, is found by its words, and has help"
   assert.deepEqual(Object.keys(prompt.handlers).sort(), COMMANDS.map(({ name }) => name).sort());
   const words = COMMANDS.flatMap(({ name, short }) => [name, ...short]);
   assert.equal(new Set(words).size, words.length);
-  for (const word of words) assert.ok(commandOf(word).command, word);
+  for (const word of words) assert.ok(findCommand(word).command, word);
   for (const { name, use, does } of COMMANDS) {
-    assert.ok(helpOf(name).startsWith(`${use}: ${does}.`), name);
+    assert.ok(commandHelp(name).startsWith(`${use}: ${does}.`), name);
     assert.ok(use.startsWith(name === "x" ? "x[" : name), name);
   }
-  assert.equal(commandOf("und").command.name, "undisplay");
-  assert.equal(commandOf("re").words, "re is ambiguous: reverse-step, reverse-next, reverse-continue, release, reset");
-  assert.equal(commandOf("bogus").words, "there is no command bogus; help shows them all");
+  assert.equal(findCommand("und").command.name, "undisplay");
+  assert.equal(findCommand("re").words, "re is ambiguous: reverse-step, reverse-next, reverse-continue, release, reset");
+  assert.equal(findCommand("bogus").words, "there is no command bogus; help shows them all");
 });
 
 test("places, counts and times", async () => {
   const { session } = await prompted();
-  const at = (text) => instructionIn(text, session);
+  const at = (text) => findInstruction(text, session);
   assert.deepEqual(at("wait"), { line: session.map.lineOf(0x014), address: 0x014 });
   assert.deepEqual(at("WAIT + 2").address, 0x016);
   assert.deepEqual(at("*0x016").address, 0x016);
   assert.deepEqual(at("three_lamps.asm:1").address, 0);
   assert.deepEqual(at("").address, 0);
   for (const wrong of ["nothing", "0x1000", "999", "wait + x", "-1"]) assert.throws(() => at(wrong), /place|addresses|instruction/, wrong);
-  assert.deepEqual([countIn("", 9), countIn(" 7 ", 9)], [1, 7]);
-  for (const wrong of ["0", "10", "x", "-1", "1.5"]) assert.throws(() => countIn(wrong, 9), /a count is 1 to 9/, wrong);
-  assert.deepEqual([cyclesIn("538"), cyclesIn("20 ms"), cyclesIn("1s")], [538, 1852, 92593]);
-  assert.throws(() => cyclesIn("soon"), /soon is not a time/);
+  assert.deepEqual([parseCountArgument("", 9), parseCountArgument(" 7 ", 9)], [1, 7]);
+  for (const wrong of ["0", "10", "x", "-1", "1.5"]) assert.throws(() => parseCountArgument(wrong, 9), /a count is 1 to 9/, wrong);
+  assert.deepEqual([parseCycles("538"), parseCycles("20 ms"), parseCycles("1s")], [538, 1852, 92593]);
+  assert.throws(() => parseCycles("soon"), /soon is not a time/);
 });
 
 test("moves, and the same way back", async () => {
@@ -194,11 +194,11 @@ test("the view: source, registers, lamps, in any size; values that are others st
   const plain = (text) => text;
   const marks = { head: plain, here: (text) => `[${text}]`, other: (text) => `{${text}}` };
   const view = new View(prompt);
-  assert.deepEqual(sizeOf(24, 80), { rows: 14, columns: 79 });
-  assert.deepEqual([sizeOf(11, 80), sizeOf(24, 39), sizeOf(undefined, undefined)], [null, null, null]);
-  view.lines(sizeOf(24, 80), marks);
+  assert.deepEqual(viewSize(24, 80), { rows: 14, columns: 79 });
+  assert.deepEqual([viewSize(11, 80), viewSize(24, 39), viewSize(undefined, undefined)], [null, null, null]);
+  view.lines(viewSize(24, 80), marks);
   await ask("until wait", "display r4", "hold 1");
-  const lines = view.lines(sizeOf(24, 80), marks);
+  const lines = view.lines(viewSize(24, 80), marks);
   assert.equal(lines.length, 14);
   assert.match(lines[0], /^p\.asm {2}014 \(wait, line 20\) {2}9 cycles, 0\.097 ms *$/);
   const here = lines.find((line) => line.startsWith("["));
@@ -206,7 +206,7 @@ test("the view: source, registers, lamps, in any size; values that are others st
   assert.match(lines.join("\n"), /\{acc 1\} {3}cy 0 .*\n.*\n.*P0 00 {2}P1 00\n.*\{P2 10\}/);
   assert.deepEqual(lines.slice(-3), ["lamps ..* right", "r4 = 0x1", "-".repeat(79)]);
   for (const [rows, columns] of [[12, 40], [24, 60], [50, 200]]) {
-    const size = sizeOf(rows, columns);
+    const size = viewSize(rows, columns);
     const printed = view.lines(size, { head: plain, here: plain, other: plain });
     assert.equal(printed.length, size.rows);
     assert.deepEqual(printed.filter((line) => line.length > size.columns), []);
@@ -315,7 +315,7 @@ test("more that info shows, and short words of gdb", async () => {
   assert.deepEqual(await ask("info registers r4"), ["refused: info registers takes no argument"]);
   for (const words of ["si step", "ni next", "rsi reverse-step", "r run", "tb tbreak", "dis disable", "cond condition"]) {
     const [word, name] = words.split(" ");
-    assert.equal(commandOf(word).command.name, name, word);
+    assert.equal(findCommand(word).command.name, name, word);
   }
 });
 

@@ -5,11 +5,11 @@ import { Bench } from "../core/bench/bench_client.js";
 import { BenchCalls } from "../core/engine/bench_calls.js";
 import { Engine } from "../core/engine/engine.js";
 import { Prover } from "../core/prove/prover.js";
-import { beginProving, judgedLine } from "../core/prove/bounded_proof.js";
+import { beginProving, createJudgedLine } from "../core/prove/bounded_proof.js";
 import { boundsUpTo } from "../core/prove/question.js";
-import { lineNow, stillStands } from "../core/prove/still_valid.js";
+import { findPropertyLine, isStillValid } from "../core/prove/still_valid.js";
 import { markOf, markOfTab, wordsOfEnd, wordsOfVerdict, wordsSoFar } from "../words/proved.js";
-import { moduleOfPage } from "./page_session.js";
+import { pageModule } from "./page_session.js";
 
 // The lamp is on while TEST is 0; R1 counts how often that was read.
 const texts = {
@@ -38,7 +38,7 @@ class Asked extends Engine {
    * @param {(within: number) => string} answerTimes
    */
   constructor(answer, answerMistakes = () => NO_MISTAKE, answerSets = () => "gave up\n", answerTimes = () => "holds 7\n") {
-    super(new globalThis.WebAssembly.Module(moduleOfPage));
+    super(new globalThis.WebAssembly.Module(pageModule));
     this.answer = answer;
     this.answerMistakes = answerMistakes;
     this.answerSets = answerSets;
@@ -81,7 +81,7 @@ async function judged(answer, { most = 50000, answerMistakes, answerSets, answer
     },
     yieldToMessages: async () => {},
   });
-  const lines = proving ? (await proving.judgeAll()).map(judgedLine) : [];
+  const lines = proving ? (await proving.judgeAll()).map(createJudgedLine) : [];
   return { faults, engine, seen, all: lines.filter(({ line }) => line > 0), made: lines.filter(({ line }) => line === 0) };
 }
 
@@ -185,20 +185,20 @@ test("a verdict stands while its property, the program and the board are the sam
   const open = { ...proved, verdict: { kind: "open", words: "why" } };
   const now = (change) => ({ ...texts, ...change });
   const properties = (text) => now({ propertiesText: text });
-  assert.ok(stillStands(proved, texts, texts));
-  assert.ok(!stillStands(proved, texts, now({ programText: `${texts.programText};` })));
-  assert.ok(!stillStands(proved, texts, now({ boardText: `${texts.boardText}#` })));
-  assert.ok(!stillStands(proved, texts, properties(texts.propertiesText.replace("lamp 1 on", "lamp 1 off"))));
-  assert.ok(stillStands(proved, texts, properties(`# more\n\n  never  lamp 1 on\nnever lamp lit off\ntest`)));
+  assert.ok(isStillValid(proved, texts, texts));
+  assert.ok(!isStillValid(proved, texts, now({ programText: `${texts.programText};` })));
+  assert.ok(!isStillValid(proved, texts, now({ boardText: `${texts.boardText}#` })));
+  assert.ok(!isStillValid(proved, texts, properties(texts.propertiesText.replace("lamp 1 on", "lamp 1 off"))));
+  assert.ok(isStillValid(proved, texts, properties(`# more\n\n  never  lamp 1 on\nnever lamp lit off\ntest`)));
   // A proof is about all inputs, and begins at power-on; why a verdict is open may depend on the inputs in the text.
-  assert.ok(stillStands(proved, texts, properties("never lamp 1 on")));
-  assert.ok(!stillStands(open, texts, properties("never lamp 1 on")));
-  assert.ok(!stillStands(proved, texts, properties(`from dark\n${texts.propertiesText}`)));
+  assert.ok(isStillValid(proved, texts, properties("never lamp 1 on")));
+  assert.ok(!isStillValid(open, texts, properties("never lamp 1 on")));
+  assert.ok(!isStillValid(proved, texts, properties(`from dark\n${texts.propertiesText}`)));
   const mistake = { ...proved, text: "no fourth nested call", line: 0 };
-  assert.ok(stillStands(mistake, texts, properties("never lamp lit off")));
-  assert.ok(!stillStands(mistake, texts, now({ boardText: `${texts.boardText}#` })));
-  assert.equal(lineNow("never lamp 1 on", "# a\n\n never   lamp 1 on\n"), 3);
-  assert.equal(lineNow("never lamp 1 on", "never lamp 1 off\n"), 0);
+  assert.ok(isStillValid(mistake, texts, properties("never lamp lit off")));
+  assert.ok(!isStillValid(mistake, texts, now({ boardText: `${texts.boardText}#` })));
+  assert.equal(findPropertyLine("never lamp 1 on", "# a\n\n never   lamp 1 on\n"), 3);
+  assert.equal(findPropertyLine("never lamp 1 on", "never lamp 1 off\n"), 0);
 });
 
 /** A worker that is not one: it does its work in this thread, and can be ended. */

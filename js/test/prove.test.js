@@ -2,21 +2,21 @@
 import assert from "node:assert/strict";
 import { test } from "node:test";
 import { matrixKey } from "../core/board/key_place.js";
-import { tracedConditionOf } from "../core/conditions/condition_language.js";
+import { compileTracedCondition } from "../core/conditions/condition_language.js";
 import { Engine } from "../core/engine/engine.js";
 import { readCampaign } from "../core/explore/campaign.js";
-import { subjectOf } from "../core/explore/subject.js";
-import { randomFrom } from "../core/explore/walks.js";
-import { counterexampleOf } from "../core/prove/counterexample.js";
-import { comparisonsOf } from "../core/prove/decided.js";
+import { createSubject } from "../core/explore/subject.js";
+import { createRandom } from "../core/explore/walks.js";
+import { replayCounterexample } from "../core/prove/counterexample.js";
+import { listComparisons } from "../core/prove/decided.js";
 import { allMistakes, cyclesToMistake } from "../core/prove/mistakes.js";
-import { MAX_TIME, MOST_PRESSES, askedOf, mistakeQuestion, neverQuestion, questionText, readAnswer } from "../core/prove/question.js";
-import { statusOf, tapHead, tapOfJudged } from "../core/prove/verdicts.js";
+import { MAX_TIME, MAX_PRESSES, createQuestion, mistakeQuestion, neverQuestion, questionText, readAnswer } from "../core/prove/question.js";
+import { exitStatus, tapHead, formatJudgedTap } from "../core/prove/verdicts.js";
 import { runTests } from "../core/testing/test_suite.js";
-import { NoAccount } from "../core/testing/account.js";
-import { moduleOfPage } from "./page_session.js";
+import { NullRecorder } from "../core/testing/account.js";
+import { pageModule } from "./page_session.js";
 
-const engine = new Engine(new globalThis.WebAssembly.Module(moduleOfPage));
+const engine = new Engine(new globalThis.WebAssembly.Module(pageModule));
 
 // Key A switches the lamp `on` on, if it is down at 16 reads. The program counts in R5, and shows that at the port of the second RAM chip.
 const BOARD = `# row 0: A B C
@@ -56,7 +56,7 @@ look:   SRC P2
 lit:    WMP
         JUN lit
 `;
-const subject = subjectOf(engine, BOARD, PROGRAM);
+const subject = createSubject(engine, BOARD, PROGRAM);
 const { board } = subject.names;
 
 /** Reads a cell of a question from the bench's answers about its places. */
@@ -86,7 +86,7 @@ function isMet(state, comparison) {
 
 /** States of the bench, with all places of conditions set at random. */
 function* states() {
-  const random = randomFrom(5);
+  const random = createRandom(5);
   const upTo = (most) => Math.floor(random() * (most + 1));
   for (let at = 0; at < 25; at++) {
     const file = subject.file.slice();
@@ -105,15 +105,15 @@ const CONDITIONS = [
   "r5 - r7 = 0", "r5 & 3 = 1", "r5 >= 0",
 ];
 
-const asked = (text, own = subject) => askedOf(readCampaign(`press A\n${text}`, own).campaign.properties[0], { from: null }, own);
+const asked = (text, own = subject) => createQuestion(readCampaign(`press A\n${text}`, own).campaign.properties[0], { from: null }, own);
 
 test("comparisons mean what their condition means", () => {
   const all = [...states()];
   for (const text of CONDITIONS) {
-    const { condition, fault } = tracedConditionOf(text, subject.names);
+    const { condition, fault } = compileTracedCondition(text, subject.names);
     assert.ok(condition, `${text}: ${fault}`);
     for (const wanted of [true, false]) {
-      const lists = comparisonsOf(condition, wanted, board);
+      const lists = listComparisons(condition, wanted, board);
       for (const state of all) {
         const values = condition.places.map((place) => engine.ask(state, `trace 1 ${place}\n`).answers[0].split(" ").slice(6).join(" "));
         const owed = engine.ask(state, "regs\n").answers[0].split(" ")[7];
@@ -126,7 +126,7 @@ test("comparisons mean what their condition means", () => {
 });
 
 test("conditions are short questions", () => {
-  const listsOf = (text, wanted = true) => comparisonsOf(tracedConditionOf(text, subject.names).condition, wanted, board);
+  const listsOf = (text, wanted = true) => listComparisons(compileTracedCondition(text, subject.names).condition, wanted, board);
   assert.deepEqual(listsOf("r5 > 3"), [["in register 5 whole 4 15"]]);
   assert.deepEqual(listsOf("lamp on on and r5 = 2"), [["in ramport 0 line0 1 1", "in register 5 whole 2 2"]]);
   assert.deepEqual(listsOf("lamp on on and r5 = 2", false).length, 3);
@@ -138,8 +138,8 @@ test("conditions are short questions", () => {
 test("what a display shows is a question about its lamps", () => {
   const lamps = [3, 2, 1, 0].map((line) => `{ line = "ram0.0.${line}" }`);
   const text = `# display 0: 1 digit\nlamp = [${lamps}]\nrom = [{ chip = 0, port = "0000" }]\nram = [{ bank = 0, chips = 1 }]\n`;
-  const { names } = subjectOf(engine, text, "loop:   JUN loop\n");
-  const listsOf = (words) => comparisonsOf(tracedConditionOf(words, names).condition, true, names.board);
+  const { names } = createSubject(engine, text, "loop:   JUN loop\n");
+  const listsOf = (words) => listComparisons(compileTracedCondition(words, names).condition, true, names.board);
   assert.deepEqual(listsOf("display 3"),
     [["in ramport 0 line3 0 0", "in ramport 0 line2 0 0", "in ramport 0 line1 1 1", "in ramport 0 line0 1 1"]]);
   assert.deepEqual(listsOf("display 12"), []);
@@ -202,11 +202,11 @@ test("presses that the prover cannot count are refused with the reason", () => {
   assert.match(words("lamp on on only after press A, press WALK"), /^WALK is at the TEST pin/);
   assert.match(words("rom1 in 3 only after press A"), /^its condition uses rom1, an input/);
   const presses = (count) => asked(`lamp on on only after ${Array(count).fill("press A").join(", ")}`);
-  assert.equal(presses(MOST_PRESSES).question.presses.keys.length, 100);
-  assert.match(presses(MOST_PRESSES + 1).words, /^it names more than 100 presses/);
+  assert.equal(presses(MAX_PRESSES).question.presses.keys.length, 100);
+  assert.match(presses(MAX_PRESSES + 1).words, /^it names more than 100 presses/);
   // At `same`, one instruction of one cycle leads to the next one that begins there.
   for (const [code, isAsked] of [["JIN P0", false], ["BBL 0", false], ["FIN P0", true], ["JUN same", true]]) {
-    const own = subjectOf(engine, BOARD, `        FIM P0, 2\nsame:   ${code}\n        NOP\n`);
+    const own = createSubject(engine, BOARD, `        FIM P0, 2\nsame:   ${code}\n        NOP\n`);
     assert.equal(asked("@same only after press A", own).question !== null, isAsked, code);
     assert.notEqual(asked("@same or r5 = 1 only after press A", own).question, null, code);
   }
@@ -268,7 +268,7 @@ const LIGHTS = [0, ...Array(16).fill(3)];
 
 async function counterexample(properties, values, at = 0) {
   const { campaign } = readCampaign(properties, subject);
-  return { campaign, found: await counterexampleOf(subject, campaign, at, values, async () => {}) };
+  return { campaign, found: await replayCounterexample(subject, campaign, at, values, async () => {}) };
 }
 
 test("what was read becomes keys, and a test that fails", async () => {
@@ -277,7 +277,7 @@ test("what was read becomes keys, and a test that fails", async () => {
   assert.equal(found.isAllowed, true);
   assert.match(found.text, /^test never lamp on on\n {2}run \d+\n {2}press A\n {2}run \d+\n {2}expect not lamp on on\n$/);
   const texts = { boardText: BOARD, programText: PROGRAM, sources: [{ name: "found", text: found.text }] };
-  const { outcomes } = await runTests(engine, texts, async () => true, { Counting: NoAccount });
+  const { outcomes } = await runTests(engine, texts, async () => true, { Counting: NullRecorder });
   assert.equal(outcomes[0].failure.line, 5);
 });
 
@@ -295,7 +295,7 @@ test("inputs that the text of properties excludes are known as such", async () =
 /** Resolves to whether the test of a counterexample fails. */
 async function fails({ text }, programText = PROGRAM) {
   const { outcomes } = await runTests(engine, { boardText: BOARD, programText, sources: [{ name: "found", text }] }, async () => true,
-    { Counting: NoAccount });
+    { Counting: NullRecorder });
   return outcomes[0].failure !== null;
 }
 
@@ -324,9 +324,9 @@ const SPANS = [["r5 > 0", "FIM P2, 0x05", "FIM P2, 0", 4], ["r5 > 0", "INC R5", 
 test("a condition may hold for exactly its time, whatever instruction changes it", async () => {
   for (const [condition, begin, end, span] of SPANS) {
     const program = `loop:   ${begin}\n        NOP\n        NOP\n        ${end}\n        JUN loop\n`;
-    const own = subjectOf(engine, BOARD, program);
+    const own = createSubject(engine, BOARD, program);
     const campaignFor = (cycles) => readCampaign(`test\nnever ${condition} for ${cycles}`, own).campaign;
-    const findOf = (cycles) => counterexampleOf(own, campaignFor(cycles), 0, [0], async () => {});
+    const findOf = (cycles) => replayCounterexample(own, campaignFor(cycles), 0, [0], async () => {});
     const found = await findOf(span - 1);
     assert.ok(found && await fails(found, program), `${begin}, ${end}`);
     assert.equal(await findOf(span), null, `${begin}, ${end}`);
@@ -367,7 +367,7 @@ const MAKES = [
 
 test("mistakes are seen before the instruction that makes them", () => {
   for (const { program, made } of MAKES) {
-    const own = subjectOf(engine, BOARD, `${program}\n${program.includes("ORG") ? "" : "end: JUN end\n"}`);
+    const own = createSubject(engine, BOARD, `${program}\n${program.includes("ORG") ? "" : "end: JUN end\n"}`);
     for (const word of ["ram", "rom", "rdr", "wrr"]) {
       assert.equal(cyclesToMistake(own, own.file, word, 20), made[word] === undefined ? -1 : made[word], `${program}: ${word}`);
       if (made[word] > 0) assert.equal(cyclesToMistake(own, own.file, word, made[word] - 1), -1, `${program}: ${word}, too late`);
@@ -384,7 +384,7 @@ test("verdicts are TAP, and decide the exit status", () => {
   const found = { kind: "found", found: { steps: 1, cycles: 1200, isAllowed: true, isTest: true, text: "test x\n  run 1\n" } };
   const all = [{ property, verdict: proved }, { property, verdict: open }, { property: goal, verdict: found },
     { property: goal, verdict: proved }, { property, verdict: bySets }, { property: goal, verdict: bySets }];
-  assert.equal(tapHead(all.length) + all.map((each, at) => tapOfJudged(each, at, "p")).join(""), `TAP version 13
+  assert.equal(tapHead(all.length) + all.map((each, at) => formatJudgedTap(each, at, "p")).join(""), `TAP version 13
 1..6
 ok 1 - never \\# on # proved for all inputs (96,937 states)
 not ok 2 - never \\# on # TODO not decided: why
@@ -400,8 +400,8 @@ not ok 4 - reach it # never reached, for all inputs (96,937 states)
 ok 5 - never \\# on # proved for all inputs (23 sets of states), even without "once" and "after press"
 not ok 6 - reach it # never reached, for all inputs (23 sets of states), even without "once" and "after press"
 `);
-  assert.equal(statusOf([{ property, verdict: proved }, { property: goal, verdict: found }]), 0);
-  assert.equal(statusOf([{ property, verdict: proved }, { property, verdict: open }]), 3);
-  assert.equal(statusOf([{ property, verdict: found }, { property, verdict: open }]), 1);
-  assert.equal(statusOf([{ property: goal, verdict: proved }]), 1);
+  assert.equal(exitStatus([{ property, verdict: proved }, { property: goal, verdict: found }]), 0);
+  assert.equal(exitStatus([{ property, verdict: proved }, { property, verdict: open }]), 3);
+  assert.equal(exitStatus([{ property, verdict: found }, { property, verdict: open }]), 1);
+  assert.equal(exitStatus([{ property: goal, verdict: proved }]), 1);
 });

@@ -4,11 +4,11 @@ import assert from "node:assert/strict";
 import { test } from "node:test";
 import { Engine } from "../core/engine/engine.js";
 import { readCampaign } from "../core/explore/campaign.js";
-import { ProofFirst } from "../core/explore/proof_first.js";
-import { subjectOf } from "../core/explore/subject.js";
+import { InitialProof } from "../core/explore/proof_first.js";
+import { createSubject } from "../core/explore/subject.js";
 import { beginProving } from "../core/prove/bounded_proof.js";
-import { askedOf, leftOutOf } from "../core/prove/question.js";
-import { moduleOfPage } from "./page_session.js";
+import { createQuestion, omittedGuards } from "../core/prove/question.js";
+import { pageModule } from "./page_session.js";
 
 // START begins to wait, the lamp `go` comes on, and PRESS, at TEST, stops it. PRESS while it waits is a foul.
 const BOARD = `# row 0: START
@@ -49,13 +49,13 @@ foul:   LDM 4
         WMP
 end:    JUN end
 `;
-const engine = new Engine(new globalThis.WebAssembly.Module(moduleOfPage));
+const engine = new Engine(new globalThis.WebAssembly.Module(pageModule));
 
 /** The module, with the answer of a test to questions about presses. */
 class Answering extends Engine {
   /** @param {string} answer */
   constructor(answer) {
-    super(new globalThis.WebAssembly.Module(moduleOfPage));
+    super(new globalThis.WebAssembly.Module(pageModule));
     this.answer = answer;
   }
 
@@ -105,15 +105,15 @@ const TABLE = [
 ];
 
 test("a property is asked without guards that depend on the past", () => {
-  const subject = subjectOf(engine, BOARD, PROGRAM);
+  const subject = createSubject(engine, BOARD, PROGRAM);
   const propertyOf = (text) => readCampaign(text, subject).campaign.properties[0];
-  const askedAs = (text) => askedOf(propertyOf(text), { from: null }, subject);
+  const askedAs = (text) => createQuestion(propertyOf(text), { from: null }, subject);
   for (const [text] of TABLE) {
     const left = text.replace(/(once|after press) [^,]*, /g, "");
     assert.deepEqual(askedAs(text), askedAs(left), text);
   }
-  assert.equal(leftOutOf(propertyOf("once r0 = 1, after press START within 9, once r0 = 2, never r1 = 1")), '"once" and "after press"');
-  assert.equal(leftOutOf(propertyOf("while r0 = 1, never r1 = 1")), "");
+  assert.equal(omittedGuards(propertyOf("once r0 = 1, after press START within 9, once r0 = 2, never r1 = 1")), '"once" and "after press"');
+  assert.equal(omittedGuards(propertyOf("while r0 = 1, never r1 = 1")), "");
   // Not what the text of a guard looks at.
   assert.notEqual(askedAs("once rom1 in 8, never r1 = 1").question, null);
   assert.equal(askedAs("while rom1 in 8, never r1 = 1").question, null);
@@ -129,10 +129,10 @@ test("what is proved without a guard is proved with it, and a way must break it 
 });
 
 test("a property with such a guard is asked alone, also before a search", () => {
-  const subject = subjectOf(engine, BOARD, PROGRAM);
+  const subject = createSubject(engine, BOARD, PROGRAM);
   const text = "never r15 = 1\nonce lamp go on, never lamp foul on\nnever r14 = 1\n@go only after press START\n";
   const { campaign } = readCampaign(text, subject);
-  const [joint, ...alone] = new ProofFirst(subject, campaign, 1000).questions.map(({ properties }) => properties);
+  const [joint, ...alone] = new InitialProof(subject, campaign, 1000).questions.map(({ properties }) => properties);
   assert.deepEqual([joint.includes(0), joint.includes(1), joint.includes(2), joint.includes(3)], [true, false, true, false]);
   assert.ok([0, 1, 2, 3].every((at) => alone.some((each) => each.length === 1 && each[0] === at)));
 });

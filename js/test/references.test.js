@@ -1,18 +1,18 @@
 import assert from "node:assert/strict";
 import { test } from "node:test";
-import { definitionOf, faultOfRenaming, nameAt, referencesOf } from "../core/text/references.js";
-import { commented } from "../core/text/text_fault.js";
+import { findDefinition, findRenamingError, nameAt, findReferences } from "../core/text/references.js";
+import { toggleComments } from "../core/text/text_fault.js";
 
 const LINES = ["count = 5", "loop:\tFIM P0, loop ; loop", "\tJUN loop", "\tLDM count", "\tLDM 5 ; count"];
 const isInstruction = (/** @type {string} */ word) => ["JUN", "LDM", "FIM"].includes(word);
 
 test("the places of a name, and where it is defined", () => {
-  assert.deepEqual(referencesOf(LINES, "loop"), [
+  assert.deepEqual(findReferences(LINES, "loop"), [
     { line: 2, from: 0, to: 4, isDefinition: true }, { line: 2, from: 14, to: 18, isDefinition: false },
     { line: 3, from: 5, to: 9, isDefinition: false },
   ]);
-  assert.deepEqual(definitionOf(LINES, "count"), { line: 1, from: 0, to: 5, isDefinition: true });
-  assert.equal(definitionOf(LINES, "none"), null);
+  assert.deepEqual(findDefinition(LINES, "count"), { line: 1, from: 0, to: 5, isDefinition: true });
+  assert.equal(findDefinition(LINES, "none"), null);
 });
 
 test("the name at a place", () => {
@@ -25,7 +25,7 @@ test("the name at a place", () => {
 });
 
 test("another name must be one", () => {
-  const fault = (/** @type {string} */ wanted) => faultOfRenaming(LINES, "loop", wanted, isInstruction);
+  const fault = (/** @type {string} */ wanted) => findRenamingError(LINES, "loop", wanted, isInstruction);
   assert.equal(fault("again"), "");
   assert.equal(fault("loop"), "");
   assert.match(fault("9"), /does not begin with a digit/);
@@ -40,8 +40,8 @@ test("another name must be one", () => {
 test("lines become comments, and lines again", () => {
   const lines = ["\tLDM 1", "", "x: NOP"];
   const comments = ["; \tLDM 1", "", "; x: NOP"];
-  assert.deepEqual(commented(lines, ";"), comments);
-  assert.deepEqual(commented(comments, ";"), lines);
-  assert.deepEqual(commented(["\t;NOP"], ";"), ["\tNOP"]);
-  assert.deepEqual(commented([""], "#"), [""]);
+  assert.deepEqual(toggleComments(lines, ";"), comments);
+  assert.deepEqual(toggleComments(comments, ";"), lines);
+  assert.deepEqual(toggleComments(["\t;NOP"], ";"), ["\tNOP"]);
+  assert.deepEqual(toggleComments([""], "#"), [""]);
 });

@@ -2,7 +2,7 @@
 import assert from "node:assert/strict";
 import { test } from "node:test";
 import { readBoard } from "../core/bench/answers.js";
-import { isCovered, pathText, routeOf } from "../core/board/routes.js";
+import { isCurveCovered, pathText, routeWire } from "../core/board/routes.js";
 import { drawBoard } from "../core/board/wiring.js";
 
 /** A board with as many chips, chains, keys and lamps as there can be. */
@@ -27,8 +27,8 @@ for (const [name, board] of Object.entries({ "a small board": SMALL, "the larges
     const { parts, wires } = drawBoard(board);
     assert.ok(wires.length > 0);
     wires.forEach((wire, at) => {
-      const route = routeOf(wire, parts, at);
-      for (const curve of route) for (const part of parts) assert.ok(!isCovered(curve, part), `${wire.line} below ${part.id}`);
+      const route = routeWire(wire, parts, at);
+      for (const curve of route) for (const part of parts) assert.ok(!isCurveCovered(curve, part), `${wire.line} below ${part.id}`);
       assert.deepEqual([route[0][0], route[route.length - 1][3]], [wire.from, wire.to]);
       for (let next = 1; next < route.length; next++) assert.deepEqual(route[next][0], route[next - 1][3]);
     });
@@ -57,10 +57,10 @@ test("where parts were dragged to and fro, with room between them, hardly a wire
       y += height + 24;
     });
     const { parts, wires } = drawBoard(SMALL, undefined, moved);
-    const isHidden = (route) => route.some((curve) => parts.some((part) => isCovered(curve, part)));
+    const isHidden = (route) => route.some((curve) => parts.some((part) => isCurveCovered(curve, part)));
     wires.forEach((wire, at) => {
-      below += Number(isHidden(routeOf(wire, parts, at)));
-      wouldBe += Number(isHidden(routeOf(wire, [], at)));
+      below += Number(isHidden(routeWire(wire, parts, at)));
+      wouldBe += Number(isHidden(routeWire(wire, [], at)));
     });
   }
   // A part may be where a wire would need to turn twice.
@@ -69,8 +69,8 @@ test("where parts were dragged to and fro, with room between them, hardly a wire
 
 test("a wire with nothing between is one curve; where there is no room to turn, too", () => {
   const ends = { from: { x: 0, y: 0 }, to: { x: 100, y: 50 } };
-  assert.equal(pathText(routeOf(ends, [], 0)), "M0 0C50 0 50 50 100 50");
-  assert.equal(pathText(routeOf({ from: { x: 5, y: 0 }, to: { x: 5, y: 9 } }, [], 0)), "M5 0C17 0 17 9 5 9");
-  assert.equal(routeOf(ends, [{ x: 4, y: 0, width: 92, height: 60 }], 0).length, 1);
-  assert.equal(routeOf(ends, [{ x: 40, y: 0, width: 20, height: 60 }], 0).length, 3);
+  assert.equal(pathText(routeWire(ends, [], 0)), "M0 0C50 0 50 50 100 50");
+  assert.equal(pathText(routeWire({ from: { x: 5, y: 0 }, to: { x: 5, y: 9 } }, [], 0)), "M5 0C17 0 17 9 5 9");
+  assert.equal(routeWire(ends, [{ x: 4, y: 0, width: 92, height: 60 }], 0).length, 1);
+  assert.equal(routeWire(ends, [{ x: 40, y: 0, width: 20, height: 60 }], 0).length, 3);
 });

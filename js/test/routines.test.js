@@ -32,18 +32,18 @@ test("routines begin with the program and with what is called", () => {
 
 test("what a routine calls, and by what it is called", () => {
   assert.deepEqual(named(routines.called(routines.routines[0])), ["show 4", "read 5"]);
-  assert.deepEqual(named(routines.called(routines.routineOf("read"))), ["show 14"]);
-  assert.deepEqual(named(routines.callers(routines.routineOf("show"))), [" 4", "read 14"]);
-  assert.deepEqual(named(routines.callers(routines.routineOf("read"))), [" 5", "other 10"], "a call that nothing comes to is in its label");
-  assert.deepEqual(named(routines.callers(routines.routineOf("unused"))), []);
+  assert.deepEqual(named(routines.called(routines.getByName("read"))), ["show 14"]);
+  assert.deepEqual(named(routines.callers(routines.getByName("show"))), [" 4", "read 14"]);
+  assert.deepEqual(named(routines.callers(routines.getByName("read"))), [" 5", "other 10"], "a call that nothing comes to is in its label");
+  assert.deepEqual(named(routines.callers(routines.getByName("unused"))), []);
 });
 
 test("the routine at a line, and how often labels are named", () => {
   assert.equal(routines.routineAt(13).name, "read");
   assert.equal(routines.routineAt(4).name, "");
   assert.equal(routines.routineAt(10), null);
-  assert.equal(routines.routineOf("four"), null);
-  assert.equal(routines.routineOf("none"), null);
+  assert.equal(routines.getByName("four"), null);
+  assert.equal(routines.getByName("none"), null);
   const uses = routines.uses();
   assert.deepEqual([uses.get("show"), uses.get("loop"), uses.get("unused"), uses.has("four")],
     [{ calls: 2, others: 0 }, { calls: 0, others: 1 }, { calls: 0, others: 0 }, false]);

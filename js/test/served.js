@@ -1,12 +1,12 @@
 // A language server without a process, and its client, for tests.
 import { Connection } from "../core/server/connection.js";
-import { MessageReader, framed } from "../core/server/framing.js";
+import { MessageReader, frameMessage } from "../core/server/framing.js";
 import { LanguageServer } from "../core/server/language_server.js";
 import { Engine } from "../core/engine/engine.js";
-import { dataOfPage } from "../node/page_parts.mjs";
-import { moduleOfPage } from "./page_session.js";
+import { readPageData } from "../node/page_parts.mjs";
+import { pageModule } from "./page_session.js";
 
-const engine = new Engine(new globalThis.WebAssembly.Module(moduleOfPage));
+const engine = new Engine(new globalThis.WebAssembly.Module(pageModule));
 export const bytesOf = (text) => new TextEncoder().encode(text);
 
 /** A server with a client; `files` are its files, and `pause` is called between pieces of work. */
@@ -21,16 +21,16 @@ export function served(files = {}, pause = async () => {}) {
     status = ended;
   });
   const host = { readFile: (uri) => files[uri] || null, pause };
-  const server = new LanguageServer(connection, engine, dataOfPage(), host);
+  const server = new LanguageServer(connection, engine, readPageData(), host);
   const answer = async (method, params, id = messages.length + 1) => {
-    connection.take(framed({ jsonrpc: "2.0", id, method, params }));
+    connection.take(frameMessage({ jsonrpc: "2.0", id, method, params }));
     for (let turns = 0; turns < 200 && !messages.some((each) => each.id === id); turns++) await new Promise(setImmediate);
     return messages.find((each) => each.id === id);
   };
   const ask = async (method, params) => (await answer(method, params)).result;
   const open = async (uri, text, languageId = "asm") => {
     const textDocument = { uri, languageId, version: 1, text };
-    connection.take(framed({ jsonrpc: "2.0", method: "textDocument/didOpen", params: { textDocument } }));
+    connection.take(frameMessage({ jsonrpc: "2.0", method: "textDocument/didOpen", params: { textDocument } }));
     const begin = { line: 0, character: 0 };
     await ask("textDocument/codeAction", { textDocument: { uri }, range: { start: begin, end: begin } });
     return messages.filter((each) => each.method === "textDocument/publishDiagnostics" && each.params.uri === uri).pop().params.diagnostics;

@@ -4,12 +4,12 @@ import { afterEach } from "node:test";
 import { readFileSync } from "node:fs";
 import { AdapterConnection } from "../core/adapter/adapter_connection.js";
 import { DebugAdapter } from "../core/adapter/debug_adapter.js";
-import { MessageReader, framed } from "../core/server/framing.js";
+import { MessageReader, frameMessage } from "../core/server/framing.js";
 import { Engine } from "../core/engine/engine.js";
-import { dataOfPage } from "../node/page_parts.mjs";
-import { moduleOfPage } from "./page_session.js";
+import { readPageData } from "../node/page_parts.mjs";
+import { pageModule } from "./page_session.js";
 
-export const engine = new Engine(new globalThis.WebAssembly.Module(moduleOfPage));
+export const engine = new Engine(new globalThis.WebAssembly.Module(pageModule));
 const lock = (name) => readFileSync(new URL(`../../examples/lock/${name}`, import.meta.url), "utf8");
 export const FILES = Object.fromEntries(["board.toml", "lock.asm", "mcs4.toml"].map((name) => [`/lock/${name}`, lock(name)]));
 export const LOCK = { program: "/lock/lock.asm" };
@@ -76,7 +76,7 @@ export function served(files = FILES, sessions = {}) {
     pause: () => new Promise(setImmediate),
     end: (status) => ended.push(status),
   };
-  const adapter = new DebugAdapter(connection, engine, dataOfPage(), host);
+  const adapter = new DebugAdapter(connection, engine, readPageData(), host);
   begun.push(adapter);
   let seq = 0;
   const until = async (matches) => {
@@ -90,7 +90,7 @@ export function served(files = FILES, sessions = {}) {
   /** Sends a request; returns its number. */
   const send = (command, args) => {
     seq += 1;
-    connection.take(framed({ seq, type: "request", command, arguments: args }));
+    connection.take(frameMessage({ seq, type: "request", command, arguments: args }));
     return seq;
   };
   const answerTo = (own) => until((each) => each.type === "response" && each.request_seq === own);

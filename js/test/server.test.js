@@ -2,17 +2,17 @@
 import assert from "node:assert/strict";
 import { test } from "node:test";
 import { readFileSync } from "node:fs";
-import { quickFixes, diagnosticsOf } from "../core/server/diagnostics.js";
-import { MAX_MESSAGE, MessageReader, StreamLost, framed } from "../core/server/framing.js";
-import { boardFor, isBoard, isProgram } from "../core/server/kinds.js";
+import { quickFixes, toDiagnostics } from "../core/server/diagnostics.js";
+import { MAX_MESSAGE, MessageReader, StreamError, frameMessage } from "../core/server/framing.js";
+import { findBoard, isBoard, isProgram } from "../core/server/kinds.js";
 import { OpenText } from "../core/server/open_text.js";
-import { tokenCodes } from "../core/server/token_codes.js";
+import { encodeTokens } from "../core/server/token_codes.js";
 import { bytesOf, served } from "./served.js";
 
 const BOARD = readFileSync(new URL("../../examples/lock/board.toml", import.meta.url), "utf8");
 
 test("messages come out of a stream, wherever it is cut", () => {
-  const bytes = new Uint8Array([...framed({ id: 1 }), ...framed({ id: "\u00e9" })]);
+  const bytes = new Uint8Array([...frameMessage({ id: 1 }), ...frameMessage({ id: "\u00e9" })]);
   for (const step of [1, 2, 7, bytes.length]) {
     const reader = new MessageReader();
     const texts = [];
@@ -21,15 +21,15 @@ test("messages come out of a stream, wherever it is cut", () => {
   }
   const reader = new MessageReader();
   assert.deepEqual([...reader.take(bytesOf("content-length: 2\r\nX: y\r\n\r\n{}"))], [{ text: "{}" }]);
-  assert.throws(() => [...new MessageReader().take(bytesOf("GET / HTTP/1.1\r\n\r\n"))], StreamLost);
-  assert.throws(() => [...new MessageReader().take(bytesOf("x".repeat(5000)))], StreamLost);
+  assert.throws(() => [...new MessageReader().take(bytesOf("GET / HTTP/1.1\r\n\r\n"))], StreamError);
+  assert.throws(() => [...new MessageReader().take(bytesOf("x".repeat(5000)))], StreamError);
 });
 
 test("a message that is too long is left out, and the next one is read", () => {
   const reader = new MessageReader();
   assert.deepEqual([...reader.take(bytesOf(`Content-Length: ${MAX_MESSAGE + 1}\r\n\r\n`))], []);
   assert.deepEqual([...reader.take(new Uint8Array(MAX_MESSAGE))], []);
-  const rest = [...reader.take(new Uint8Array([32, ...framed({ id: 1 })]))];
+  const rest = [...reader.take(new Uint8Array([32, ...frameMessage({ id: 1 })]))];
   assert.deepEqual(rest.map((each) => each.tooLong || JSON.parse(each.text).id), [MAX_MESSAGE + 1, 1]);
 });
 
@@ -42,7 +42,7 @@ test("a size that no message has is an error at once, after the messages before 
   }, /^Error: Content-Length: 99999999999 is more than a message can have/);
   assert.deepEqual(texts, ["{}"]);
   const { connection, messages } = served();
-  assert.throws(() => connection.take(bytes), StreamLost);
+  assert.throws(() => connection.take(bytes), StreamError);
   assert.match(messages[messages.length - 1].error.message, /^Content-Length: 99999999999 is more/);
 });
 
@@ -52,7 +52,7 @@ test("what comes in one chunk with initialize, and with shutdown, is served in i
   const hover = { textDocument, position: { line: 0, character: 0 } };
   const notes = [["initialized", {}], ["textDocument/didOpen", { textDocument }]].map(([method, params]) => ({ method, params }));
   const asked = [{ id: 1, method: "initialize", params: {} }, ...notes, { id: 2, method: "textDocument/hover", params: hover }];
-  connection.take(new Uint8Array(asked.flatMap((each) => [...framed({ jsonrpc: "2.0", ...each })])));
+  connection.take(new Uint8Array(asked.flatMap((each) => [...frameMessage({ jsonrpc: "2.0", ...each })])));
   const untilReported = async (count) => {
     for (let turns = 0; turns < 2000 && messages.length < count; turns++) await new Promise(setImmediate);
   };
@@ -60,7 +60,7 @@ test("what comes in one chunk with initialize, and with shutdown, is served in i
   assert.deepEqual(messages.slice(0, 2).map(({ id, result }) => [id, result !== undefined]), [[1, true], [2, true]]);
   assert.deepEqual(messages[2].params.diagnostics.map(({ range }) => range.start.line), [0]);
   const end = [{ id: 3, method: "shutdown" }, { id: 4, method: "textDocument/hover", params: hover }, { method: "exit" }];
-  connection.take(new Uint8Array(end.flatMap((each) => [...framed({ jsonrpc: "2.0", ...each })])));
+  connection.take(new Uint8Array(end.flatMap((each) => [...frameMessage({ jsonrpc: "2.0", ...each })])));
   await untilReported(5);
   assert.deepEqual([messages.find(({ id }) => id === 3).result, messages.find(({ id }) => id === 4).error.code], [null, -32600]);
   assert.equal(status(), 0);
@@ -93,11 +93,11 @@ test("what is a board and what a program", () => {
 test("the board of a program, by its project file", () => {
   const project = "board = \"my board.toml\"\nprogram = \"x.asm\"\n";
   const textOf = (files) => (uri) => (uri in files ? files[uri] : null);
-  assert.equal(boardFor("file:///a/x.asm", textOf({})).uri, "file:///a/board.toml");
-  assert.equal(boardFor("file:///a/x.asm", textOf({ "file:///a/mcs4.toml": project })).uri, "file:///a/my%20board.toml");
-  assert.equal(boardFor("file:///a/b/c/x.asm", textOf({ "file:///a/mcs4.toml": project })).uri, "file:///a/my%20board.toml");
-  assert.equal(boardFor("file:///a/x.asm", textOf({ "file:///a/mcs4.toml": "board = 1" })).uri, "file:///a/board.toml");
-  assert.equal(boardFor("untitled:x", textOf({})).uri, "board.toml");
+  assert.equal(findBoard("file:///a/x.asm", textOf({})).uri, "file:///a/board.toml");
+  assert.equal(findBoard("file:///a/x.asm", textOf({ "file:///a/mcs4.toml": project })).uri, "file:///a/my%20board.toml");
+  assert.equal(findBoard("file:///a/b/c/x.asm", textOf({ "file:///a/mcs4.toml": project })).uri, "file:///a/my%20board.toml");
+  assert.equal(findBoard("file:///a/x.asm", textOf({ "file:///a/mcs4.toml": "board = 1" })).uri, "file:///a/board.toml");
+  assert.equal(findBoard("untitled:x", textOf({})).uri, "board.toml");
 });
 
 test("the faults of a project file, and a program on the board that it names", async () => {
@@ -119,15 +119,15 @@ test("the faults of a project file, and a program on the board that it names", a
 
 test("words with their kinds as numbers", () => {
   const words = [{ line: 1, from: 2, to: 5, type: "keyword" }, { line: 0, from: 0, to: 3, type: "function", isDeclaration: true }];
-  assert.deepEqual(tokenCodes([...words, { line: 1, from: 6, to: 8, type: "enumMember", isReadonly: true }]),
+  assert.deepEqual(encodeTokens([...words, { line: 1, from: 6, to: 8, type: "enumMember", isReadonly: true }]),
     [0, 0, 3, 1, 1, 1, 2, 3, 4, 0, 0, 4, 2, 3, 2]);
 });
 
 test("faults with what cures them, and that there may be more", () => {
   const faults = [{ number: 30, line: 2, from: 8, to: 11, words: "JMP is not an instruction; JUN?", cures: ["JUN"] },
     { number: 32, line: 3, from: 0, to: 2, words: "b" }];
-  assert.deepEqual(diagnosticsOf(faults, true).map(({ severity, code }) => [severity, code]), [[1, 30], [1, 32]]);
-  assert.deepEqual(diagnosticsOf(faults, false).map(({ severity }) => severity), [1, 1, 3]);
+  assert.deepEqual(toDiagnostics(faults, true).map(({ severity, code }) => [severity, code]), [[1, 30], [1, 32]]);
+  assert.deepEqual(toDiagnostics(faults, false).map(({ severity }) => severity), [1, 1, 3]);
   const at = (line, character) => ({ start: { line, character }, end: { line, character } });
   assert.deepEqual(quickFixes("u", faults, at(1, 11)).map(({ title }) => title), ["Write JUN"]);
   assert.deepEqual(quickFixes("u", faults, at(1, 12)), []);
@@ -144,11 +144,11 @@ test("the order of the protocol", async () => {
   assert.equal((await answer("textDocument/hover", { position: { line: -1 } })).error.code, -32602);
   connection.take(bytesOf("Content-Length: 1\r\n\r\n{"));
   assert.equal(messages[messages.length - 1].error.code, -32700);
-  connection.take(framed({ jsonrpc: "2.0", id: 7 }));
+  connection.take(frameMessage({ jsonrpc: "2.0", id: 7 }));
   assert.deepEqual([messages[messages.length - 1].id, messages[messages.length - 1].error.code], [7, -32600]);
   assert.equal((await answer("shutdown")).result, null);
   assert.equal((await answer("textDocument/hover", {})).error.code, -32600);
-  connection.take(framed({ jsonrpc: "2.0", method: "exit" }));
+  connection.take(frameMessage({ jsonrpc: "2.0", method: "exit" }));
   assert.equal(status(), 0);
 });
 
@@ -226,11 +226,11 @@ test("a board's words and places: a lamp's line leads to its chip", async () => 
 
 test("the rest of a message that does not come is reported", () => {
   const { connection, messages } = served();
-  assert.equal(connection.refuseIncomplete(), "");
+  assert.equal(connection.reportIncomplete(), "");
   connection.take(bytesOf("Content-Length: 20\r\n\r\n{\"id\":"));
-  assert.equal(connection.refuseIncomplete(), "only 6 of the 20 bytes that Content-Length announces have arrived");
+  assert.equal(connection.reportIncomplete(), "only 6 of the 20 bytes that Content-Length announces have arrived");
   assert.deepEqual([messages[0].id, messages[0].error.code], [null, -32600]);
   const other = served();
   other.connection.take(bytesOf("Content-Le"));
-  assert.match(other.connection.refuseIncomplete(), /a part of the head/);
+  assert.match(other.connection.reportIncomplete(), /a part of the head/);
 });

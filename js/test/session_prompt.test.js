@@ -2,15 +2,15 @@
 import assert from "node:assert/strict";
 import { test } from "node:test";
 import { SessionPrompt } from "../core/prompt/bench_prompt.js";
-import { folded, foldedMessage } from "../core/text/folded.js";
+import { folded, wrapMessage } from "../core/text/folded.js";
 import { Engine } from "../core/engine/engine.js";
-import { dataOfPage } from "../node/page_parts.mjs";
-import { wordsOfRefusal } from "../node/refused_texts.mjs";
-import { errorsOfText } from "../node/text_errors.mjs";
-import { moduleOfPage } from "./page_session.js";
+import { readPageData } from "../node/page_parts.mjs";
+import { describeRefusal } from "../node/refused_texts.mjs";
+import { findTextErrors } from "../node/text_errors.mjs";
+import { pageModule } from "./page_session.js";
 
-const engine = new Engine(new globalThis.WebAssembly.Module(moduleOfPage));
-const { manual } = dataOfPage();
+const engine = new Engine(new globalThis.WebAssembly.Module(pageModule));
+const { manual } = readPageData();
 const BOARD = `[[rom]]
 chip = 0
 port = "iiii"
@@ -46,8 +46,8 @@ function prompted(files = {}) {
       return files[name];
     },
     files: (begin) => Object.keys(files).filter((name) => name.startsWith(begin)),
-    errorsOf: (word, text, board) => errorsOfText(word, text, board, { manual, wordsOf: wordsOfRefusal }),
-    wordsOf: wordsOfRefusal,
+    errorsOf: (word, text, board) => findTextErrors(word, text, board, { manual, wordsOf: describeRefusal }),
+    wordsOf: describeRefusal,
     manual: () => manual,
   });
   const ask = async (...lines) => {
@@ -155,5 +155,5 @@ test("folding at words", () => {
   assert.equal(folded(" one  two three ", 8), "one two\nthree");
   assert.deepEqual([folded("one two", 7), folded("one two", 6)], ["one two", "one\ntwo"]);
   assert.equal(folded("a verylongword b", 6, "- ", "  "), "- a\n  verylongword\n  b");
-  assert.equal(foldedMessage("line 3: one two three\n    one two three four", 12), "line 3: one\n  two three\n    one two three four");
+  assert.equal(wrapMessage("line 3: one two three\n    one two three four", 12), "line 3: one\n  two three\n    one two three four");
 });

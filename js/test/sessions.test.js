@@ -1,19 +1,19 @@
 // Sessions that are begun, deleted and restored, and the words about them.
 import assert from "node:assert/strict";
 import { test } from "node:test";
-import { addressOf, readAddress } from "../page/session/address.js";
-import { Trash, namesOf } from "../page/session/trash.js";
-import { KeptSession, newRecord } from "../page/session/kept_session.js";
+import { formatAddress, readAddress } from "../page/session/address.js";
+import { Trash, formatNames } from "../page/session/trash.js";
+import { OpenSession, newRecord } from "../page/session/kept_session.js";
 import { Persistence } from "../page/session/persistence.js";
 import { MemoryStore } from "../page/session/store.js";
-import { TextsController, wordsOfLines } from "../page/session/texts_controller.js";
+import { TextsController, formatLineCount } from "../page/session/texts_controller.js";
 
 const record = (name = "die") => newRecord(name, Uint8Array.of(1, 2), { boardText: "# b", programText: "; p" });
 const freeLocks = { take: async () => () => {} };
 
 test("what an address names", () => {
   for (const [kind, value] of [["session", "m1-2-x"], ["example", "traffic light"], ["link", "1.abc-_"], ["example", "50 % \u00fc"]]) {
-    assert.deepEqual(readAddress(addressOf(kind, value)), { kind, value });
+    assert.deepEqual(readAddress(formatAddress(kind, value)), { kind, value });
   }
   assert.deepEqual(readAddress("#example=50%"), { kind: "example", value: "50%" });
   for (const blanks of ["%20", " ", "%0A%20%0d", "\n"]) {
@@ -33,7 +33,7 @@ test("breakpoints and values go into a new session, where there are some", () =>
 
 test("a session of an example is not kept before something is done in it", async () => {
   const store = new MemoryStore();
-  const session = new KeptSession(store, record(), () => {}, "die");
+  const session = new OpenSession(store, record(), () => {}, "die");
   assert.equal(await session.keep(), "");
   assert.equal(await session.keepNow(), "");
   assert.deepEqual(await store.all(), []);
@@ -52,11 +52,11 @@ test("sessions are deleted several at once, and brought back as they were", asyn
   assert.deepEqual(await bin.remove([one, two]), [one, two]);
   assert.deepEqual((await store.all()).map(({ name }) => name), ["three"]);
   assert.deepEqual(bin.deleted, [one, two]);
-  await bin.bringBack([one, two]);
-  await bin.bringBack([one]);
+  await bin.restoreSessions([one, two]);
+  await bin.restoreSessions([one]);
   assert.deepEqual((await store.all()).map(({ name, programText }) => name + programText), ["three; p", "one; p", "two; p"]);
   assert.deepEqual([bin.deleted, refused], [[], []]);
-  assert.deepEqual([namesOf([one]), namesOf([one, two])], ['"one"', "2 sessions"]);
+  assert.deepEqual([formatNames([one]), formatNames([one, two])], ['"one"', "2 sessions"]);
 });
 
 test("what another tab has open is not deleted, and what the store refuses can be brought back later", async () => {
@@ -68,7 +68,7 @@ test("what another tab has open is not deleted, and what the store refuses can b
   const bin = new Trash(store, { take: async (id) => (id === two.id ? null : () => {}) }, (words) => refused.push(words));
   assert.deepEqual(await bin.remove([one, two]), [one]);
   store.put = async () => { throw new DOMException("", "QuotaExceededError"); };
-  await bin.bringBack([one]);
+  await bin.restoreSessions([one]);
   assert.deepEqual(bin.deleted, [one]);
   assert.deepEqual(refused, ['The session "two" is open in another tab, so it was not deleted.',
     'The session "one" was not restored: the browser has no more space for this page.']);
@@ -88,7 +88,7 @@ test("the browser is asked once to keep what it keeps", async () => {
 });
 
 test("lines in words", () => {
-  assert.deepEqual(["", "a", "a\n", "a\nb", "\n"].map(wordsOfLines), ["0 lines", "1 line", "1 line", "2 lines", "1 line"]);
+  assert.deepEqual(["", "a", "a\n", "a\nb", "\n"].map(formatLineCount), ["0 lines", "1 line", "1 line", "2 lines", "1 line"]);
 });
 
 /** Returns a controller of texts over plain objects; `answers` answers its questions. */
@@ -110,30 +110,30 @@ function controller(answers, programText, found) {
     },
   });
   const made = new TextsController(editor("# b"), editor(programText), editor(""), editor(""), ask, notice, {
-    edited: () => {},
-    session: () => shown.session, touch: () => {}, keep: async () => "", named: () => {}, source: async () => found,
-    failed: (fault) => { throw fault; },
-    isNoProgram: async (text) => text.includes("prose"), took: () => {},
+    handleEdit: () => {},
+    session: () => shown.session, touch: () => {}, keep: async () => "", updateNames: () => {}, source: async () => found,
+    reportFailure: (fault) => { throw fault; },
+    isNoProgram: async (text) => text.includes("prose"), handleLoadedTexts: () => {},
   });
   return { made, seen, shown, session };
 }
 
 test("a source that is replaced is asked for, and can be brought back", async () => {
   const { made, seen, session } = controller([false, true], "; mine", "\tNOP\n");
-  await made.takeFromRom();
+  await made.disassembleRom();
   assert.deepEqual([made.program.text, seen.notices.length], ["; mine", 0]);
-  await made.takeFromRom();
+  await made.disassembleRom();
   assert.deepEqual([made.program.text, session.record.programText, seen.asked], ["\tNOP\n", "\tNOP\n", 2]);
   seen.notices.pop().action.act();
   assert.equal(session.record.programText, "; mine");
   seen.notices.pop().action.act();
   assert.equal(session.record.programText, "\tNOP\n");
-  clearTimeout(made.editing);
+  clearTimeout(made.saveTimer);
 });
 
 test("Undo goes the editor's way while nothing was typed since, and else puts the old text in", async () => {
   const { made, seen } = controller([true, true], "; mine", "\tNOP\n");
-  await made.takeFromRom();
+  await made.disassembleRom();
   seen.notices.pop().action.act();
   assert.deepEqual([made.program.text, made.program.past], ["; mine", []]);
   seen.notices.pop().action.act();
@@ -141,22 +141,22 @@ test("Undo goes the editor's way while nothing was typed since, and else puts th
   made.program.replaceText("\tNOP\n; more");
   seen.notices.pop().action.act();
   assert.deepEqual([made.program.text, made.program.past.length], ["; mine", 3]);
-  clearTimeout(made.editing);
+  clearTimeout(made.saveTimer);
 });
 
 test("an empty source is replaced at once, and the same one not at all", async () => {
   const { made, seen } = controller([], " \n", "\tNOP\n");
-  await made.takeFromRom();
+  await made.disassembleRom();
   assert.equal(made.program.text, "\tNOP\n");
-  await made.takeFromRom();
+  await made.disassembleRom();
   assert.match(seen.notices.pop().words, /already/);
   assert.equal(seen.asked, 0);
-  clearTimeout(made.editing);
+  clearTimeout(made.saveTimer);
 });
 
 test("a source of another session is not brought back into this one", async () => {
   const { made, seen, shown, session } = controller([true], "; mine", "\tNOP\n");
-  await made.takeFromRom();
+  await made.disassembleRom();
   shown.session = { record: { id: "2", name: "two", boardText: "", programText: "; two" } };
   made.show(shown.session.record);
   seen.notices.pop().action.act();
@@ -165,7 +165,7 @@ test("a source of another session is not brought back into this one", async () =
   shown.session = session;
   seen.notices.pop().action.act();
   assert.equal(made.program.text, "; mine");
-  clearTimeout(made.editing);
+  clearTimeout(made.saveTimer);
 });
 
 const FROM_FILE = { board: null, program: "some prose\n", tests: null, properties: null, lines: "" };
@@ -176,7 +176,7 @@ test("a file that is perhaps no program is asked for before it replaces the sour
   assert.deepEqual([made.program.text, seen.asked, seen.notices.length], ["; mine", 1, 0]);
   await made.open("notes", { ...FROM_FILE, isGuess: true });
   assert.deepEqual([made.program.text, session.record.programText, seen.asked], ["some prose\n", "some prose\n", 2]);
-  clearTimeout(made.editing);
+  clearTimeout(made.saveTimer);
 });
 
 test("a file with the name of a program, or with a line that is right, is not asked for", async () => {
@@ -184,7 +184,7 @@ test("a file with the name of a program, or with a line that is right, is not as
     const { made, seen } = controller([], "; mine", "");
     await made.open(name, texts);
     assert.deepEqual([made.program.text, seen.asked], [texts.program, 0]);
-    clearTimeout(made.editing);
+    clearTimeout(made.saveTimer);
   }
 });
 
@@ -199,12 +199,12 @@ test("a file makes one notice, which undoes all that the file has replaced", asy
   assert.deepEqual([made.board.text, made.program.text, seen.notices.length], ["# b", "; mine", 2]);
   seen.notices[1].action.act();
   assert.deepEqual([made.board.text, made.program.text], ["# new", "\tNOP\n"]);
-  clearTimeout(made.editing);
+  clearTimeout(made.saveTimer);
 });
 
 test("where a file replaces nothing, its notice offers nothing to undo", async () => {
   const { made, seen } = controller([], " \n", "");
   await made.open("a.asm", { ...FROM_FILE, program: "\tNOP\n" });
   assert.deepEqual(seen.notices.map(({ kind, action }) => [kind, action]), [["file", undefined]]);
-  clearTimeout(made.editing);
+  clearTimeout(made.saveTimer);
 });

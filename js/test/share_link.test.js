@@ -2,8 +2,8 @@ import assert from "node:assert/strict";
 import { readFileSync } from "node:fs";
 import { test } from "node:test";
 import { deflateRawSync } from "node:zlib";
-import { LONGEST_LINK, NotALink, SAFE_LINK, linkOf, readLink } from "../page/session/share_link.js";
-import { LONGEST_KEPT } from "../core/text/text_fault.js";
+import { MAX_LINK_LENGTH, LinkError, MAX_SAFE_LINK_LENGTH, toLink, readLink } from "../page/session/share_link.js";
+import { STORED_LIMIT } from "../core/text/text_fault.js";
 
 const file = (name) => readFileSync(new URL(`../../examples/${name}`, import.meta.url), "utf8");
 const calculator = {
@@ -26,33 +26,33 @@ test("what goes into a link comes out", async () => {
   const few = { name: "a lock", boardText: "", programText: "; f\u00fcr\n.\nNOP", testText: "", propertiesText: "" };
   for (const texts of [calculator, few, { name: "x", boardText: "\n", programText: "wire\n.\n", testText: "test one\n.\n run 1",
     propertiesText: "never lamp 0 on\n.." }]) {
-    const link = await linkOf(texts);
+    const link = await toLink(texts);
     assert.match(link, /^1\.[\w-]+$/);
     assert.deepEqual(await readLink(link), texts);
   }
 });
 
 test("the largest example fits well", async () => {
-  const { length } = await linkOf(calculator);
+  const { length } = await toLink(calculator);
   assert.ok(length < 10000 && length > 1000, String(length));
-  assert.ok(SAFE_LINK < LONGEST_LINK);
+  assert.ok(MAX_SAFE_LINK_LENGTH < MAX_LINK_LENGTH);
 });
 
 test("a browser that cannot compress makes a longer link, which every one reads", async () => {
-  const link = await without(["CompressionStream"], () => linkOf(calculator));
+  const link = await without(["CompressionStream"], () => toLink(calculator));
   assert.match(link, /^0\./);
   assert.deepEqual(await without(["DecompressionStream"], () => readLink(link)), calculator);
-  const packed = await linkOf(calculator);
+  const packed = await toLink(calculator);
   await assert.rejects(without(["DecompressionStream"], () => readLink(packed)), /no DecompressionStream.*project file/);
 });
 
 test("each cut of a link is refused, and each letter that is another one", async () => {
   const texts = { name: "die", boardText: "# a board\n", programText: "\tNOP\n\tJUN 0\n" };
-  for (const link of [await linkOf(texts), await without(["CompressionStream"], () => linkOf(texts))]) {
-    for (let length = 0; length < link.length; length++) await assert.rejects(readLink(link.slice(0, length)), NotALink, `${length}`);
+  for (const link of [await toLink(texts), await without(["CompressionStream"], () => toLink(texts))]) {
+    for (let length = 0; length < link.length; length++) await assert.rejects(readLink(link.slice(0, length)), LinkError, `${length}`);
     for (let at = 2; at < link.length - 1; at++) {
       const other = link[at] === "A" ? "B" : "A";
-      await assert.rejects(readLink(link.slice(0, at) + other + link.slice(at + 1)), NotALink, `${at}`);
+      await assert.rejects(readLink(link.slice(0, at) + other + link.slice(at + 1)), LinkError, `${at}`);
     }
   }
 });
@@ -66,17 +66,17 @@ test("links that are made by hand", async () => {
 
 test("texts that the editors would not take are refused before anything reads them", async () => {
   const texts = (size) => ({ name: "x", boardText: "", programText: `${";".repeat(size - 1)}\n`, testText: "", propertiesText: "" });
-  assert.deepEqual(await readLink(await linkOf(texts(LONGEST_KEPT))), texts(LONGEST_KEPT));
+  assert.deepEqual(await readLink(await toLink(texts(STORED_LIMIT))), texts(STORED_LIMIT));
   const words = /^the source has 65,537 characters; at most 65,536 are accepted$/;
-  await assert.rejects(readLink(await linkOf(texts(LONGEST_KEPT + 1))), (fault) => fault instanceof NotALink && words.test(fault.message));
+  await assert.rejects(readLink(await toLink(texts(STORED_LIMIT + 1))), (fault) => fault instanceof LinkError && words.test(fault.message));
   const { programText: boardText } = texts(900000);
-  await assert.rejects(readLink(await linkOf({ name: "x", boardText, programText: "" })), {
+  await assert.rejects(readLink(await toLink({ name: "x", boardText, programText: "" })), {
     message: "the board's text has 900,000 characters; at most 65,536 are accepted",
   });
 });
 
 test("the name in a link is cut, and has no characters that mislead", async () => {
-  const nameOf = async (name) => (await readLink(await linkOf({ name, boardText: "", programText: "" }))).name;
+  const nameOf = async (name) => (await readLink(await toLink({ name, boardText: "", programText: "" }))).name;
   assert.equal(await nameOf("a".repeat(5000)), `${"a".repeat(59)}\u2026`);
   assert.equal(await nameOf("a".repeat(60)), "a".repeat(60));
   assert.equal(await nameOf("\u202egolf\u2066 \u0007\u200b\u2028 x"), "golf x");

@@ -18,7 +18,7 @@ function begin(text, checked) {
       return now.checked;
     },
     changed: (map, words) => seen.changed.push([map !== null, words]),
-    wordsOfRefusal: (number) => `words of ${number}`,
+    describeRefusal: (number) => `words of ${number}`,
   });
   sync.editor = {
     showNext: (line) => seen.next.push(line),
@@ -91,11 +91,11 @@ test("a text that is refused, or has no ROM to stand in, says so", async () => {
 
 test("a text that was edited is looked at where that is wanted", async () => {
   const { sync, seen, now } = begin(TEXT, FITS);
-  await sync.fresh();
-  await sync.fresh();
+  await sync.waitForCheck();
+  await sync.waitForCheck();
   now.text = `\n${TEXT}`;
   now.checked = { ...FITS, map: ["map lines 5 names 0", "line 1 000 0", "line 2 000 0", "line 3 000 2", "line 4 002 0", "line 5 002 1"] };
-  await sync.fresh();
+  await sync.waitForCheck();
   assert.deepEqual([seen.checks, sync.map.addressOf(5)], [2, 2]);
 });
 

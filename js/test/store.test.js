@@ -1,8 +1,8 @@
 // Saving, over a fake of the browser's store that answers when the test says so.
 import assert from "node:assert/strict";
 import { test } from "node:test";
-import { KeptSession, newRecord } from "../page/session/kept_session.js";
-import { MemoryStore, NotKept, Store, wordsOfStoreFault } from "../page/session/store.js";
+import { OpenSession, newRecord } from "../page/session/kept_session.js";
+import { MemoryStore, StoreError, Store, describeStoreError } from "../page/session/store.js";
 
 /** The part of IndexedDB that the store uses: one transaction after the other, in tasks of their own. */
 class FakeBase {
@@ -72,16 +72,16 @@ test("without locks a record that is not the successor of what is there is refus
   await store.put(mine);
   const other = structuredClone(mine);
   await store.put(other);
-  await assert.rejects(store.put(mine), new NotKept("another tab has changed or deleted this session"));
+  await assert.rejects(store.put(mine), new StoreError("another tab has changed or deleted this session"));
   assert.equal(mine.revision, 1);
   await store.put(other);
   await store.remove(other.id);
-  await assert.rejects(store.put(other), NotKept);
+  await assert.rejects(store.put(other), StoreError);
 });
 
 test("writes of a session: calls that come while one is under way share the next", async () => {
   const base = new FakeBase();
-  const session = new KeptSession(new Store(base, true), record(), () => {});
+  const session = new OpenSession(new Store(base, true), record(), () => {});
   const first = session.keep();
   await Promise.resolve();
   await Promise.resolve();
@@ -92,7 +92,7 @@ test("writes of a session: calls that come while one is under way share the next
 
 test("a store that refuses: in words, and the session is as it was", async () => {
   const base = new FakeBase();
-  const session = new KeptSession(new Store(base, true), record(), () => {});
+  const session = new OpenSession(new Store(base, true), record(), () => {});
   base.fault = new DOMException("", "QuotaExceededError");
   assert.equal(await session.keep(), "the browser has no more space for this page");
   base.fault = new DOMException("", "UnknownError");
@@ -107,8 +107,8 @@ test("a store that does not answer is reported after a while, and no page waits 
   const base = new FakeBase();
   base.transaction = () => ({ objectStore: () => ({ put: () => {}, getAll: () => ({}), get: () => ({}) }), commit: () => {} });
   const store = new Store(base, true);
-  const session = new KeptSession(store, newRecord("one", Uint8Array.of(1), { boardText: "", programText: "" }), () => {});
-  const results = [session.keep(), session.keep(), store.all().catch(wordsOfStoreFault), store.get("one").catch(wordsOfStoreFault)];
+  const session = new OpenSession(store, newRecord("one", Uint8Array.of(1), { boardText: "", programText: "" }), () => {});
+  const results = [session.keep(), session.keep(), store.all().catch(describeStoreError), store.get("one").catch(describeStoreError)];
   for (let turns = 0; turns < 5; turns++) await Promise.resolve();
   context.mock.timers.tick(10000);
   assert.deepEqual(new Set(await Promise.all(results)), new Set(["the browser's store does not answer"]));
@@ -116,12 +116,12 @@ test("a store that does not answer is reported after a while, and no page waits 
 
 test("a page that goes away writes at once, but where a write needs an answer in between: there it begins none", async () => {
   const base = new FakeBase();
-  const session = new KeptSession(new Store(base, true), record(), () => {});
+  const session = new OpenSession(new Store(base, true), record(), () => {});
   session.keep();
   session.keepNow();
   assert.equal(base.log.length, 1);
   const shared = new FakeBase();
-  const careful = new KeptSession(new Store(shared, false), record(), () => {});
+  const careful = new OpenSession(new Store(shared, false), record(), () => {});
   assert.equal(await careful.keep(), "");
   const written = shared.log.length;
   assert.equal(await careful.keepNow(), "");
@@ -129,7 +129,7 @@ test("a page that goes away writes at once, but where a write needs an answer in
 });
 
 test("the file of a session goes in, and the array of the old one comes out", () => {
-  const session = new KeptSession(new MemoryStore(), record(), () => {});
+  const session = new OpenSession(new MemoryStore(), record(), () => {});
   const old = session.record.file.buffer;
   const next = Uint8Array.of(7).buffer;
   assert.equal(session.take(next), old);
@@ -142,12 +142,12 @@ test("a browser without a store forgets, but not while the page is open", async 
   await store.put(one);
   one.file[0] = 9;
   assert.equal((await store.get(one.id)).file[0], 1);
-  assert.equal(store.keeps, false);
+  assert.equal(store.isPersistent, false);
   await store.remove(one.id);
   assert.deepEqual(await store.all(), []);
 });
 
 test("records have names of their own", () => {
   assert.notEqual(record().id, record().id);
-  assert.equal(wordsOfStoreFault(undefined), "the browser's store failed (for an unknown reason)");
+  assert.equal(describeStoreError(undefined), "the browser's store failed (for an unknown reason)");
 });

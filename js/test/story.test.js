@@ -3,11 +3,11 @@ import assert from "node:assert/strict";
 import { readFileSync, readdirSync } from "node:fs";
 import { test } from "node:test";
 import { matrixKey } from "../core/board/key_place.js";
-import { placeOf } from "../core/conditions/places.js";
+import { parsePlace } from "../core/conditions/places.js";
 import { Face } from "../core/board/face.js";
-import { stepsOfStory } from "../core/help/story.js";
-import { doAct } from "../core/help/story_acts.js";
-import { storyOf } from "../page/session/address.js";
+import { parseStory } from "../core/help/story.js";
+import { runAct } from "../core/help/story_acts.js";
+import { requestedStory } from "../page/session/address.js";
 
 const EXAMPLES = new URL("../../examples/", import.meta.url);
 const stories = readdirSync(EXAMPLES, { recursive: true }).filter((name) => name.endsWith(".story"));
@@ -16,7 +16,7 @@ const actsOf = (steps) => steps.flatMap(({ words }) => words.flat()).filter((par
 
 test("a text becomes steps, paragraphs and places", () => {
   const one = "## One\n\nPress [5](press 5)\nand [go\non](run to add_up).\n\nThen [?](fly), [x](show nothing).\n\n";
-  const steps = stepsOfStory(`# All\n\n${one}## Two\n`);
+  const steps = parseStory(`# All\n\n${one}## Two\n`);
   assert.deepEqual(steps.map(({ title, words }) => [title, words]), [
     ["One", [
       [
@@ -27,7 +27,7 @@ test("a text becomes steps, paragraphs and places", () => {
     ]],
     ["Two", []],
   ]);
-  assert.deepEqual(stepsOfStory("no story"), []);
+  assert.deepEqual(parseStory("no story"), []);
 });
 
 for (const name of stories) {
@@ -36,13 +36,13 @@ for (const name of stories) {
     const folder = name.slice(0, name.lastIndexOf("/") + 1);
     const program = read(name.replace(/story$/, "asm"));
     const keys = [...new Face(read(`${folder}board.toml`)).keys.values()].map((each) => each.text);
-    const acts = actsOf(stepsOfStory(text));
+    const acts = actsOf(parseStory(text));
     // Each `[` begins a valid link.
     assert.equal(acts.length, text.split("](").length - 1);
     for (const { name: act, argument } of acts) {
       if (act === "go to" || act === "run to") assert.match(program, new RegExp(`^${argument}:`, "m"));
       if (act === "press" || act === "release") assert.ok(keys.includes(argument), argument);
-      if (act === "back to") assert.ok(placeOf(argument), argument);
+      if (act === "back to") assert.ok(parsePlace(argument), argument);
     }
   });
 }
@@ -57,35 +57,35 @@ test("an act calls the page, and says why it cannot", async () => {
   let isRunning = false;
   const calls = {
     isDown: () => isDown, isRunning: () => isRunning,
-    addressOf: (label) => ({ turn: 2 })[label], keys: () => [key], run: note("run"), stand: note("stand"), goOn: note("goOn"),
+    addressOf: (label) => ({ turn: 2 })[label], keys: () => [key], run: note("run"), pause: note("pause"), goOn: note("goOn"),
     goBack: note("goBack"), goForward: note("goForward"), goTo: note("goTo"), press: note("press"), showText: note("showText"),
     showPanel: note("showPanel"),
   };
   for (const [name, argument = ""] of [
     ["run"], ["stop"], ["back"], ["forward"], ["go to", "turn"], ["run to", "turn"], ["back to", "r11"], ["press", "7"],
     ["show", "waves"], ["show", "memory"],
-  ]) assert.equal(await doAct({ name, argument }, calls), "");
+  ]) assert.equal(await runAct({ name, argument }, calls), "");
   assert.deepEqual(done, [
-    ["run"], ["stand"], ["goBack", { kind: "stop" }], ["goForward"], ["goTo", 2], ["goOn", { kind: "here", address: 2 }],
+    ["run"], ["pause"], ["goBack", { kind: "stop" }], ["goForward"], ["goTo", 2], ["goOn", { kind: "here", address: 2 }],
     ["goBack", { kind: "change", place: "r11" }], ["press", key], ["showText", "waves"], ["showPanel", "memory"],
   ]);
   done.length = 0;
-  assert.match(await doAct({ name: "run to", argument: "nowhere" }, calls), /no label nowhere/);
-  assert.match(await doAct({ name: "press", argument: "8" }, calls), /no key 8/);
-  assert.match(await doAct({ name: "release", argument: "8" }, calls), /no key 8/);
+  assert.match(await runAct({ name: "run to", argument: "nowhere" }, calls), /no label nowhere/);
+  assert.match(await runAct({ name: "press", argument: "8" }, calls), /no key 8/);
+  assert.match(await runAct({ name: "release", argument: "8" }, calls), /no key 8/);
   // A key that is up is not released; one that stays down is not pressed again, and is released.
-  await doAct({ name: "release", argument: "7" }, calls);
+  await runAct({ name: "release", argument: "7" }, calls);
   isDown = true;
-  await doAct({ name: "press", argument: "7" }, calls);
+  await runAct({ name: "press", argument: "7" }, calls);
   assert.deepEqual(done, []);
-  await doAct({ name: "release", argument: "7" }, calls);
+  await runAct({ name: "release", argument: "7" }, calls);
   isRunning = true;
-  await doAct({ name: "press", argument: "7" }, calls);
+  await runAct({ name: "press", argument: "7" }, calls);
   assert.deepEqual(done, [["press", key], ["press", key]]);
 });
 
 test("the story that an address names", () => {
-  assert.equal(storyOf("?story=printing%20calculator"), "printing calculator");
-  assert.equal(storyOf("?story=printing_calculator"), "printing calculator");
-  assert.equal(storyOf("?other=1"), "");
+  assert.equal(requestedStory("?story=printing%20calculator"), "printing calculator");
+  assert.equal(requestedStory("?story=printing_calculator"), "printing calculator");
+  assert.equal(requestedStory("?other=1"), "");
 });

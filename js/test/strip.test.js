@@ -6,7 +6,7 @@ import { test } from "node:test";
 import { Face } from "../core/board/face.js";
 import { printoutLines } from "../core/board/strip.js";
 import { BenchCalls } from "../core/engine/bench_calls.js";
-import { moduleOfPage } from "./page_session.js";
+import { pageModule } from "./page_session.js";
 
 const own = (name) => readFileSync(new URL(`../../examples/printing_calculator/${name}`, import.meta.url), "utf8");
 const EXAMPLE = { name: "printing calculator", board: own("board.toml"), program: own("printing_calculator.asm"), lines: "" };
@@ -19,7 +19,7 @@ const UP = 14000;
 /** Returns a session with the calculator; `codes` is the last report. */
 async function begin(file = null, kept = {}) {
   const calls = new BenchCalls(async () => true);
-  await calls.load(moduleOfPage, []);
+  await calls.load(pageModule, []);
   const strip = { calls, printed: null };
   take(strip, calls.open(file || calls.make(EXAMPLE), kept.total, kept.reset, kept.printed));
   calls.printOn(printer);
@@ -75,16 +75,16 @@ test("going back takes printed lines back, forward brings them again, and what i
 });
 
 test("lines over many pieces print all the same, and those that are cancelled nothing", async () => {
-  let goesOn = true;
-  const calls = new BenchCalls(async () => goesOn);
-  await calls.load(moduleOfPage, []);
+  let shouldContinue = true;
+  const calls = new BenchCalls(async () => shouldContinue);
+  await calls.load(pageModule, []);
   const strip = take({ calls, printed: null }, calls.open(calls.make(EXAMPLE)));
   calls.printOn(printer);
   const long = "run 100\n".repeat(3000);
   const lines = `press ${PLACES.get("9")}\nrun 2000\nrelease ${PLACES.get("9")}\n${long}press ${PLACES.get("=")}\n${long}`;
   take(strip, await calls.serve(lines));
   assert.deepEqual(stripOf(strip), ["9=", "9"]);
-  goesOn = false;
+  shouldContinue = false;
   await assert.rejects(calls.serve(lines));
   take(strip, calls.advance(100));
   assert.deepEqual(stripOf(strip), ["9=", "9"]);

@@ -1,8 +1,8 @@
 import assert from "node:assert/strict";
 import { test } from "node:test";
 import { markOfOutcomes, wordsOfCounts, wordsOfFaults, wordsOfOutcomes, wordsOfTime } from "../words/results.js";
-import { textOfCount, wordsOfCount } from "../page/text/count_marks.js";
-import { completeProperty, firstProperties, helpForProperty, propertyForms } from "../core/text/property_words.js";
+import { formatCount, describeCount } from "../page/text/count_marks.js";
+import { completeProperty, createFirstProperties, helpForProperty, propertyForms } from "../core/text/property_words.js";
 import { completeTest, helpForTest, testForms } from "../core/text/test_words.js";
 
 const names = { keys: ["1", "2", "ENTER"], lamps: ["red", "green"], labels: ["start", "stop"] };
@@ -71,8 +71,8 @@ test("results in words", () => {
 
 test("counts of lines", () => {
   const line = (count, isJump = false, taken = 0) => ({ line: 1, count, isJump, taken });
-  assert.deepEqual([line(0), line(4), line(976, true, 912)].map(textOfCount), ["never", "4", "976 912/64"]);
-  assert.deepEqual([line(0), line(1), line(976, true, 912), line(1200, true, 1200)].map(wordsOfCount), ["no test runs it", "run once",
+  assert.deepEqual([line(0), line(4), line(976, true, 912)].map(formatCount), ["never", "4", "976 912/64"]);
+  assert.deepEqual([line(0), line(1), line(976, true, 912), line(1200, true, 1200)].map(describeCount), ["no test runs it", "run once",
     "run 976 times; it jumped 912 times and continued 64 times", "run 1,200 times; it jumped 1,200 times and continued never"]);
 });
 
@@ -92,6 +92,6 @@ test("the words of properties: what they become, and what the manual says of the
   assert.deepEqual(list("# ne"), []);
   assert.equal(helpForProperty(["never lamp red on"], 0, 2, listedForms), "never C: the condition never holds");
   assert.equal(helpForProperty(["never lamps none"], 0, 8, listedForms), "lamps NAME ..: these lamps are lit");
-  assert.match(firstProperties(names), /\nnote lamps\n\nreach lamp red on\n/);
-  assert.match(firstProperties({ ...names, keys: [] }), /\ntest\nwait /);
+  assert.match(createFirstProperties(names), /\nnote lamps\n\nreach lamp red on\n/);
+  assert.match(createFirstProperties({ ...names, keys: [] }), /\ntest\nwait /);
 });

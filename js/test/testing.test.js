@@ -2,13 +2,13 @@
 import assert from "node:assert/strict";
 import { readFileSync } from "node:fs";
 import { before, test } from "node:test";
-import { Cancelled } from "../core/bench/faults.js";
-import { wordsOfCoverage } from "../core/testing/coverage.js";
+import { CancelledError } from "../core/bench/faults.js";
+import { formatCoverageSummary } from "../core/testing/coverage.js";
 import { formatTenths } from "../core/bench/numbers.js";
 import { sampleTest } from "../core/testing/sample_test.js";
-import { readTested, runTests } from "../core/testing/test_suite.js";
+import { parseTestedTexts, runTests } from "../core/testing/test_suite.js";
 import { Engine } from "../core/engine/engine.js";
-import { moduleOfPage } from "./page_session.js";
+import { pageModule } from "./page_session.js";
 
 const readExample = (name) => readFileSync(new URL(`../../examples/${name}`, import.meta.url), "utf8");
 const example = (name) => readExample(`three_lamps/${name}`);
@@ -21,14 +21,14 @@ const always = async () => true;
 /** @type {Engine} */
 let engine;
 before(async () => {
-  engine = await Engine.load(moduleOfPage);
+  engine = await Engine.load(pageModule);
 });
 
 test("tests pass, and what they have run is counted", async () => {
   const { faults, outcomes, coverage, profile } = await runTests(engine, texts(example("three_lamps.test")), always);
   assert.deepEqual(faults, []);
   assert.deepEqual(outcomes.map(({ failure, cycles }) => [failure, cycles]), [[null, 1621], [null, 538]]);
-  assert.equal(wordsOfCoverage(coverage), "20 of 20 instructions were run (100.0 %), 6 of 6 branch directions (100.0 %)");
+  assert.equal(formatCoverageSummary(coverage), "20 of 20 instructions were run (100.0 %), 6 of 6 branch directions (100.0 %)");
   assert.deepEqual(coverage.lines.find(({ line }) => line === 18), { line: 18, count: 4, isJump: true, taken: 1 });
   assert.equal(profile.total, 2159);
   assert.deepEqual(profile.rows.map(({ label, own }) => [label, own]), [["turn", 2084], ["next", 60], ["wait", 8], ["first", 4], ["", 3]]);
@@ -56,13 +56,13 @@ test("a test whose state was never saved was not begun", async () => {
 
 test("a comment may stand behind a line, where no key has its mark as its name", async () => {
   const text = "test a # 1 ; 2\n run 5   # a moment\n mark ;\n run 10 us ; # ;\n expect cycles 1 #\n expect lamps #none\n";
-  const { faults } = readTested(engine, texts(text));
+  const { faults } = parseTestedTexts(engine, texts(text));
   assert.deepEqual(faults.map(({ line, words }) => `${line}: ${words.slice(0, 26)}`), ["6: the board has no lamp #non"]);
   const { outcomes } = await runTests(engine, texts(text.replace("#none", "... ; dark")), always);
   assert.deepEqual(outcomes.map(({ name, failure }) => [name, failure]), [["a # 1 ; 2", null]]);
   const lock = textsOf("lock");
   const keys = "test b\n press 1 # 2 ; keys\n release # ; the key #\n keys # ; #\n press x ; y\n";
-  const [fault, ...more] = readTested(engine, { ...lock, testText: keys }).faults;
+  const [fault, ...more] = parseTestedTexts(engine, { ...lock, testText: keys }).faults;
   assert.deepEqual([fault.line, more], [5, []]);
 });
 
@@ -84,7 +84,7 @@ test("what is repeated, shared steps, and the label that was passed last", async
 test("a test that repeats for long can be left", async () => {
   const text = "test a\n repeat 100000\n  run 100000\n end\n";
   let asked = 0;
-  await assert.rejects(() => runTests(engine, texts(text), async () => ++asked < 3), Cancelled);
+  await assert.rejects(() => runTests(engine, texts(text), async () => ++asked < 3), CancelledError);
   assert.equal(asked, 3);
 });
 
@@ -96,21 +96,21 @@ test("faults of the texts are reported, and nothing is run", async () => {
     "tests:4: write `run TIME`, as in: run 500, run 20 ms, run 1.5 s",
   ]);
   assert.deepEqual([report.outcomes, report.coverage, report.profile], [[], null, null]);
-  assert.deepEqual(readTested(engine, texts("", " JUN nowhere\n")).faults, [{ text: "program", line: 1, number: 32, words: "" }]);
-  assert.equal(readTested(engine, { ...texts(""), boardText: "rom = 3\n" }).faults[0].text, "board");
-  const [named] = readTested(engine, { ...texts(""), boardText: `# lamp 7: x\n${boardText}` }).faults;
+  assert.deepEqual(parseTestedTexts(engine, texts("", " JUN nowhere\n")).faults, [{ text: "program", line: 1, number: 32, words: "" }]);
+  assert.equal(parseTestedTexts(engine, { ...texts(""), boardText: "rom = 3\n" }).faults[0].text, "board");
+  const [named] = parseTestedTexts(engine, { ...texts(""), boardText: `# lamp 7: x\n${boardText}` }).faults;
   assert.equal(named.words, "the lamp x is number 7, but the board has 3");
-  assert.equal(readTested(engine, texts("")).faults[0].words, "there is no line `test NAME`");
-  assert.match(readTested(engine, texts("test a\n run 1 \u00fc\n")).faults[0].words, /^a byte that is neither/);
+  assert.equal(parseTestedTexts(engine, texts("")).faults[0].words, "there is no line `test NAME`");
+  assert.match(parseTestedTexts(engine, texts("test a\n run 1 \u00fc\n")).faults[0].words, /^a byte that is neither/);
 });
 
 test("long work is cancelled between pieces", async () => {
   let asked = 0;
-  const goesOn = async () => {
+  const shouldContinue = async () => {
     asked += 1;
     return asked < 3;
   };
-  await assert.rejects(runTests(engine, texts("test for ever\n until r15 9 within 10000 s\n"), goesOn), Cancelled);
+  await assert.rejects(runTests(engine, texts("test for ever\n until r15 9 within 10000 s\n"), shouldContinue), CancelledError);
   assert.equal(asked, 3);
 });
 

@@ -1,33 +1,35 @@
 import assert from "node:assert/strict";
 import { test } from "node:test";
-import { BenchRefusal, BenchTrap, Cancelled, WorkerDied, packFault, unpackFault } from "../core/bench/faults.js";
-import { hex, numberOf, upTo } from "../core/bench/numbers.js";
-import { RunLog, wordsOfRuns } from "../core/bench/run_log.js";
-import { Words } from "../core/bench/words.js";
+import { BenchRefusal, BenchTrap, CancelledError, WorkerDiedError, packFault, unpackFault } from "../core/bench/faults.js";
+import { hex, parseNumber, indices } from "../core/bench/numbers.js";
+import { RunLog, formatRuns } from "../core/bench/run_log.js";
+import { ErrorMessages } from "../core/bench/words.js";
 
 test("numbers", () => {
-  assert.deepEqual(["12", "0x1E", "0XFF", "1E", "", "-1", "1.5"].map(numberOf), [12, 30, 255, NaN, NaN, NaN, NaN]);
+  assert.deepEqual(["12", "0x1E", "0XFF", "1E", "", "-1", "1.5"].map(parseNumber), [12, 30, 255, NaN, NaN, NaN, NaN]);
   assert.equal(hex(30, 3), "01E");
-  assert.deepEqual(upTo(3), [0, 1, 2]);
+  assert.deepEqual(indices(3), [0, 1, 2]);
 });
 
 test("faults keep their kind from the worker to the page", () => {
   const there = (fault) => unpackFault(JSON.parse(JSON.stringify(packFault(fault))));
   assert.equal(there(new BenchRefusal(90)).number, 90);
   assert.ok(there(new BenchTrap("unreachable")) instanceof BenchTrap);
-  assert.ok(there(new Cancelled()) instanceof Cancelled);
+  assert.ok(there(new CancelledError()) instanceof CancelledError);
   assert.equal(there(new TypeError("x is not y")).message, "x is not y");
   assert.equal(there("a word").message, "a word");
 });
 
 test("faults in words", () => {
-  const words = new Words({ 90: "there was no memory" });
-  assert.equal(words.ofFailure(new BenchRefusal(90)), "It was not done: no 90: there was no memory. The session is as it was before.");
-  assert.match(words.ofFailure(new BenchTrap("unreachable")), /the module stopped inside a call \(unreachable\) and was started again/);
-  assert.match(words.ofFailure(new WorkerDied()), /The session is as it was before/);
-  assert.equal(words.ofFailure(new Cancelled()), "It was cancelled. The session is as it was before.");
-  assert.equal(words.ofFailure(new Error("odd")), "The page failed: odd. What was answered ok is kept.");
-  assert.match(words.ofRefusal(99), /the manual lists them/);
+  const words = new ErrorMessages({ 90: "there was no memory" });
+  const noMemory = words.failureMessage(new BenchRefusal(90));
+  assert.equal(noMemory, "It was not done: no 90: there was no memory. The session is as it was before.");
+  const trap = words.failureMessage(new BenchTrap("unreachable"));
+  assert.match(trap, /the module stopped inside a call \(unreachable\) and was started again/);
+  assert.match(words.failureMessage(new WorkerDiedError()), /The session is as it was before/);
+  assert.equal(words.failureMessage(new CancelledError()), "It was cancelled. The session is as it was before.");
+  assert.equal(words.failureMessage(new Error("odd")), "The page failed: odd. What was answered ok is kept.");
+  assert.match(words.refusalMeaning(99), /the manual lists them/);
 });
 
 test("what time has done: runs together, keys one by one", () => {
@@ -36,7 +38,7 @@ test("what time has done: runs together, keys one by one", () => {
   ran.add([run(1543), run(1544)]);
   ran.add([run(1000), { line: "press 0 1", answer: "ok 4", runs: 0, cycles: 0 }, run(5)]);
   const entries = ran.take();
-  assert.deepEqual(entries.map(wordsOfRuns), ["run .. (3 lines, 4,087 cycles); the last one was answered", "press 0 1", "run 5"]);
+  assert.deepEqual(entries.map(formatRuns), ["run .. (3 lines, 4,087 cycles); the last one was answered", "press 0 1", "run 5"]);
   assert.equal(entries[0].answer, "ok ran 1000");
   assert.deepEqual(ran.take(), []);
 });

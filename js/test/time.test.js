@@ -1,9 +1,9 @@
 import assert from "node:assert/strict";
 import { test } from "node:test";
 import { Rate } from "../core/time/rate.js";
-import { CYCLES_PER_SECOND, CYCLE_US, EYE_CYCLES, FRAME_CYCLES, FRAME_MS, cyclesOfMs } from "../core/time/mcs4_time.js";
+import { CYCLES_PER_SECOND, CYCLE_US, EYE_CYCLES, FRAME_CYCLES, FRAME_MS, cyclesFromMilliseconds } from "../core/time/mcs4_time.js";
 import { MAX_AHEAD, MAX_DUE, RealTime } from "../core/time/real_time.js";
-import { wordsOfTime } from "../core/bench/words.js";
+import { formatDuration } from "../core/bench/words.js";
 import { PLACES_ARE } from "../words/conditions.js";
 import { cannotSearchFor } from "../words/time.js";
 
@@ -11,7 +11,7 @@ test("cycles of the 4004: eight periods of a clock of 740,740.7 Hz", () => {
   const cycles = (seconds) => (seconds * (5185185.185 / 7)) / 8;
   assert.ok(Math.abs(CYCLE_US * cycles(1) - 1e6) < 0.001);
   const rounded = [1, 0.03, 0.001, 0.02].map((time) => Math.round(cycles(time)));
-  assert.deepEqual([CYCLES_PER_SECOND, EYE_CYCLES, cyclesOfMs(1), cyclesOfMs(20)], rounded);
+  assert.deepEqual([CYCLES_PER_SECOND, EYE_CYCLES, cyclesFromMilliseconds(1), cyclesFromMilliseconds(20)], rounded);
   assert.equal(FRAME_CYCLES, Math.floor(cycles(FRAME_MS / 1000)));
 });
 
@@ -108,7 +108,7 @@ test("the rate is reported every half second", () => {
 });
 
 test("times in words", () => {
-  assert.deepEqual([1000, 2400, 62000, 3600000, 3723000, 7200000].map(wordsOfTime),
+  assert.deepEqual([1000, 2400, 62000, 3600000, 3723000, 7200000].map(formatDuration),
     ["1 second", "2 seconds", "1 minute 2 seconds", "1 hour", "1 hour 2 minutes", "2 hours"]);
 });
 

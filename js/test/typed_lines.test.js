@@ -1,7 +1,7 @@
 // Lines that were typed: their runs end at breakpoints with conditions. On the module of the page itself.
 import assert from "node:assert/strict";
 import { test } from "node:test";
-import { Cancelled } from "../core/bench/faults.js";
+import { CancelledError } from "../core/bench/faults.js";
 import { begin } from "./page_session.js";
 
 const BOARD = "[[rom]]\nchip = 0\nport = \"0000\"\n";
@@ -63,12 +63,12 @@ test("where they are cancelled nothing was done, and nothing was counted", async
   const calls = await ready({ from: 2 });
   const before = calls.ask("seq\nstate\n");
   let asked = 0;
-  calls.bench.goesOn = async () => {
+  calls.bench.shouldContinue = async () => {
     asked += 1;
     return asked < 2;
   };
-  await assert.rejects(calls.serveTyped("run 4\nrun 4\nrun 4\n"), Cancelled);
+  await assert.rejects(calls.serveTyped("run 4\nrun 4\nrun 4\n"), CancelledError);
   assert.deepEqual(calls.ask("seq\nstate\n"), before);
-  calls.bench.goesOn = async () => true;
+  calls.bench.shouldContinue = async () => true;
   assert.deepEqual((await typed(calls, "run 1000\n")).lines, ["run 5: ran 5 end"]);
 });

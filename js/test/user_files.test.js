@@ -9,7 +9,7 @@ import { join } from "node:path";
 import { after, test } from "node:test";
 import { Client as ServerClient } from "../../checks/lib/lsp_client.mjs";
 import { Client as AdapterClient } from "../../checks/lib/dap_client.mjs";
-import { isInside, readUserText, replacementOf, writeUserFile } from "../node/user_files.mjs";
+import { isInside, readUserText, prepareReplacement, writeUserFile } from "../node/user_files.mjs";
 
 const top = mkdtempSync(join(tmpdir(), "user_files."));
 after(() => rmSync(top, { recursive: true }));
@@ -114,11 +114,11 @@ test("a file that waits to be put into its place is new, and goes with its proce
   const place = folder("pending");
   const file = join(place, "file");
   writeFileSync(file, "old");
-  const line = "console.log(files.replacementOf(process.argv[1], 'new').name); process.exit(1);";
+  const line = "console.log(files.prepareReplacement(process.argv[1], 'new').name); process.exit(1);";
   const names = [1, 2].map(() => alone(line, file));
   assert.notEqual(names[0], names[1]);
   assert.deepEqual(readdirSync(place), ["file"]);
-  const own = replacementOf(file, "new");
+  const own = prepareReplacement(file, "new");
   assert.equal(statSync(own.name).isFile(), true);
   own.drop();
   assert.deepEqual([readFileSync(file, "utf8"), readdirSync(place)], ["old", ["file"]]);

@@ -5,14 +5,14 @@ import { readBoard } from "../core/bench/answers.js";
 import { Face } from "../core/board/face.js";
 import { DebugSession } from "../core/debug/debug_session.js";
 import { LineChanges } from "../core/debug/line_changes.js";
-import { MachineState } from "../core/debug/standing.js";
+import { MachineState } from "../core/debug/machine_state.js";
 import { textOf, valuesAt } from "../core/debug/value_words.js";
-import { valueOfPlace } from "../core/debug/standing_places.js";
-import { namesOfWatched, readAllWatched, readWatched } from "../core/debug/watched.js";
+import { readPlaceValue } from "../core/debug/standing_places.js";
+import { collectWatchNames, parseWatches, parseWatch } from "../core/debug/watched.js";
 import { Engine } from "../core/engine/engine.js";
-import { Answers, valuesOf } from "../core/engine/tracing.js";
-import { randomFrom } from "../core/explore/walks.js";
-import { moduleOfPage } from "./page_session.js";
+import { Answers, rowValues } from "../core/engine/tracing.js";
+import { createRandom } from "../core/explore/walks.js";
+import { pageModule } from "./page_session.js";
 
 const BOARD = `rom = [{ chip = 0, port = "0000" }, { chip = 1, port = "ii00" }]
 ram = [{ bank = 0, chips = 1 }, { bank = 2, chips = 2 }]
@@ -26,7 +26,7 @@ const DOES = new Map([["SRC", "sends"], ["WRM", "writes ACC"], ["RDM", "ACC"], [
 /** @type {Engine} */
 let engine;
 before(async () => {
-  engine = await Engine.load(moduleOfPage);
+  engine = await Engine.load(pageModule);
 });
 
 /** Its session after the program's first four instructions, and the pokes. */
@@ -45,7 +45,7 @@ function standingOf(session, banks = [0, 2]) {
 
 /** The names that expressions may have. */
 function namesIn(session, map) {
-  const watched = namesOfWatched(["count = R4", "digit = ram 0 0x12", "total = count + digit", "loop = loop + 1"]);
+  const watched = collectWatchNames(["count = R4", "digit = ram 0 0x12", "total = count + digit", "loop = loop + 1"]);
   return { face: new Face(BOARD), board: readBoard(session.ask("board\n")), map, watched };
 }
 
@@ -55,7 +55,7 @@ function piecesOf(line, word, { session, map }) {
     const found = map.names.get(name);
     return found && { ...found, words: `${name} ${found.value}` };
   };
-  return valuesAt(line, line.indexOf(word), standingOf(session), { nameOf, doesOf: (each) => DOES.get(each) || "" });
+  return valuesAt(line, line.indexOf(word), standingOf(session), { nameOf, describeInstruction: (each) => DOES.get(each) || "" });
 }
 
 test("a register, a pair, and what SRC would select by it", async () => {
@@ -98,9 +98,9 @@ test("numbers and names", async () => {
 
 test("what is read of a bank is what it holds, also where it is not the first", async () => {
   const { session } = await open("poke ram.2.0x41 4\npoke st.2.4.3 6\n");
-  const standing = standingOf(session);
-  assert.deepEqual([standing.character(2, 0x41), standing.status(2, 4, 3), standing.ramPort(2, 1)], ["4", "6", "0"]);
-  assert.equal(standing.character(0, 0x41), "");
+  const machineState = standingOf(session);
+  assert.deepEqual([machineState.character(2, 0x41), machineState.status(2, 4, 3), machineState.ramPort(2, 1)], ["4", "6", "0"]);
+  assert.equal(machineState.character(0, 0x41), "");
 });
 
 test("what a line has changed: an instruction, a call that was stepped over; no other run", async () => {
@@ -135,7 +135,7 @@ test("what a line has changed: an instruction, a call that was stepped over; no 
 });
 
 test("what a look says of places is what trace answers", async () => {
-  const random = randomFrom(4);
+  const random = createRandom(4);
   const upTo = (most) => Math.floor(random() * most);
   const text = `rom = [{ chip = 0, port = "0000" }, { chip = 1, port = "1i0i" }, { chip = 3, port = "i100" }]
 ram = [{ bank = 0, chips = 2 }, { bank = 5, chips = 1 }]
@@ -154,11 +154,11 @@ keys = { chain = 0, first = 0, rows = 2, columns = ["rom1.0", "rom1.2"] }
     const code = rows.map((row) => (/ $/.test(row) ? row + upTo(row.includes("FIM") ? 256 : 16) : row)).join("\n");
     const moves = [0, 1].map((row) => `${upTo(2) ? "press" : "release"} ${row} ${upTo(2)}\n`).join("");
     await session.serve(`${moves}asm\n${code}\nx: NOP\n.\npoke pc 0\npoke acc ${upTo(16)}\nrun ${1 + upTo(30)}\n`, async () => true);
-    const standing = standingOf(session, [0, 5]);
+    const machineState = standingOf(session, [0, 5]);
     for (let from = 0; from < places.length; from += 16) {
       const some = places.slice(from, from + 16);
-      const values = valuesOf(new Answers(session.ask(`trace 1 ${some.join(" ")}\n`)).takeTrace().row);
-      const answers = some.map((place) => `${place} ${valueOfPlace(place, standing, board)}`);
+      const values = rowValues(new Answers(session.ask(`trace 1 ${some.join(" ")}\n`)).takeTrace().row);
+      const answers = some.map((place) => `${place} ${readPlaceValue(place, machineState, board)}`);
       assert.deepEqual(answers, some.map((place, at) => `${place} ${values[at]}`));
     }
   }
@@ -166,22 +166,22 @@ keys = { chain = 0, first = 0, rows = 2, columns = ["rom1.0", "rom1.2"] }
 
 test("watched expressions have names of the user's own, and what cannot be read is reported", async () => {
   const { session, map } = await open();
-  const standing = standingOf(session);
+  const machineState = standingOf(session);
   const names = namesIn(session, map);
   for (const [text, name, wanted] of [
     ["count = R4", "count", "6"], ["digit= ram 0 0x12", "digit", "7"], ["st.0.1.2", "st.0.1.2", "9"], ["P2", "P2", "60"],
     ["x = acc", "x", "5"],
     ["far = ram 1 0", "far", "the board lacks it"], ["ram0.0", "ram0.0", "out 0"], ["keys = rom7", "keys", "the board lacks it"],
-    ["ROM0", "ROM0", "out 0, in 0"], ["pc", "pc", standing.registers.counter],
+    ["ROM0", "ROM0", "out 0, in 0"], ["pc", "pc", machineState.registers.counter],
     ["R4 = 6", "R4 = 6", "true"], ["r4 == 0x7", "r4 == 0x7", "false"], ["next = R4 + 1", "next", "7"],
     ["P2 + acc", "P2 + acc", "101 (0x65)"],
     ["count > 5 and digit = 7", "count > 5 and digit = 7", "true"], ["count + digit", "count + digit", "13 (0xD)"],
     ["total + 1", "total + 1", "14 (0xE)"], ["0b101", "0b101", "5"], ["acc - P2", "acc - P2", "-91"], ["test = 1", "test = 1", "true"]]) {
-    const { watched, fault } = readWatched(text, names);
-    assert.deepEqual([fault, watched?.name, textOf(watched?.pieces(standing, names) || [])], ["", name, wanted], text);
-    assert.equal(readWatched(watched.text, names).watched.name, name);
+    const { watched, fault } = parseWatch(text, names);
+    assert.deepEqual([fault, watched?.name, textOf(watched?.pieces(machineState, names) || [])], ["", name, wanted], text);
+    assert.equal(parseWatch(watched.text, names).watched.name, name);
   }
-  assert.deepEqual(readWatched("a = P2").watched.pieces(standing, names).map(({ place }) => place), ["r4", "r5"]);
+  assert.deepEqual(parseWatch("a = P2").watched.pieces(machineState, names).map(({ place }) => place), ["r4", "r5"]);
   for (const [text, fault] of [
     ["", "An expression is missing, as in: "], ["a =", "An expression is missing, as in: "],
     ["loop", "in loop: in loop: in loop: loop uses names that use other names"],
@@ -191,16 +191,16 @@ test("watched expressions have names of the user's own, and what cannot be read 
     ["x = st 0 1 4", "st 0 1 4: no such place; "], ["p8", "p8: no such place; "], ["ram0.4", "ram0.4: no such place; ports are "],
     ["coumt + 1", "coumt: no such place; perhaps count (column 1)"], ["R4 + (1", "this parenthesis is not closed (column 6)"],
   ]) {
-    const read = readWatched(text, names);
+    const read = parseWatch(text, names);
     assert.ok(read.fault.startsWith(fault), `${text}: ${read.fault}`);
   }
   // Expressions with names are judged where there are some.
-  assert.equal(readWatched("r16").fault, "");
-  assert.equal(textOf(readWatched("r16").watched.pieces(standing, names)), "r16: no such place; the registers are r0 to r15");
-  assert.match(readWatched("1a = R5").fault, /^A name has letters/);
-  assert.match(readWatched(`a = ${"x".repeat(200)}`).fault, /^It has more than 200/);
-  const { all, fault } = readAllWatched(["a = R1", "r5 +", 5, null, "R2"]);
+  assert.equal(parseWatch("r16").fault, "");
+  assert.equal(textOf(parseWatch("r16").watched.pieces(machineState, names)), "r16: no such place; the registers are r0 to r15");
+  assert.match(parseWatch("1a = R5").fault, /^A name has letters/);
+  assert.match(parseWatch(`a = ${"x".repeat(200)}`).fault, /^It has more than 200/);
+  const { all, fault } = parseWatches(["a = R1", "r5 +", 5, null, "R2"]);
   assert.deepEqual(all.map(({ text }) => text), ["a = R1", "R2"]);
   assert.match(fault, /^a value is missing after \+ \(column 4\)/);
-  assert.deepEqual(readAllWatched({ a: 1 }), { all: [], fault: "" });
+  assert.deepEqual(parseWatches({ a: 1 }), { all: [], fault: "" });
 });

@@ -1,11 +1,11 @@
 // The arrangement of rows of waves, their measurements, and their picture as a file.
 import assert from "node:assert/strict";
 import { test } from "node:test";
-import { measureAt, measureText } from "../core/waves/measuring.js";
+import { measureAt, describeMeasurement } from "../core/waves/measuring.js";
 import { WaveRows } from "../core/waves/wave_rows.js";
 import { WaveWindow } from "../core/waves/wave_window.js";
 import { Waves } from "../core/waves/wave_recording.js";
-import { svgOf } from "../page/waves/wave_pictures.js";
+import { toSvg } from "../page/waves/wave_pictures.js";
 
 const NAMES = ["a", "b", "c", "d", "e"];
 const LINES = NAMES.map((name) => ({ name, title: "", group: "", kind: "level", places: [], members: [], width: 1 }));
@@ -15,7 +15,7 @@ const rowsOf = (rows, chosen = ALL) => rows.arrange(LINES, chosen).map(({ line, 
   line < 0 ? `${isFolded ? "]" : "["}${group}` : name)).join(" ");
 /** Moves a row to the place of another one. */
 function move(rows, at, to, chosen = ALL) {
-  rows.move(rows.arrange(LINES, chosen), rows.ordered(chosen.map((line) => NAMES[line])), at, to);
+  rows.move(rows.arrange(LINES, chosen), rows.sortNames(chosen.map((line) => NAMES[line])), at, to);
   return rowsOf(rows, chosen);
 }
 
@@ -86,9 +86,9 @@ test("a bit is measured from edge to edge, and to the next edge of its kind", ()
   assert.deepEqual(measureAt(waves, 0, 500), { from: 400, to: 700, isWhole: true, period: 0 });
   assert.deepEqual(measureAt(waves, 0, 900), { from: 700, to: 1000, isWhole: false, period: 0 });
   assert.deepEqual(measureAt(wavesWith([]), 0, 5), { from: 0, to: 1000, isWhole: false, period: 0 });
-  assert.equal(measureText("0", measureAt(waves, 0, 100)), "0 for 300 cycles, 3.240 ms; period 600 cycles, 6.480 ms, 154.3 Hz");
-  assert.equal(measureText("1", measureAt(waves, 0, 0)), "1 for at least 100 cycles, 1.080 ms");
-  assert.match(measureText("1", { from: 0, to: 1, isWhole: true, period: 2 }), /, 46\.30 kHz$/);
+  assert.equal(describeMeasurement("0", measureAt(waves, 0, 100)), "0 for 300 cycles, 3.240 ms; period 600 cycles, 6.480 ms, 154.3 Hz");
+  assert.equal(describeMeasurement("1", measureAt(waves, 0, 0)), "1 for at least 100 cycles, 1.080 ms");
+  assert.match(describeMeasurement("1", { from: 0, to: 1, isWhole: true, period: 2 }), /, 46\.30 kHz$/);
 });
 
 test("of a number there is no period", () => {
@@ -102,7 +102,7 @@ test("a picture as a file has all rows with their names, and what stands in it i
   const colours = Object.fromEntries(names.map((name) => [name, name]));
   const waves = wavesWith([100, 400, 700]);
   const rows = new WaveRows({ looks: { "<a & b>": { colour: "red", group: "lamps" } } }).arrange(waves.lines, [0]);
-  const text = svgOf({ waves, rows, selected: 1, view, top: 0, gutter: 150, height: 78, trigger: 400, measured: null, colours, font: "" });
+  const text = toSvg({ waves, rows, selected: 1, view, top: 0, gutter: 150, height: 78, trigger: 400, measured: null, colours, font: "" });
   assert.match(text, /^<svg xmlns="http:\/\/www\.w3\.org\/2000\/svg" width="550" height="78" [^]*<\/svg>\n$/);
   assert.match(text, />&#60;a &#38; b&#62;|>▸&#60;a &#38; b&#62;</);
   assert.match(text, /<path d="M150,57\.5L190,57\.5[^"]*" fill="none" stroke="red" stroke-width="1\.5"\/>/);

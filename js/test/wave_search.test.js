@@ -3,7 +3,7 @@ import assert from "node:assert/strict";
 import { test } from "node:test";
 import { Waves } from "../core/waves/wave_recording.js";
 import { find, readSearch } from "../core/waves/wave_search.js";
-import { lineNamed } from "../core/waves/trigger.js";
+import { findLineByName } from "../core/waves/trigger.js";
 import { begin, examplesOfPage } from "./page_session.js";
 
 const line = (name, kind, rest = {}) => ({ name, title: "", group: "", kind, places: [], members: [], width: 1, columns: 0, ...rest });
@@ -27,7 +27,7 @@ function wavesOf() {
 }
 
 test("lines by what people call them", () => {
-  const named = (text) => LINES[lineNamed(text, LINES)]?.name;
+  const named = (text) => LINES[findLineByName(text, LINES)]?.name;
   assert.deepEqual(["rom0.1", "ROM0 1", "rom0", "to the chain"].map(named), ["rom0.1", "rom0.1", "rom0[1:0]", "rom0[1:0]"]);
   assert.deepEqual(["lamp 0", "minus", "lamp minus"].map(named), Array(3).fill("lamp.minus"));
   assert.deepEqual(["lamp 1", "over.flow"].map(named), ["lamp1", "lamp1"]);

@@ -3,10 +3,10 @@ import assert from "node:assert/strict";
 import { test } from "node:test";
 import { readBoard } from "../core/bench/answers.js";
 import { vcdParts } from "../core/waves/vcd.js";
-import { catalogOf, searchLines, valuesAmong } from "../core/waves/wave_catalog.js";
-import { linesOfBoard, valueLine } from "../core/waves/wave_lines.js";
+import { listRecordableLines, searchLines, chosenValueNames } from "../core/waves/wave_catalog.js";
+import { createBoardLines, createValueLine } from "../core/waves/wave_lines.js";
 import { Answers } from "../core/engine/tracing.js";
-import { WaveTaking } from "../core/engine/wave_taking.js";
+import { WaveBuilder } from "../core/engine/wave_taking.js";
 import { countUpTo } from "../core/waves/growing.js";
 import { Waves } from "../core/waves/wave_recording.js";
 
@@ -27,7 +27,7 @@ function stateWith(changes) {
 }
 
 function linesWith(hasLabels = false, values = []) {
-  return linesOfBoard(BOARD, TEXT, hasLabels, values);
+  return createBoardLines(BOARD, TEXT, hasLabels, values);
 }
 
 function numberOf(lines, name) {
@@ -51,14 +51,14 @@ test("what each line is asked for by: a lamp by the line that it is at, a key by
   assert.deepEqual(places("level").slice(-3), ["chain0.0", "chain0.1", "ram0.0.3"]);
   assert.deepEqual(places("key").slice(0, 9), ["0.0", "0.1", "0.2", "0.3", "0.4", "0.5", "0.6", "0.7", "1.0"]);
   const other = readBoard(["board", "[[rom]]", "chip = 12", 'port = "i0i1"', "[[rom]]", "chip = 3", 'port = "0000"']);
-  assert.deepEqual(linesOfBoard(other, "", false).map(({ name }) => name),
+  assert.deepEqual(createBoardLines(other, "", false).map(({ name }) => name),
     [...["rom3", "rom12"].flatMap((rom) => [0, 1, 2, 3].map((line) => `${rom}.${line}`)), "test", "rom3[3:0]", "rom12[3:0]", "pc"]);
 });
 
 test("ports and chains are asked for as wholes, sixteen places at once, each one once", () => {
-  const asked = new WaveTaking(linesWith()).queries(100).split("\n");
+  const asked = new WaveBuilder(linesWith()).queries(100).split("\n");
   assert.deepEqual(asked, ["trace 100", "trace 100 rom0 rom1 rom2 ram0.0 ram1.0 chain0", ""]);
-  const more = new WaveTaking(linesWith(false, ["p2", "r4", ...[..."0123456789"].map((at) => `ram.0.0x0${at}`)])).queries(7).split("\n");
+  const more = new WaveBuilder(linesWith(false, ["p2", "r4", ...[..."0123456789"].map((at) => `ram.0.0x0${at}`)])).queries(7).split("\n");
   assert.deepEqual(more.map((line) => line.split(" ").length), [2, 8, 14, 1]);
   const characters = [..."0123456789"].map((at) => `ram.0.0x0${at}`).join(" ");
   assert.equal(more[2], `trace 7 r4 r5 ${characters}`);
@@ -66,7 +66,7 @@ test("ports and chains are asked for as wholes, sixteen places at once, each one
 
 test("values by their names, and what a board lacks", () => {
   const read = (text) => {
-    const line = valueLine(text, BOARD);
+    const line = createValueLine(text, BOARD);
     return line && [line.name, line.places.join(" "), line.width, line.group];
   };
   assert.deepEqual(read("R5"), ["r5", "r5", 4, "registers"]);
@@ -82,14 +82,14 @@ test("values by their names, and what a board lacks", () => {
 });
 
 test("titles are what the board's text says of ports, and of names that no file can have", () => {
-  const lines = linesOfBoard(BOARD, `${TEXT}# port rom1: keys here\n`, false);
+  const lines = createBoardLines(BOARD, `${TEXT}# port rom1: keys here\n`, false);
   const titles = Object.fromEntries(lines.map(({ name, title }) => [name, title]));
   assert.deepEqual([titles["rom1.2"], titles["rom1[3:0]"], titles["rom0.2"]], ["keys here, line 2", "keys here", ""]);
   assert.deepEqual([titles.lamp2, titles["key0.2"], titles["lamp.minus"]], ["over.flow", "=", ""]);
 });
 
 test("what is offered, by words", () => {
-  const offered = catalogOf(BOARD, TEXT);
+  const offered = listRecordableLines(BOARD, TEXT);
   const named = (text, chosen = []) => searchLines(offered, text, new Set(chosen)).lines.map(({ name }) => name);
   assert.ok(named("").includes("r5") && named("").includes("rom0[3:0]") && !named("").includes("ram.0.0x12"));
   assert.ok(named("", ["ram.0.0x12"]).includes("ram.0.0x12"));
@@ -99,7 +99,7 @@ test("what is offered, by words", () => {
   assert.deepEqual(named("p2"), ["p2"]);
   assert.match(searchLines(offered, "", new Set()).more, /^160 nibbles of RAM are not listed: find one, as in: ram 0 0x12/);
   assert.equal(searchLines(offered, " rubbish ", new Set()).more, "Nothing here is called rubbish.");
-  assert.deepEqual(valuesAmong(offered, new Set(["r5", "lamp2", "st.1.3.0", "gone"])), ["r5", "st.1.3.0"]);
+  assert.deepEqual(chosenValueNames(offered, new Set(["r5", "lamp2", "st.1.3.0", "gone"])), ["r5", "st.1.3.0"]);
 });
 
 /** The values of places at the beginning; all others are 0. */
@@ -131,7 +131,7 @@ function answersOf({ groups }, levels, instructions = []) {
 
 /** A recording that begins with a state. */
 function begin(state = STATE, values = []) {
-  const taking = new WaveTaking(linesWith(false, values));
+  const taking = new WaveBuilder(linesWith(false, values));
   taking.begin(new Answers([state, ...answersOf(taking, LEVELS)]));
   return taking;
 }

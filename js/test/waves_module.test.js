@@ -5,12 +5,12 @@ import { BenchCalls } from "../core/engine/bench_calls.js";
 import { neededLines, recordPieces } from "../core/engine/wave_stream.js";
 import { VcdText, vcdParts } from "../core/waves/vcd.js";
 import { Waves } from "../core/waves/wave_recording.js";
-import { examplesOfPage, moduleOfPage } from "./page_session.js";
+import { examplesOfPage, pageModule } from "./page_session.js";
 
-const [module, examples] = [moduleOfPage, examplesOfPage];
+const [module, examples] = [pageModule, examplesOfPage];
 
-async function begin(name, goesOn = async () => true) {
-  const calls = new BenchCalls(goesOn);
+async function begin(name, shouldContinue = async () => true) {
+  const calls = new BenchCalls(shouldContinue);
   await calls.load(module, examples);
   const example = examples.find((each) => each.name === name);
   calls.open(calls.make(example));

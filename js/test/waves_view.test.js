@@ -1,10 +1,10 @@
 // The visible part of a recording, and the reports about it.
 import assert from "node:assert/strict";
 import { test } from "node:test";
-import { flagAt } from "../page/waves/wave_canvas.js";
-import { WaveWindow, ticksOf } from "../core/waves/wave_window.js";
+import { flagLeft } from "../page/waves/wave_canvas.js";
+import { WaveWindow, tickMoments } from "../core/waves/wave_window.js";
 import {
-  betweenText, cursorText, cyclesText, instructionText, readCycles, recordedText, spokenText, valueText,
+  describeDistance, describeCursor, cyclesText, instructionText, readCycles, describeRecording, screenReaderText, valueText,
 } from "../core/waves/wave_words.js";
 import { Waves } from "../core/waves/wave_recording.js";
 
@@ -27,13 +27,13 @@ function windowOf(cycles, width) {
 
 test("all is seen at first, and places are moments", () => {
   const view = windowOf(1000, 500);
-  assert.deepEqual([view.xOf(0), view.xOf(1000), view.cyclesAt(250)], [0, 500, 500]);
+  assert.deepEqual([view.xAt(0), view.xAt(1000), view.cyclesAt(250)], [0, 500, 500]);
 });
 
 test("what stands at a place stays there where it is zoomed", () => {
   const view = windowOf(1000, 500);
   view.zoom(4, 600);
-  assert.deepEqual([view.span, view.xOf(600)], [250, 300]);
+  assert.deepEqual([view.span, view.xAt(600)], [250, 300]);
   view.zoom(1 / 16, 600);
   assert.deepEqual([view.from, view.span], [0, 1000]);
 });
@@ -99,28 +99,28 @@ test("a recording of no cycle has a window, too", () => {
   const view = windowOf(0, 500);
   view.zoom(2, 0);
   view.move(3);
-  assert.deepEqual([view.from, view.moment, ticksOf(view, 90)], [0, 0, [0, 1]]);
+  assert.deepEqual([view.from, view.moment, tickMoments(view, 90)], [0, 0, [0, 1]]);
 });
 
 test("the numbers of moments have room", () => {
-  assert.deepEqual(ticksOf(windowOf(1000, 500), 90), [0, 200, 400, 600, 800, 1000]);
+  assert.deepEqual(tickMoments(windowOf(1000, 500), 90), [0, 200, 400, 600, 800, 1000]);
   const view = windowOf(100000, 500);
   view.zoom(10000, 50000);
-  const ticks = ticksOf(view, 90);
+  const ticks = tickMoments(view, 90);
   assert.ok(ticks.length >= 4 && ticks.every((tick) => Number.isInteger(tick)));
 });
 
 test("times: a cycle is 10.8 microseconds", () => {
   assert.deepEqual([cyclesText(1), cyclesText(92593)], ["1 cycle", "92,593 cycles"]);
-  assert.equal(betweenText(926), "A to B: 926 cycles, 10.001 ms");
+  assert.equal(describeDistance(926), "A to B: 926 cycles, 10.001 ms");
 });
 
 test("what is at a cursor, in words", () => {
   const waves = wavesWith([2], 3);
-  assert.equal(cursorText("A", 0, waves), "A: cycle 0, 0.000 ms: 000 D5 LDM 5");
-  assert.equal(cursorText("B", 3, waves), "B: cycle 3, 0.032 ms: next: 002 00 NOP");
-  assert.equal(spokenText(2, waves, 0), "test is 0, cycle 2, 001 40 00 JUN 0x000");
-  assert.equal(spokenText(1, waves, -1), "cycle 1, 001 40 00 JUN 0x000");
+  assert.equal(describeCursor("A", 0, waves), "A: cycle 0, 0.000 ms: 000 D5 LDM 5");
+  assert.equal(describeCursor("B", 3, waves), "B: cycle 3, 0.032 ms: next: 002 00 NOP");
+  assert.equal(screenReaderText(2, waves, 0), "test is 0, cycle 2, 001 40 00 JUN 0x000");
+  assert.equal(screenReaderText(1, waves, -1), "cycle 1, 001 40 00 JUN 0x000");
   const row = { address: 1, listed: "001 40 00 JUN 0x000", line: 3, source: "JUN wait", isSecond: false, isEnd: false };
   assert.equal(instructionText(row), "001 40 00 JUN 0x000; line 3 of the source: JUN wait");
   assert.equal(instructionText({ ...row, isSecond: true }), "the second cycle of an instruction");
@@ -128,11 +128,11 @@ test("what is at a cursor, in words", () => {
 
 test("what was recorded, in words", () => {
   const waves = wavesWith([2], 3);
-  assert.equal(recordedText(waves, 3, false), "3 cycles recorded, 0.032 ms.");
-  assert.equal(recordedText(waves, 9, true), "3 cycles recorded, 0.032 ms. The remembered past reaches no further back.");
+  assert.equal(describeRecording(waves, 3, false), "3 cycles recorded, 0.032 ms.");
+  assert.equal(describeRecording(waves, 9, true), "3 cycles recorded, 0.032 ms. The remembered past reaches no further back.");
   waves.isStuck = true;
-  assert.match(recordedText(waves, 9, false), /A code that is not an instruction follows\.$/);
-  assert.match(recordedText(wavesWith([], 0), 9, true), /^Nothing was recorded/);
+  assert.match(describeRecording(waves, 9, false), /A code that is not an instruction follows\.$/);
+  assert.match(describeRecording(wavesWith([], 0), 9, true), /^Nothing was recorded/);
 });
 
 test("a value in three ways", () => {
@@ -162,7 +162,7 @@ test("a recording that stands still is seen as a whole, unless a part of it was 
 });
 
 test("the flag of a cursor is within the picture", () => {
-  assert.deepEqual([flagAt(300.5, 500), flagAt(500.5, 500), flagAt(498.5, 500)], [293.5, 486, 486]);
+  assert.deepEqual([flagLeft(300.5, 500), flagLeft(500.5, 500), flagLeft(498.5, 500)], [293.5, 486, 486]);
 });
 
 test("cursors that nobody has moved come to the first edges once a recording ends", () => {

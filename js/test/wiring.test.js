@@ -4,7 +4,7 @@ import { test } from "node:test";
 import { readBoard } from "../core/bench/answers.js";
 import { partAtLine, partLines } from "../core/bench/part_lines.js";
 import { drawBoard, isHigh, isHighAtRom } from "../core/board/wiring.js";
-import { linesOfParts } from "../core/drawing/drawn_part_lines.js";
+import { drawnPartLines } from "../core/drawing/drawn_part_lines.js";
 
 const BOARD = ["board", "[[rom]]", "chip = 0", 'port = "0000"', "[[rom]]", "chip = 1", 'port = "iiii"', "[[ram]]", "bank = 0", "chips = 1",
   "[[chain]]", 'clock = "rom0.0"', 'data = "rom0.1"', "chips = 1", "[keys]", "chain = 0", "first = 0", "rows = 2",
@@ -31,11 +31,12 @@ test("a wire goes from what drives a line, or is read at it, to what uses it", (
 
 test("the words of a part say what its lines do", () => {
   const { parts } = drawBoard(readBoard(BOARD), { names: ["red"], colours: ["green"], test: null, buzzer: null });
-  const says = (id) => parts.find((part) => part.id === id).says;
-  assert.deepEqual(says("rom 0").slice(0, 2), ["line rom0.0, an output, clocks chain 0", "line rom0.1, an output, is the data of chain 0"]);
-  assert.equal(says("rom 1")[2], "line rom1.2, an input, is not used");
+  const descriptions = (id) => parts.find((part) => part.id === id).descriptions;
+  const outputs = ["line rom0.0, an output, clocks chain 0", "line rom0.1, an output, is the data of chain 0"];
+  assert.deepEqual(descriptions("rom 0").slice(0, 2), outputs);
+  assert.equal(descriptions("rom 1")[2], "line rom1.2, an input, is not used");
   assert.deepEqual(parts.find(({ id }) => id === "lamps").pins.map(({ colour }) => colour), ["green", "red"]);
-  assert.deepEqual(says("lamps"), ["red is at ram0.0.0", "lamp 1 is at chain0.9"]);
+  assert.deepEqual(descriptions("lamps"), ["red is at ram0.0.0", "lamp 1 is at chain0.9"]);
 });
 
 test("what is at TEST is a part with a wire to the processor, and has its words", () => {
@@ -43,8 +44,8 @@ test("what is at TEST is a part with a wire to the processor, and has its words"
   const { parts, wires } = drawBoard(readBoard(["board"]), at);
   assert.deepEqual(parts.map(({ id, title }) => `${id} ${title}`), ["processor 4004", "test CROSS THE …"]);
   assert.deepEqual(wires.map(({ from, to }) => `${from.label} ${to.label}`), ["button TEST"]);
-  assert.equal(parts[0].says[1], "its input TEST is at the button CROSS THE ROAD");
-  assert.deepEqual(parts[1].says, ["the button CROSS THE ROAD puts TEST to 0 while it is pressed"]);
+  assert.equal(parts[0].descriptions[1], "its input TEST is at the button CROSS THE ROAD");
+  assert.deepEqual(parts[1].descriptions, ["the button CROSS THE ROAD puts TEST to 0 while it is pressed"]);
 });
 
 test("a buzzer is a part with a wire from its line", () => {
@@ -52,8 +53,8 @@ test("a buzzer is a part with a wire from its line", () => {
   const { parts, wires } = drawBoard(board, { names: [], colours: [], test: null, buzzer: { place: "rom0.3", name: "the horn" } });
   assert.deepEqual(parts.map(({ title }) => title), ["4004", "ROM 0 · 4001", "Buzzer"]);
   assert.deepEqual(wires.map(({ from, to }) => `${from.label} ${to.label}`), ["out 3 the horn"]);
-  assert.equal(parts[1].says[3], "line rom0.3, an output, sounds the buzzer");
-  assert.deepEqual(parts[2].says, ["the horn sounds the edges of rom0.3"]);
+  assert.equal(parts[1].descriptions[3], "line rom0.3, an output, sounds the buzzer");
+  assert.deepEqual(parts[2].descriptions, ["the horn sounds the edges of rom0.3"]);
 });
 
 test("an empty board has a processor", () => {
@@ -83,9 +84,9 @@ test("parts are found in a text, whatever way it is written", () => {
 
 test("what is at TEST stands in a comment", () => {
   const rom = '[[rom]]\nchip = 0\nport = "0000"\n';
-  assert.deepEqual(Object.fromEntries(linesOfParts(`${rom}# test: button Start\n`)),
+  assert.deepEqual(Object.fromEntries(drawnPartLines(`${rom}# test: button Start\n`)),
     { "rom 0": { from: 1, to: 3 }, test: { from: 4, to: 4 } });
-  assert.deepEqual([...linesOfParts(rom).keys()], ["rom 0"]);
+  assert.deepEqual([...drawnPartLines(rom).keys()], ["rom 0"]);
 });
 
 test("all parts of the calculator's board are found", () => {

@@ -6,7 +6,7 @@ import { WorkerSession, MAX_ENTRIES } from "../core/engine/worker_session.js";
 import { FullSpeed } from "../core/engine/full_speed.js";
 import { FakeEngine } from "./fake_engine.js";
 
-const goesOn = async () => true;
+const shouldContinue = async () => true;
 
 function begin() {
   const engine = new FakeEngine();
@@ -45,7 +45,7 @@ test("a failed call changes nothing, and the keys wait on", () => {
 
 test("lines are served piece by piece, as if at once", async () => {
   const { session } = begin();
-  const result = await session.serve("step\n".repeat(3000), goesOn);
+  const result = await session.serve("step\n".repeat(3000), shouldContinue);
   assert.equal(session.file[0], 3000 % 256);
   assert.equal(result.first, "ok 1");
   assert.equal(result.entries.length, MAX_ENTRIES);
@@ -55,23 +55,23 @@ test("lines are served piece by piece, as if at once", async () => {
 
 test("of long work nothing is done where a piece fails, or it is cancelled", async () => {
   const { engine, session } = begin();
-  await assert.rejects(session.serve(`${"step\n".repeat(3000)}trap\n`, goesOn), /unreachable/);
+  await assert.rejects(session.serve(`${"step\n".repeat(3000)}trap\n`, shouldContinue), /unreachable/);
   assert.equal(session.file[0], 0);
   engine.memory = 2;
-  await assert.rejects(session.serve("step\n".repeat(9000), goesOn), /no 90/);
+  await assert.rejects(session.serve("step\n".repeat(9000), shouldContinue), /no 90/);
   assert.equal(session.file[0], 0);
   engine.memory = Infinity;
   let pieces = 0;
   await assert.rejects(session.serve("step\n".repeat(9000), async () => ++pieces < 2), /cancelled/);
   assert.equal(session.file[0], 0);
-  await session.serve("step\n", goesOn);
+  await session.serve("step\n", shouldContinue);
   assert.equal(session.file[0], 1);
 });
 
 test("what lines may have changed is reported", async () => {
   const { session } = begin();
   const of = async (lines) => {
-    const { touchesRom, wires } = await session.serve(lines, goesOn);
+    const { touchesRom, wires } = await session.serve(lines, shouldContinue);
     return [touchesRom, wires];
   };
   assert.deepEqual(await of("step\nseq\n"), [false, false]);

@@ -9,7 +9,7 @@ export const noCommand = (command) => `unsupported request: ${command}`;
 /** @type {(id: string) => string} */
 export const noProgress = (id) => `no work in progress has the progressId ${id}`;
 
-// --- adapter/answering.js ---
+// --- adapter/query_handlers.js ---
 export const ROM_CONTENTS = "the contents of ROM";
 export const DISASSEMBLED_FROM_ROM = "disassembled from ROM";
 /** @type {(name: string) => string} */

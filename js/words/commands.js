@@ -400,7 +400,7 @@ ${SERVES_LINES}`,
       that \`mcs4 test\` has seen fail. The output is TAP, a line for each property. PROPERTIES is a text like that of \`mcs4 explore\`;
       the manual's chapter "Proving it for all inputs" says which of its lines can be proved.
 
-      The search stops at N states. It needs some 150 bytes for each, and more for boards with more chips. Ctrl-C ends it.
+      The search stops at N states. It needs some 100 bytes for each, and more for boards with more chips. Ctrl-C ends it.
 
       ${BOARD_AND_PROGRAM} The same holds for PROPERTIES, if the project names one text of them.`,
     options: {

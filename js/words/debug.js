@@ -61,7 +61,7 @@ export const writesTo = (name, where, last) => `${name} writes to ${where}${last
 /** @type {(part: string, fault: string) => string} */
 export const noteAsks = (part, fault) => `the note asks for ${part}: ${fault}`;
 
-// --- debug/standing.js ---
+// --- debug/machine_state.js ---
 /** @type {(chip: number, register: number, character: number) => string} */
 export const characterAt = (chip, register, character) => `chip ${chip}, register ${register}, character ${character}`;
 /** @type {(bank: string) => string} */

@@ -128,7 +128,7 @@ export const NOTHING_TO_REDO = "There is nothing to redo.";
 // --- drawing/drawing_view.js ---
 /**
  * The parts on the shelf: each part's label and description.
- * @type {Record<import("../core/drawing/acts.js").Shelved, [string, string]>}
+ * @type {Record<import("../core/drawing/acts.js").ShelfPart, [string, string]>}
  */
 export const SHELF = {
   rom: ["ROM", "a 4001: 256 bytes of program, and a port of four output lines"],

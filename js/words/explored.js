@@ -2,7 +2,7 @@
 
 import { counted } from "../core/bench/numbers.js";
 import { Coverage } from "../core/explore/search_coverage.js";
-import { grouped, isRight, remarkOf, stepsOf } from "../core/explore/report.js";
+import { formatNumber, hasExpectedResult, formatRemark, formatSteps } from "../core/explore/report.js";
 
 /**
  * @typedef {import("../core/explore/report.js").Report} Report
@@ -27,8 +27,8 @@ function countsOf({ properties }) {
  * @param {Report} report
  */
 export function wordsOfFigures({ seeds, steps, seconds, states }) {
-  const rate = seconds > 0 ? `, ${grouped(steps / seconds)} a second` : "";
-  return `${stepsOf(steps)}${rate}; ${counted(states, "different state")}; seed ${seeds.join(" ")}.`;
+  const rate = seconds > 0 ? `, ${formatNumber(steps / seconds)} a second` : "";
+  return `${formatSteps(steps)}${rate}; ${counted(states, "different state")}; seed ${seeds.join(" ")}.`;
 }
 
 /**
@@ -59,7 +59,7 @@ export function wordsOfEnd(report, isStopped) {
  */
 export function markOfReport(report) {
   const { broken } = countsOf(report);
-  return broken > 0 ? `${grouped(broken)} broken` : "";
+  return broken > 0 ? `${formatNumber(broken)} broken` : "";
 }
 
 /**
@@ -71,7 +71,7 @@ export function markOfReport(report) {
 export function markOf(property, goesOn) {
   if (property.isSkipped) return "not run";
   if (goesOn && !property.found && (property.isGoal || !property.applied)) return "open";
-  return isRight(property) ? "ok" : "not ok";
+  return hasExpectedResult(property) ? "ok" : "not ok";
 }
 
 /**
@@ -82,8 +82,8 @@ export function markOf(property, goesOn) {
 export function wordsOfProperty(property, report) {
   const { isGoal, isSkipped, found, applied, states } = property;
   if (isSkipped) return NEEDS_COMMAND;
-  if (!found) return applied && states === 0 ? "" : remarkOf(property, report);
-  return `${isGoal ? "reached" : "broken"} by ${stepsOf(found.steps)}, ${grouped(found.cycles)} cycles`;
+  if (!found) return applied && states === 0 ? "" : formatRemark(property, report);
+  return `${isGoal ? "reached" : "broken"} by ${formatSteps(found.steps)}, ${formatNumber(found.cycles)} cycles`;
 }
 
 /**

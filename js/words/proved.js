@@ -1,7 +1,7 @@
 // Messages about the results of proofs on the page: all properties, a single property.
 
-import { grouped, stepsOf } from "../core/explore/report.js";
-import { statesOf } from "../core/prove/verdicts.js";
+import { formatNumber, formatSteps } from "../core/explore/report.js";
+import { formatStateCount } from "../core/prove/verdicts.js";
 import * as say from "./prove.js";
 
 /**
@@ -33,9 +33,9 @@ export function markOf({ isGoal, verdict }) {
  */
 export function wordsOfVerdict({ isGoal, verdict }) {
   if (verdict.kind === "open") return verdict.words;
-  if (verdict.kind === "proved") return say.forAllInputs(statesOf(verdict), verdict.leftOut);
+  if (verdict.kind === "proved") return say.forAllInputs(formatStateCount(verdict), verdict.leftOut);
   const { steps, cycles } = verdict.found;
-  return say.foundBy(stepsOf(steps), grouped(cycles), isGoal);
+  return say.foundBy(formatSteps(steps), formatNumber(cycles), isGoal);
 }
 
 /**
@@ -61,7 +61,7 @@ export function wordsOfEnd(judged, isStopped) {
   /** @type {[number, (count: string) => string][]} */
   const counts = [[proved, say.countProved], [broken, say.countBroken], [reached, say.countReached], [never, say.countNever],
     [open, say.countOpen]];
-  const parts = counts.filter(([number]) => number > 0).map(([number, words]) => words(grouped(number)));
+  const parts = counts.filter(([number]) => number > 0).map(([number, words]) => words(formatNumber(number)));
   return `${isStopped ? say.CANCELLED : ""}${parts.join(", ")}.`;
 }
 
@@ -71,7 +71,7 @@ export function wordsOfEnd(judged, isStopped) {
  */
 export function wordsSoFar({ judged, count, states }) {
   const which = say.judging(Math.min(judged.length + 1, count), count);
-  return states > 0 ? say.moreSoFar(which, grouped(states)) : which;
+  return states > 0 ? say.moreSoFar(which, formatNumber(states)) : which;
 }
 
 /**
@@ -80,6 +80,6 @@ export function wordsSoFar({ judged, count, states }) {
  */
 export function markOfTab(judged) {
   const { proved, broken } = countsOf(judged);
-  if (broken > 0) return say.countBroken(grouped(broken));
-  return proved > 0 ? say.countProved(grouped(proved)) : "";
+  if (broken > 0) return say.countBroken(formatNumber(broken));
+  return proved > 0 ? say.countProved(formatNumber(proved)) : "";
 }

@@ -1,7 +1,7 @@
 // Messages about the results of tests: all tests, a single test, the coverage.
 
 import { counted } from "../core/bench/numbers.js";
-import { wordsOfCoverage } from "../core/testing/coverage.js";
+import { formatCoverageSummary } from "../core/testing/coverage.js";
 import { CYCLE_MS } from "../core/time/mcs4_time.js";
 
 /**
@@ -35,11 +35,11 @@ export function markOfOutcomes(outcomes) {
 /**
  * Returns the message that no test has run because the texts have errors.
  * @param {TextFault[]} faults
- * @param {(number: number) => string} wordsOfRefusal
+ * @param {(number: number) => string} describeRefusal
  */
-export function wordsOfFaults(faults, wordsOfRefusal) {
+export function wordsOfFaults(faults, describeRefusal) {
   const [{ text, line, number, words }] = faults;
-  const what = words || `no ${number}: ${wordsOfRefusal(number)}`;
+  const what = words || `no ${number}: ${describeRefusal(number)}`;
   const more = faults.length > 1 ? `, and ${faults.length - 1} more` : "";
   return `Nothing was run: ${WHERE[text]}${line > 0 ? `, line ${line}` : ""}: ${what}${more}.`;
 }
@@ -61,5 +61,5 @@ export function wordsOfCounts({ coverage }) {
   if (!coverage || coverage.instructions === 0) return "";
   const ways = coverage.lines.filter(({ isJump, count, taken }) => isJump && count > 0 && (taken === 0 || taken === count)).length;
   const oneWay = ways === 0 ? "" : ` ${counted(ways, "jump")} always went one way.`;
-  return `${wordsOfCoverage(coverage)}.${oneWay} Counts are in the margin.`;
+  return `${formatCoverageSummary(coverage)}.${oneWay} Counts are in the margin.`;
 }

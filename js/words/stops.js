@@ -1,7 +1,7 @@
 // Messages about pauses: where time paused, why, and after how many cycles. Also messages about going back and forward.
 
 import { hex } from "../core/bench/numbers.js";
-import { wordsOfCycles } from "../core/time/cycles.js";
+import { formatCycles } from "../core/time/cycles.js";
 
 /**
  * @typedef {import("../core/engine/going_back.js").BackGoal} BackGoal
@@ -48,7 +48,7 @@ export function wordsOfAddress(address, map) {
 export function wordsOfGone(goal, gone, where, breakpoint) {
   const { isDone, why, from, to, line, end, cycles } = gone;
   if (!isDone) return `Nothing was done: ${whyNot(goal, why)}.`;
-  const over = cycles === 0 ? "" : `, ${wordsOfCycles(cycles)}`;
+  const over = cycles === 0 ? "" : `, ${formatCycles(cycles)}`;
   if (goal.kind === "forward") return `Forward again to ${where}${over}${over && " later"}.`;
   const before = cycles === 0 ? "" : `${over} earlier`;
   if (goal.kind === "stop") return `Back at the stop at ${where}${before}.`;
@@ -92,7 +92,7 @@ export function wordsOfLastChange(name, { isFound, why, from, to, line, cycles, 
   if (why === "lacks") return "";
   if (!isFound) return `${name}: no change in the past that the page remembers.`;
   const who = line ? `the line ${line}` : wordsOfAddress(hex(address, 3), map);
-  return `${name}: from ${from} to ${to} by ${who}${cycles === 0 ? "" : `, ${wordsOfCycles(cycles)} ago`}.`;
+  return `${name}: from ${from} to ${to} by ${who}${cycles === 0 ? "" : `, ${formatCycles(cycles)} ago`}.`;
 }
 
 /**
@@ -139,7 +139,7 @@ function reached(goal, returns, where) {
 export function wordsOfStop(goal, { why, cycles, returns, change }, where, when = "") {
   if (why === "lacks") return `Nothing was done: this board has no ${goal && goal.kind === "change" ? goal.place : "such place"}.`;
   if (why === "outside") return `Nothing was done: ${NO_CALL_WAITS}.`;
-  const after = `after ${wordsOfCycles(cycles)}`;
+  const after = `after ${formatCycles(cycles)}`;
   if (goal && why === "goal") return `${reached(goal, returns, where)}, ${after}.`;
   const reason = why === "watch" && change ? `after ${change}` : (REASONS[why] || why) + (why === "break" ? when : "");
   return goal ? `Paused at ${where}, ${reason}, ${after}; ${wordsOfGoal(goal)} was not reached.` : `Paused at ${where}, ${reason}.`;
@@ -167,7 +167,7 @@ export const stoppedAt = (where) => `Paused at ${where}.`;
  * @param {string} where
  */
 export function wordsOfHalt(goal, cycles, where) {
-  return goal ? `Paused at ${where}, after ${wordsOfCycles(cycles)}; ${wordsOfGoal(goal)} was not reached.` : stoppedAt(where);
+  return goal ? `Paused at ${where}, after ${formatCycles(cycles)}; ${wordsOfGoal(goal)} was not reached.` : stoppedAt(where);
 }
 
 /**

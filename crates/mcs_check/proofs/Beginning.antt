@@ -4,7 +4,7 @@ use Rattle.mcs_model.specs.Boards.{key_count}
 use Rattle.mcs_model.specs.Validity.{IsValidBus, IsValidRegs}
 use Rattle.mcs_drive.specs.Tracked.{Tracked, plain, Holds}
 use Rattle.mcs_search.specs.Rules.{Closure}
-use Rattle.mcs_check.specs.declared.cells.Cell.{Cell}
+use Rattle.mcs_check.specs.declared.cells.KeyByte.{KeyByte}
 use Rattle.mcs_check.specs.Cells.{key_of}
 use Rattle.mcs_check.specs.Conditions.{Aimed, keeps_to, observer_in}
 use Rattle.mcs_check.specs.Held.{held}
@@ -15,7 +15,7 @@ use Rattle.mcs_check.proofs.Ignoring.{conditions-ignore}
 use Rattle.mcs_check.proofs.Steps.{on-itself}
 
 -- its key stands for it
-pub held-key : (layout : List Cell) (aim : Aimed) (key : List ℕ) (s m : Tracked) → m ≡ held s → IsValidRegs m.0 → IsValidBus m.1 → keeps_to aim.nevers m ≡ true → key ≡ key_of layout m → IsKeyOf (setting_of m layout aim) key m
+pub held-key : (layout : List KeyByte) (aim : Aimed) (key : List ℕ) (s m : Tracked) → m ≡ held s → IsValidRegs m.0 → IsValidBus m.1 → keeps_to aim.nevers m ≡ true → key ≡ key_of layout m → IsKeyOf (setting_of m layout aim) key m
 held-key layout aim key s m e registers bus well cells = record {
   on = on-itself m registers bus
       (subst (λ (x : Tracked). x.1.keys ≡ replicate (key_count x.1.board) 1) (sym e) refl)
@@ -25,7 +25,7 @@ held-key layout aim key s m e registers bus well cells = record {
 }
 
 -- what was found of it holds of the machine whose keys were put down
-pub held-holds : (layout : List Cell) (aim : Aimed) (key : List ℕ) (n : ℕ) (s m : Tracked) → m ≡ held s → IsKeyOf (setting_of m layout aim) key m → Closure (rules_of (setting_of m layout aim)) key n → Holds (observer_in aim) (keeps_to aim.nevers) s
+pub held-holds : (layout : List KeyByte) (aim : Aimed) (key : List ℕ) (n : ℕ) (s m : Tracked) → m ≡ held s → IsKeyOf (setting_of m layout aim) key m → Closure (rules_of (setting_of m layout aim)) key n → Holds (observer_in aim) (keeps_to aim.nevers) s
 held-holds layout aim key n s m e is closure =
     alike-holds (observer_in aim) (keeps_to aim.nevers) m s (conditions-ignore aim.nevers) (ap plain e)
     (walker-holds (setting_of m layout aim) key n m (conditions-ignore aim.nevers) closure is)

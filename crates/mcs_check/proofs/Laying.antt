@@ -1,39 +1,96 @@
 -- A layout that is filled list by list.
-use Rattle.std.proofs.Common.{◌≡◌, ◌<◌, ◌≤◌, ◌+◌, ◌*◌, ℕ, inl, inr, true, false, List, [], ◌∷◌, ◌++◌, slice_index_or, nat_lt, refl, sym, ap, subst, arith, below_more}
+use Rattle.std.proofs.Common.{◌≡◌, ◌<◌, ◌≤◌, ◌+◌, ◌*◌, ◌/◌, ℕ, inl, inr, Bool, true, false, cond, ◌||◌, List, [], ◌∷◌, ◌++◌, slice_index_or, nat_lt, refl, sym, ap, ◌∙◌, subst, arith, below_more}
 use Rattle.std.specs.List.{Contains}
-use Rattle.std.proofs.lemmas.Bool.{cases_lt, ltb-true}
+use Rattle.std.proofs.lemmas.Bool.{both_ways, cases_lt, ltb-true, or_parts}
 use Rattle.std.proofs.lemmas.List.{get_or_past}
 use Rattle.std.proofs.lemmas.List.Elements.{Contains-append_left, Contains-append_right}
 use Rattle.mcs_model.specs.declared.board.BoardParts.{BoardParts}
 use Rattle.mcs_model.specs.declared.board.ChainPart.{ChainPart}
 use Rattle.mcs_model.specs.Boards.{IsSized, chain_bits, no_chain}
 use Rattle.mcs_check.specs.declared.cells.Cell.{Cell}
+use Rattle.mcs_check.specs.declared.cells.KeyByte.{KeyByte}
+use Rattle.mcs_check.specs.declared.cells.KeyByte.TheVariants.{One, Pair}
 use Rattle.mcs_check.specs.declared.cells.CellList.{CellList}
 use Rattle.mcs_check.specs.declared.cells.CellList.TheVariants.{Characters, StatusCharacters, RamPorts, RomPorts, BankSrcs, Registers, Counters, Chain}
-use Rattle.mcs_check.specs.Cells.{is_there, HasAll, HasList, IsComplete}
+use Rattle.mcs_check.specs.Cells.{byte_of, count_of, is_narrow, is_there, HasAll, HasList, IsComplete}
 
--- the first i cells of a list that a board has were added behind others
-pub record IsLaid (b : BoardParts) (list : CellList) (i : ℕ) (others layout : List Cell) : Type 0 where
+-- others were kept, and one more byte was added behind them
+more-kept : (others before after : List KeyByte) (byte : KeyByte) → after ≡ before ++ byte ∷ [] → HasAll others before → HasAll others after
+more-kept others before after byte e keeps = λ c k. subst (λ (cs : List KeyByte). Contains cs c) (sym e) (Contains-append_left before (byte ∷ []) c (keeps c k))
+
+last-there : (before after : List KeyByte) (byte : KeyByte) → after ≡ before ++ byte ∷ [] → Contains after byte
+last-there before after byte e = subst (λ (cs : List KeyByte). Contains cs byte) (sym e) (Contains-append_right before (byte ∷ []) byte (0, omega arith, refl))
+
+-- the first n cells of a list that a board has were added behind others
+pub record IsLaid (b : BoardParts) (list : CellList) (n : ℕ) (others layout : List KeyByte) : Type 0 where
   pub keeps : HasAll others layout
-  pub has : (k : ℕ) → k < i → is_there b list k ≡ true → Contains layout (record { list = list; index = k })
+  pub has : (k : ℕ) → k < n → is_there b list k ≡ true → Contains layout (byte_of list k)
 
-pub laid-added : (b : BoardParts) (list : CellList) (i : ℕ) (others before after : List Cell) → after ≡ before ++ (record { list = list; index = i }) ∷ [] → IsLaid b list i others before → IsLaid b list (i + 1) others after
-laid-added b list i others before after e h =
-    let cell : Cell = record { list = list; index = i } in
-    let more : HasAll before after = λ c k. subst (λ (cs : List Cell). Contains cs c) (sym e) (Contains-append_left before (cell ∷ []) c k) in
-    let last : Contains after cell = subst (λ (cs : List Cell). Contains cs cell) (sym e) (Contains-append_right before (cell ∷ []) cell (0, omega arith, refl)) in
+-- ---- cell by cell
+
+in-one : (list : CellList) (i : ℕ) → is_narrow list ≡ false → byte_of list i ≡ One (record { list = list; index = i })
+in-one list i wide = ap (λ (n : Bool). cond n (Pair list (i / 2)) (One (record { list = list; index = i }))) wide
+
+pub laid-added : (b : BoardParts) (list : CellList) (i : ℕ) (others before after : List KeyByte) → is_narrow list ≡ false → after ≡ before ++ One (record { list = list; index = i }) ∷ [] → IsLaid b list i others before → IsLaid b list (i + 1) others after
+laid-added b list i others before after wide e h =
+    let byte : KeyByte = One (record { list = list; index = i }) in
+    let last : Contains after (byte_of list i) = subst (Contains after) (sym (in-one list i wide)) (last-there before after byte e) in
     record {
-      keeps = λ c k. more c (h.keeps c k);
-      has = below_more (λ k. is_there b list k ≡ true → Contains after (record { list = list; index = k })) i (λ k l there. more _ (h.has k l there)) (λ there. last);
+      keeps = more-kept others before after byte e h.keeps;
+      has = below_more (λ k. is_there b list k ≡ true → Contains after (byte_of list k)) i (λ k l there. subst (λ (cs : List KeyByte). Contains cs (byte_of list k)) (sym e) (Contains-append_left before (byte ∷ []) (byte_of list k) (h.has k l there))) (λ there. last);
     }
 
-pub laid-skipped : (b : BoardParts) (list : CellList) (i : ℕ) (others layout : List Cell) → is_there b list i ≡ false → IsLaid b list i others layout → IsLaid b list (i + 1) others layout
+pub laid-skipped : (b : BoardParts) (list : CellList) (i : ℕ) (others layout : List KeyByte) → is_there b list i ≡ false → IsLaid b list i others layout → IsLaid b list (i + 1) others layout
 laid-skipped b list i others layout gone h = record {
   keeps = h.keeps;
-  has = below_more (λ k. is_there b list k ≡ true → Contains layout (record { list = list; index = k })) i h.has (λ there. absurd (cc));
+  has = below_more (λ k. is_there b list k ≡ true → Contains layout (byte_of list k)) i h.has (λ there. absurd (cc));
 }
 
-pub has-more : (b : BoardParts) (list : CellList) (others layout : List Cell) → HasAll others layout → HasList b others list → HasList b layout list
+-- ---- pair by pair
+
+in-pair : (list : CellList) (i h : ℕ) → is_narrow list ≡ true → i / 2 ≡ h → byte_of list i ≡ Pair list h
+in-pair list i h narrow half = ap (λ (n : Bool). cond n (Pair list (i / 2)) (One (record { list = list; index = i }))) narrow ∙ ap (Pair list) half
+
+pub pair-added : (b : BoardParts) (list : CellList) (h : ℕ) (others before after : List KeyByte) → is_narrow list ≡ true → after ≡ before ++ Pair list h ∷ [] → IsLaid b list (2 * h) others before → IsLaid b list (2 * (h + 1)) others after
+pair-added b list h others before after narrow e laid =
+    let byte : KeyByte = Pair list h in
+    let here : (i : ℕ) → i / 2 ≡ h → Contains after (byte_of list i) = λ i half. subst (Contains after) (sym (in-pair list i h narrow half)) (last-there before after byte e) in
+    record {
+      keeps = more-kept others before after byte e laid.keeps;
+      has = λ i few there. elim (cases_lt i (2 * h)) [
+        | inl less ↦ subst (λ (cs : List KeyByte). Contains cs (byte_of list i)) (sym e) (Contains-append_left before (byte ∷ []) (byte_of list i) (laid.has i less there))
+        | inr past ↦ here i (omega arith)
+      ];
+    }
+
+pub pair-skipped : (b : BoardParts) (list : CellList) (h : ℕ) (others layout : List KeyByte) → (is_there b list (2 * h) || is_there b list (2 * h + 1)) ≡ false → IsLaid b list (2 * h) others layout → IsLaid b list (2 * (h + 1)) others layout
+pair-skipped b list h others layout gone laid =
+    let parts = or_parts (is_there b list (2 * h)) (is_there b list (2 * h + 1)) gone in
+    record {
+      keeps = laid.keeps;
+      has = λ i few there. elim (cases_lt i (2 * h)) [
+        | inl less ↦ laid.has i less there
+        | inr past ↦ elim (cases_lt i (2 * h + 1)) [
+          | inl first ↦ (let at : i ≡ 2 * h = omega arith in absurd (both_ways (is_there b list i) (ap (is_there b list) at ∙ parts.0) there))
+          | inr later ↦ (let at : i ≡ 2 * h + 1 = omega arith in absurd (both_ways (is_there b list i) (ap (is_there b list) at ∙ parts.1) there))
+        ]
+      ];
+    }
+
+-- each list has an even number of cells, so its pairs have all of them
+pub even-count : (list : CellList) → count_of list ≡ 2 * (count_of list / 2)
+even-count Characters = refl
+even-count StatusCharacters = refl
+even-count RamPorts = refl
+even-count RomPorts = refl
+even-count BankSrcs = refl
+even-count Registers = refl
+even-count Counters = refl
+even-count (Chain n) = refl
+
+-- ---- several lists
+
+pub has-more : (b : BoardParts) (list : CellList) (others layout : List KeyByte) → HasAll others layout → HasList b others list → HasList b layout list
 has-more b list others layout more h = λ i few there. more _ (h i few there)
 
 no-bits : (b : BoardParts) (m i : ℕ) → IsSized b → 4 ≤ m → nat_lt i (chain_bits b m) ≡ true → ⊥
@@ -42,14 +99,14 @@ no-bits b m i sized past there =
     let bits : chain_bits b m ≡ 0 = ap (λ (c : ChainPart). 10 * c.chips) none in
     (let few = ltb-true i (chain_bits b m) there in omega arith)
 
-pub all-chains : (b : BoardParts) (layout : List Cell) → IsSized b → ((m : ℕ) → m < 4 → HasList b layout (Chain m)) → (m : ℕ) → HasList b layout (Chain m)
+pub all-chains : (b : BoardParts) (layout : List KeyByte) → IsSized b → ((m : ℕ) → m < 4 → HasList b layout (Chain m)) → (m : ℕ) → HasList b layout (Chain m)
 all-chains b layout sized h m =
     elim (cases_lt m 4) [
       | inl few ↦ h m few
       | inr past ↦ λ i few there. absurd (no-bits b m i sized past there)
     ]
 
-pub complete : (b : BoardParts) (layout : List Cell) → ((m : ℕ) → HasList b layout (Chain m)) → HasList b layout Counters → HasList b layout Registers → HasList b layout BankSrcs → HasList b layout RomPorts → HasList b layout RamPorts → HasList b layout StatusCharacters → HasList b layout Characters → IsComplete b layout
+pub complete : (b : BoardParts) (layout : List KeyByte) → ((m : ℕ) → HasList b layout (Chain m)) → HasList b layout Counters → HasList b layout Registers → HasList b layout BankSrcs → HasList b layout RomPorts → HasList b layout RamPorts → HasList b layout StatusCharacters → HasList b layout Characters → IsComplete b layout
 complete b layout chains counters registers srcs rom ram status characters Characters = characters
 complete b layout chains counters registers srcs rom ram status characters StatusCharacters = status
 complete b layout chains counters registers srcs rom ram status characters RamPorts = ram

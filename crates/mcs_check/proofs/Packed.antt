@@ -1,9 +1,10 @@
 -- Two machines for which one key stands are the same.
-use Rattle.std.proofs.Common.{◌≡◌, ◌<◌, ◌*◌, ◌/◌, ◌%◌, ℕ, zero, suc, inl, inr, true, not, List, [], Option, Some, None, is_some, length, get_or, slice_index, slice_index_or, nat_lt, nat_le, refl, sym, ap, ◌∙◌, subst, arith}
+use Rattle.std.proofs.Common.{◌≡◌, ◌<◌, ◌≤◌, ◌+◌, ◌*◌, ◌/◌, ◌%◌, ℕ, zero, suc, inl, inr, true, not, List, [], Option, Some, None, is_some, length, get_or, slice_index, slice_index_or, nat_lt, nat_le, refl, sym, ap, ◌∙◌, subst, arith}
 use Rattle.std.specs.List.{Contains}
 use Rattle.std.proofs.Math.Nat.{mod-eq_of_lt}
 use Rattle.std.proofs.lemmas.Bool.{lt-ltb, cases_lt, leb-true, and_parts, not-false}
 use Rattle.std.proofs.lemmas.List.{ext_get_or, get_or-map, get_or_past}
+use Rattle.std.proofs.lemmas.List.Elements.{All-get_or}
 use Rattle.mcs_nibble.specs.declared.lines.LineMask.{LineMask}
 use Rattle.mcs_model.specs.declared.board.BoardParts.{BoardParts}
 use Rattle.mcs_model.specs.declared.regs.Regs.{Regs}
@@ -12,24 +13,85 @@ use Rattle.mcs_model.specs.Boards.{board_fault_of, chain_bits, chain_count, chai
 use Rattle.mcs_model.proofs.ListLemmas.{none_at}
 use Rattle.mcs_model.proofs.SoundBoards.{sound}
 use Rattle.mcs_model.specs.Bus.{BusState, chips_of, ram_index, ram_port_index, status_index}
+use Rattle.mcs_model.specs.Validity.{AreBelow, IsValidBus, IsValidRegs}
 use Rattle.mcs_drive.specs.Tracked.{Counts, Tracked}
 use Rattle.mcs_check.specs.declared.cells.Cell.{Cell}
+use Rattle.mcs_check.specs.declared.cells.KeyByte.{KeyByte}
+use Rattle.mcs_check.specs.declared.cells.KeyByte.TheVariants.{Pair}
 use Rattle.mcs_check.specs.declared.cells.CellList.{CellList}
 use Rattle.mcs_check.specs.declared.cells.CellList.TheVariants.{Characters, StatusCharacters, RamPorts, RomPorts, BankSrcs, Registers, Counters, Chain}
-use Rattle.mcs_check.specs.Cells.{counters_of, list_of, count_of, is_there, value_at, key_of, IsComplete}
+use Rattle.mcs_check.specs.Cells.{byte_at, byte_of, counters_of, list_of, count_of, is_narrow, is_there, key_of, IsComplete}
 use Rattle.mcs_check.specs.Keys.{IsOn}
 use Rattle.mcs_check.specs.Agreed.{AgreesInChips}
 use Rattle.mcs_check.proofs.Agreeing.{agreeing-same}
 
-cell-same : (s t : Tracked) (layout : List Cell) (c : Cell) → Contains layout c → key_of layout s ≡ key_of layout t → value_at s c ≡ value_at t c
-cell-same s t layout c h e =
-    ap (value_at s) (sym h.2) ∙ sym (get_or-map (value_at s) layout h.0 c 0 h.1) ∙ ap (λ (xs : List ℕ). get_or xs h.0 0) e ∙ get_or-map (value_at t) layout h.0 c 0 h.1 ∙ ap (value_at t) h.2
+byte-same : (s t : Tracked) (layout : List KeyByte) (c : KeyByte) → Contains layout c → key_of layout s ≡ key_of layout t → byte_at s c ≡ byte_at t c
+byte-same s t layout c h e =
+    ap (byte_at s) (sym h.2) ∙ sym (get_or-map (byte_at s) layout h.0 c 0 h.1) ∙ ap (λ (xs : List ℕ). get_or xs h.0 0) e ∙ get_or-map (byte_at t) layout h.0 c 0 h.1 ∙ ap (byte_at t) h.2
 
--- each number of a list that is there
-number-same : (s t : Tracked) (layout : List Cell) → IsComplete s.1.board layout → key_of layout s ≡ key_of layout t → (list : CellList) (i : ℕ) → i < count_of list → is_there s.1.board list i ≡ true → slice_index (list_of s list) i ≡ slice_index (list_of t list) i
-number-same s t layout whole e list i few there =
-    let at : i % count_of list ≡ i = mod-eq_of_lt few in
-    ap (slice_index (list_of s list)) (sym at) ∙ cell-same s t layout (record { list = list; index = i }) (whole list i few there) e ∙ ap (slice_index (list_of t list)) at
+-- ---- two cells in a byte
+
+below-at : (count limit : ℕ) (xs : List ℕ) (i : ℕ) → 0 < limit → AreBelow count limit xs → slice_index xs i < limit
+below-at count limit xs i some h =
+    elim (cases_lt i (length xs)) [
+      | inl within ↦ All-get_or (λ n. n < limit) xs i 0 within h.below
+      | inr past ↦ (let zero = get_or_past xs i 0 past in omega arith)
+    ]
+
+bit-at : (t : Tracked) (n i : ℕ) → IsValidBus t.1 → slice_index (slice_index_or t.1.chains n []) i < 16
+bit-at t n i bus =
+    elim (cases_lt n (chain_count t.1.board)) [
+      | inl there ↦ (let small = below-at (chain_bits t.1.board n) 2 (slice_index_or t.1.chains n []) i (omega arith) (bus.in_range.chain_bits n there) in omega arith)
+      | inr past ↦
+          let many = bus.in_range.chains in
+          let none : slice_index_or t.1.chains n [] ≡ [] = get_or_past t.1.chains n [] (omega arith) in
+          let zero : slice_index (slice_index_or t.1.chains n []) i ≡ 0 = ap (λ (xs : List ℕ). slice_index xs i) none in
+          omega arith
+    ]
+
+narrow-at : (t : Tracked) → IsValidRegs t.0 → IsValidBus t.1 → (list : CellList) → is_narrow list ≡ true → (i : ℕ) → slice_index (list_of t list) i < 16
+narrow-at t regs bus Characters narrow i = below-at 2048 16 t.1.ram i (omega arith) bus.in_range.ram
+narrow-at t regs bus StatusCharacters narrow i = below-at 512 16 t.1.status i (omega arith) bus.in_range.status
+narrow-at t regs bus RamPorts narrow i = below-at 32 16 t.1.ram_ports i (omega arith) bus.in_range.ram_ports
+narrow-at t regs bus RomPorts narrow i = below-at 16 16 t.1.rom_ports i (omega arith) bus.in_range.rom_ports
+narrow-at t regs bus BankSrcs narrow i = absurd (cc)
+narrow-at t regs bus Registers narrow i = below-at 16 16 t.0.r i (omega arith) regs.r
+narrow-at t regs bus Counters narrow i = absurd (cc)
+narrow-at t regs bus (Chain n) narrow i = bit-at t n i bus
+
+split : (a b c d : ℕ) → a < 16 → b < 16 → c < 16 → d < 16 → a % 16 * 16 + b % 16 ≡ c % 16 * 16 + d % 16 → (a ≡ c) × (b ≡ d)
+split a b c d la lb lc ld e = (omega arith, omega arith)
+
+-- both cells of a pair, if they are at places f and g
+pair-same : (s t : Tracked) (list : CellList) (i f g : ℕ) → ((j : ℕ) → slice_index (list_of s list) j < 16) → ((j : ℕ) → slice_index (list_of t list) j < 16) → f ≡ 2 * (i / 2) → g ≡ 2 * (i / 2) + 1 →
+    slice_index (list_of s list) f % 16 * 16 + slice_index (list_of s list) g % 16 ≡ slice_index (list_of t list) f % 16 * 16 + slice_index (list_of t list) g % 16 →
+    slice_index (list_of s list) i ≡ slice_index (list_of t list) i
+pair-same s t list i f g small-s small-t first second e =
+    let parts = split _ _ _ _ (small-s f) (small-s g) (small-t f) (small-t g) e in
+    elim (cases_lt (i % 2) 1) [
+      | inl even ↦ (let at : i ≡ f = omega arith in ap (slice_index (list_of s list)) at ∙ parts.0 ∙ ap (slice_index (list_of t list)) (sym at))
+      | inr odd ↦ (let at : i ≡ g = omega arith in ap (slice_index (list_of s list)) at ∙ parts.1 ∙ ap (slice_index (list_of t list)) (sym at))
+    ]
+
+-- ---- each cell that is there
+
+cell-same : (s t : Tracked) → IsValidRegs s.0 → IsValidBus s.1 → IsValidRegs t.0 → IsValidBus t.1 → (list : CellList) (i : ℕ) → i < count_of list → byte_at s (byte_of list i) ≡ byte_at t (byte_of list i) → slice_index (list_of s list) i ≡ slice_index (list_of t list) i
+cell-same s t rs bs rt bt Characters i few e = pair-same s t Characters i (2 * (i / 2 % 1024) % 2048) ((2 * (i / 2 % 1024) + 1) % 2048) (narrow-at s rs bs Characters refl) (narrow-at t rt bt Characters refl) (omega arith) (omega arith) e
+cell-same s t rs bs rt bt StatusCharacters i few e = pair-same s t StatusCharacters i (2 * (i / 2 % 1024) % 512) ((2 * (i / 2 % 1024) + 1) % 512) (narrow-at s rs bs StatusCharacters refl) (narrow-at t rt bt StatusCharacters refl) (omega arith) (omega arith) e
+cell-same s t rs bs rt bt RamPorts i few e = pair-same s t RamPorts i (2 * (i / 2 % 1024) % 32) ((2 * (i / 2 % 1024) + 1) % 32) (narrow-at s rs bs RamPorts refl) (narrow-at t rt bt RamPorts refl) (omega arith) (omega arith) e
+cell-same s t rs bs rt bt RomPorts i few e = pair-same s t RomPorts i (2 * (i / 2 % 1024) % 16) ((2 * (i / 2 % 1024) + 1) % 16) (narrow-at s rs bs RomPorts refl) (narrow-at t rt bt RomPorts refl) (omega arith) (omega arith) e
+cell-same s t rs bs rt bt Registers i few e = pair-same s t Registers i (2 * (i / 2 % 1024) % 16) ((2 * (i / 2 % 1024) + 1) % 16) (narrow-at s rs bs Registers refl) (narrow-at t rt bt Registers refl) (omega arith) (omega arith) e
+cell-same s t rs bs rt bt (Chain n) i few e = pair-same s t (Chain n) i (2 * (i / 2 % 1024) % 256) ((2 * (i / 2 % 1024) + 1) % 256) (narrow-at s rs bs (Chain n) refl) (narrow-at t rt bt (Chain n) refl) (omega arith) (omega arith) e
+cell-same s t rs bs rt bt BankSrcs i few e =
+    let at : i % 8 ≡ i = mod-eq_of_lt few in
+    ap (slice_index (list_of s BankSrcs)) (sym at) ∙ e ∙ ap (slice_index (list_of t BankSrcs)) at
+cell-same s t rs bs rt bt Counters i few e =
+    let at : i % 18 ≡ i = mod-eq_of_lt few in
+    ap (slice_index (list_of s Counters)) (sym at) ∙ e ∙ ap (slice_index (list_of t Counters)) at
+
+number-same : (b : BoardParts) (rom : List ℕ) (s t : Tracked) (layout : List KeyByte) → IsOn b rom s → IsOn b rom t → IsComplete s.1.board layout → key_of layout s ≡ key_of layout t → (list : CellList) (i : ℕ) → i < count_of list → is_there s.1.board list i ≡ true → slice_index (list_of s list) i ≡ slice_index (list_of t list) i
+number-same b rom s t layout on-s on-t whole e list i few there =
+    cell-same s t on-s.registers on-s.bus on-t.registers on-t.bus list i few (byte-same s t layout (byte_of list i) (whole list i few there) e)
 
 same-numbers : (xs ys : List ℕ) (n : ℕ) → length xs ≡ n → length ys ≡ n → ((i : ℕ) → i < n → slice_index xs i ≡ slice_index ys i) → xs ≡ ys
 same-numbers xs ys n lx ly h = ext_get_or 0 xs ys (lx ∙ sym ly) (λ i l. h i (omega arith))
@@ -119,10 +181,10 @@ port-there b bank chip small there =
 
 -- ---- the machine
 
-pub same-machine : (b : BoardParts) (rom : List ℕ) (layout : List Cell) (s t : Tracked) → IsComplete b layout → IsOn b rom s → IsOn b rom t → key_of layout s ≡ key_of layout t → s ≡ t
+pub same-machine : (b : BoardParts) (rom : List ℕ) (layout : List KeyByte) (s t : Tracked) → IsComplete b layout → IsOn b rom s → IsOn b rom t → key_of layout s ≡ key_of layout t → s ≡ t
 same-machine b rom layout s t complete on-s on-t e =
     let whole : IsComplete s.1.board layout = subst (λ (d : BoardParts). IsComplete d layout) (sym on-s.board) complete in
-    let n : (list : CellList) (i : ℕ) → i < count_of list → is_there s.1.board list i ≡ true → slice_index (list_of s list) i ≡ slice_index (list_of t list) i = number-same s t layout whole e in
+    let n : (list : CellList) (i : ℕ) → i < count_of list → is_there s.1.board list i ≡ true → slice_index (list_of s list) i ≡ slice_index (list_of t list) i = number-same b rom s t layout on-s on-t whole e in
     let k : (i : ℕ) → i < 18 → slice_index (counters_of s.0 s.1.rom_src s.2) i ≡ slice_index (counters_of t.0 t.1.rom_src t.2) i = λ i h. n Counters i h refl in
     let board : s.1.board ≡ t.1.board = on-s.board ∙ sym on-t.board in
     let banks : length s.1.board.banks ≡ 8 = on-s.bus.board.sized.banks in

@@ -1,5 +1,5 @@
 -- A cycle that changes nothing in the scope of conditions leaves them as they are, but for mistakes.
-use Rattle.std.proofs.Common.{◌≡◌, ℕ, ◌+◌, ◌*◌, ◌/◌, ◌%◌, inl, inr, Bool, true, false, not, cond, ◌&&◌, ◌||◌, List, [], ◌∷◌, Option, Some, None, unwrap_or, slice_index, slice_index_or, slice_set, nat_le, nat_lt, get_or-set_other, refl, sym, ap, ◌∙◌, eqb}
+use Rattle.std.proofs.Common.{◌≡◌, ℕ, ◌+◌, ◌*◌, ◌/◌, ◌%◌, inl, inr, Bool, true, false, not, cond, ◌&&◌, ◌||◌, List, [], ◌∷◌, Option, Some, None, unwrap_or, slice_index, slice_index_or, slice_set, nat_le, nat_lt, get_or-set_other, refl, sym, ap, ◌∙◌, eqb, eqb-true}
 use Rattle.std.proofs.lemmas.Bool.{and_cases, and_from, and_left, and_parts, and_right, both_ways, not-true, not_from_false, or_from, or_parts}
 use Rattle.mcs_model.specs.declared.regs.Regs.{Regs}
 use Rattle.mcs_model.specs.declared.op.Op.{Op}
@@ -130,12 +130,15 @@ keeps-alone c t free (xs ∷ nevers) has =
 -- ---- machines that are the same in a scope
 
 pub record SameIn (c : Scope) (s t : Tracked) : Type 0 where
+  pub seen : t.2.seen ≡ s.2.seen
   pub registers : (r : ℕ) → has_register c r ≡ true → register_of t.0 r ≡ register_of s.0 r
   pub chips : c.chips ≡ true → t.1 ≡ s.1
 
 number-same : (c : Scope) (s t : Tracked) → SameIn c s t → (list : CellList) (i : ℕ) → has_cell c list i ≡ true → slice_index (list_of s list) (i % count_of list) ≡ slice_index (list_of t list) (i % count_of list)
 number-same c s t same Registers i has = sym (same.registers (i % 16) has)
-number-same c s t same Counters i has = absurd (cc)
+number-same c s t same Counters i has =
+    let at : i % 18 ≡ 17 = eqb-true (i % 18) 17 has in
+    ap (slice_index (list_of s Counters)) at ∙ sym same.seen ∙ ap (slice_index (list_of t Counters)) (sym at)
 number-same c s t same Characters i has = ap (λ (m : BusState). slice_index m.ram (i % 2048)) (sym (same.chips has))
 number-same c s t same StatusCharacters i has = ap (λ (m : BusState). slice_index m.status (i % 512)) (sym (same.chips has))
 number-same c s t same RamPorts i has = ap (λ (m : BusState). slice_index m.ram_ports (i % 32)) (sym (same.chips has))
@@ -205,18 +208,19 @@ bus-rests c Wr2 s m rest seen = absurd (both_ways c.chips rest seen)
 bus-rests c Wr3 s m rest seen = absurd (both_ways c.chips rest seen)
 bus-rests c _ s m rest seen = refl
 
-cycle-same-when : (c : Scope) (s : Tracked) (n : Counts) (b : Bool) (o : Option Op) → cycle_changes c (cond b None o) ≡ false →
+cycle-same-when : (c : Scope) (s : Tracked) (n : Counts) (b : Bool) (o : Option Op) → n.seen ≡ s.2.seen → cycle_changes c (cond b None o) ≡ false →
     SameIn c s (with_counts n (unwrap_or (cond b (Some (record s.0 { owed = 0 }, s.1)) (elim o as (λ _. Option (Regs × BusState)) [ Some op ↦ Some (effect op s.0 s.1) | None ↦ None ])) (machine_in s)))
-cycle-same-when c s n true o rest = record { registers = λ r seen. refl; chips = λ seen. refl }
-cycle-same-when c s n false None rest = record { registers = λ r seen. refl; chips = λ seen. refl }
-cycle-same-when c s n false (Some op) rest = record {
+cycle-same-when c s n true o unseen rest = record { seen = unseen; registers = λ r seen. refl; chips = λ seen. refl }
+cycle-same-when c s n false None unseen rest = record { seen = unseen; registers = λ r seen. refl; chips = λ seen. refl }
+cycle-same-when c s n false (Some op) unseen rest = record {
+  seen = unseen;
   registers = λ r seen. register-rests c op (after_words op s.0) s.1 r rest seen;
   chips = λ seen. bus-rests c op s.0 s.1 rest seen;
 }
 
-cycle-same : (w : Observer) (c : Scope) (s : Tracked) → cycle_changes c (next_op s.0 s.1) ≡ false → SameIn c s (cycled w s)
+cycle-same : (w : Observer) (c : Scope) (s : Tracked) → (cycled w s).2.seen ≡ s.2.seen → cycle_changes c (next_op s.0 s.1) ≡ false → SameIn c s (cycled w s)
 unfolding cycle_of
-cycle-same w c s rest = cycle-same-when c s (counts_after w s) (eqb s.0.owed 1) (instruction_at s.0 s.1) rest
+cycle-same w c s unseen rest = cycle-same-when c s (counts_after w s) (eqb s.0.owed 1) (instruction_at s.0 s.1) unseen rest
 
 -- ---- what is known of the property
 
@@ -224,6 +228,8 @@ cycle-same w c s rest = cycle-same-when c s (counts_after w s) (eqb s.0.owed 1) 
 pub known-keeps : (c : Scope) (nevers : List (List Condition)) (t : Tracked) → has_each c nevers ≡ true → keeps_apart nevers t ≡ true → errs c t ≡ false → keeps_to nevers t ≡ true
 known-keeps c nevers t has apart free = keeps-alone c t free nevers has ∙ apart
 
--- after a cycle that changes nothing in the scope it holds but for mistakes, if it held before
-pub known-next : (w : Observer) (c : Scope) (nevers : List (List Condition)) (s t : Tracked) → has_each c nevers ≡ true → cycle_changes c (next_op s.0 s.1) ≡ false → keeps_to nevers s ≡ true → t ≡ cycled w s → keeps_apart nevers t ≡ true
-known-next w c nevers s t has rest well e = ap (keeps_apart nevers) e ∙ sym (keeps-same c s (cycled w s) (cycle-same w c s rest) nevers has) ∙ kept-apart nevers s well
+-- after a cycle that changes nothing in the scope and sees no mark it holds but for mistakes, if it held before
+pub known-next : (w : Observer) (c : Scope) (nevers : List (List Condition)) (s t : Tracked) → has_each c nevers ≡ true → t.2.seen ≡ s.2.seen → cycle_changes c (next_op s.0 s.1) ≡ false → keeps_to nevers s ≡ true → t ≡ cycled w s → keeps_apart nevers t ≡ true
+known-next w c nevers s t has unseen rest well e =
+    let same = cycle-same w c s (ap (λ (x : Tracked). x.2.seen) (sym e) ∙ unseen) rest in
+    ap (keeps_apart nevers) e ∙ sym (keeps-same c s (cycled w s) same nevers has) ∙ kept-apart nevers s well

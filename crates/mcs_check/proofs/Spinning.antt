@@ -111,10 +111,10 @@ module _ (w : Observer) where
   pass-quiet s r v spins = and_right (not (eqb s.0.owed 1)) (asks (instruction_at s.0 s.1)) (ap asks spins.next)
 
   pass-same : (c : Scope) (s : Tracked) (r v : ℕ) → has_register c r ≡ false → SameIn c s (at_pass r v s)
-  pass-same c s r v unseen = record { registers = λ i seen. set-rests c s.0.r r i v unseen seen; chips = λ seen. refl }
+  pass-same c s r v unseen = record { seen = refl; registers = λ i seen. set-rests c s.0.r r i v unseen seen; chips = λ seen. refl }
 
   middle-same : (c : Scope) (s : Tracked) (r v : ℕ) → has_register c r ≡ false → SameIn c s (in_pass r v s)
-  middle-same c s r v unseen = record { registers = λ i seen. set-rests c s.0.r r i v unseen seen; chips = λ seen. refl }
+  middle-same c s r v unseen = record { seen = refl; registers = λ i seen. set-rests c s.0.r r i v unseen seen; chips = λ seen. refl }
 
   errs-when : (c : Scope) (s : Tracked) (r v u : ℕ) (b : Bool) (o : Option Op) → o ≡ Some (Isz r u) →
       (c.mistakes && (b && elim o as (λ _. Bool) [ Some op ↦ makes all_mistakes op (at_pass r v s) | None ↦ true ]))

@@ -1,6 +1,7 @@
--- The cells of a machine: the bytes that can differ between two machines with the same board and the
--- same program. The values of a layout's cells form a key. (Our own choice.)
-use Rattle.std.specs.Prelude.{◌≡◌, ◌<◌, ◌/◌, ◌%◌, ℕ, List, [], ◌∷◌, Bool, true, is_some, map, nat_lt, slice_index, slice_index_or}
+-- The cells of a machine: the values that can differ between two machines with the same board and the
+-- same program. A layout lists the bytes of a key; each byte has the value of one cell, or the values of
+-- two neighbouring cells. (Our own choice.)
+use Rattle.std.specs.Prelude.{◌≡◌, ◌<◌, ◌+◌, ◌*◌, ◌/◌, ◌%◌, ℕ, List, [], ◌∷◌, Bool, true, false, is_some, map, nat_lt, slice_index, slice_index_or, if◌then◌else◌}
 use Rattle.std.specs.List.{Contains}
 use Rattle.mcs_model.specs.declared.board.BoardParts.{BoardParts}
 use Rattle.mcs_model.specs.declared.regs.Regs.{Regs}
@@ -8,6 +9,8 @@ use Rattle.mcs_model.specs.Boards.{chain_bits, masks_on}
 use Rattle.mcs_drive.specs.Tracked.{Counts, Tracked}
 use Rattle.mcs_check.specs.declared.cells.Cell.{Cell}
 use Rattle.mcs_check.specs.declared.cells.CellList.{CellList}
+use Rattle.mcs_check.specs.declared.cells.KeyByte.{KeyByte}
+use Rattle.mcs_check.specs.declared.cells.KeyByte.TheVariants.{One, Pair}
 use Rattle.mcs_check.specs.declared.cells.CellList.TheVariants.{Characters, StatusCharacters, RamPorts, RomPorts, BankSrcs, Registers, Counters, Chain}
 
 -- all registers except the index registers, the SRC byte that the ROMs store, the number of open calls,
@@ -58,20 +61,41 @@ is_there b (Chain n) i = nat_lt i (chain_bits b n)
 abbrev pub value_at : Tracked → Cell → ℕ
 value_at t c = slice_index (list_of t c.list) (c.index % count_of c.list)
 
--- a machine's key: the values of the cells in a layout
-abbrev pub key_of : List Cell → Tracked → List ℕ
-key_of layout t = map (value_at t) layout
+-- true if each cell of a list has a value below 16, so that a byte of a key has two of them
+abbrev pub is_narrow : CellList → Bool
+is_narrow BankSrcs = false
+is_narrow Counters = false
+is_narrow _ = true
 
--- holds if a layout has every cell of another one
-abbrev pub HasAll : List Cell → List Cell → Type 0
-HasAll others layout = (c : Cell) → Contains others c → Contains layout c
+-- the first cell of pair h of a list; the second cell follows it
+abbrev pub first_of : CellList → ℕ → Cell
+first_of list h = record { list = list; index = 2 * (h % 1024) }
+
+abbrev pub second_of : CellList → ℕ → Cell
+second_of list h = record { list = list; index = 2 * (h % 1024) + 1 }
+
+-- the value of a key's byte; the first cell of a pair is the upper nibble
+abbrev pub byte_at : Tracked → KeyByte → ℕ
+byte_at t (One c) = value_at t c
+byte_at t (Pair list h) = value_at t (first_of list h) % 16 * 16 + value_at t (second_of list h) % 16
+
+-- a machine's key: the values of the bytes in a layout
+abbrev pub key_of : List KeyByte → Tracked → List ℕ
+key_of layout t = map (byte_at t) layout
+
+-- the byte of a key that has cell i of a list
+abbrev pub byte_of : CellList → ℕ → KeyByte
+byte_of list i = if is_narrow list then Pair list (i / 2) else One (record { list = list; index = i })
+
+-- holds if a layout has every byte of another one
+abbrev pub HasAll : List KeyByte → List KeyByte → Type 0
+HasAll others layout = (c : KeyByte) → Contains others c → Contains layout c
 
 -- holds if a layout has every cell of the list that the board has
-abbrev pub HasList : BoardParts → List Cell → CellList → Type 0
+abbrev pub HasList : BoardParts → List KeyByte → CellList → Type 0
 HasList b layout list =
-    (i : ℕ) → i < count_of list → is_there b list i ≡ true →
-    Contains layout (record { list = list; index = i })
+    (i : ℕ) → i < count_of list → is_there b list i ≡ true → Contains layout (byte_of list i)
 
 -- holds if a layout has every cell that the board has
-abbrev pub IsComplete : BoardParts → List Cell → Type 0
+abbrev pub IsComplete : BoardParts → List KeyByte → Type 0
 IsComplete b layout = (list : CellList) → HasList b layout list

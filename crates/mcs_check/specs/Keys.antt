@@ -5,7 +5,7 @@ use Rattle.mcs_model.specs.Boards.{key_count}
 use Rattle.mcs_model.specs.Bus.{BusState}
 use Rattle.mcs_model.specs.Validity.{IsValidBus, IsValidRegs}
 use Rattle.mcs_drive.specs.Tracked.{Tracked}
-use Rattle.mcs_check.specs.declared.cells.Cell.{Cell}
+use Rattle.mcs_check.specs.declared.cells.KeyByte.{KeyByte}
 use Rattle.mcs_check.specs.Cells.{IsComplete, key_of}
 use Rattle.mcs_check.specs.Conditions.{Aimed, keeps_to}
 
@@ -13,11 +13,11 @@ use Rattle.mcs_check.specs.Conditions.{Aimed, keeps_to}
 pub record Setting : Type 0 where
   pub board : BoardParts
   pub rom : List ℕ
-  pub layout : List Cell
+  pub layout : List KeyByte
   pub aim : Aimed
 
 -- the setting of a machine, with a given layout and given conditions
-abbrev pub setting_of : Tracked → List Cell → Aimed → Setting
+abbrev pub setting_of : Tracked → List KeyByte → Aimed → Setting
 setting_of s layout aim = record { board = s.1.board; rom = s.1.rom; layout = layout; aim = aim }
 
 -- the property to check: true if none of the lists that must never be met has all its conditions met
@@ -34,7 +34,7 @@ pub record IsOn (b : BoardParts) (bytes : List ℕ) (a : Tracked) : Type 0 where
   pub test : a.1.test ≡ 0
 
 -- holds if a key identifies a machine: the machine has the setting's board and ROM bytes, the property
--- holds for it, and the key has the values of its cells
+-- holds for it, and the key is the machine's
 pub record IsKeyOf (g : Setting) (key : List ℕ) (a : Tracked) : Type 0 where
   pub on : IsOn g.board g.rom a
   pub well : test_of g a ≡ true
@@ -51,5 +51,5 @@ pub record Keeps (s t : BusState) : Type 0 where
 -- layout determine everything else
 abbrev pub KeysDecide : Type 0
 KeysDecide =
-    (b : BoardParts) (rom : List ℕ) (layout : List Cell) (s t : Tracked) → IsComplete b layout →
+    (b : BoardParts) (rom : List ℕ) (layout : List KeyByte) (s t : Tracked) → IsComplete b layout →
     IsOn b rom s → IsOn b rom t → key_of layout s ≡ key_of layout t → s ≡ t

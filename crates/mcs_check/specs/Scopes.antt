@@ -1,6 +1,6 @@
 -- The scope of conditions: the parts of a machine that they depend on. A cycle that changes nothing in
 -- the scope does not change whether the conditions are met. (Our own choice.)
-use Rattle.std.specs.Prelude.{ℕ, ◌+◌, ◌*◌, ◌%◌, List, [], ◌∷◌, Bool, true, false, ◌&&◌, ◌||◌, Option, Some, None, slice_index_or}
+use Rattle.std.specs.Prelude.{ℕ, ◌+◌, ◌*◌, ◌%◌, ◌==◌, List, [], ◌∷◌, Bool, true, false, ◌&&◌, ◌||◌, Option, Some, None, slice_index_or}
 use Rattle.mcs_model.specs.declared.op.Op.{Op}
 use Rattle.mcs_model.specs.declared.op.Op.TheVariants.{Fim, Src, Fin, Inc, Isz, Xch, Wrm, Wmp, Wrr, Wr0, Wr1, Wr2, Wr3}
 use Rattle.mcs_drive.specs.Tracked.{Tracked}
@@ -16,10 +16,10 @@ use Rattle.mcs_check.specs.Mistaken.{is_mistaken}
 abbrev pub has_register : Scope → ℕ → Bool
 has_register c r = slice_index_or c.registers r false
 
--- true if cell i of a list is in a scope; a cell of the list Counters never is
+-- true if cell i of a list is in a scope; of the list Counters, only the number of marks seen is, always
 abbrev pub has_cell : Scope → CellList → ℕ → Bool
 has_cell c Registers i = has_register c (i % 16)
-has_cell c Counters i = false
+has_cell c Counters i = i % 18 == 17
 has_cell c _ i = c.chips
 
 -- true if a scope covers everything that a condition depends on

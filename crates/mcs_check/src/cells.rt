@@ -1,6 +1,6 @@
-//! The cells of a machine, and a board's layout: the list of cells that machines on the board have.
-ghost use Rattle.std.specs.Prelude.{◌≡◌, ◌<◌, ◌%◌, IfOk, OnOk};
-ghost use Rattle.mcs_check.specs.Cells.{count_of, is_there, HasAll, HasList, IsComplete};
+//! The cells of a machine, and a board's layout: the bytes of a key, which have all cells of machines on the board.
+ghost use Rattle.std.specs.Prelude.{◌≡◌, ◌<◌, ◌+◌, ◌*◌, ◌%◌, ◌||◌, true, false, IfOk, OnOk};
+ghost use Rattle.mcs_check.specs.Cells.{count_of, first_of, is_narrow, is_there, second_of, HasAll, HasList, IsComplete};
 
 use mcs_model::board::{Board, Line};
 use mcs_model::limits::CHAINS;
@@ -61,6 +61,52 @@ impl CellList {
             CellList::Chain(_) => 256,
         }
     }
+
+    /// Returns whether each cell of the list has a value below 16.
+    fn is_narrow(self) -> bool
+        ensures { result ≡ is_narrow self }
+    {
+        match self {
+            CellList::BankSrcs | CellList::Counters => false,
+            _ => true,
+        }
+    }
+}
+
+/// A byte of a key.
+#[derive(Clone, Copy, Debug)]
+pub enum KeyByte {
+    /// The value of a cell.
+    One(Cell),
+    /// The values of two neighbouring cells, each below 16, given by their list and the number of the pair, counted
+    /// from 0. The first cell is the upper nibble.
+    Pair(CellList, u16),
+}
+
+impl Default for KeyByte {
+    fn default() -> KeyByte {
+        KeyByte::One(Cell::default())
+    }
+}
+
+/// Returns the first cell of a pair.
+pub(crate) fn first_of(list: CellList, pair: u16) -> Cell
+    ensures { result ≡ first_of list pair }
+{
+    Cell {
+        list,
+        index: 2 * (pair % 1024),
+    }
+}
+
+/// Returns the second cell of a pair.
+pub(crate) fn second_of(list: CellList, pair: u16) -> Cell
+    ensures { result ≡ second_of list pair }
+{
+    Cell {
+        list,
+        index: 2 * (pair % 1024) + 1,
+    }
 }
 
 impl Cell {
@@ -88,21 +134,57 @@ fn is_there(board: &Board, list: CellList, i: u16) -> bool
     }
 }
 
-/// Appends the cells of one list that a board has to the layout.
-fn add_list(layout: &mut Vec<Cell>, board: &Board, list: CellList) -> Result<(), AllocError>
+/// Returns whether a board has the chip that contains one of the cells of a pair.
+fn is_pair_there(board: &Board, list: CellList, pair: u16) -> bool
+    requires { 2 * pair + 1 < count_of list }
+    ensures { result ≡ (is_there board.now list (2 * pair) || is_there board.now list (2 * pair + 1)) }
+{
+    is_there(board, list, 2 * pair) || is_there(board, list, 2 * pair + 1)
+}
+
+/// Appends the cells of one list that a board has to the layout, each in a byte of its own.
+fn add_cells(layout: &mut Vec<KeyByte>, board: &Board, list: CellList) -> Result<(), AllocError>
+    requires { is_narrow list ≡ false }
     ensures keeps { OnOk result (HasAll layout.old.items layout.new.items) }
     ensures has { OnOk result (HasList board.now layout.new.items list) }
 {
     for index in 0..list.count() {
         if is_there(board, list, index) {
-            layout.push(Cell { list, index })?;
+            layout.push(KeyByte::One(Cell { list, index }))?;
         }
     }
     Ok(())
 }
 
+/// Appends the cells of one list that a board has to the layout, two in a byte.
+fn add_pairs(layout: &mut Vec<KeyByte>, board: &Board, list: CellList) -> Result<(), AllocError>
+    requires { is_narrow list ≡ true }
+    ensures keeps { OnOk result (HasAll layout.old.items layout.new.items) }
+    ensures has { OnOk result (HasList board.now layout.new.items list) }
+{
+    for pair in 0..list.count() / 2 {
+        if is_pair_there(board, list, pair) {
+            layout.push(KeyByte::Pair(list, pair))?;
+        }
+    }
+    Ok(())
+}
+
+/// Appends the cells of one list that a board has to the layout.
+fn add_list(layout: &mut Vec<KeyByte>, board: &Board, list: CellList) -> Result<(), AllocError>
+    ensures keeps { OnOk result (HasAll layout.old.items layout.new.items) }
+    ensures has { OnOk result (HasList board.now layout.new.items list) }
+{
+    if list.is_narrow() {
+        add_pairs(layout, board, list)?;
+    } else {
+        add_cells(layout, board, list)?;
+    }
+    Ok(())
+}
+
 /// Returns a board's layout, which contains every cell that machines on the board have.
-pub fn layout_of(alloc: Global, board: &Board) -> Result<Vec<Cell>, AllocError>
+pub fn layout_of(alloc: Global, board: &Board) -> Result<Vec<KeyByte>, AllocError>
     ensures { IfOk result (λ layout. IsComplete board.now layout.items) }
 {
     // This call gives the proof the fact that a board has at most four chains.

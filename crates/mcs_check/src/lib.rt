@@ -24,7 +24,7 @@ mod walker;
 mod walking;
 
 pub use aim::Aim;
-pub use cells::{Cell, CellList, layout_of};
+pub use cells::{Cell, CellList, KeyByte, layout_of};
 pub use checking::{Outcome, check_all};
 pub use common_mistakes::Mistakes;
 pub use conditions::{Comparison, Condition, Conjunction, Part, keeps_to};

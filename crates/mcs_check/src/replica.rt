@@ -1,16 +1,17 @@
 //! A processor on a rig. Its cells can be loaded from a key and saved into one.
-ghost use Rattle.std.specs.Prelude.{◌≡◌, ◌<◌, All, length, IsTrue};
+ghost use Rattle.std.specs.Prelude.{◌≡◌, ◌<◌, All, length, slice_index, IsTrue};
 ghost use Rattle.mcs_model.specs.Validity.{IsValidBus, IsValidRegs};
 ghost use Rattle.mcs_drive.specs.Tracked.{without_calls};
 ghost use Rattle.mcs_check.specs.declared.cells.CellList.TheVariants.{Counters};
-ghost use Rattle.mcs_check.specs.Cells.{list_of, value_at, key_of};
+ghost use Rattle.mcs_check.specs.Cells.{byte_at, list_of, value_at, key_of};
 ghost use Rattle.mcs_check.specs.Keys.{Keeps};
 
-use crate::cells::{Cell, CellList};
+use crate::cells::{Cell, CellList, KeyByte, first_of, second_of};
 use crate::stopwatch::Cycles;
 use mcs_board::BenchRig;
 use mcs_cpu4004::Cpu;
 use mcs_model::board::Board;
+use mcs_model::regs::Regs;
 use mcs_nibble::{Addr, Bit, Nibble};
 use std::marker::Model;
 
@@ -33,36 +34,6 @@ impl Model for Replica {
     ghost view = { λ r. (r.cpu, r.rig, record { calls = r.calls; elapsed = r.elapsed; seen = r.seen }) };
 }
 
-/// Returns the values of the list `Counters`: all registers except the index registers, the SRC byte that the ROMs
-/// store, the number of open calls, the cycles on a stopwatch, and the number of marks seen.
-fn counters(cpu: &Cpu, rig: &BenchRig, calls: u8, elapsed: Cycles, seen: u8) -> [u8; 18]
-    ensures { result ≡ list_of (cpu.now, rig.now, record { calls = calls; elapsed = elapsed; seen = seen }) Counters }
-{
-    let regs = cpu.regs();
-    let [first, second, third] = regs.ret;
-    let [high, middle, low] = elapsed.bytes();
-    [
-        regs.acc.get(),
-        regs.cy.get(),
-        regs.dcl,
-        regs.owed,
-        (regs.pc.get() / 256) as u8,
-        (regs.pc.get() % 256) as u8,
-        (first.get() / 256) as u8,
-        (first.get() % 256) as u8,
-        (second.get() / 256) as u8,
-        (second.get() % 256) as u8,
-        (third.get() / 256) as u8,
-        (third.get() % 256) as u8,
-        rig.rom_src(),
-        calls,
-        high,
-        middle,
-        low,
-        seen,
-    ]
-}
-
 /// Returns an address with its upper or its lower byte replaced. Only the lower nibble of an upper byte is used.
 fn with_byte(at: Addr, is_upper: bool, byte: u8) -> Addr {
     if is_upper {
@@ -72,21 +43,18 @@ fn with_byte(at: Addr, is_upper: bool, byte: u8) -> Addr {
     }
 }
 
-/// Sets the register, or the byte of an address register, that `counters` returns at index `i`.
-fn set_counter(cpu: &mut Cpu, i: u16, n: u8) {
-    let regs = cpu.regs();
-    let mut ret = regs.ret;
+/// Sets the register, or the byte of an address register, that is counter `i`.
+fn set_counter(regs: &mut Regs, i: u16, n: u8) {
     match i {
-        0 => cpu.set_acc(Nibble::low_of(n)),
-        1 => cpu.set_cy(Bit::low_of(n)),
-        2 => cpu.set_dcl(n % 8),
-        3 => cpu.set_owed(n % 2),
-        4 => cpu.set_pc(with_byte(regs.pc, true, n)),
-        5 => cpu.set_pc(with_byte(regs.pc, false, n)),
+        0 => regs.acc = Nibble::low_of(n),
+        1 => regs.cy = Bit::low_of(n),
+        2 => regs.dcl = n % 8,
+        3 => regs.owed = n % 2,
+        4 => regs.pc = with_byte(regs.pc, true, n),
+        5 => regs.pc = with_byte(regs.pc, false, n),
         _ => {
             let k = usize::from(i) / 2 % 3;
-            ret[k] = with_byte(ret[k], i % 2 == 0, n);
-            cpu.set_ret(ret);
+            regs.ret[k] = with_byte(regs.ret[k], i % 2 == 0, n);
         }
     }
 }
@@ -140,6 +108,36 @@ impl Replica {
         self.rig.board()
     }
 
+    /// Returns cell `i` of the list `Counters`.
+    fn counter_at(&self, i: u16) -> u8
+        requires { i < 18 }
+        ensures { result ≡ slice_index (list_of self.now Counters) i }
+    {
+        let regs = self.cpu.regs();
+        let [first, second, third] = regs.ret;
+        let [high, middle, low] = self.elapsed.bytes();
+        match i {
+            0 => regs.acc.get(),
+            1 => regs.cy.get(),
+            2 => regs.dcl,
+            3 => regs.owed,
+            4 => (regs.pc.get() / 256) as u8,
+            5 => (regs.pc.get() % 256) as u8,
+            6 => (first.get() / 256) as u8,
+            7 => (first.get() % 256) as u8,
+            8 => (second.get() / 256) as u8,
+            9 => (second.get() % 256) as u8,
+            10 => (third.get() / 256) as u8,
+            11 => (third.get() % 256) as u8,
+            12 => self.rig.rom_src(),
+            13 => self.calls,
+            14 => high,
+            15 => middle,
+            16 => low,
+            _ => self.seen,
+        }
+    }
+
     /// Returns the value of a cell.
     pub fn value(&self, cell: Cell) -> u8
         ensures { result ≡ value_at self.now cell }
@@ -161,17 +159,28 @@ impl Replica {
             CellList::RomPorts => self.rig.rom_latch(cell.place() as u8).get(),
             CellList::BankSrcs => self.rig.ram_src(cell.place() as u8),
             CellList::Registers => self.cpu.regs().r[usize::from(cell.place())].get(),
-            CellList::Counters => {
-                counters(&self.cpu, &self.rig, self.calls, self.elapsed, self.seen)[usize::from(
-                    cell.place(),
-                )]
-            }
+            CellList::Counters => self.counter_at(cell.place()),
             CellList::Chain(n) => self.rig.chain_bit(n, cell.place() as u8).get(),
         }
     }
 
-    /// Sets the value of a cell. The contract does not promise this; `load` checks it with `is_at`.
-    fn set(&mut self, cell: Cell, n: u8)
+    /// Returns the value of a key's byte.
+    fn byte(&self, byte: KeyByte) -> u8
+        ensures { result ≡ byte_at self.now byte }
+    {
+        match byte {
+            KeyByte::One(cell) => self.value(cell),
+            KeyByte::Pair(list, pair) => {
+                let first = self.value(first_of(list, pair)) % 16;
+                let second = self.value(second_of(list, pair)) % 16;
+                first * 16 + second
+            }
+        }
+    }
+
+    /// Sets the value of a cell: of a register in `regs`, of any other cell in this machine. The contract does not
+    /// promise the value; `load` checks it with `is_at`.
+    fn set(&mut self, regs: &mut Regs, cell: Cell, n: u8)
         ensures { Keeps self.old.1 self.new.1 }
     {
         match cell.list {
@@ -195,11 +204,7 @@ impl Replica {
                 .rig
                 .set_rom_latch(cell.place() as u8, Nibble::low_of(n)),
             CellList::BankSrcs => self.rig.set_ram_src(cell.place() as u8, n),
-            CellList::Registers => {
-                let mut r = self.cpu.regs().r;
-                r[usize::from(cell.place())] = Nibble::low_of(n);
-                self.cpu.set_r(r);
-            }
+            CellList::Registers => regs.r[usize::from(cell.place())] = Nibble::low_of(n),
             CellList::Counters => {
                 let i = cell.place();
                 if i == 12 {
@@ -211,7 +216,7 @@ impl Replica {
                 } else if i > 13 {
                     self.elapsed = self.elapsed.with_byte(i - 14, n);
                 } else {
-                    set_counter(&mut self.cpu, i, n);
+                    set_counter(regs, i, n);
                 }
             }
             CellList::Chain(chain) => {
@@ -221,38 +226,66 @@ impl Replica {
         }
     }
 
-    /// Writes the values of a layout's cells into a key.
-    pub fn save(&self, layout: &[Cell], key: &mut [u8])
+    /// Sets the cells of a key's byte, as `set` does.
+    fn set_byte(&mut self, regs: &mut Regs, byte: KeyByte, n: u8)
+        ensures { Keeps self.old.1 self.new.1 }
+    {
+        match byte {
+            KeyByte::One(cell) => self.set(regs, cell, n),
+            KeyByte::Pair(list, pair) => {
+                self.set(regs, first_of(list, pair), n / 16);
+                self.set(regs, second_of(list, pair), n % 16);
+            }
+        }
+    }
+
+    /// Sets all registers of the processor.
+    fn set_registers(&mut self, regs: &Regs)
+        ensures { self.new.1 ≡ self.old.1 }
+    {
+        self.cpu.set_acc(regs.acc);
+        self.cpu.set_cy(regs.cy);
+        self.cpu.set_r(regs.r);
+        self.cpu.set_pc(regs.pc);
+        self.cpu.set_ret(regs.ret);
+        self.cpu.set_dcl(regs.dcl % 8);
+        self.cpu.set_owed(regs.owed % 2);
+    }
+
+    /// Writes the machine's key into `key`.
+    pub fn save(&self, layout: &[KeyByte], key: &mut [u8])
         requires { length key.old ≡ length layout.now }
         ensures { key.new ≡ key_of layout.now self.now }
     {
         for i in 0..layout.len() {
-            key[i] = self.value(layout[i]);
+            key[i] = self.byte(layout[i]);
         }
     }
 
-    /// Returns whether the values of a layout's cells equal the bytes of a key.
-    pub(crate) fn is_at(&self, layout: &[Cell], key: &[u8]) -> bool
+    /// Returns whether a key is the machine's.
+    pub(crate) fn is_at(&self, layout: &[KeyByte], key: &[u8]) -> bool
         requires { length key.now ≡ length layout.now }
         ensures { IsTrue result → key.now ≡ key_of layout.now self.now }
     {
         for i in 0..layout.len() {
-            if key[i] != self.value(layout[i]) {
+            if key[i] != self.byte(layout[i]) {
                 return false;
             }
         }
         true
     }
 
-    /// Sets a layout's cells from a key. Returns whether their values then equal the bytes of the key.
-    pub fn load(&mut self, layout: &[Cell], key: &[u8]) -> bool
+    /// Sets a layout's cells from a key. Returns whether the key is then the machine's.
+    pub fn load(&mut self, layout: &[KeyByte], key: &[u8]) -> bool
         requires { length key.now ≡ length layout.now }
         ensures keeps { Keeps self.old.1 self.new.1 }
         ensures loaded { IsTrue result → key.now ≡ key_of layout.now self.new }
     {
+        let mut regs = self.cpu.regs();
         for i in 0..layout.len() {
-            self.set(layout[i], key[i]);
+            self.set_byte(&mut regs, layout[i], key[i]);
         }
+        self.set_registers(&regs);
         self.is_at(layout, key)
     }
 

@@ -67,13 +67,13 @@ impl Scope {
         self.has_register(even) || self.has_register(even + 1)
     }
 
-    /// Returns whether a cell is in the scope. A counter never is.
+    /// Returns whether a cell is in the scope. Of the counters, only the number of marks seen is, always.
     fn has_cell(&self, cell: Cell) -> bool
         ensures { result ≡ has_cell self.now cell.list cell.index }
     {
         match cell.list {
             CellList::Registers => self.has_register(cell.place() as u8),
-            CellList::Counters => false,
+            CellList::Counters => cell.place() == 17,
             _ => self.chips,
         }
     }

@@ -13,7 +13,7 @@ ghost use Rattle.mcs_check.specs.Scopes.{cycle_changes, errs};
 ghost use Rattle.mcs_check.specs.Stations.{Begins, LooksAtTest, Reads, CannotRead, HasRead, HasSpun, Reaches, Spins, has_no_more, port_unpressed, with_seen};
 
 use crate::aim::Aim;
-use crate::cells::Cell;
+use crate::cells::KeyByte;
 use crate::common_mistakes::Mistakes;
 use crate::reading::{Source, source_of};
 use crate::replica::Replica;
@@ -352,7 +352,7 @@ impl Replica {
     }
 
     /// Returns whether the program counter is `at` and the values of a layout's cells equal the bytes of a key.
-    fn is_again(&self, layout: &[Cell], key: &[u8], at: Addr) -> bool
+    fn is_again(&self, layout: &[KeyByte], key: &[u8], at: Addr) -> bool
         requires { length key.now ≡ length layout.now }
     {
         self.cpu.regs().pc.get() == at.get() && self.is_at(layout, key)
@@ -367,13 +367,21 @@ impl Replica {
         is_known && !changed && !errs || aim.keeps(self)
     }
 
+    /// Returns whether the last step may have changed something in a scope. `changes` says whether it may have changed a
+    /// register or a chip in it, `seen` is the number of marks seen before it.
+    fn has_changed(&self, changes: bool, seen: u8) -> bool
+        ensures { result ≡ false → (changes ≡ false) × (self.now.2.seen ≡ seen) }
+    {
+        changes || self.seen != seen
+    }
+
     /// Runs until the next cycle may read an input, the machine is back at the one that a key identifies, or `most`
     /// cycles have run. `at` is that machine's program counter. Returns whether the property holds at every step.
     pub fn go_to_station(
         &mut self,
         aim: &Aim,
         most: u32,
-        layout: &[Cell],
+        layout: &[KeyByte],
         key: &[u8],
         at: Addr,
     ) -> bool
@@ -402,8 +410,9 @@ impl Replica {
             }
             let is_sought = self.counter().get() == at.get();
             let may = may_spin(left, is_sought, has_each, &ahead);
+            let seen = self.seen;
             left = left.saturating_sub(self.go_on(aim, &ahead, may));
-            changed = ahead.changes;
+            changed = self.has_changed(ahead.changes, seen);
         }
         aim.keeps(self)
     }

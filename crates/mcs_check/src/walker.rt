@@ -2,7 +2,7 @@
 ghost use Rattle.std.specs.Prelude.{◌≡◌};
 
 use crate::aim::Aim;
-use crate::cells::Cell;
+use crate::cells::KeyByte;
 use crate::replica::Replica;
 use crate::walking::{follow, list_values};
 use mcs_search::System;
@@ -13,7 +13,7 @@ use std::marker::Model;
 #[derive(Drop)]
 pub struct Walker {
     pub(crate) replica: Replica,
-    pub(crate) layout: Vec<Cell>,
+    pub(crate) layout: Vec<KeyByte>,
     pub(crate) aim: Aim,
     pub(crate) most: u32,
 }

@@ -10,7 +10,7 @@ ghost use Rattle.mcs_check.specs.Stations.{CannotRead};
 ghost use Rattle.mcs_check.specs.Walking.{IsState, Leads};
 
 use crate::aim::Aim;
-use crate::cells::Cell;
+use crate::cells::KeyByte;
 use crate::replica::Replica;
 use std::alloc::AllocError;
 
@@ -45,7 +45,7 @@ fn list_readable(replica: &Replica, into: &mut Vec<u8>) -> Result<(), AllocError
 /// cannot be loaded.
 pub(crate) fn list_values(
     replica: &mut Replica,
-    layout: &[Cell],
+    layout: &[KeyByte],
     key: &[u8],
     into: &mut Vec<u8>,
 ) -> Result<(), AllocError>
@@ -71,7 +71,7 @@ pub(crate) fn list_values(
 /// the key cannot be loaded or the first cycle cannot read `value`.
 pub(crate) fn follow(
     replica: &mut Replica,
-    layout: &[Cell],
+    layout: &[KeyByte],
     aim: &Aim,
     most: u32,
     key: &[u8],

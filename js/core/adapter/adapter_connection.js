@@ -1,23 +1,23 @@
-// A connection in the debug adapter protocol (DAP): receives requests and sends responses and events. It serves requests in their order,
-// `initialize` first. Only `cancel` is served at once.
+// A connection in the debug adapter protocol (DAP): receives requests, and sends responses and events. The connection serves requests in
+// their order, `initialize` first. Only `cancel` is served at once.
 
-import { Cancelled } from "../bench/faults.js";
-import { fieldOf } from "../server/framing.js";
+import { CancelledError } from "../bench/faults.js";
+import { getField } from "../server/framing.js";
 import { MessageStream } from "../server/message_stream.js";
-import { AdapterError, CANCELLED, fail, needNumber, textOrNone, wordsOf } from "./dap_protocol.js";
+import { AdapterError, REQUEST_CANCELLED, fail, needNumber, optionalText, errorMessage } from "./dap_protocol.js";
 import * as say from "../../words/adapter.js";
 import { INITIALIZE_FIRST, INITIALIZE_ONCE, NOT_JSON } from "../../words/server.js";
 
 /**
- * A request without a response yet. Long work checks `isCancelled` and throws Cancelled.
+ * A request that has no response yet. Long work checks `isCancelled`, and throws CancelledError if the flag is true.
  * @typedef {{ seq: number, command: string, hasBegun: boolean, isCancelled: boolean }} PendingRequest
  *
- * A request handler: returns the response body, or a promise of it.
+ * A request handler. It returns the response body, or a promise of the body.
  * @typedef {(args: any, pending: PendingRequest) => unknown} RequestHandler
  */
 
-/** The body of a response, and an action that runs once the response is sent. */
-export class WithFollowUp {
+/** A response body, with an action that runs after the response is sent. */
+export class ResponseWithFollowUp {
   /**
    * @param {object | undefined} body
    * @param {() => void} followUp
@@ -36,17 +36,17 @@ export class AdapterConnection extends MessageStream {
     this.requests = {};
     this.lastSeq = 0;
     this.isOpen = false;
-    /** The end of the last queued request: each request waits for the one before it. */
-    this.turn = Promise.resolve();
+    /** A promise that resolves at the end of the last queued request. Each request waits for the previous request. */
+    this.queueEnd = Promise.resolve();
     /** @type {Set<PendingRequest>} the requests without a response, both queued and running */
-    this.unanswered = new Set();
-    /** @type {(id: string) => void} stops the work that reports its progress under this id */
+    this.pendingRequests = new Set();
+    /** @type {(id: string) => void} stops the work with this progress id */
     this.stopWork = (id) => fail(say.noProgress(id));
   }
 
   /** @param {string} words */
   reportStreamError(words) {
-    this.refuse(0, "", new AdapterError(words));
+    this.rejectRequest(0, "", new AdapterError(words));
   }
 
   /** @param {string} text */
@@ -56,30 +56,30 @@ export class AdapterConnection extends MessageStream {
     try {
       message = JSON.parse(text);
     } catch {
-      this.refuse(0, "", new AdapterError(NOT_JSON));
+      this.rejectRequest(0, "", new AdapterError(NOT_JSON));
       return;
     }
-    const [seq, type, command] = ["seq", "type", "command"].map((name) => fieldOf(message, name));
-    // The adapter never sends requests to the client.
+    const [seq, type, command] = ["seq", "type", "command"].map((name) => getField(message, name));
+    // The adapter sends no requests, so responses from the client are ignored.
     if (type === "response" || type === "event") return;
     const number = Number.isSafeInteger(seq) ? seq : 0;
     if (type !== "request" || typeof command !== "string" || number !== seq) {
       const words = say.MESSAGE_FORM;
-      this.refuse(number, typeof command === "string" ? command : "", new AdapterError(words));
+      this.rejectRequest(number, typeof command === "string" ? command : "", new AdapterError(words));
       return;
     }
     const pending = { seq: number, command, hasBegun: false, isCancelled: false };
-    this.unanswered.add(pending);
+    this.pendingRequests.add(pending);
     if (command === "cancel" && this.isOpen) this.serve(pending, message.arguments);
-    else this.turn = this.turn.then(() => this.serve(pending, message.arguments));
+    else this.queueEnd = this.queueEnd.then(() => this.serve(pending, message.arguments));
   }
 
   /**
-   * Returns the error message for a request that arrives before `initialize`, or for a second `initialize`. Returns "" if it can be served
-   * now.
+   * Returns the error message for a request that arrives before `initialize`, and for a second `initialize`. Returns "" for any other
+   * request.
    * @param {string} command
    */
-  orderError(command) {
+  lifecycleError(command) {
     if (!this.isOpen && command !== "initialize") return INITIALIZE_FIRST;
     return this.isOpen && command === "initialize" ? INITIALIZE_ONCE : "";
   }
@@ -90,51 +90,52 @@ export class AdapterConnection extends MessageStream {
    */
   async serve(pending, args) {
     // A request that was cancelled in the queue already has its response.
-    if (!this.unanswered.has(pending)) return;
+    if (!this.pendingRequests.has(pending)) return;
     const { seq, command } = pending;
     pending.hasBegun = true;
     try {
-      const fault = this.orderError(command);
+      const fault = this.lifecycleError(command);
       if (fault) throw new AdapterError(fault);
       const handler = Object.prototype.hasOwnProperty.call(this.requests, command) && this.requests[command];
       if (!handler) throw new AdapterError(say.noCommand(command));
       const result = await handler(args, pending);
       if (command === "initialize") this.isOpen = true;
-      const body = result instanceof WithFollowUp ? result.body : result;
-      this.unanswered.delete(pending);
+      const body = result instanceof ResponseWithFollowUp ? result.body : result;
+      this.pendingRequests.delete(pending);
       this.send({ type: "response", request_seq: seq, success: true, command, ...(body === undefined ? {} : { body }) });
-      if (result instanceof WithFollowUp) this.runFollowUp(result);
+      if (result instanceof ResponseWithFollowUp) this.runFollowUp(result);
     } catch (thrown) {
-      this.unanswered.delete(pending);
-      this.refuse(seq, command, pending.isCancelled && thrown instanceof Cancelled ? new AdapterError(CANCELLED) : thrown);
+      this.pendingRequests.delete(pending);
+      const isCancelled = pending.isCancelled && thrown instanceof CancelledError;
+      this.rejectRequest(seq, command, isCancelled ? new AdapterError(REQUEST_CANCELLED) : thrown);
     }
   }
 
   /**
-   * Runs the action that follows a response. Errors of the action go to the output: the request already has its response.
-   * @param {WithFollowUp} response
+   * Runs the action after a response. Prints an error of the action to the debug console, because the request already has its response.
+   * @param {ResponseWithFollowUp} response
    */
   runFollowUp({ followUp }) {
     try {
       followUp();
     } catch (thrown) {
-      this.sendEvent("output", { category: "stderr", output: `${wordsOf(thrown)}\n` });
+      this.sendEvent("output", { category: "stderr", output: `${errorMessage(thrown)}\n` });
     }
   }
 
   /**
-   * Serves the request `cancel`. A queued request is rejected at once. A running request gets a cancel flag and ends later. Nothing happens
-   * if the request already has its response.
+   * Serves the request `cancel`. Rejects a queued request at once. Sets the flag `isCancelled` of a running request. Does nothing if the
+   * request already has its response.
    * @param {any} args
    */
   cancel(args) {
-    const [number, progress] = [needNumber(args, "requestId", 0), textOrNone(args, "progressId")];
+    const [number, progress] = [needNumber(args, "requestId", 0), optionalText(args, "progressId")];
     if (progress !== "") this.stopWork(progress);
-    for (const pending of [...this.unanswered].filter(({ seq, command }) => seq === number && command !== "cancel")) {
+    for (const pending of [...this.pendingRequests].filter(({ seq, command }) => seq === number && command !== "cancel")) {
       pending.isCancelled = true;
       if (pending.hasBegun) continue;
-      this.unanswered.delete(pending);
-      this.refuse(pending.seq, pending.command, new AdapterError(CANCELLED));
+      this.pendingRequests.delete(pending);
+      this.rejectRequest(pending.seq, pending.command, new AdapterError(REQUEST_CANCELLED));
     }
   }
 
@@ -144,8 +145,8 @@ export class AdapterConnection extends MessageStream {
    * @param {string} command
    * @param {unknown} thrown
    */
-  refuse(seq, command, thrown) {
-    const words = wordsOf(thrown);
+  rejectRequest(seq, command, thrown) {
+    const words = errorMessage(thrown);
     const showUser = thrown instanceof AdapterError && thrown.isShown;
     const error = { id: 1, format: words.replace(/[{}]/g, "'"), showUser };
     this.send({ type: "response", request_seq: seq, success: false, command, message: words, body: { error } });

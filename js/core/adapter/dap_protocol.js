@@ -1,6 +1,6 @@
-// Errors of the debug adapter protocol, and readers for the arguments of its requests.
+// Defines errors of the debug adapter protocol, and reads the arguments of requests.
 
-import { fieldOf } from "../server/framing.js";
+import { getField } from "../server/framing.js";
 import * as say from "../../words/adapter.js";
 import { isText } from "../../words/server.js";
 
@@ -16,13 +16,14 @@ export class AdapterError extends Error {
   }
 }
 
-/** The protocol's message that rejects a request while time runs. */
+/** The protocol's error message for a request that the adapter rejects while the machine runs. */
 export const NOT_STOPPED = "notStopped";
-/** The protocol's message for a request that the client has cancelled. */
-export const CANCELLED = "cancelled";
+/** The protocol's error message for a cancelled request. */
+export const REQUEST_CANCELLED = "cancelled";
 
 /**
- * @param {string} words
+ * Throws AdapterError.
+ * @param {string} words the message
  * @returns {never}
  */
 export function fail(words) {
@@ -30,60 +31,60 @@ export function fail(words) {
 }
 
 /**
- * Returns a required string; fails if it is missing.
- * @param {any} from
+ * Returns a required string field of a request's arguments; throws AdapterError if it is missing.
+ * @param {any} from the arguments
  * @param {string} name
  * @returns {string}
  */
 export function needText(from, name) {
-  const value = fieldOf(from, name);
+  const value = getField(from, name);
   return typeof value === "string" ? value : fail(isText(name));
 }
 
 /**
- * Returns an optional string; "" if it is missing.
- * @param {any} from
+ * Returns an optional string field of a request's arguments; "" if it is missing.
+ * @param {any} from the arguments
  * @param {string} name
  */
-export function textOrNone(from, name) {
-  const value = fieldOf(from, name);
+export function optionalText(from, name) {
+  const value = getField(from, name);
   return value === undefined || value === null ? "" : needText(from, name);
 }
 
 /**
- * Returns an integer. If it is missing, returns the default value, or fails if there is none.
- * @param {any} from
+ * Returns an integer field of a request's arguments. If it is missing, returns the default value, or throws AdapterError without a default.
+ * @param {any} from the arguments
  * @param {string} name
  * @param {number} [defaultValue] returned if the field is missing
  * @returns {number}
  */
 export function needNumber(from, name, defaultValue) {
-  const value = fieldOf(from, name);
+  const value = getField(from, name);
   if ((value === undefined || value === null) && defaultValue !== undefined) return defaultValue;
   return Number.isSafeInteger(value) ? value : fail(say.isWhole(name));
 }
 
 /**
- * Returns an optional boolean; the default value if it is missing.
- * @param {any} from
+ * Returns an optional boolean field of a request's arguments; the default value if it is missing.
+ * @param {any} from the arguments
  * @param {string} name
  * @param {boolean} defaultValue returned if the field is missing
  * @returns {boolean}
  */
-export function flagOf(from, name, defaultValue) {
-  const value = fieldOf(from, name);
+export function optionalFlag(from, name, defaultValue) {
+  const value = getField(from, name);
   if (value === undefined || value === null) return defaultValue;
   return typeof value === "boolean" ? value : fail(say.isBoolean(name));
 }
 
 /**
- * Returns an optional list; empty if it is missing.
- * @param {any} from
+ * Returns an optional list field of a request's arguments; an empty list if it is missing.
+ * @param {any} from the arguments
  * @param {string} name
  * @returns {any[]}
  */
-export function listOf(from, name) {
-  const value = fieldOf(from, name);
+export function optionalList(from, name) {
+  const value = getField(from, name);
   if (value === undefined || value === null) return [];
   return Array.isArray(value) ? value : fail(say.isList(name));
 }
@@ -92,6 +93,6 @@ export function listOf(from, name) {
  * Returns the message of a thrown value.
  * @param {unknown} thrown
  */
-export function wordsOf(thrown) {
+export function errorMessage(thrown) {
   return thrown instanceof Error ? thrown.message : String(thrown);
 }

@@ -1,27 +1,28 @@
 // The debug adapter: an editor launches a program on a board, or opens a session file. The editor then sets breakpoints, runs forward and
 // back, and shows the machine state. The page uses the same debugger (debug/debug_session.js).
 //
-//     const adapter = new DebugAdapter(new AdapterConnection(write), engine, dataOfPage, host);   (launching.js describes a host)
-//     connection.take(bytes) ..; await adapter.leave() once the client has closed the connection
+//     const adapter = new DebugAdapter(new AdapterConnection(write), engine, data, host);     launching.js describes the host
+//     connection.take(bytes);                                                                for all bytes of the client
+//     await adapter.leave();                                                                 after the end of the connection
 
 import { Face } from "../board/face.js";
-import { instructionOfLine } from "../debug/breakpoints.js";
+import { instructionForLine } from "../debug/breakpoints.js";
 import { KINDS } from "../../words/debug.js";
 import { stoppedAt } from "../../words/stops.js";
-import { instructionsOf } from "../help/manual.js";
-import { fieldOf } from "../server/framing.js";
-import { Words } from "../bench/words.js";
-import { WithFollowUp } from "./adapter_connection.js";
-import { QueryHandlers } from "./answering.js";
-import { ClientBreakpoints, dataOf } from "./client_breakpoints.js";
+import { readInstructions } from "../help/manual.js";
+import { getField } from "../server/framing.js";
+import { ErrorMessages } from "../bench/words.js";
+import { ResponseWithFollowUp } from "./adapter_connection.js";
+import { QueryHandlers } from "./query_handlers.js";
+import { ClientBreakpoints, describeDataBreakpoint } from "./client_breakpoints.js";
 import { Console, addressOf } from "./console.js";
-import { attach, differenceWords, launch } from "./launching.js";
+import { attach, describeDifference, launch } from "./launching.js";
 import { Machine } from "./debugged_machine.js";
-import { referenceOf } from "./memory.js";
+import { formatReference } from "./memory.js";
 import { Moves, THREAD } from "./move_requests.js";
-import { baseOf } from "./number_format.js";
+import { requestedBase } from "./number_format.js";
 import { Progress } from "./progress.js";
-import { NOT_STOPPED, fail, listOf, needNumber, needText, textOrNone } from "./dap_protocol.js";
+import { NOT_STOPPED, fail, optionalList, needNumber, needText, optionalText } from "./dap_protocol.js";
 import { Scopes } from "./scopes.js";
 import { ShownBoard, changeKey } from "./shown_board.js";
 import * as say from "../../words/adapter.js";
@@ -30,12 +31,12 @@ import * as say from "../../words/adapter.js";
  * @typedef {import("./adapter_connection.js").RequestHandler} RequestHandler
  * @typedef {import("./adapter_connection.js").AdapterConnection} AdapterConnection
  * @typedef {import("./launching.js").Host} Host
- * @typedef {import("./launching.js").Launched} Launched
+ * @typedef {import("./launching.js").LaunchResult} LaunchResult
  * @typedef {import("./debugged_machine.js").MoveEnd} MoveEnd
  *
- * The open debug session, from launch or attach until the end of debugging.
- * @typedef {{ launched: Launched, machine: Machine, breakpoints: ClientBreakpoints, console: Console,
- *   answering: QueryHandlers }} OpenSession
+ * The parts of a debug session, which exists from launch or attach until the end of debugging.
+ * @typedef {{ launched: LaunchResult, machine: Machine, breakpoints: ClientBreakpoints, console: Console,
+ *   queryHandlers: QueryHandlers }} OpenSession
  */
 
 const CAPABILITIES = {
@@ -85,9 +86,9 @@ export class DebugAdapter {
     this.connection = connection;
     this.engine = engine;
     this.host = host;
-    this.words = new Words(refusals);
-    this.instructions = instructionsOf(manual);
-    /** The client's first line number and first column number, and the optional events that it accepts. */
+    this.words = new ErrorMessages(refusals);
+    this.instructions = readInstructions(manual);
+    /** The client's first line number and first column number, and the optional events that the client accepts. */
     this.firstLine = 1;
     this.firstColumn = 1;
     this.acceptsInvalidated = false;
@@ -97,8 +98,8 @@ export class DebugAdapter {
     /** @type {OpenSession | null} */
     this.open = null;
     this.isConfigured = false;
-    /** @type {Promise<string> | null} the result of `leaveOnce`; null before the first call */
-    this.leaving = null;
+    /** @type {Promise<string> | null} the result of `leaveOnce`; null before `leave` is called */
+    this.leavePromise = null;
     /** @type {MoveEnd | null} the end of the last move */
     this.lastStop = null;
     /** @type {ShownBoard | null} null until the client asks for the board */
@@ -108,7 +109,7 @@ export class DebugAdapter {
   }
 
   /**
-   * Returns the open session; fails if there is none.
+   * Returns the debug session; throws AdapterError before launch or attach.
    * @returns {OpenSession}
    */
   get current() {
@@ -121,12 +122,12 @@ export class DebugAdapter {
   lifecycleRequests() {
     return {
       initialize: (args) => {
-        if (textOrNone(args, "pathFormat") === "uri") fail(say.PATHS_ONLY);
-        this.firstLine = fieldOf(args, "linesStartAt1") === false ? 0 : 1;
-        this.firstColumn = fieldOf(args, "columnsStartAt1") === false ? 0 : 1;
-        this.acceptsInvalidated = fieldOf(args, "supportsInvalidatedEvent") === true;
-        this.acceptsMemory = fieldOf(args, "supportsMemoryEvent") === true;
-        this.progress.isOn = fieldOf(args, "supportsProgressReporting") === true;
+        if (optionalText(args, "pathFormat") === "uri") fail(say.PATHS_ONLY);
+        this.firstLine = getField(args, "linesStartAt1") === false ? 0 : 1;
+        this.firstColumn = getField(args, "columnsStartAt1") === false ? 0 : 1;
+        this.acceptsInvalidated = getField(args, "supportsInvalidatedEvent") === true;
+        this.acceptsMemory = getField(args, "supportsMemoryEvent") === true;
+        this.progress.isEnabled = getField(args, "supportsProgressReporting") === true;
         return CAPABILITIES;
       },
       cancel: (args) => this.connection.cancel(args),
@@ -137,16 +138,16 @@ export class DebugAdapter {
         if (this.isConfigured) fail(say.CONFIGURED_ONCE);
         this.isConfigured = true;
         const begin = () => (launched.stopsOnEntry ? this.stopped(this.pauseEnd("entry")) : this.current.machine.go(null));
-        return new WithFollowUp(undefined, begin);
+        return new ResponseWithFollowUp(undefined, begin);
       },
       restart: (args) => this.restart(args),
-      terminate: () => new WithFollowUp(undefined, () => {
+      terminate: () => new ResponseWithFollowUp(undefined, () => {
         this.leave().then(() => this.connection.sendEvent("terminated"));
       }),
       disconnect: async () => {
         const words = await this.leave();
         if (words) this.output(`${words}\n`, "stderr");
-        return new WithFollowUp(undefined, () => this.host.end(words ? 1 : 0));
+        return new ResponseWithFollowUp(undefined, () => this.host.end(words ? 1 : 0));
       },
     };
   }
@@ -159,10 +160,10 @@ export class DebugAdapter {
   async launch(args, act) {
     if (this.open) fail(say.LAUNCH_ONCE);
     await this.begin(await act(this.engine, args, this.host, this.words));
-    return new WithFollowUp(undefined, () => this.connection.sendEvent("initialized"));
+    return new ResponseWithFollowUp(undefined, () => this.connection.sendEvent("initialized"));
   }
 
-  /** @param {Launched} launched */
+  /** @param {LaunchResult} launched */
   async begin(launched) {
     const { session } = launched;
     /** @type {Machine} */
@@ -180,8 +181,8 @@ export class DebugAdapter {
     const debugConsole = new Console(machine, expressionContext, this.words, {
       breaksChanged: () => breakpoints.noteOwnBreakpoints(), romChanged: () => this.reportRom(launched),
     });
-    const answering = new QueryHandlers(launched, new Scopes(session, face), expressionContext, this);
-    this.open = { launched, machine, breakpoints, console: debugConsole, answering };
+    const queryHandlers = new QueryHandlers(launched, new Scopes(session, face), expressionContext, this);
+    this.open = { launched, machine, breakpoints, console: debugConsole, queryHandlers };
     if (this.shownBoard) this.shownBoard = new ShownBoard(machine);
     this.sendBoard();
     if (launched.note) this.output(`${launched.note}\n`, "console");
@@ -189,15 +190,15 @@ export class DebugAdapter {
 
   /**
    * Warns the user if the bytes in ROM differ from the source.
-   * @param {Launched} launched
+   * @param {LaunchResult} launched
    */
   reportRom({ session }) {
-    const words = differenceWords(session);
+    const words = describeDifference(session);
     if (words) this.output(`${say.sourceDiffers(words)}\n`, "console");
   }
 
   /**
-   * Serves the request `restart`. A session that saves to its file is reset. Any other session is launched again from the current source
+   * Serves the request `restart`. Resets a session that is saved in its file. Launches any other session again, from the current source
    * files or session file.
    * @param {any} args
    */
@@ -208,12 +209,12 @@ export class DebugAdapter {
       await launched.session.debugger.session.serve("reset\n", async () => true);
       await machine.saveAndReport();
     } else {
-      const newArgs = fieldOf(args, "arguments");
+      const newArgs = getField(args, "arguments");
       const act = launched.isAttached ? attach : launch;
       await this.begin(await act(this.engine, newArgs === undefined ? launched.args : newArgs, this.host, this.words));
-      for (const moved of await this.current.breakpoints.takeFrom(breakpoints)) this.sendBreakpoint(moved);
+      for (const movedBreakpoint of await this.current.breakpoints.takeOverBreakpoints(breakpoints)) this.sendBreakpoint(movedBreakpoint);
     }
-    return new WithFollowUp(undefined, () => this.stopped(this.pauseEnd("entry")));
+    return new ResponseWithFollowUp(undefined, () => this.stopped(this.pauseEnd("entry")));
   }
 
   /** Pauses the machine and waits for the end of its move. */
@@ -224,10 +225,10 @@ export class DebugAdapter {
     await machine.move;
   }
 
-  /** Ends debugging: restores breakpoints and saves the session once. Returns an error message, "" if everything is saved. */
+  /** Ends debugging: removes the client's breakpoints and saves the session. Resolves to an error message, "" if the session is saved. */
   leave() {
-    if (!this.leaving) this.leaving = this.leaveOnce();
-    return this.leaving;
+    if (!this.leavePromise) this.leavePromise = this.leaveOnce();
+    return this.leavePromise;
   }
 
   async leaveOnce() {
@@ -254,17 +255,17 @@ export class DebugAdapter {
   breakpointRequests() {
     return {
       setBreakpoints: (args) => this.setBreakpoints(args),
-      setFunctionBreakpoints: (args) => this.set((breakpoints) => breakpoints.setLabels(args)),
+      setFunctionBreakpoints: (args) => this.changeBreakpoints((breakpoints) => breakpoints.setLabels(args)),
       setInstructionBreakpoints: (args) => (
-        this.set((breakpoints) => breakpoints.setAddresses(args, (reference) => this.addressIn(reference)))),
+        this.changeBreakpoints((breakpoints) => breakpoints.setAddresses(args, (reference) => this.resolveReference(reference)))),
       dataBreakpointInfo: (args) => this.dataBreakpointInfo(args),
       setDataBreakpoints: (args) => {
         const { machine, breakpoints } = this.current;
-        return machine.whenFree(async () => ({ breakpoints: await breakpoints.setData(args) }));
+        return machine.runWhenFree(async () => ({ breakpoints: await breakpoints.setData(args) }));
       },
       setExceptionBreakpoints: (args) => {
         const { machine, breakpoints } = this.current;
-        return machine.whenFree(() => ({ breakpoints: breakpoints.setFilters(args) }));
+        return machine.runWhenFree(() => ({ breakpoints: breakpoints.setFilters(args) }));
       },
       breakpointLocations: (args) => this.breakpointLocations(args),
     };
@@ -272,41 +273,41 @@ export class DebugAdapter {
 
   /** @param {any} args */
   setBreakpoints(args) {
-    const source = fieldOf(args, "source");
-    const { answering, launched } = this.current;
-    if (answering.isProgram(source) && launched.isDebugged) {
-      return this.set((breakpoints) => breakpoints.setLines(args, (line) => line + 1 - this.firstLine));
+    const source = getField(args, "source");
+    const { queryHandlers, launched } = this.current;
+    if (queryHandlers.isProgram(source) && launched.isDebugged) {
+      return this.changeBreakpoints((breakpoints) => breakpoints.setLines(args, (line) => line + 1 - this.firstLine));
     }
-    const message = launched.isDebugged ? say.notInProgram(answering.programName)
+    const message = launched.isDebugged ? say.notInProgram(queryHandlers.programName)
       : say.NO_DEBUG;
-    return { breakpoints: listOf(args, "breakpoints").map((item) => ({ verified: false, line: needNumber(item, "line"), message })) };
+    return { breakpoints: optionalList(args, "breakpoints").map((item) => ({ verified: false, line: needNumber(item, "line"), message })) };
   }
 
   /** @param {(breakpoints: ClientBreakpoints) => Promise<import("./client_breakpoints.js").SentBreakpoint[]>} act */
-  async set(act) {
+  async changeBreakpoints(act) {
     const { machine, breakpoints } = this.current;
-    const sent = await machine.whenFree(() => act(breakpoints));
-    return { breakpoints: sent.map((each) => this.breakpointOf(each)) };
+    const sentBreakpoints = await machine.runWhenFree(() => act(breakpoints));
+    return { breakpoints: sentBreakpoints.map((each) => this.toProtocolBreakpoint(each)) };
   }
 
   /** @param {import("./client_breakpoints.js").SentBreakpoint} breakpoint */
-  breakpointOf({ address, line, ...breakpoint }) {
-    const inSource = line === undefined ? {} : { line: line - 1 + this.firstLine, source: this.current.answering.source };
-    return { ...breakpoint, ...inSource, ...(address >= 0 ? { instructionReference: referenceOf(address) } : {}) };
+  toProtocolBreakpoint({ address, line, ...breakpoint }) {
+    const inSource = line === undefined ? {} : { line: line - 1 + this.firstLine, source: this.current.queryHandlers.source };
+    return { ...breakpoint, ...inSource, ...(address >= 0 ? { instructionReference: formatReference(address) } : {}) };
   }
 
   /** @param {import("./client_breakpoints.js").SentBreakpoint} breakpoint */
   sendBreakpoint(breakpoint) {
-    this.connection.sendEvent("breakpoint", { reason: "changed", breakpoint: this.breakpointOf(breakpoint) });
+    this.connection.sendEvent("breakpoint", { reason: "changed", breakpoint: this.toProtocolBreakpoint(breakpoint) });
   }
 
   /** @param {any} args */
   dataBreakpointInfo(args) {
-    const { answering, launched } = this.current;
+    const { queryHandlers, launched } = this.current;
     const name = needText(args, "name");
     const reference = needNumber(args, "variablesReference", 0);
-    const found = reference > 0 ? answering.placeOfVariable(reference, name) : name;
-    const data = dataOf(found, launched.session);
+    const found = reference > 0 ? queryHandlers.findWatchPlace(reference, name) : name;
+    const data = describeDataBreakpoint(found, launched.session);
     if (!data) return { dataId: null, description: say.notWatched(name) };
     return { ...data, accessTypes: ["write"] };
   }
@@ -314,13 +315,13 @@ export class DebugAdapter {
   /** @param {any} args */
   breakpointLocations(args) {
     const { session } = this.current.launched;
-    if (!this.current.answering.isProgram(fieldOf(args, "source"))) return { breakpoints: [] };
+    if (!this.current.queryHandlers.isProgram(getField(args, "source"))) return { breakpoints: [] };
     const from = needNumber(args, "line");
     const to = Math.min(needNumber(args, "endLine", from), from + 65536);
     const lines = [];
     for (let line = from; line <= to; line++) {
       const programLine = line + 1 - this.firstLine;
-      if (instructionOfLine(programLine, session.map).line === programLine && session.map.addressOf(programLine) !== undefined) {
+      if (instructionForLine(programLine, session.map).line === programLine && session.map.addressOf(programLine) !== undefined) {
         lines.push({ line });
       }
     }
@@ -331,24 +332,24 @@ export class DebugAdapter {
 
   /** @returns {Record<string, RequestHandler>} */
   queryRequests() {
-    const whilePaused = (/** @type {(answering: QueryHandlers, args: any) => unknown} */ act) => (/** @type {any} */ args) => {
-      const { machine, answering } = this.current;
+    const requirePaused = (/** @type {(queryHandlers: QueryHandlers, args: any) => unknown} */ act) => (/** @type {any} */ args) => {
+      const { machine, queryHandlers } = this.current;
       if (machine.isMoving) fail(NOT_STOPPED);
-      return act(answering, args);
+      return act(queryHandlers, args);
     };
     return {
       threads: () => ({ threads: [{ id: THREAD, name: "4004" }] }),
-      stackTrace: whilePaused((answering, args) => answering.stackTrace(args)),
-      scopes: whilePaused((answering, args) => answering.scopesOfFrame(args)),
-      variables: whilePaused((answering, args) => answering.variables(args)),
-      setVariable: whilePaused(async (answering, args) => this.saveChange(await answering.setVariable(args))),
-      setExpression: whilePaused(async (answering, args) => this.saveChange(await answering.setExpression(args))),
-      disassemble: whilePaused((answering, args) => answering.disassemble(args, (reference) => this.addressIn(reference))),
-      readMemory: whilePaused((answering, args) => answering.readMemory(args, (reference) => this.addressIn(reference))),
-      writeMemory: whilePaused((answering, args) => this.writeMemory(answering, args)),
-      completions: (args) => this.current.answering.completions(args),
-      loadedSources: () => ({ sources: [this.current.answering.source] }),
-      source: (args) => this.current.answering.sourceText(args),
+      stackTrace: requirePaused((queryHandlers, args) => queryHandlers.stackTrace(args)),
+      scopes: requirePaused((queryHandlers, args) => queryHandlers.listScopes(args)),
+      variables: requirePaused((queryHandlers, args) => queryHandlers.variables(args)),
+      setVariable: requirePaused(async (queryHandlers, args) => this.saveChange(await queryHandlers.setVariable(args))),
+      setExpression: requirePaused(async (queryHandlers, args) => this.saveChange(await queryHandlers.setExpression(args))),
+      disassemble: requirePaused((queryHandlers, args) => queryHandlers.disassemble(args, (reference) => this.resolveReference(reference))),
+      readMemory: requirePaused((queryHandlers, args) => queryHandlers.readMemory(args, (reference) => this.resolveReference(reference))),
+      writeMemory: requirePaused((queryHandlers, args) => this.writeMemory(queryHandlers, args)),
+      completions: (args) => this.current.queryHandlers.completions(args),
+      loadedSources: () => ({ sources: [this.current.queryHandlers.source] }),
+      source: (args) => this.current.queryHandlers.sourceText(args),
       exceptionInfo: () => {
         const { reason, words } = this.lastStop || { reason: "", words: "" };
         return { exceptionId: reason || "none", description: words, breakMode: "always" };
@@ -366,13 +367,13 @@ export class DebugAdapter {
   }
 
   /** @param {string} reference */
-  addressIn(reference) {
+  resolveReference(reference) {
     const { console: debugConsole } = this.current;
     return addressOf(reference, debugConsole.context);
   }
 
   /**
-   * Saves a change that a request made. Returns the result of the request, unchanged.
+   * Saves the session after a request has changed it. Resolves to the result of the request, unchanged.
    * @template Result
    * @param {Result} result
    */
@@ -383,15 +384,15 @@ export class DebugAdapter {
   }
 
   /**
-   * @param {QueryHandlers} answering
+   * @param {QueryHandlers} queryHandlers
    * @param {any} args
    */
-  async writeMemory(answering, args) {
-    const written = await this.saveChange(await answering.writeMemory(args, (reference) => this.addressIn(reference)));
-    const { offset, bytesWritten: count } = written;
-    if (!this.acceptsMemory || count === 0) return written;
+  async writeMemory(queryHandlers, args) {
+    const writeResult = await this.saveChange(await queryHandlers.writeMemory(args, (reference) => this.resolveReference(reference)));
+    const { offset, bytesWritten: count } = writeResult;
+    if (!this.acceptsMemory || count === 0) return writeResult;
     const memory = { memoryReference: needText(args, "memoryReference"), offset: needNumber(args, "offset", 0) + offset, count };
-    return new WithFollowUp(written, () => this.connection.sendEvent("memory", memory));
+    return new ResponseWithFollowUp(writeResult, () => this.connection.sendEvent("memory", memory));
   }
 
   /**
@@ -399,27 +400,27 @@ export class DebugAdapter {
    * @param {import("./adapter_connection.js").PendingRequest} pending
    */
   async evaluate(args, pending) {
-    const { machine, console: debugConsole, answering } = this.current;
-    const [expression, context, base] = [needText(args, "expression"), textOrNone(args, "context"), baseOf(args)];
-    if (context !== "repl") return machine.whenFree(() => answering.evaluate(expression, context, base));
+    const { machine, console: debugConsole, queryHandlers } = this.current;
+    const [expression, context, base] = [needText(args, "expression"), optionalText(args, "context"), requestedBase(args)];
+    if (context !== "repl") return machine.runWhenFree(() => queryHandlers.evaluate(expression, context, base));
     const work = this.progress.begin(say.RUNNING_LINES, () => { pending.isCancelled = true; });
     const mayContinue = async (/** @type {number} */ done) => {
       work.reportIfDue(() => say.charactersOf(done, expression.length));
       await this.host.pause();
       return !pending.isCancelled;
     };
-    const served = machine.whenFree(() => debugConsole.serveLine(expression, mayContinue, base));
-    const { words, changes, move } = await served.finally(() => work.end());
-    if (move) this.moves.needStopped();
+    const lineResult = machine.runWhenFree(() => debugConsole.serveLine(expression, mayContinue, base));
+    const { words, changes, move } = await lineResult.finally(() => work.end());
+    if (move) this.moves.checkPaused();
     const wasPaused = !machine.isMoving && this.isConfigured;
     if (changes && !machine.isMoving) await machine.saveAndReport();
-    return new WithFollowUp({ result: words, variablesReference: 0 }, () => {
+    return new ResponseWithFollowUp({ result: words, variablesReference: 0 }, () => {
       if (move) move();
       else if (changes && wasPaused) this.sendInvalidated();
     });
   }
 
-  /** Makes the client reread the state after a console line has changed the machine. */
+  /** Makes the client read the state again after a console line has changed the machine. */
   sendInvalidated() {
     this.lastStop = this.pauseEnd("step");
     if (this.acceptsInvalidated) this.connection.sendEvent("invalidated", { areas: ["all"] });
@@ -427,14 +428,14 @@ export class DebugAdapter {
   }
 
   /**
-   * Moves a key up or down, as a line in the console does.
+   * Presses or releases a key, as the console line `press` or `release` does.
    * @param {"press" | "release"} word
    * @param {any} args
    */
   async moveKey(word, args) {
     const { machine, console: debugConsole } = this.current;
     const key = needText(args, "key");
-    const { words } = await machine.whenFree(() => debugConsole.moveKeys(word, [key]));
+    const { words } = await machine.runWhenFree(() => debugConsole.moveKeys(word, [key]));
     if (!machine.isMoving) await machine.saveAndReport();
     return { words };
   }
@@ -443,7 +444,7 @@ export class DebugAdapter {
   async changeKey(args) {
     const { machine, console: debugConsole } = this.current;
     const key = needText(args, "place");
-    await machine.whenFree(() => changeKey(machine, debugConsole, key, fieldOf(args, "isDown") === true));
+    await machine.runWhenFree(() => changeKey(machine, debugConsole, key, getField(args, "isDown") === true));
     if (!machine.isMoving) await machine.saveAndReport();
     return {};
   }
@@ -458,12 +459,12 @@ export class DebugAdapter {
   }
 
   /**
-   * Returns the end of a move without a debugger stop.
+   * Returns the end of a move that no stop of the debugger has ended.
    * @param {string} reason a stop reason of the protocol
    * @returns {MoveEnd}
    */
   pauseEnd(reason) {
-    return { reason, words: stoppedAt(this.current.launched.session.counterWords), id: 0 };
+    return { reason, words: stoppedAt(this.current.launched.session.counterText), id: 0 };
   }
 
   /** @param {MoveEnd} moveEnd */

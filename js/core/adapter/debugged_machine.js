@@ -1,17 +1,17 @@
-// Runs the debugged session: one move at a time, divided into pieces. Other work waits for the end of a piece. The machine reports and
-// saves each stop.
+// Runs the debugged session. The machine makes one move at a time, such as a step or a run, and divides the move into pieces. Other work
+// waits for the end of a piece. The machine reports each stop and saves the session there.
 
-import { Cancelled } from "../bench/faults.js";
-import { wordsOfCycles } from "../time/cycles.js";
+import { CancelledError } from "../bench/faults.js";
+import { formatCycles } from "../time/cycles.js";
 import { CYCLE_MS, FRAME_CYCLES } from "../time/mcs4_time.js";
 import { ShownText } from "./shown.js";
-import { fail, wordsOf } from "./dap_protocol.js";
+import { fail, errorMessage } from "./dap_protocol.js";
 import * as say from "../../words/adapter.js";
 import { stoppedAt } from "../../words/stops.js";
 
 /**
  * @typedef {import("../debug/debug_session.js").DebugSession} DebugSession
- * @typedef {import("../debug/debug_session.js").Stopped} Stopped
+ * @typedef {import("../debug/debug_session.js").DescribedStop} DescribedStop
  * @typedef {import("../debug/debugger.js").Tally} Tally
  * @typedef {import("../debug/goals.js").Goal} Goal
  * @typedef {import("../engine/going_back.js").BackGoal} BackGoal
@@ -34,13 +34,13 @@ import { stoppedAt } from "../../words/stops.js";
  */
 
 /** @type {Record<string, string>} the protocol's stop reasons, by the debugger's reasons */
-const REASONS = {
+const PROTOCOL_REASONS = {
   goal: "step", break: "breakpoint", watch: "data breakpoint", pause: "pause", lacks: "step", arrival: "pause", beginning: "entry",
   call: "restart",
 };
-/** @type {Record<string, string>} the debugger's stop reasons after a move back, by goal kind */
+/** @type {Record<string, string>} the debugger's stop reasons after a move back in time, by kind of goal */
 const REASONS_BY_GOAL = { stop: "pause", arrival: "arrival", call: "call" };
-/** @type {Record<string, string>} the stop reasons after a move back to an arrival, by the event that ended the search */
+/** @type {Record<string, string>} the stop reasons after a move back to a breakpoint, by the event that ended the search */
 const REASONS_BY_END = { break: "break", change: "watch", beginning: "beginning" };
 /** The time between two updates of lamps and displays, in milliseconds. */
 const REPORT_INTERVAL = 100;
@@ -50,7 +50,7 @@ export class Machine {
    * @param {DebugSession} session
    * @param {SessionWriter | null} writer the writer of the session's file
    * @param {MachineCalls} calls
-   * @param {boolean} [isRealTime] true if time runs no faster than on a real 4004
+   * @param {boolean} [isRealTime] true if the machine runs no faster than on a real 4004
    */
   constructor(session, writer, calls, isRealTime = false) {
     this.isRealTime = isRealTime;
@@ -63,14 +63,14 @@ export class Machine {
     this.shown = new ShownText(session);
     this.isMoving = false;
     this.mustPause = false;
-    /** Returns true if other work can use the session between two pieces of the current move. */
+    /** Returns whether other work can use the session between two pieces of the current move. */
     this.acceptsWork = () => false;
     /** @type {(() => Promise<void>)[]} the tasks that wait for the end of a piece */
     this.waitingWork = [];
     /** The number of log messages of the current move that are already reported. */
     this.reportedNotes = 0;
     /** The time of the last update of lamps and displays, in milliseconds. */
-    this.reportedAt = 0;
+    this.lastReportTime = 0;
     /** @type {Promise<void>} resolves at the end of the current or last move */
     this.move = Promise.resolve();
     /** @type {Work | null} the progress report of the current move; null in real time because the lamps show the progress */
@@ -82,7 +82,7 @@ export class Machine {
   /** @param {Goal | null} goal null: run to a stop */
   go(goal) {
     const acceptsWork = () => goal === null || this.session.debugger.isMoving;
-    const act = () => this.session.go(goal, (done, tally) => this.betweenPieces(tally, done));
+    const act = () => this.session.go(goal, (done, tally) => this.finishPiece(tally, done));
     this.beginMove(act, acceptsWork);
   }
 
@@ -98,7 +98,7 @@ export class Machine {
     const { session } = this;
     this.beginMove(async () => {
       if (session.address === address) return session.into();
-      const stop = await session.go({ kind: "here", address }, (done, tally) => this.betweenPieces(tally, done));
+      const stop = await session.go({ kind: "here", address }, (done, tally) => this.finishPiece(tally, done));
       if (stop.why !== "goal") return stop;
       this.reportTally(stop.tally, stop.tally.noted - this.reportedNotes);
       return session.into();
@@ -107,28 +107,28 @@ export class Machine {
 
   /** @param {BackGoal} goal */
   goBack(goal) {
-    let searched = 0;
-    const between = (/** @type {number} */ more) => this.betweenPieces(undefined, searched += more);
-    const act = async () => this.endOfBack(await this.session.back(goal, between), REASONS_BY_GOAL[goal.kind] || "goal");
+    let searchedCycles = 0;
+    const onPiece = (/** @type {number} */ cycles) => this.finishPiece(undefined, searchedCycles += cycles);
+    const act = async () => this.toRunResult(await this.session.back(goal, onPiece), REASONS_BY_GOAL[goal.kind] || "goal");
     this.beginMove(act, () => false, say.SEARCHING_BACK);
   }
 
   goForward() {
-    this.beginMove(async () => this.endOfBack(this.session.forward(), "goal"), () => false);
+    this.beginMove(async () => this.toRunResult(this.session.forward(), "goal"), () => false);
   }
 
   /**
-   * Converts a move through the past to the result of a run.
-   * @param {{ isDone: boolean, words: string, end: string, id: number }} went
+   * Converts the result of a move through the past to the result of a run.
+   * @param {{ isDone: boolean, words: string, end: string, id: number }} pastMove
    * @param {string} why the stop reason; an entry of REASONS_BY_END takes precedence
    */
-  endOfBack({ isDone, words, end, id }, why) {
+  toRunResult({ isDone, words, end, id }, why) {
     if (!isDone) this.calls.output(`${words}\n`, "console");
     return { why: REASONS_BY_END[end] && why === "arrival" ? REASONS_BY_END[end] : why, words, id, tally: null };
   }
 
   /**
-   * @param {() => Promise<Pick<Stopped, "why" | "words" | "id"> & { tally: Tally | null }>} act
+   * @param {() => Promise<Pick<DescribedStop, "why" | "words" | "id"> & { tally: Tally | null }>} act
    * @param {() => boolean} acceptsWork
    * @param {string} [title] the title of the progress report
    */
@@ -150,11 +150,11 @@ export class Machine {
     try {
       const { why, words, id, tally } = await act();
       if (tally) this.reportTally(tally, tally.noted - this.reportedNotes);
-      moveEnd = { reason: REASONS[why] || "exception", words, id };
+      moveEnd = { reason: PROTOCOL_REASONS[why] || "exception", words, id };
     } catch (thrown) {
-      const isPause = thrown instanceof Cancelled;
-      if (!isPause) this.calls.output(`${wordsOf(thrown)}\n`, "stderr");
-      const words = isPause ? stoppedAt(this.session.counterWords) : wordsOf(thrown);
+      const isPause = thrown instanceof CancelledError;
+      if (!isPause) this.calls.output(`${errorMessage(thrown)}\n`, "stderr");
+      const words = isPause ? stoppedAt(this.session.counterText) : errorMessage(thrown);
       moveEnd = { reason: isPause ? "pause" : "exception", words, id: 0 };
     }
     this.acceptsWork = () => false;
@@ -182,20 +182,20 @@ export class Machine {
     try {
       await writer.write(this.session.debugger.session);
     } catch (thrown) {
-      this.calls.output(`${wordsOf(thrown)}\n`, "stderr");
+      this.calls.output(`${errorMessage(thrown)}\n`, "stderr");
     }
   }
 
   /**
-   * Reports the last piece of a move, yields to other tasks and runs the waiting work. Returns true if the move continues.
+   * Reports the last piece of a move, yields to other tasks and runs the waiting work. Resolves to true if the move continues.
    * @param {Tally} [tally] the tally of the last piece
    * @param {number} [done] the number of cycles of the move so far
    */
-  async betweenPieces(tally, done = 0) {
+  async finishPiece(tally, done = 0) {
     if (tally) this.reportTally(tally, tally.noted);
-    if (this.work) this.work.reportIfDue(() => wordsOfCycles(done));
-    if (performance.now() - this.reportedAt >= REPORT_INTERVAL && this.acceptsWork()) this.reportShown();
-    if (this.isRealTime && tally) await this.waitFor(done);
+    if (this.work) this.work.reportIfDue(() => formatCycles(done));
+    if (performance.now() - this.lastReportTime >= REPORT_INTERVAL && this.acceptsWork()) this.reportShown();
+    if (this.isRealTime && tally) await this.waitForRealTime(done);
     await this.calls.pause();
     if (this.acceptsWork()) await this.runWaitingWork();
     return !this.mustPause;
@@ -203,12 +203,12 @@ export class Machine {
 
   /**
    * Waits until a real 4004 would reach this number of cycles.
-   * @param {number} cycles counted from the start of the move
+   * @param {number} cycles the number of cycles since the start of the move
    */
-  async waitFor(cycles) {
+  async waitForRealTime(cycles) {
     this.calls.stateChanged();
-    const left = cycles * CYCLE_MS - (performance.now() - this.startTime);
-    if (left > 0) await new Promise((settle) => { setTimeout(settle, left); });
+    const remainingTime = cycles * CYCLE_MS - (performance.now() - this.startTime);
+    if (remainingTime > 0) await new Promise((settle) => { setTimeout(settle, remainingTime); });
   }
 
   pause() {
@@ -222,12 +222,12 @@ export class Machine {
   }
 
   /**
-   * Runs work on the session: at once while time is paused, otherwise between two pieces of the move.
+   * Runs work on the session: at once while time is paused, or else between two pieces of the move.
    * @template Result
    * @param {() => Result | Promise<Result>} act
    * @returns {Promise<Result>}
    */
-  async whenFree(act) {
+  async runWhenFree(act) {
     if (!this.isMoving) return act();
     return new Promise((resolve, reject) => {
       this.waitingWork.push(async () => {
@@ -243,7 +243,7 @@ export class Machine {
   // --- reports ---
 
   reportShown() {
-    this.reportedAt = performance.now();
+    this.lastReportTime = performance.now();
     const words = this.shown.take();
     if (words) this.calls.output(`${words}\n`, "stdout");
     this.calls.stateChanged();

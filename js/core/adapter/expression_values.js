@@ -1,11 +1,11 @@
 // Evaluates an expression in the current state: a place, a program name, a lamp, the display, a sum, or a condition.
 
 import { hex } from "../bench/numbers.js";
-import { expressionOf } from "../conditions/condition_language.js";
-import { placeOf } from "../conditions/places.js";
-import { MachineState } from "../debug/standing.js";
+import { compileExpression } from "../conditions/condition_language.js";
+import { parsePlace } from "../conditions/places.js";
+import { MachineState } from "../debug/machine_state.js";
 import { textOf, valuesAt } from "../debug/value_words.js";
-import { inBase, numberInBase } from "./number_format.js";
+import { convertToBase, formatInBase } from "./number_format.js";
 import { AdapterError } from "./dap_protocol.js";
 import * as say from "../../words/adapter.js";
 import { inColumn } from "../../words/conditions.js";
@@ -20,12 +20,13 @@ import { inColumn } from "../../words/conditions.js";
  * @typedef {{ session: DebugSession, face: Face, instructions: Map<string, Instruction>, shown: () => string }} ExpressionContext
  */
 
-/** Patterns of places with hexadecimal digits, and of places with one character per bit or lamp. All other places hold a bit. */
+/** Matches the places whose values are hexadecimal digits. */
 const HEX_PLACES = /^(acc|dcl|src|r\d+|p\d|ram\.\d\..*|st\..*|rom\d+|ram\d\.\d)$/;
+/** Matches the places whose values have a character for each bit or lamp. The value of any other place is one bit. */
 const MARK_PLACES = /^(chain\d|lamps)$/;
 
 /**
- * Returns the value of a place; "" if the text is no place, or if the board does not have it.
+ * Returns the value of a place; "" if the text is not a place, or if the board does not have the place.
  * @param {string} text
  * @param {ExpressionContext} context
  * @param {Base} base
@@ -34,12 +35,12 @@ function placeValue(text, { session, face }, base) {
   const word = text.replace(/^lamp /, "").trim();
   const lamp = face.lampNumbers.get(word) ?? face.lampNumbers.get(word.replace(/ /g, "_"));
   const name = lamp === undefined ? text : `lamp ${lamp}`;
-  const place = placeOf(name);
+  const place = parsePlace(name);
   const value = place ? session.values([name])[0] : "";
   if (value === "" || !place) return "";
   if (place.name.startsWith("lamp ")) return say.lampIs(value === "*");
-  if (HEX_PLACES.test(place.name)) return inBase(`0x${value}`, base);
-  return MARK_PLACES.test(place.name) ? value : numberInBase(Number(value), base);
+  if (HEX_PLACES.test(place.name)) return convertToBase(`0x${value}`, base);
+  return MARK_PLACES.test(place.name) ? value : formatInBase(Number(value), base);
 }
 
 /**
@@ -51,15 +52,15 @@ function placeValue(text, { session, face }, base) {
 function registerValue(text, session, base) {
   const word = text.toLowerCase();
   const { registers } = session;
-  if (word === "pc") return inBase(`0x${registers.counter}${registers.counter && lineWords(session)}`, base);
-  return word === "test" || word === "owed" ? numberInBase(Number(registers[word]), base) : "";
+  if (word === "pc") return convertToBase(`0x${registers.counter}${registers.counter && lineSuffix(session)}`, base);
+  return word === "test" || word === "owed" ? formatInBase(Number(registers[word]), base) : "";
 }
 
 /**
- * Returns the current line as a suffix for an address; "" if it is unknown.
+ * Returns the current source line as a suffix for an address; "" if the line is unknown.
  * @param {DebugSession} session
  */
-function lineWords(session) {
+function lineSuffix(session) {
   return session.line > 0 ? `, line ${session.line}` : "";
 }
 
@@ -82,17 +83,18 @@ function nameValue(text, { map }) {
  * @param {ExpressionContext} context
  * @param {Base} [base] the number base of the output
  */
-export function valueOfExpression(text, context, base = "usual") {
+export function evaluateExpression(text, context, base = "usual") {
   const { session } = context;
   const trimmed = text.trim();
   if (trimmed === "") throw new AdapterError(say.NOTHING_TO_EVALUATE);
   if (trimmed === "display" || trimmed === "lamps") return context.shown();
-  const value = registerValue(trimmed, session, base) || inBase(nameValue(trimmed, session), base) || placeValue(trimmed, context, base);
+  const value = registerValue(trimmed, session, base) || convertToBase(nameValue(trimmed, session), base)
+    || placeValue(trimmed, context, base);
   if (value) return value;
-  const { expression, fault, column } = expressionOf(trimmed, session.names);
+  const { expression, fault, column } = compileExpression(trimmed, session.names);
   if (!expression) throw new AdapterError(inColumn(fault, column));
   const answers = session.debugger.readPlaces(expression.places);
-  return expression.number && base !== "usual" ? numberInBase(expression.number(answers), base) : expression.textOf(answers);
+  return expression.number && base !== "usual" ? formatInBase(expression.number(answers), base) : expression.textOf(answers);
 }
 
 /**
@@ -100,15 +102,15 @@ export function valueOfExpression(text, context, base = "usual") {
  * @param {string} text
  * @param {ExpressionContext} context
  */
-export function hoverOf(text, context) {
+export function expressionHover(text, context) {
   const { session, instructions } = context;
   const trimmed = text.trim();
-  /** @type {(name: string) => import("../debug/value_words.js").Named | undefined} */
+  /** @type {(name: string) => import("../debug/value_words.js").NamedValue | undefined} */
   const nameOf = (name) => {
     const found = session.map.names.get(name);
     return found && { ...found, words: session.map.meaningOf(name) };
   };
-  const doesOf = (/** @type {string} */ word) => (instructions.get(word) || { does: "" }).does;
-  const pieces = valuesAt(trimmed, 0, new MachineState(session.debugger.session.takeSnapshot()), { nameOf, doesOf });
-  return pieces.length > 0 ? textOf(pieces) : doesOf(trimmed.toUpperCase()) || valueOfExpression(trimmed, context);
+  const describeInstruction = (/** @type {string} */ word) => (instructions.get(word) || { does: "" }).does;
+  const pieces = valuesAt(trimmed, 0, new MachineState(session.debugger.session.takeSnapshot()), { nameOf, describeInstruction });
+  return pieces.length > 0 ? textOf(pieces) : describeInstruction(trimmed.toUpperCase()) || evaluateExpression(trimmed, context);
 }

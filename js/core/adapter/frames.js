@@ -1,7 +1,7 @@
-// The protocol's stack frames: one for the next instruction, and one for each call that has not returned.
+// Reads the stack frames of the debug adapter protocol: a frame for the next instruction, and a frame for each call that has not returned.
 
 import { hex } from "../bench/numbers.js";
-import { areLive, callBefore } from "../machine/returns.js";
+import { findLiveReturns, callAddress } from "../machine/returns.js";
 
 /**
  * @typedef {import("../debug/debug_session.js").DebugSession} DebugSession
@@ -16,15 +16,15 @@ import { areLive, callBefore } from "../machine/returns.js";
  * @param {DebugSession} session
  * @returns {Frame[]}
  */
-export function framesOf(session) {
+export function readStackFrames(session) {
   const { returns } = session;
-  const calls = returns.map((address) => callBefore(address));
+  const calls = returns.map((address) => callAddress(address));
   const lines = session.debugger.session.ask(calls.map((address) => `list ${address} 1\n`).join(""));
-  const live = areLive(returns, lines.map((line) => line.slice(4, 6)), session.map);
-  const open = calls.filter((_, at) => live[at]);
+  const liveFlags = findLiveReturns(returns, lines.map((line) => line.slice(4, 6)), session.map);
+  const openCalls = calls.filter((_, at) => liveFlags[at]);
   const { map } = session;
-  return [session.address, ...open].map((address, at) => ({
-    address, line: map.lineOf(address), name: map.nameOf(address) || hex(address, 3), call: at < open.length ? open[at] : -1,
-    returns: returns.slice(at + 1, open.length).map((each) => hex(each, 3)),
+  return [session.address, ...openCalls].map((address, at) => ({
+    address, line: map.lineOf(address), name: map.nameOf(address) || hex(address, 3), call: at < openCalls.length ? openCalls[at] : -1,
+    returns: returns.slice(at + 1, openCalls.length).map((each) => hex(each, 3)),
   }));
 }

@@ -1,12 +1,12 @@
 // Handlers for requests that move time: continue, step, go back, restart a frame, go to a line.
 
 import { LAST_ADDRESS, hex } from "../bench/numbers.js";
-import { instructionOfLine } from "../debug/breakpoints.js";
+import { instructionForLine } from "../debug/breakpoints.js";
 import { isCall } from "../engine/rom_codes.js";
-import { fieldOf } from "../server/framing.js";
-import { WithFollowUp } from "./adapter_connection.js";
-import { framesOf } from "./frames.js";
-import { referenceOf } from "./memory.js";
+import { getField } from "../server/framing.js";
+import { ResponseWithFollowUp } from "./adapter_connection.js";
+import { readStackFrames } from "./frames.js";
+import { formatReference } from "./memory.js";
 import { AdapterError, NOT_STOPPED, fail, needNumber } from "./dap_protocol.js";
 import * as say from "../../words/adapter.js";
 import { NO_CALL_WAITS } from "../../words/stops.js";
@@ -29,12 +29,13 @@ export class Moves {
   handlers() {
     const move = (/** @type {(machine: Machine) => void} */ act) => (/** @type {any} */ args) => this.moveResponse(args, act);
     return {
-      continue: (args) => new WithFollowUp({ allThreadsContinued: true }, this.moveResponse(args, (machine) => machine.go(null)).followUp),
+      continue: (args) => (
+        new ResponseWithFollowUp({ allThreadsContinued: true }, this.moveResponse(args, (machine) => machine.go(null)).followUp)),
       next: move((machine) => machine.go({ kind: "over" })),
       stepIn: (args) => this.stepIn(args),
       stepInTargets: (args) => {
-        this.needStopped();
-        return this.adapter.current.answering.stepInTargets(args);
+        this.checkPaused();
+        return this.adapter.current.queryHandlers.stepInTargets(args);
       },
       stepOut: (args) => this.stepOut(args),
       stepBack: move((machine) => machine.goBack({ kind: "instruction" })),
@@ -42,7 +43,7 @@ export class Moves {
       restartFrame: (args) => this.restartFrame(args),
       pause: () => {
         const { machine } = this.adapter.current;
-        return new WithFollowUp(undefined, () => machine.pause());
+        return new ResponseWithFollowUp(undefined, () => machine.pause());
       },
       gotoTargets: (args) => this.gotoTargets(args),
       goto: (args) => this.goto(args),
@@ -55,10 +56,10 @@ export class Moves {
    * @param {(machine: Machine) => void} act
    */
   moveResponse(args, act) {
-    this.needStopped();
-    this.needThread(args);
+    this.checkPaused();
+    this.checkThread(args);
     const { machine } = this.adapter.current;
-    return new WithFollowUp(undefined, () => act(machine));
+    return new ResponseWithFollowUp(undefined, () => act(machine));
   }
 
   /** @param {any} args */
@@ -73,49 +74,49 @@ export class Moves {
   /** @param {any} args */
   stepOut(args) {
     const moveResponse = this.moveResponse(args, (machine) => machine.go({ kind: "out" }));
-    if (framesOf(this.adapter.current.launched.session).length === 1) throw new AdapterError(NO_CALL_WAITS, true);
+    if (readStackFrames(this.adapter.current.launched.session).length === 1) throw new AdapterError(NO_CALL_WAITS, true);
     return moveResponse;
   }
 
   /** @param {any} args */
   restartFrame(args) {
-    this.needStopped();
-    const { machine, answering } = this.adapter.current;
-    const { call, returns } = answering.frameOf(args);
+    this.checkPaused();
+    const { machine, queryHandlers } = this.adapter.current;
+    const { call, returns } = queryHandlers.requestedFrame(args);
     if (call < 0) throw new AdapterError(say.NOT_CALLED, true);
-    return new WithFollowUp(undefined, () => machine.goBack({ kind: "call", call, returns }));
+    return new ResponseWithFollowUp(undefined, () => machine.goBack({ kind: "call", call, returns }));
   }
 
-  needStopped() {
+  checkPaused() {
     if (!this.adapter.isConfigured) fail(say.CONFIGURED_FIRST);
     if (this.adapter.current.machine.isMoving) fail(NOT_STOPPED);
   }
 
   /** @param {any} args */
-  needThread(args) {
+  checkThread(args) {
     if (needNumber(args, "threadId", THREAD) !== THREAD) fail(say.ONE_THREAD);
   }
 
   /** @param {any} args */
   gotoTargets(args) {
-    const { current: { launched: { session }, answering }, firstLine } = this.adapter;
-    if (!answering.isProgram(fieldOf(args, "source"))) return { targets: [] };
-    const found = instructionOfLine(needNumber(args, "line") + 1 - firstLine, session.map);
+    const { current: { launched: { session }, queryHandlers }, firstLine } = this.adapter;
+    if (!queryHandlers.isProgram(getField(args, "source"))) return { targets: [] };
+    const found = instructionForLine(needNumber(args, "line") + 1 - firstLine, session.map);
     if (found.address < 0) return { targets: [] };
     const label = session.map.nameOf(found.address) || hex(found.address, 3);
-    const instructionPointerReference = referenceOf(found.address);
+    const instructionPointerReference = formatReference(found.address);
     return { targets: [{ id: found.address, label, line: found.line - 1 + firstLine, instructionPointerReference }] };
   }
 
   /** @param {any} args */
   async goto(args) {
-    this.needStopped();
-    this.needThread(args);
+    this.checkPaused();
+    this.checkThread(args);
     const { machine, launched } = this.adapter.current;
     const address = needNumber(args, "targetId");
     if (!(address >= 0 && address <= LAST_ADDRESS)) fail(say.NO_TARGET);
     await launched.session.debugger.session.serve(`poke pc ${address}\n`, async () => true);
     await machine.saveAndReport();
-    return new WithFollowUp(undefined, () => this.adapter.stopped(this.adapter.pauseEnd("goto")));
+    return new ResponseWithFollowUp(undefined, () => this.adapter.stopped(this.adapter.pauseEnd("goto")));
   }
 }

@@ -1,11 +1,11 @@
 // The number format of responses. By default, machine values are hexadecimal and sums are decimal. With `format.hex`, a client selects one
 // base for all numbers.
 
-import { fieldOf } from "../server/framing.js";
-import { fail, flagOf } from "./dap_protocol.js";
+import { getField } from "../server/framing.js";
+import { fail, optionalFlag } from "./dap_protocol.js";
 import * as say from "../../words/adapter.js";
 
-/** @typedef {"usual" | "hex" | "decimal"} Base a number base; "usual" is the default format */
+/** @typedef {"usual" | "hex" | "decimal"} Base a number base; "usual" means the base that each value has by default */
 
 /**
  * Returns a boolean from the `format` argument of a request.
@@ -13,11 +13,11 @@ import * as say from "../../words/adapter.js";
  * @param {"hex" | "line"} name
  * @returns {boolean | null} null if the request does not specify it
  */
-export function formatFlag(args, name) {
-  const format = fieldOf(args, "format");
+export function readFormatFlag(args, name) {
+  const format = getField(args, "format");
   if (format === undefined || format === null) return null;
   if (typeof format !== "object" || Array.isArray(format)) return fail(say.FORMAT_IS);
-  return fieldOf(format, name) === undefined ? null : flagOf(format, name, false);
+  return getField(format, name) === undefined ? null : optionalFlag(format, name, false);
 }
 
 /**
@@ -25,29 +25,29 @@ export function formatFlag(args, name) {
  * @param {any} args
  * @returns {Base}
  */
-export function baseOf(args) {
-  const isHex = formatFlag(args, "hex");
+export function requestedBase(args) {
+  const isHex = readFormatFlag(args, "hex");
   if (isHex === null) return "usual";
   return isHex ? "hex" : "decimal";
 }
 
 /**
  * Converts the numbers in a value to a base.
- * @param {string} text contains numbers that begin with 0x; the value of a program name has both bases: `0x1F, 31`
+ * @param {string} text a text with numbers that begin with 0x; a program name has its value in both bases: `0x1F, 31`
  * @param {Base} base
  */
-export function inBase(text, base) {
+export function convertToBase(text, base) {
   if (base === "usual") return text;
-  const single = text.replace(/^(0x[0-9A-F]+), \d+$/, "$1");
-  return base === "hex" ? single : single.replace(/\b0x[0-9A-F]+\b/g, (digits) => String(Number(digits)));
+  const singleNumber = text.replace(/^(0x[0-9A-F]+), \d+$/, "$1");
+  return base === "hex" ? singleNumber : singleNumber.replace(/\b0x[0-9A-F]+\b/g, (digits) => String(Number(digits)));
 }
 
 /**
- * Formats a number; "usual" means decimal.
+ * Formats a number in a base; the default base is decimal.
  * @param {number} number
  * @param {Base} base
  */
-export function numberInBase(number, base) {
+export function formatInBase(number, base) {
   if (base !== "hex") return String(number);
   return `${number < 0 ? "-" : ""}0x${Math.abs(number).toString(16).toUpperCase()}`;
 }

@@ -8,7 +8,7 @@ import * as say from "../../words/adapter.js";
 const FIRST_REPORT_DELAY = 1000;
 const REPORT_INTERVAL = 500;
 
-/** A piece of work that can take long. */
+/** Work that can take long. */
 class Work {
   /**
    * @param {Progress} progress
@@ -20,17 +20,17 @@ class Work {
     this.title = title;
     this.stop = stop;
     this.id = "";
-    this.due = performance.now() + progress.after;
+    this.dueTime = performance.now() + progress.firstReportDelay;
   }
 
   /**
-   * Reports progress if it is due.
+   * Reports the progress if the interval since the last report has passed.
    * @param {() => string} message returns the progress as text
    */
   reportIfDue(message) {
     const now = performance.now();
-    if (!this.progress.isOn || now < this.due) return;
-    this.due = now + REPORT_INTERVAL;
+    if (!this.progress.isEnabled || now < this.dueTime) return;
+    this.dueTime = now + REPORT_INTERVAL;
     if (this.id === "") this.id = this.progress.start(this, message());
     else this.progress.sendEvent("progressUpdate", { progressId: this.id, message: message() });
   }
@@ -46,11 +46,11 @@ export class Progress {
   constructor(sendEvent) {
     this.sendEvent = sendEvent;
     /** True if the client shows progress. */
-    this.isOn = false;
-    this.after = FIRST_REPORT_DELAY;
+    this.isEnabled = false;
+    this.firstReportDelay = FIRST_REPORT_DELAY;
     this.lastId = 0;
     /** @type {Map<string, Work>} the reported work, by progress id */
-    this.works = new Map();
+    this.workById = new Map();
   }
 
   /**
@@ -70,23 +70,23 @@ export class Progress {
   start(work, message) {
     this.lastId += 1;
     const progressId = `mcs4 ${this.lastId}`;
-    this.works.set(progressId, work);
+    this.workById.set(progressId, work);
     this.sendEvent("progressStart", { progressId, title: work.title, cancellable: true, message });
     return progressId;
   }
 
   /** @param {string} progressId */
   end(progressId) {
-    this.works.delete(progressId);
+    this.workById.delete(progressId);
     this.sendEvent("progressEnd", { progressId });
   }
 
   /**
-   * Stops reported work; throws AdapterError if no work has this id.
+   * Stops the work with a progress id; throws AdapterError if there is no such work.
    * @param {string} progressId
    */
   stop(progressId) {
-    const work = this.works.get(progressId);
+    const work = this.workById.get(progressId);
     if (!work) throw new AdapterError(say.noProgress(progressId));
     work.stop();
   }

@@ -1,7 +1,7 @@
-// Saves a session in memory to its file. The program that has the file open (`mcs4 open FILE`) receives the new lines of the session. If
-// the new lines do not continue the history of the file (after going back), the file is replaced, and the program continues with it.
+// Saves a session in memory to its file. The program that has the file open (`mcs4 open FILE`) receives the new lines of the session. After
+// a move back in time, the new lines do not continue the history in the file. The writer then replaces the file.
 
-import { refusalOf } from "../bench/answers.js";
+import { parseRefusal } from "../bench/answers.js";
 import { joinLines } from "../bench/inputs.js";
 import { AdapterError } from "./dap_protocol.js";
 import * as say from "../../words/adapter.js";
@@ -10,9 +10,9 @@ import * as say from "../../words/adapter.js";
  * @typedef {import("../engine/worker_session.js").WorkerSession} WorkerSession
  * @typedef {import("../engine/timeline.js").Segment} Segment
  *
- * A program with an open session file. `ask` sends lines and returns their `count` answers. `replace` replaces the file with a session that
- * has these bytes and has served these lines. If `check` throws, or the file cannot be replaced, `replace` throws and the file does not
- * change.
+ * A session file that a program has open. `ask` sends lines and resolves to their `count` answers. `replace` replaces the file with a
+ * session that has the bytes `bytes` and has served `lines`. If `check` throws, or the file cannot be replaced, `replace` throws and the
+ * file does not change.
  * @typedef {{ bytes: Uint8Array, ask: (lines: string, count: number) => Promise<string[]>,
  *   replace: (bytes: Uint8Array, lines: string, count: number, check: (answers: string[]) => void) => Promise<void>,
  *   end: () => Promise<void> }} OpenFile
@@ -32,37 +32,37 @@ export class SessionWriter {
   }
 
   /**
-   * Returns the lines that are missing in the file; null if they do not continue the history of the file.
+   * Returns the lines of the session that are missing in the file; null if the session does not continue the history in the file.
    * @param {WorkerSession} session
    */
-  missingLines({ timeline, unrecorded }) {
+  missingLines({ timeline, unrecordedCommands }) {
     const from = this.segment ? timeline.segments.indexOf(this.segment) : -1;
     if (from < 0 || timeline.segments.slice(from + 1).some(({ follows }) => !follows)) return null;
-    const all = [...timeline.segments.slice(from).flatMap(({ entries }) => entries), ...unrecorded];
-    return all.slice(this.count).map(({ line }) => line);
+    const entries = [...timeline.segments.slice(from).flatMap((segment) => segment.entries), ...unrecordedCommands];
+    return entries.slice(this.count).map(({ line }) => line);
   }
 
   /**
-   * Updates the file to the state of the session; throws AdapterError if the program rejects a line or reaches another state.
+   * Writes the missing lines to the file; throws AdapterError if the program rejects a line or reaches another state than the session.
    * @param {WorkerSession} session
    */
   async write(session) {
     const { last } = session.timeline;
     const missingLines = this.missingLines(session);
     const state = session.ask("state\n")[0];
-    const all = [...last.entries, ...session.unrecorded].map(({ line }) => line);
+    const allLines = [...last.entries, ...session.unrecordedCommands].map(({ line }) => line);
     this.segment = null;
     /** @type {(answers: string[]) => void} */
     const check = (answers) => {
-      const refused = answers.find((answer) => refusalOf(answer));
-      if (refused) throw new AdapterError(say.fileNotWritten(refused));
+      const rejectedAnswer = answers.find((answer) => parseRefusal(answer));
+      if (rejectedAnswer) throw new AdapterError(say.fileNotWritten(rejectedAnswer));
       const isSame = answers[answers.length - 1] === state;
       if (!isSame) throw new AdapterError(say.OTHER_STATE);
     };
     if (missingLines) check(await this.file.ask(`${joinLines(missingLines)}state\n`, missingLines.length + 1));
-    else await this.file.replace(last.file, `${joinLines(all)}state\n`, all.length + 1, check);
+    else await this.file.replace(last.file, `${joinLines(allLines)}state\n`, allLines.length + 1, check);
     this.segment = last;
-    this.count = all.length;
+    this.count = allLines.length;
   }
 
   end() {

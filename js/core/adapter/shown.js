@@ -1,9 +1,9 @@
 // Reads the lamps and displays of a board as text, and reports when this text changes.
 
-import { readMarks } from "../bench/answers.js";
+import { readItems } from "../bench/answers.js";
 import { DisplayText } from "../board/display_text.js";
 import { Face } from "../board/face.js";
-import { SEEN_QUERY, SeenText, hasScannedDisplay } from "../engine/seen_text.js";
+import { LAMPS_FORECAST_QUERY, PerceivedText, hasScannedDisplay } from "../engine/seen_text.js";
 
 /** @typedef {import("../debug/debug_session.js").DebugSession} DebugSession */
 
@@ -22,7 +22,7 @@ export class ShownText {
 
   /** Returns one mark per lamp, `*` if the lamp is on. */
   get marks() {
-    return readMarks(this.session.debugger.session.ask("lamps\n")[0]).join("");
+    return readItems(this.session.debugger.session.ask("lamps\n")[0]).join("");
   }
 
   /**
@@ -42,14 +42,14 @@ export class ShownText {
    * @param {number} count the number of lamps
    */
   perceivedText(count) {
-    return new SeenText(this.face, count).read(this.session.debugger.session.ask(SEEN_QUERY));
+    return new PerceivedText(this.face, count).read(this.session.debugger.session.ask(LAMPS_FORECAST_QUERY));
   }
 
   /** Returns the current text if it differs from the last report; otherwise "". */
   take() {
-    const now = this.now();
-    if (now === this.before) return "";
-    this.before = now;
-    return now;
+    const currentText = this.now();
+    if (currentText === this.before) return "";
+    this.before = currentText;
+    return currentText;
   }
 }

@@ -4,10 +4,10 @@
 import { readBoard } from "../bench/answers.js";
 import { SnapshotReader } from "../bench/snapshot.js";
 import { Face } from "../board/face.js";
-import { printerOf } from "../board/face_board.js";
-import { keyOfText, lineOfKey } from "../board/key_place.js";
-import { Printing } from "../engine/printing.js";
-import { SEEN_QUERY } from "../engine/seen_text.js";
+import { findPrinter } from "../board/face_board.js";
+import { parseKey, keyLine } from "../board/key_place.js";
+import { PrinterCodes } from "../engine/printing.js";
+import { LAMPS_FORECAST_QUERY } from "../engine/seen_text.js";
 import { BrightnessMeter } from "../engine/brightness_meter.js";
 import { fail } from "./dap_protocol.js";
 import * as say from "../../words/adapter.js";
@@ -20,11 +20,11 @@ import * as say from "../../words/adapter.js";
  * - `board`: the answer to `board`; `boardText`: the board text;
  * - `lamps`: a mark for each lamp, `*` if it is on;
  * - `keys`: the pressed keys as `row.column`; `test`: the TEST level;
- * - `isRunning`: true if time runs;
- * - `litShares`: the perceived brightness of the lamps in the next 30 ms, while time runs;
+ * - `isRunning`: true if the machine runs;
+ * - `litShares`: the perceived brightness of each lamp in the next 30 ms, while the machine runs;
  * - `printed`: the new output of the printer.
  * @typedef {{ board?: string[], boardText?: string, lamps?: string, keys?: string[], test?: string, isRunning?: boolean,
- *   litShares?: import("../engine/brightness_meter.js").LitShares, printed?: import("../engine/printing.js").Printed }} ShownNews
+ *   litShares?: import("../engine/brightness_meter.js").LitShares, printed?: import("../engine/printing.js").PrintoutData }} BoardNews
  */
 
 export class ShownBoard {
@@ -43,28 +43,28 @@ export class ShownBoard {
 
   /**
    * Returns the changes since the last report; all values in the first report.
-   * @returns {ShownNews}
+   * @returns {BoardNews}
    */
   take() {
     const { session, isMoving } = this.machine;
     const { session: bench } = session.debugger;
-    /** @type {ShownNews} */
+    /** @type {BoardNews} */
     const news = {};
     const board = bench.statusQueries.board.join("\n");
     if (board !== this.board) {
       this.board = board;
       this.reader.forget();
       this.face = new Face(session.boardText);
-      const wired = readBoard(bench.statusQueries.board);
-      this.lampCount = wired.lamps.length;
-      const printer = printerOf(wired, this.face);
+      const boardParts = readBoard(bench.statusQueries.board);
+      this.lampCount = boardParts.lamps.length;
+      const printer = findPrinter(boardParts, this.face);
       if (!printer) bench.printing = null;
-      else if (!bench.printing || !bench.printing.isOf(printer)) bench.printing = new Printing({ ...printer, codes: [] });
+      else if (!bench.printing || !bench.printing.isSamePrinter(printer)) bench.printing = new PrinterCodes({ ...printer, codes: [] });
       Object.assign(news, { board: bench.statusQueries.board, boardText: session.boardText });
     }
     Object.assign(news, this.reader.take(bench.ask("state\n")));
-    const printed = bench.printing && bench.printing.takeNews(bench.count.total);
-    if (printed) news.printed = printed;
+    const newOutput = bench.printing && bench.printing.takeNews(bench.count.total);
+    if (newOutput) news.printed = newOutput;
     if (isMoving !== this.isRunning) news.isRunning = isMoving;
     this.isRunning = isMoving;
     return { ...news, ...this.takeLitShares() };
@@ -76,12 +76,12 @@ export class ShownBoard {
     if (printing) printing.clear();
   }
 
-  /** Returns the perceived lamp brightness if time runs and the brightness has changed. */
+  /** Returns the perceived lamp brightness if the machine runs and the brightness has changed. */
   takeLitShares() {
     const { machine, face, lampCount, litShares: before } = this;
     this.litShares = "";
     if (!machine.isMoving || lampCount === 0) return {};
-    const litShares = new BrightnessMeter(face, lampCount, 0).take([machine.session.debugger.session.ask(SEEN_QUERY)]);
+    const litShares = new BrightnessMeter(face, lampCount, 0).take([machine.session.debugger.session.ask(LAMPS_FORECAST_QUERY)]);
     this.litShares = JSON.stringify(litShares);
     return this.litShares === before ? {} : { litShares };
   }
@@ -95,8 +95,8 @@ export class ShownBoard {
  * @param {boolean} isDown
  */
 export async function changeKey(machine, debugConsole, text, isDown) {
-  const key = keyOfText(text) || fail(say.KEY_PLACE);
+  const key = parseKey(text) || fail(say.KEY_PLACE);
   const word = isDown ? "press" : "release";
   if (machine.isMoving) machine.session.debugger.session.queue[word](key);
-  else await debugConsole.runBenchLines(`${lineOfKey(word, key)}\n`);
+  else await debugConsole.runBenchLines(`${keyLine(word, key)}\n`);
 }

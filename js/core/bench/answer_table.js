@@ -1,37 +1,37 @@
-// The answer format of each input line, and the lines that open a text. Both come from the table tools/lib/answers.txt; its header explains
-// the columns.
+// The answer format of each input line, and whether a text follows the line. Both come from the table tools/lib/answers.txt; its header
+// explains the columns.
 
 import table from "#answer-table";
 
 /**
- * An input line and its answer format, by the first word of the line. `opensText`: a text follows the line. `isQuery`: the line changes
- * nothing. `first`: the pattern of the first answer line. `further`: the pattern of the other answer lines, null if there are none.
- * `count`: the number of further lines, in the notation of the table.
+ * The format of the answer to an input line. `opensText`: true if a text follows the input line. `isQuery`: true if the line does not
+ * change the session. `first`: the pattern of the first answer line. `further`: the pattern of the other answer lines, null if there are
+ * none. `count`: the number of further lines, in the notation of the table.
  * @typedef {{ opensText: boolean, isQuery: boolean, first: RegExp, further: RegExp | null, count: string }} Form
  */
 
-const COLUMNS = 5;
+const COLUMN_COUNT = 5;
 /** The start of the pattern for the answer to a command. */
 const COMMAND_ANSWER = "^ok ";
 
 /**
- * Parses the answer table; returns its rows by first word.
+ * Parses the answer table; returns the answer formats by the first word of the input line.
  * @param {string} text the table
  * @returns {Map<string, Form>}
  */
-export function readForms(text) {
+export function parseAnswerTable(text) {
   const rows = text.split("\n").filter((line) => !line.startsWith("#")).map((line) => line.split("\t"));
-  return new Map(rows.filter((row) => row.length === COLUMNS).map(([word, opens, first, further, count]) => [word, {
+  return new Map(rows.filter((row) => row.length === COLUMN_COUNT).map(([word, opens, first, further, count]) => [word, {
     opensText: opens === "text", isQuery: !first.startsWith(COMMAND_ANSWER), first: new RegExp(first),
     further: further === "-" ? null : new RegExp(further), count,
   }]));
 }
 
-/** The answer table, by the first word of the input line. */
-export const ANSWER_FORMS = readForms(table);
+/** The answer formats, by the first word of the input line. */
+export const ANSWER_FORMS = parseAnswerTable(table);
 
 /**
- * Returns whether a word starts a query: a line that changes nothing.
+ * Returns whether a word starts a query. A query does not change the session.
  * @param {string} word
  */
 export function isQuery(word) {

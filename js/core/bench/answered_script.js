@@ -1,7 +1,7 @@
-// Matches the answers of a session to the inputs of a script, and rejects answers that cannot belong to the script.
+// Assigns the answers of a session to the inputs of a script. Rejects answers that the inputs cannot have.
 
 import { ANSWER_FORMS } from "./answer_table.js";
-import { refusalOf } from "./answers.js";
+import { parseRefusal } from "./answers.js";
 import { answerLength, maxLines, opensText, readNumberedInputs } from "./inputs.js";
 import * as say from "../../words/bench.js";
 
@@ -11,7 +11,7 @@ import * as say from "../../words/bench.js";
  * An input, its line number from 1, and the first line of its answer ("" if it has no answer).
  * @typedef {{ input: Input, at: number, answer: string }} AnsweredInput
  *
- * The inputs of a script with their answers. `words` is an error message if the answers do not belong to the script, otherwise "".
+ * The inputs of a script with their answers. `words` is an error message if the answers do not fit the inputs, otherwise "".
  * @typedef {{ inputs: AnsweredInput[], words: string }} AnsweredScript
  */
 
@@ -23,14 +23,14 @@ const SESSION_ANSWER = /^session (\d+)$/;
  * @param {string} answer
  */
 function canBeginAnswer({ kind, line }, answer) {
-  const refusal = refusalOf(answer);
+  const refusal = parseRefusal(answer);
   if (refusal) return refusal.line === 0 || opensText(line);
   const form = ANSWER_FORMS.get(kind);
   return form !== undefined && form.first.test(answer);
 }
 
 /**
- * Returns the number of lines in the complete answer to an input. If the first line states a count, the result includes lines that are
+ * Returns the number of lines in the complete answer to an input. If the first line states a count, the number includes lines that are
  * missing at the end of `answers`.
  * @param {Input} input
  * @param {string[]} answers
@@ -38,39 +38,39 @@ function canBeginAnswer({ kind, line }, answer) {
  */
 function completeLength(input, answers, from) {
   const form = ANSWER_FORMS.get(input.kind);
-  if (!form || !form.further || refusalOf(answers[from])) return 1;
+  if (!form || !form.further || parseRefusal(answers[from])) return 1;
   return form.count === "all" || form.count === "list" ? answerLength(input, answers, from) : maxLines(input, answers[from], form.count);
 }
 
 /**
- * Returns the index of the first answer line with a wrong format; -1 if all lines are correct.
+ * Returns the index of the first line of an answer that has a wrong format; -1 if the format of all lines is correct.
  * @param {Input} input
  * @param {string[]} answers
  * @param {number} from
  * @param {number} end
  */
-function firstForeignLine(input, answers, from, end) {
+function findInvalidLine(input, answers, from, end) {
   const form = ANSWER_FORMS.get(input.kind);
   const further = form && form.further;
   for (let at = from + 1; at < Math.min(end, answers.length); at++) if (!further || !further.test(answers[at])) return at;
   return -1;
 }
 
-/** Matches answers to inputs, one input after the other. */
+/** Assigns answers to inputs, one input after the other. */
 class AnswerMatcher {
   /** @param {string[]} answers */
   constructor(answers) {
     this.answers = answers;
-    this.commands = Number((SESSION_ANSWER.exec(answers[0]) || ["", "0"])[1]);
-    this.at = 1;
-    /** An error message if the answers do not belong to the inputs, otherwise "". */
-    this.words = "";
+    this.commandCount = Number((SESSION_ANSWER.exec(answers[0]) || ["", "0"])[1]);
+    this.next = 1;
+    /** An error message if the answers do not fit the inputs, otherwise "". */
+    this.message = "";
     /** True if the last answer is incomplete. */
-    this.isCut = false;
+    this.isIncomplete = false;
   }
 
   get isOver() {
-    return this.words !== "" || this.isCut || this.at >= this.answers.length;
+    return this.message !== "" || this.isIncomplete || this.next >= this.answers.length;
   }
 
   /**
@@ -78,22 +78,24 @@ class AnswerMatcher {
    * @param {Input} input
    * @param {number} line the input's line number
    */
-  take(input, line) {
+  takeAnswer(input, line) {
     if (this.isOver) return "";
-    const { answers, at } = this;
+    const { answers, next: at } = this;
     const first = answers[at];
     const messageAt = (/** @type {number} */ index) => say.noAnswer(index + 1, answers[index], line, input.line);
     const [word, count] = first.split(" ");
-    if (!canBeginAnswer(input, first)) this.words = messageAt(at);
-    else if (word === "ok" && Number(count) !== this.commands + 1) this.words = say.wrongCommandCount(messageAt(at), this.commands);
-    if (this.words !== "") return "";
-    if (word === "ok") this.commands += 1;
+    if (!canBeginAnswer(input, first)) this.message = messageAt(at);
+    else if (word === "ok" && Number(count) !== this.commandCount + 1) {
+      this.message = say.wrongCommandCount(messageAt(at), this.commandCount);
+    }
+    if (this.message !== "") return "";
+    if (word === "ok") this.commandCount += 1;
     const end = at + completeLength(input, answers, at);
-    const foreignLine = firstForeignLine(input, answers, at, end);
-    if (foreignLine >= 0) this.words = messageAt(foreignLine);
-    this.isCut = end > answers.length;
-    this.at = end;
-    return foreignLine >= 0 || this.isCut ? "" : first;
+    const invalidLine = findInvalidLine(input, answers, at, end);
+    if (invalidLine >= 0) this.message = messageAt(invalidLine);
+    this.isIncomplete = end > answers.length;
+    this.next = end;
+    return invalidLine >= 0 || this.isIncomplete ? "" : first;
   }
 }
 
@@ -103,13 +105,13 @@ class AnswerMatcher {
  * @param {string[]} answers
  * @returns {AnsweredScript}
  */
-export function answeredScript(script, answers) {
+export function matchScriptAnswers(script, answers) {
   const inputs = readNumberedInputs(script);
   const unanswered = inputs.map((placed) => ({ ...placed, answer: "" }));
-  if (answers.length > 0 && refusalOf(answers[0])) return { inputs: unanswered, words: "" };
+  if (answers.length > 0 && parseRefusal(answers[0])) return { inputs: unanswered, words: "" };
   if (answers.length === 0 || !SESSION_ANSWER.test(answers[0])) return { inputs: unanswered, words: say.FIRST_IS_SESSION };
   const matcher = new AnswerMatcher(answers);
-  const answered = inputs.map(({ input, at }) => ({ input, at, answer: matcher.take(input, at) }));
-  const { words, isOver, at } = matcher;
-  return { inputs: answered, words: words || (isOver ? "" : say.afterLastAnswer(at + 1, answers[at])) };
+  const answered = inputs.map(({ input, at }) => ({ input, at, answer: matcher.takeAnswer(input, at) }));
+  const { message, isOver, next } = matcher;
+  return { inputs: answered, words: message || (isOver ? "" : say.afterLastAnswer(next + 1, answers[next])) };
 }

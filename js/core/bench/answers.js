@@ -11,9 +11,9 @@ import { isListingLine } from "./answer_table.js";
  * @typedef {{ registers: Map<string, RamRegister>, ports: Map<string, string> }} Ram
  * @typedef {{ chip: string, out: string, in: string }} RomPort
  * @typedef {{ sources: string[], roms: RomPort[], chains: string[], keys: string[] }} Ports
- * @typedef {{ address: number, line: string }} Listed
- * @typedef {{ line: number, address: number, size: number }} MappedLine a line of a program: its number from 1, its address, and its
- *   size in bytes
+ * @typedef {{ address: number, line: string }} ListingLine
+ * @typedef {{ line: number, address: number, size: number }} MappedLine a program line: its number from 1, its address, and its size in
+ *   bytes
  * @typedef {{ lines: MappedLine[], names: { name: string, value: number }[] }} ProgramMap
  * @typedef {{ clock: string, data: string, chips: number }} Chain
  * @typedef {{ chain: number, first: number, rows: number, columns: string[] }} Matrix row r is driven by bit `first + r` of the chain
@@ -22,18 +22,19 @@ import { isListingLine } from "./answer_table.js";
  */
 
 /**
- * Parses a refusal. Returns its number and its line number (0 if it has none); null for any other answer. The refusal of a board also names
- * a part, which is ignored.
+ * Parses a refusal. Returns the refusal number and the line number (0 if there is none); null for any other answer. Ignores the board part
+ * that the refusal of a board text also names.
  * @param {string} answer
  * @returns {Refusal | null}
  */
-export function refusalOf(answer) {
+export function parseRefusal(answer) {
   const found = /^no (\d+)(?: line (\d+)(?: .+)?)?$/.exec(answer);
   return found && { number: Number(found[1]), line: Number(found[2] || 0) };
 }
 
 /**
- * Parses the answer to a run, such as `ok 7 ran 100 end`. Returns its cycles and the reason word; null for any other answer.
+ * Parses the answer to a run, such as `ok 7 ran 100 end`. Returns the number of cycles, and the word for the reason why the run ended.
+ * Returns null for any other answer.
  * @param {string} answer
  * @returns {Run | null}
  */
@@ -43,12 +44,12 @@ export function readRun(answer) {
 }
 
 /**
- * Returns whether a command was rejected or a run stopped early.
+ * Returns whether an answer is a refusal, or reports a run that stopped early.
  * @param {string} answer
  */
 export function isStop(answer) {
   const run = readRun(answer);
-  return run ? run.end !== "end" : refusalOf(answer) !== null;
+  return run ? run.end !== "end" : parseRefusal(answer) !== null;
 }
 
 /**
@@ -74,7 +75,7 @@ export function readCounter(answer) {
 }
 
 /**
- * Reads the answer to `ram B`: the registers by `bank.chip.register`, and the ports by `bank.chip`.
+ * Reads the answer to `ram B`. The keys of the registers have the form `bank.chip.register`, those of the ports the form `bank.chip`.
  * @param {string[]} answers
  * @returns {Ram}
  */
@@ -90,10 +91,11 @@ export function readRam(answers) {
 }
 
 /**
- * Returns the words after the first word of an answer, such as `breaks 000 003`, `watches 0.00` or `lamps **.`; none for `-`.
+ * Returns the words after the first word of an answer, such as `breaks 000 003`, `watches 0.00` or `lamps **.`. Returns an empty list if
+ * the answer has `-` instead.
  * @param {string} answer
  */
-export function readMarks(answer) {
+export function readItems(answer) {
   const words = answer.split(" ").slice(1);
   return words[0] === "-" ? [] : words;
 }
@@ -103,11 +105,11 @@ export function readMarks(answer) {
  * @param {string} answer the answer to `watches`
  */
 export function watchedPlaces(answer) {
-  return readMarks(answer).map((place) => `ram.${place.replace(".", ".0x")}`);
+  return readItems(answer).map((place) => `ram.${place.replace(".", ".0x")}`);
 }
 
 /**
- * Reads the answer to `map`; returns an empty map for a refusal.
+ * Reads the answer to `map`. Returns a map without lines and names for a refusal.
  * @param {string[]} answers
  * @returns {ProgramMap}
  */
@@ -125,14 +127,14 @@ export function readMap(answers) {
 /**
  * Returns the listing lines among the answers, with their addresses.
  * @param {string[]} answers
- * @returns {Listed[]}
+ * @returns {ListingLine[]}
  */
 export function readListing(answers) {
   return answers.filter(isListingLine).map((line) => ({ address: parseInt(line.slice(0, 3), 16), line }));
 }
 
 /**
- * Returns the TOML tables in the answer to `board`. The bench writes each value as valid JSON.
+ * Returns the TOML tables in the answer to `board`. Each value in this answer is also valid JSON.
  * @param {string[]} answers
  * @returns {Record<string, any>[]}
  */

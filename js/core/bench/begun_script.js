@@ -1,9 +1,9 @@
 // Checks whether a session started with a script, and counts the script lines that the session has already received.
 
-import { answeredScript } from "./answered_script.js";
-import { endOfInputs, opensText } from "./inputs.js";
-import { upTo } from "./numbers.js";
-import { PAGES, listQueries } from "./rom_bytes.js";
+import { matchScriptAnswers } from "./answered_script.js";
+import { findInputEnd, opensText } from "./inputs.js";
+import { indices } from "./numbers.js";
+import { PAGE_NUMBERS, listQueries } from "./rom_bytes.js";
 import * as say from "../../words/bench.js";
 
 /**
@@ -12,62 +12,62 @@ import * as say from "../../words/bench.js";
  *
  * The number of script lines that a session has received. If the session did not start with the script, `words` is an error message, and
  * `differing` lists answers that differ: `<` marks the answers of the session, `>` those of the script.
- * @typedef {{ lines: number, words: string, differing: string[] }} BegunScript
+ * @typedef {{ lines: number, words: string, differing: string[] }} ScriptComparison
  */
 
-const BANKS = 8;
-/** The number of characters that are served at once: the user can interrupt between two pieces. */
+const BANK_COUNT = 8;
+/** The minimum number of characters that are served at once. Between two such pieces the user can interrupt the work. */
 const PIECE_LENGTH = 4096;
 /** The maximum number of differing lines that are shown. */
-const MAX_SHOWN = 4;
-/** The queries whose answers are compared. */
-const QUERIES = `seq\nboard\nstate\n${upTo(BANKS).map((bank) => `ram ${bank}\n`).join("")}${listQueries(PAGES)}`;
+const MAX_DIFFERING_LINES = 4;
+/** The queries whose answers are compared between the two sessions. */
+const QUERIES = `seq\nboard\nstate\n${indices(BANK_COUNT).map((bank) => `ram ${bank}\n`).join("")}${listQueries(PAGE_NUMBERS)}`;
 
 /**
- * Splits each `state` answer into one line per key and value; returns all answers.
+ * Splits each answer to `state` into one line per key and value. Returns these lines and the other answers, in order.
  * @param {string[]} answers
  */
 function splitState(answers) {
   return answers.flatMap((answer) => {
-    const [word, ...words] = answer.split(" ");
-    return word === "state" ? upTo(Math.floor(words.length / 2)).map((at) => `${words[2 * at]} ${words[2 * at + 1]}`) : [answer];
+    const [word, ...items] = answer.split(" ");
+    return word === "state" ? indices(Math.floor(items.length / 2)).map((at) => `${items[2 * at]} ${items[2 * at + 1]}`) : [answer];
   });
 }
 
 /**
- * Returns the first lines that differ, marked `<` or `>`. If the lists differ in length, returns the lines between the common prefix and
- * the common suffix.
+ * Returns the first lines that differ. `<` marks a line of `actual`, `>` a line of `expected`. If the lists differ in length, returns the
+ * lines between the common prefix and the common suffix.
  * @param {string[]} actual
  * @param {string[]} expected
  */
-export function differences(actual, expected) {
+export function differingLines(actual, expected) {
   const differs = (/** @type {number} */ at) => actual[at] !== expected[at];
   if (actual.length === expected.length) {
-    const at = upTo(actual.length).filter(differs).slice(0, MAX_SHOWN / 2);
+    const at = indices(actual.length).filter(differs).slice(0, MAX_DIFFERING_LINES / 2);
     return [...at.map((index) => `< ${actual[index]}`), ...at.map((index) => `> ${expected[index]}`)];
   }
   const shorter = Math.min(actual.length, expected.length);
-  const prefix = upTo(shorter).find(differs) ?? shorter;
+  const prefix = indices(shorter).find(differs) ?? shorter;
   const differsAtEnd = (/** @type {number} */ back) => actual[actual.length - 1 - back] !== expected[expected.length - 1 - back];
-  const suffix = upTo(shorter - prefix).find(differsAtEnd) ?? shorter - prefix;
+  const suffix = indices(shorter - prefix).find(differsAtEnd) ?? shorter - prefix;
   const actualLines = actual.slice(prefix, actual.length - suffix).map((line) => `< ${line}`);
-  return [...actualLines, ...expected.slice(prefix, expected.length - suffix).map((line) => `> ${line}`)].slice(0, MAX_SHOWN);
+  return [...actualLines, ...expected.slice(prefix, expected.length - suffix).map((line) => `> ${line}`)].slice(0, MAX_DIFFERING_LINES);
 }
 
 /**
- * Returns the number of script lines up to the accepted input number `commands`; -1 if the script has fewer accepted inputs.
+ * Returns the number of script lines up to the last of the first `commands` accepted inputs; -1 if the script has fewer accepted inputs.
  * @param {import("./answered_script.js").AnsweredInput[]} inputs
  * @param {number} commands
  */
 function linesUpTo(inputs, commands) {
-  let accepted = 0;
+  let acceptedCount = 0;
   let lines = 0;
   for (const { input, at, answer } of inputs) {
-    if (accepted === commands) break;
-    if (answer.startsWith("ok ")) accepted += 1;
+    if (acceptedCount === commands) break;
+    if (answer.startsWith("ok ")) acceptedCount += 1;
     lines = opensText(input.line) ? at + input.text.length + 1 : at;
   }
-  return accepted === commands ? lines : -1;
+  return acceptedCount === commands ? lines : -1;
 }
 
 /**
@@ -81,7 +81,7 @@ async function serveScript(engine, lines, yieldToMessages) {
   /** @type {string[]} */
   const answers = [];
   for (let at = 0; at < lines.length;) {
-    const end = endOfInputs(lines, at, PIECE_LENGTH);
+    const end = findInputEnd(lines, at, PIECE_LENGTH);
     for (const answer of engine.serve(state, lines.slice(at, end), state).answers) answers.push(answer);
     at = end;
     await yieldToMessages();
@@ -95,21 +95,21 @@ async function serveScript(engine, lines, yieldToMessages) {
  * @param {State} state the state of the session
  * @param {string} script
  * @param {() => Promise<any>} yieldToMessages called after each piece of long work
- * @returns {Promise<BegunScript>}
+ * @returns {Promise<ScriptComparison>}
  */
-export async function begunScript(engine, state, script, yieldToMessages) {
+export async function compareWithScript(engine, state, script, yieldToMessages) {
   const { opened, answers: actual } = engine.ask(state, QUERIES);
   const commands = Number(opened.slice("session ".length));
-  const complete = await serveScript(engine, script, yieldToMessages);
-  const { inputs, words } = answeredScript(script, ["session 0", ...complete.answers]);
+  const fullRun = await serveScript(engine, script, yieldToMessages);
+  const { inputs, words } = matchScriptAnswers(script, ["session 0", ...fullRun.answers]);
   if (words !== "") return { lines: 0, words, differing: [] };
   const lines = linesUpTo(inputs, commands);
   if (lines < 0) {
     const accepted = inputs.filter(({ answer }) => answer.startsWith("ok ")).length;
     return { lines: 0, words: say.acceptedMore(commands, accepted), differing: [] };
   }
-  const sameStart = await serveScript(engine, script.split("\n").slice(0, lines).map((line) => `${line}\n`).join(""), yieldToMessages);
-  const expected = engine.ask(sameStart.state, QUERIES).answers;
-  const differing = differences(splitState(actual), splitState(expected));
+  const partialRun = await serveScript(engine, script.split("\n").slice(0, lines).map((line) => `${line}\n`).join(""), yieldToMessages);
+  const expected = engine.ask(partialRun.state, QUERIES).answers;
+  const differing = differingLines(splitState(actual), splitState(expected));
   return { lines, words: differing.length > 0 ? say.answersDiffer(commands) : "", differing };
 }

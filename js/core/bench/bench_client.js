@@ -1,7 +1,7 @@
-// The page's access to the bench: sends requests to the worker and receives replies. A worker that stops answering is terminated and
-// replaced.
+// Connects the page to the bench: sends requests to the worker and receives the replies. Terminates and replaces a worker that stops
+// answering.
 
-import { WorkerDied, unpackFault } from "./faults.js";
+import { WorkerDiedError, unpackFault } from "./faults.js";
 
 /**
  * @typedef {import("../engine/bench_calls.js").Requests} Requests
@@ -10,10 +10,10 @@ import { WorkerDied, unpackFault } from "./faults.js";
  * @typedef {import("./protocol.js").ToPage} ToPage
  * @typedef {import("./protocol.js").ToWorker} ToWorker
  * @typedef {keyof Requests} CallName
- * @typedef {{ done: (result: any) => void, fail: (fault: Error) => void, progress: (done: number, total: number) => void }} Waiting
+ * @typedef {{ done: (result: any) => void, fail: (fault: Error) => void, progress: (done: number, total: number) => void }} PendingRequest
  *
  * Options of a request: a signal that cancels it, and a callback for its progress.
- * @typedef {{ signal?: AbortSignal, progress?: (done: number, total: number) => void }} Ways
+ * @typedef {{ signal?: AbortSignal, progress?: (done: number, total: number) => void }} CallOptions
  *
  * The worker methods that the page uses.
  * @typedef {{ postMessage: (message: ToWorker, transfer: Transferable[]) => void, terminate: () => void,
@@ -24,15 +24,15 @@ import { WorkerDied, unpackFault } from "./faults.js";
  */
 
 /**
- * A caller for the requests in `Part`: a module declares only the requests that it uses.
+ * Calls the requests in `Part`, the type of the requests that a module uses.
  * @template Part
- * @typedef {{ call<Name extends CallName & keyof Part>(call: Name, words: Parameters<Requests[Name]>, ways?: Ways):
+ * @typedef {{ call<Name extends CallName & keyof Part>(call: Name, words: Parameters<Requests[Name]>, ways?: CallOptions):
  *   Promise<Awaited<ReturnType<Requests[Name]>>> }} Caller
  */
 
 /** The interval between pings of a worker with unanswered requests, in milliseconds. */
 const PING_INTERVAL = 1000;
-/** The number of unanswered pings after which the worker counts as dead. */
+/** The maximum number of unanswered pings; after more of them, the worker counts as dead. */
 const MAX_SILENT_PINGS = 10;
 
 /** The page's end of the connection to the worker. */
@@ -48,12 +48,12 @@ export class Bench {
     this.examples = examples;
     /** @type {Listener} */
     this.listener = { frame: () => {}, failed: () => {}, died: () => {} };
-    /** @type {Map<number, Waiting>} */
+    /** @type {Map<number, PendingRequest>} */
     this.waiting = new Map();
     /** @type {WorkerLike | null} */
     this.worker = null;
     this.number = 0;
-    this.silent = 0;
+    this.silentPings = 0;
     /** True while the worker runs at full speed and sends frames without a request. */
     this.isRunning = false;
     /** True if a silent worker never counts as dead: the prover is silent during its work. */
@@ -81,29 +81,29 @@ export class Bench {
   /**
    * Sends a request; the promise resolves to its result.
    * @template {CallName} Name
-   * @param {Name} call
-   * @param {Parameters<Requests[Name]>} words
-   * @param {Ways} [options] a progress callback, and a signal that cancels a call that serves lines; a cancelled call has no effect
+   * @param {Name} name
+   * @param {Parameters<Requests[Name]>} parameters
+   * @param {CallOptions} [options] a progress callback, and a signal that cancels a call that serves lines; a cancelled call has no effect
    * @returns {Promise<Awaited<ReturnType<Requests[Name]>>>}
    */
-  call(call, words, options = {}) {
+  call(name, parameters, options = {}) {
     const { signal, progress = () => {} } = options;
     this.number += 1;
     const { number } = this;
     if (signal) signal.addEventListener("abort", () => this.cancel(number));
     return new Promise((done, fail) => {
       if (!this.worker) {
-        fail(new WorkerDied());
+        fail(new WorkerDiedError());
         return;
       }
       this.waiting.set(number, { done, fail, progress });
-      const spare = this.spare.splice(0);
-      this.send({ kind: "request", number, call, words, spare }, spare);
+      const spareBuffers = this.spare.splice(0);
+      this.send({ kind: "request", number, call: name, words: parameters, spare: spareBuffers }, spareBuffers);
     });
   }
 
   /** The number of the oldest request without a reply. */
-  get oldest() {
+  get oldestRequest() {
     return this.waiting.keys().next().value;
   }
 
@@ -117,7 +117,7 @@ export class Bench {
 
   /** @param {ToPage} message */
   take(message) {
-    this.silent = 0;
+    this.silentPings = 0;
     if (message.kind === "frame") this.listener.frame(message.frame);
     if (message.kind === "failed") this.listener.failed(unpackFault(message.fault));
     if (message.kind !== "reply" && message.kind !== "early" && message.kind !== "progress") return;
@@ -127,8 +127,8 @@ export class Bench {
       waiting.progress(message.done, message.total);
       return;
     }
-    // An early result is ignored if older requests still wait for a reply: its request waits for the regular reply.
-    if (message.kind === "early" && message.number !== this.oldest) return;
+    // An early result is ignored while older requests still wait for their replies. Its request then waits for the regular reply.
+    if (message.kind === "early" && message.number !== this.oldestRequest) return;
     this.waiting.delete(message.number);
     if (message.kind === "reply" && message.fault) waiting.fail(unpackFault(message.fault));
     else waiting.done(message.result);
@@ -138,7 +138,7 @@ export class Bench {
    * Returns the buffer of a received file to the worker: at once at full speed, otherwise with the next request.
    * @param {ArrayBuffer} buffer
    */
-  giveBack(buffer) {
+  returnBuffer(buffer) {
     if (buffer.byteLength !== this.size) return;
     if (this.isRunning) this.send({ kind: "spare", buffer }, [buffer]);
     else this.spare.push(buffer);
@@ -156,14 +156,14 @@ export class Bench {
     }, 2 * PING_INTERVAL);
   }
 
-  /** Pings a worker with unanswered requests. The limit counts pings instead of time because the computer can sleep. */
+  /** Pings the worker if it has unanswered requests. The limit is a number of pings, not a time, because the computer can sleep. */
   watch() {
     if (this.isPatient || (this.waiting.size === 0 && !this.isRunning)) {
-      this.silent = 0;
+      this.silentPings = 0;
       return;
     }
-    this.silent += 1;
-    if (this.silent > MAX_SILENT_PINGS) this.die();
+    this.silentPings += 1;
+    if (this.silentPings > MAX_SILENT_PINGS) this.die();
     else this.send({ kind: "ping" });
   }
 
@@ -180,9 +180,9 @@ export class Bench {
     this.worker.terminate();
     this.worker = null;
     this.isRunning = false;
-    this.silent = 0;
-    const lost = [...this.waiting.values()];
+    this.silentPings = 0;
+    const pending = [...this.waiting.values()];
     this.waiting.clear();
-    for (const { fail } of lost) fail(new WorkerDied());
+    for (const { fail } of pending) fail(new WorkerDiedError());
   }
 }

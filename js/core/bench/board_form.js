@@ -1,29 +1,30 @@
-// The format of a board text, defined once for the page: the keys of each part, their ranges, the maximum number of parts, and the lines of
-// each part. Only the bench decides whether a board is valid; a unit test compares each limit with the bench.
+// The format of a board text, defined once for the page: the TOML keys of each part, the ranges of their values, the maximum number of
+// parts, and the signal lines of each part. Only the bench decides whether a board is valid. A unit test compares each limit with the
+// bench.
 
-import { upTo } from "./numbers.js";
+import { indices } from "./numbers.js";
 
 /**
  * @typedef {import("./answers.js").Board} Board
  * @typedef {"rom" | "ram" | "chain" | "keys" | "lamp"} Kind
  *
- * A signal line of the board: of a ROM port, of a RAM port, or of a chain bit.
+ * A signal line of the board: a line of a ROM port or of a RAM port, or a chain bit.
  * @typedef {{ name: string, kind: "rom" | "ram" | "bit", isInput: boolean }} BoardLine
  */
 
 /**
- * The TOML keys of each kind of part, in the bench's order.
+ * The TOML keys of each kind of part, in the order in which the bench reports them.
  * @type {Record<string, string[]>}
  */
-export const KEYS = {
+export const PART_KEYS = {
   rom: ["chip", "port"], ram: ["bank", "chips"], chain: ["clock", "data", "chips"], keys: ["chain", "first", "rows", "columns"],
   lamp: ["line"],
 };
-/** The kinds of parts, in the bench's order. */
-export const KINDS = /** @type {Kind[]} */ (Object.keys(KEYS));
+/** The kinds of parts, in the order in which the bench reports them. */
+export const PART_KINDS = /** @type {Kind[]} */ (Object.keys(PART_KEYS));
 
-/** @type {Record<string, { from: number, to: number }>} the range of each numeric key, by `part.key` */
-export const RANGES = {
+/** @type {Record<string, { from: number, to: number }>} the range of each numeric value, by `part.key` */
+export const VALUE_RANGES = {
   "rom.chip": { from: 0, to: 15 }, "ram.bank": { from: 0, to: 7 }, "ram.chips": { from: 1, to: 4 }, "chain.chips": { from: 1, to: 8 },
   "keys.chain": { from: 0, to: 3 }, "keys.first": { from: 0, to: 79 }, "keys.rows": { from: 1, to: 10 },
 };
@@ -35,7 +36,7 @@ export const MAX_PARTS = { rom: 16, ram: 8, chain: 4, lamp: 64 };
 export const MAX_COLUMNS = 8;
 /** The number of bits in each chip of a chain (a 4003). */
 export const BITS_PER_CHIP = 10;
-const PORT_LINES = upTo(4);
+const PORT_LINES = indices(4);
 
 /**
  * Returns all signal lines of a board: ROMs first, then RAM, then chains.
@@ -49,19 +50,19 @@ export function boardLines({ roms, banks, chains }) {
     for (const at of PORT_LINES) lines.push({ name: `rom${chip}.${at}`, kind: "rom", isInput: port[3 - at] === "i" });
   }
   for (const { bank, chips } of banks) {
-    for (const chip of upTo(chips)) {
+    for (const chip of indices(chips)) {
       for (const at of PORT_LINES) lines.push({ name: `ram${bank}.${chip}.${at}`, kind: "ram", isInput: false });
     }
   }
   chains.forEach(({ chips }, chain) => {
-    for (const bit of upTo(BITS_PER_CHIP * chips)) lines.push({ name: `chain${chain}.${bit}`, kind: "bit", isInput: false });
+    for (const bit of indices(BITS_PER_CHIP * chips)) lines.push({ name: `chain${chain}.${bit}`, kind: "bit", isInput: false });
   });
   return lines;
 }
 
 /** The names of all signal lines that a board can have. */
 export const LINE_NAMES = new Set(boardLines({
-  roms: upTo(MAX_PARTS.rom).map((chip) => ({ chip, port: "0000" })),
-  banks: upTo(MAX_PARTS.ram).map((bank) => ({ bank, chips: RANGES["ram.chips"].to })),
-  chains: upTo(MAX_PARTS.chain).map(() => ({ chips: RANGES["chain.chips"].to })),
+  roms: indices(MAX_PARTS.rom).map((chip) => ({ chip, port: "0000" })),
+  banks: indices(MAX_PARTS.ram).map((bank) => ({ bank, chips: VALUE_RANGES["ram.chips"].to })),
+  chains: indices(MAX_PARTS.chain).map(() => ({ chips: VALUE_RANGES["chain.chips"].to })),
 }).map(({ name }) => name));

@@ -2,7 +2,7 @@
 
 import * as say from "../../words/bench.js";
 
-/** The bench answered a call with a refusal (`no NN`). */
+/** The error if the bench answers a call with a refusal (`no NN`). */
 export class BenchRefusal extends Error {
   /** @param {number} number */
   constructor(number) {
@@ -11,28 +11,28 @@ export class BenchRefusal extends Error {
   }
 }
 
-/** The WebAssembly module trapped during a call. The module is restarted before this error is thrown. */
+/** The error if the WebAssembly module traps during a call. The module is restarted before this error is thrown. */
 export class BenchTrap extends Error {}
 
-/** The user cancelled a call. The call had no effect. */
-export class Cancelled extends Error {
+/** The error if the user cancels a call. The call has no effect. */
+export class CancelledError extends Error {
   constructor() {
     super(say.IT_WAS_CANCELLED);
   }
 }
 
-/** The worker stopped answering. */
-export class WorkerDied extends Error {
+/** The error if the worker stops answering or is terminated. */
+export class WorkerDiedError extends Error {
   constructor() {
     super(say.WORKER_STOPPED);
   }
 }
 
 /** The refusal number for a failed allocation. */
-export const NO_MEMORY = 90;
+export const OUT_OF_MEMORY = 90;
 
 /**
- * An error in a message between page and worker.
+ * The representation of an error in a message between page and worker.
  * @typedef {{ kind: "refusal" | "trap" | "cancelled" | "other", words: string, number: number }} PackedFault
  */
 
@@ -44,18 +44,18 @@ export const NO_MEMORY = 90;
 export function packFault(fault) {
   if (fault instanceof BenchRefusal) return { kind: "refusal", words: fault.message, number: fault.number };
   if (fault instanceof BenchTrap) return { kind: "trap", words: fault.message, number: 0 };
-  if (fault instanceof Cancelled) return { kind: "cancelled", words: fault.message, number: 0 };
+  if (fault instanceof CancelledError) return { kind: "cancelled", words: fault.message, number: 0 };
   return { kind: "other", words: fault instanceof Error ? fault.message : String(fault), number: 0 };
 }
 
 /**
  * Converts an error from a message back to an exception.
- * @param {PackedFault} packed
+ * @param {PackedFault} fault
  * @returns {Error}
  */
 export function unpackFault({ kind, words, number }) {
   if (kind === "refusal") return new BenchRefusal(number);
   if (kind === "trap") return new BenchTrap(words);
-  if (kind === "cancelled") return new Cancelled();
+  if (kind === "cancelled") return new CancelledError();
   return new Error(words);
 }

@@ -1,7 +1,7 @@
-// Splits lines into inputs, finds offsets at which the lines can be divided, and matches answers to inputs.
+// Splits lines into inputs, finds the offsets at which inputs end, and assigns answers to inputs.
 
 import { ANSWER_FORMS } from "./answer_table.js";
-import { LAST_ADDRESS, numberOf } from "./numbers.js";
+import { LAST_ADDRESS, parseNumber } from "./numbers.js";
 
 /** The maximum line length in characters; the bench rejects longer lines. */
 export const MAX_LINE_LENGTH = 255;
@@ -11,34 +11,34 @@ export const NOT_ASCII = 14;
 /** A character that the bench never accepts. */
 export const INVALID_CHARACTER = /[^\t -~]/u;
 /** The maximum number of places in a `trace` line. */
-export const MOST_PLACES = 16;
+export const MAX_PLACES = 16;
 const ONE_WORD = /^[ \t]*([a-z]+)[ \t]*$/;
 
 /**
- * A command or query: its line, the words of the line, the first word (`kind`), and the lines of its text.
+ * A command or query: its line, the words of the line, the first word (`kind`), and the lines of the text that follows it.
  * @typedef {{ line: string, words: string[], kind: string, text: string[] }} Input
  */
 
 /**
  * Removes a carriage return at the end of a line.
- * @param {string} whole
+ * @param {string} rawLine
  */
-export function withoutReturn(whole) {
-  return whole.endsWith("\r") ? whole.slice(0, -1) : whole;
+export function stripReturn(rawLine) {
+  return rawLine.endsWith("\r") ? rawLine.slice(0, -1) : rawLine;
 }
 
 /**
- * Returns whether a line opens a text. The text ends at a line with a dot.
+ * Returns whether a text follows a line. The text ends at a line that consists of a dot.
  * @param {string} line
  */
 export function opensText(line) {
-  const alone = line.length <= MAX_LINE_LENGTH ? ONE_WORD.exec(line) : null;
-  const form = alone && ANSWER_FORMS.get(alone[1]);
+  const match = line.length <= MAX_LINE_LENGTH ? ONE_WORD.exec(line) : null;
+  const form = match && ANSWER_FORMS.get(match[1]);
   return Boolean(form && form.opensText);
 }
 
 /**
- * Returns whether a line is `seq`. A trailing `seq` marks the end of the previous answers.
+ * Returns whether a line is the query `seq`. Callers append this query to mark the end of the previous answers.
  * @param {string} line
  */
 export function isSeq(line) {
@@ -56,12 +56,12 @@ export function readNumberedInputs(lines) {
   /** @type {{ input: Input, at: number }[]} */
   const inputs = [];
   /** @type {Input | null} */
-  let open = null;
-  lines.replace(/\n$/, "").split("\n").forEach((whole, index) => {
-    const line = withoutReturn(whole);
-    if (open) {
-      if (line === ".") open = null;
-      else open.text.push(line);
+  let openInput = null;
+  lines.replace(/\n$/, "").split("\n").forEach((rawLine, index) => {
+    const line = stripReturn(rawLine);
+    if (openInput) {
+      if (line === ".") openInput = null;
+      else openInput.text.push(line);
       return;
     }
     const words = line.split(/[ \t]+/).filter((word) => word !== "");
@@ -69,7 +69,7 @@ export function readNumberedInputs(lines) {
     /** @type {Input} */
     const input = { line, words, kind: line.length > MAX_LINE_LENGTH ? "" : words[0], text: [] };
     inputs.push({ input, at: index + 1 });
-    if (opensText(line)) open = input;
+    if (opensText(line)) openInput = input;
   });
   return inputs;
 }
@@ -84,18 +84,18 @@ export function readInputs(lines) {
 }
 
 /**
- * Returns the first offset at which an input ends and at least `minLength` characters follow `from`.
+ * Returns the offset of the first input end that is at least `minLength` characters after `from`.
  * @param {string} lines
  * @param {number} from the offset of the first input
  * @param {number} minLength the minimum length of the piece in characters
  */
-export function endOfInputs(lines, from, minLength) {
+export function findInputEnd(lines, from, minLength) {
   let at = from;
   let isOpen = false;
   while (at < lines.length && (isOpen || at - from < minLength)) {
     const lineFeed = lines.indexOf("\n", at);
     const end = lineFeed < 0 ? lines.length : lineFeed;
-    const line = withoutReturn(lines.slice(at, end));
+    const line = stripReturn(lines.slice(at, end));
     isOpen = isOpen ? line !== "." : opensText(line);
     at = Math.min(end + 1, lines.length);
   }
@@ -112,11 +112,11 @@ function endOfListingLine(answer) {
 
 /**
  * Returns whether a line belongs to the same listing as the previous line. Addresses rise within a listing.
- * @param {string} before
+ * @param {string} previous
  * @param {string} answer
  */
-function continuesListing(before, answer) {
-  return endOfListingLine(before) <= LAST_ADDRESS && answer.slice(0, 3) > before.slice(0, 3);
+function continuesListing(previous, answer) {
+  return endOfListingLine(previous) <= LAST_ADDRESS && answer.slice(0, 3) > previous.slice(0, 3);
 }
 
 /**
@@ -127,7 +127,7 @@ function continuesListing(before, answer) {
  */
 export function maxLines(input, first, count) {
   if (count === "all") return Infinity;
-  if (count === "list") return numberOf(input.words[2]);
+  if (count === "list") return parseNumber(input.words[2]);
   const words = first.split(" ");
   return count.split("+").reduce((sum, position) => sum + Number(words[Number(position) - 1]), 1);
 }

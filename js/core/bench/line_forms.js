@@ -1,16 +1,16 @@
-// The grammar of bench lines: their words and number ranges. If the bench rejects a line, `faultOfLine` names the wrong word.
+// The grammar of bench lines: their words and number ranges. If the bench rejects a line, `findLineError` names the wrong word.
 
 import { ANSWER_FORMS } from "./answer_table.js";
-import { INVALID_CHARACTER, LINE_TOO_LONG, MAX_LINE_LENGTH, MOST_PLACES, NOT_ASCII } from "./inputs.js";
-import { upTo } from "./numbers.js";
-import { similarWords } from "../text/alike.js";
+import { INVALID_CHARACTER, LINE_TOO_LONG, MAX_LINE_LENGTH, MAX_PLACES, NOT_ASCII } from "./inputs.js";
+import { indices } from "./numbers.js";
+import { findSimilarWords } from "../text/alike.js";
 import * as say from "../../words/lines.js";
 
 /**
  * The error in a line: the refusal number, and a message that names the wrong word.
  * @typedef {{ number: number, words: string }} LineFault
  *
- * A kind of place: the pattern of its name, the maximum of each number in the name (`most`), and the maximum value (`value`).
+ * A kind of place: the pattern of its name, the maximum of each number in the name (`most`), and the maximum value of the place (`value`).
  * @typedef {{ form: RegExp, most: number[], value: number }} PlaceForm
  * @typedef {[number, number]} Range the first and the last number
  */
@@ -44,25 +44,26 @@ const NUMBER_RANGES = {
 };
 const NUMERAL = "(0x[0-9a-fA-F]+|[0-9]+)";
 
-/** @type {(form: string, most: number[], value?: number) => PlaceForm} each `N` in the form stands for a number */
-const place = (form, most, value = 0) => ({ form: new RegExp(`^${form.replace(/\./g, "\\.").replace(/N/g, NUMERAL)}$`), most, value });
+/** @type {(form: string, most: number[], value?: number) => PlaceForm} creates a kind of place; each `N` in `form` stands for a number */
+const placeForm = (form, most, value = 0) => ({ form: new RegExp(`^${form.replace(/\./g, "\\.").replace(/N/g, NUMERAL)}$`), most, value });
 /** The places that `poke` and `trace` accept. */
 const PLACE_FORMS = [
-  place("acc", [], MAX_NIBBLE), place("cy", [], MAX_BIT), place("pc", [], MAX_ADDRESS), place("dcl", [], MAX_BANK),
-  place("rN", [MAX_NIBBLE], MAX_NIBBLE), place("rom.N", [MAX_ADDRESS], MAX_BYTE), place("ram.N.N", [MAX_BANK, MAX_BYTE], MAX_NIBBLE),
-  place("st.N.N.N", [MAX_BANK, MAX_NIBBLE, 3], MAX_NIBBLE),
+  placeForm("acc", [], MAX_NIBBLE), placeForm("cy", [], MAX_BIT), placeForm("pc", [], MAX_ADDRESS), placeForm("dcl", [], MAX_BANK),
+  placeForm("rN", [MAX_NIBBLE], MAX_NIBBLE), placeForm("rom.N", [MAX_ADDRESS], MAX_BYTE),
+  placeForm("ram.N.N", [MAX_BANK, MAX_BYTE], MAX_NIBBLE), placeForm("st.N.N.N", [MAX_BANK, MAX_NIBBLE, 3], MAX_NIBBLE),
 ];
 /** The places that only `trace` accepts. */
 const TRACE_ONLY_FORMS = [
-  place("lamps", []), place("ret", []), place("src", []), place("romN", [MAX_NIBBLE]), place("ramN.N", [MAX_BANK, 3]), place("chainN", [3]),
-  place("romN.N", [MAX_NIBBLE, 3]), place("ramN.N.N", [MAX_BANK, 3, 3]), place("chainN.N", [3, 79]),
+  placeForm("lamps", []), placeForm("ret", []), placeForm("src", []),
+  placeForm("romN", [MAX_NIBBLE]), placeForm("ramN.N", [MAX_BANK, 3]), placeForm("chainN", [3]),
+  placeForm("romN.N", [MAX_NIBBLE, 3]), placeForm("ramN.N.N", [MAX_BANK, 3, 3]), placeForm("chainN.N", [3, 79]),
 ];
 /** Place names for completion and suggestions. A name that ends with a dot is incomplete. */
-export const POKE_NAMES = ["acc", "cy", "pc", "dcl", ...upTo(16).map((at) => `r${at}`), "rom.", "ram.", "st."];
+export const POKE_NAMES = ["acc", "cy", "pc", "dcl", ...indices(16).map((at) => `r${at}`), "rom.", "ram.", "st."];
 export const TRACE_NAMES = [...POKE_NAMES, "lamps", "ret", "src"];
 
 /** @type {(word: string) => number} returns the value of a numeral; NaN for any other word */
-const numeral = (word) => (new RegExp(`^${NUMERAL}$`).test(word) ? Number(word) : NaN);
+const parseNumeral = (word) => (new RegExp(`^${NUMERAL}$`).test(word) ? Number(word) : NaN);
 
 /**
  * Returns an error if a word is not a number in the range, otherwise null.
@@ -70,8 +71,8 @@ const numeral = (word) => (new RegExp(`^${NUMERAL}$`).test(word) ? Number(word) 
  * @param {Range} range
  * @returns {LineFault | null}
  */
-function faultOfNumber(word, [first, last]) {
-  const number = numeral(word);
+function findNumberError(word, [first, last]) {
+  const number = parseNumeral(word);
   return number >= first && number <= last ? null : { number: BAD_NUMBER, words: say.notInRange(word, first, last) };
 }
 
@@ -80,7 +81,7 @@ function faultOfNumber(word, [first, last]) {
  * @param {string} word
  * @param {PlaceForm[]} places
  */
-function placeFormOf(word, places) {
+function findPlaceForm(word, places) {
   return places.find(({ form }) => form.test(word)) || null;
 }
 
@@ -95,19 +96,19 @@ function isInRange(word, { form, most }) {
 }
 
 /** @type {(word: string, names: string[]) => LineFault} */
-const unknownPlace = (word, names) => ({ number: NOT_A_COMMAND, words: say.noPlace(word, similarWords(word, names)) });
+const unknownPlaceError = (word, names) => ({ number: NOT_A_COMMAND, words: say.noPlace(word, findSimilarWords(word, names)) });
 /** @type {(word: string) => LineFault} */
-const noSuchPlace = (word) => ({ number: BAD_NUMBER, words: say.noSuchPlace(word) });
+const noSuchPlaceError = (word) => ({ number: BAD_NUMBER, words: say.noSuchPlace(word) });
 
 /**
  * Returns the error in the words after `poke`; null if there is none.
  * @param {string} word the place
  * @param {string} value
  */
-function faultOfPoke(word, value) {
-  const found = placeFormOf(word, PLACE_FORMS);
-  if (!found) return unknownPlace(word, POKE_NAMES);
-  return isInRange(word, found) ? faultOfNumber(value, rangeTo(found.value)) : noSuchPlace(word);
+function findPokeError(word, value) {
+  const found = findPlaceForm(word, PLACE_FORMS);
+  if (!found) return unknownPlaceError(word, POKE_NAMES);
+  return isInRange(word, found) ? findNumberError(value, rangeTo(found.value)) : noSuchPlaceError(word);
 }
 
 /**
@@ -115,34 +116,34 @@ function faultOfPoke(word, value) {
  * @param {string} count the number of cycles, as a numeral
  * @param {string[]} places
  */
-function faultOfTrace(count, places) {
+function findTraceError(count, places) {
   const forms = [...PLACE_FORMS, ...TRACE_ONLY_FORMS];
-  const unknown = places.slice(0, MOST_PLACES).find((word) => !placeFormOf(word, forms));
-  if (unknown !== undefined) return unknownPlace(unknown, TRACE_NAMES);
-  if (places.length > MOST_PLACES) return { number: NOT_A_COMMAND, words: say.tooManyPlaces(MOST_PLACES) };
-  const wrong = places.find((word) => !isInRange(word, /** @type {PlaceForm} */ (placeFormOf(word, forms))));
-  return wrong === undefined ? faultOfNumber(count, [1, MAX_CYCLES]) : noSuchPlace(wrong);
+  const unknownWord = places.slice(0, MAX_PLACES).find((word) => !findPlaceForm(word, forms));
+  if (unknownWord !== undefined) return unknownPlaceError(unknownWord, TRACE_NAMES);
+  if (places.length > MAX_PLACES) return { number: NOT_A_COMMAND, words: say.tooManyPlaces(MAX_PLACES) };
+  const wrongWord = places.find((word) => !isInRange(word, /** @type {PlaceForm} */ (findPlaceForm(word, forms))));
+  return wrongWord === undefined ? findNumberError(count, [1, MAX_CYCLES]) : noSuchPlaceError(wrongWord);
 }
 
 /**
- * Returns the error in a line, given as words; null if there is none.
+ * Finds the error in a line that is already split into words. Returns null if there is none.
  * @param {string[]} words
  * @returns {LineFault | null}
  */
-function faultOfWords([first, ...words]) {
+function findWordError([first, ...words]) {
   if (first === undefined) return null;
-  if (!ANSWER_FORMS.has(first)) return { number: NOT_A_COMMAND, words: say.noLine(first, similarWords(first, ANSWER_FORMS.keys())) };
+  if (!ANSWER_FORMS.has(first)) return { number: NOT_A_COMMAND, words: say.noLine(first, findSimilarWords(first, ANSWER_FORMS.keys())) };
   const otherForm = { number: NOT_A_COMMAND, words: say.otherForm(first) };
-  if (first === "trace") return words.length === 0 ? otherForm : faultOfTrace(words[0], words.slice(1));
-  if (first === "poke") return words.length === 2 ? faultOfPoke(words[0], words[1]) : otherForm;
+  if (first === "trace") return words.length === 0 ? otherForm : findTraceError(words[0], words.slice(1));
+  if (first === "poke") return words.length === 2 ? findPokeError(words[0], words[1]) : otherForm;
   const ranges = NUMBER_RANGES[first] || [];
   if (words.length !== ranges.length) return otherForm;
-  const faults = words.map((word, at) => faultOfNumber(word, ranges[at]));
-  return faults.find((fault) => fault !== null) || null;
+  const errors = words.map((word, at) => findNumberError(word, ranges[at]));
+  return errors.find((fault) => fault !== null) || null;
 }
 
 /**
- * Returns the first character of a line that the bench never accepts; "" if there is none.
+ * Returns the first character in a line that the bench accepts nowhere; "" if there is none.
  * @param {string} line
  */
 export function invalidCharacterIn(line) {
@@ -154,9 +155,9 @@ export function invalidCharacterIn(line) {
  * @param {string} line without a line feed
  * @returns {LineFault | null}
  */
-export function faultOfLine(line) {
+export function findLineError(line) {
   if (line.length > MAX_LINE_LENGTH) return { number: LINE_TOO_LONG, words: say.tooLong(MAX_LINE_LENGTH, line.length) };
   const character = invalidCharacterIn(line);
   if (character !== "") return { number: NOT_ASCII, words: say.foreign(character) };
-  return faultOfWords(line.split(/[ \t]+/).filter((word) => word !== ""));
+  return findWordError(line.split(/[ \t]+/).filter((word) => word !== ""));
 }

@@ -15,7 +15,7 @@ export function hex(number, digits) {
  * Parses a decimal or hexadecimal word, such as `12` or `0x0C`; returns NaN for any other word.
  * @param {string} word
  */
-export function numberOf(word) {
+export function parseNumber(word) {
   return /^(0x[0-9a-f]+|\d+)$/i.test(word) ? Number(word) : NaN;
 }
 
@@ -55,6 +55,6 @@ export function counted(count, singular, plural = `${singular}s`) {
  * Returns the numbers from 0 to `count` - 1.
  * @param {number} count
  */
-export function upTo(count) {
+export function indices(count) {
   return [...Array(count).keys()];
 }

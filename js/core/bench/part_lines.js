@@ -8,7 +8,7 @@ import { readBoardText } from "../text/board_reader.js";
  */
 
 /**
- * The TOML key that holds the number of a part, by part kind. Parts of other kinds are numbered in order.
+ * The TOML key of the part number, by part kind. Parts of other kinds have no such key and are numbered in order.
  * @type {Record<string, string>}
  */
 const NUMBER_KEYS = { rom: "chip", ram: "bank" };
@@ -17,9 +17,9 @@ const COUNTED_KINDS = ["chain", "lamp"];
 /**
  * Returns the name of a part, such as `rom 1`; "" for a table that is not a named part.
  * @param {Entry} entry
- * @param {Record<string, number>} counts the parts found so far, for each kind numbered in order; updated
+ * @param {Record<string, number>} counts the number of parts found so far, for each kind that is numbered in order; updated
  */
-function nameOf({ table, keys }, counts) {
+function partName({ table, keys }, counts) {
   const kind = table.replace(/[[\]]/g, "");
   if (kind === "keys") return "keys";
   if (kind in NUMBER_KEYS) {
@@ -42,7 +42,7 @@ export function partLines(text) {
   /** @type {Record<string, number>} */
   const counts = {};
   for (const entry of readBoardText(text).entries) {
-    const name = nameOf(entry, counts);
+    const name = partName(entry, counts);
     const ends = entry.keys.map(({ value: { end } }) => end.line);
     if (name !== "") ranges.set(name, { from: entry.line, to: Math.max(entry.line, entry.end ? entry.end.line : 0, ...ends) });
   }

@@ -4,7 +4,7 @@
  * @typedef {import("../engine/worker_session.js").LinesResult} LinesResult
  * @typedef {import("../engine/examples.js").Example} Example
  * @typedef {import("./faults.js").PackedFault} PackedFault
- * @typedef {import("./run_log.js").RanEntry} RanEntry
+ * @typedef {import("./run_log.js").RunEntry} RunEntry
  *
  * A session state for the page. `snapshot`: the answers of the snapshot queries. `file`: the bytes of the session file (transferred).
  * `board`: the answer to `board`, null if unchanged. `total`: all cycles. `reset`: the cycles up to the last reset. `future`: the number of
@@ -12,44 +12,44 @@
  * recording is off. `printed`: the printer data, null if unchanged. `waiting`: key changes that are queued for later.
  * @typedef {{ snapshot: string[], file: ArrayBuffer, board: string[] | null, total: number, reset: number, future: number,
  *   past: import("../engine/timeline.js").News, waves: import("../engine/live_recorder.js").LivePart | null,
- *   printed: import("../engine/printing.js").Printed | null, waiting: import("../engine/key_queue.js").Change[] }} Shown
+ *   printed: import("../engine/printing.js").PrintoutData | null, waiting: import("../engine/key_queue.js").Change[] }} PageState
  *
- * The result of a piece of running time. `ran`: the lines that ran. `end`: the answer that ended the run early, or "". `stop`: the reason
+ * The result of a period of running time. `ran`: the lines that ran. `end`: the answer that ended the run early, or "". `stop`: the reason
  * why time stopped, or null. `tally`: breakpoint hits and log messages. `litShares`, `heard`, `warmed`: lamp brightness, sound and RAM
  * changes; each is null if the page does not show it.
- * @typedef {{ ran: RanEntry[], cycles: number, end: string, changesKeys: boolean, stop: Stop | null, tally: Tally,
- *   litShares: import("../engine/brightness_meter.js").LitShares | null, heard: import("../engine/sounding.js").Heard | null,
- *   warmed: import("../engine/heating.js").PassedHeat | null } & Shown} Frame
+ * @typedef {{ ran: RunEntry[], cycles: number, end: string, changesKeys: boolean, stop: Stop | null, tally: Tally,
+ *   litShares: import("../engine/brightness_meter.js").LitShares | null, heard: import("../engine/sounding.js").BuzzerLevels | null,
+ *   warmed: import("../engine/heating.js").ChipHeat | null } & PageState} Frame
  * @typedef {import("../debug/debugger.js").Stop} Stop
  * @typedef {import("../debug/debugger.js").Tally} Tally
  *
- * @typedef {LinesResult & Shown} ServedLines
- * @typedef {Omit<import("../engine/going_back.js").Aim, "moment" | "present">} AimReport
- * @typedef {ServedLines & { typed: import("../debug/debugger.js").Typed }} TypedLines the result of lines that the user typed
- * @typedef {ServedLines & AimReport & { isDone: boolean, cycles: number }} TravelResult the point in time that a move back or forward
+ * @typedef {LinesResult & PageState} LinesReply
+ * @typedef {Omit<import("../engine/going_back.js").BackSearchResult, "moment" | "present">} SearchReport
+ * @typedef {LinesReply & { typed: import("../debug/debugger.js").TypedResult }} TypedReply the result of lines that the user typed
+ * @typedef {LinesReply & SearchReport & { isDone: boolean, cycles: number }} TravelResult the point in time that a move back or forward
  *   reached, and the cycles to it
- * @typedef {ServedLines & { found: import("../debug/debugger.js").Travelled["found"], tally: Tally }} ReachedLines the result of lines that
+ * @typedef {LinesReply & { found: import("../debug/debugger.js").RunResult["found"], tally: Tally }} GoalReply the result of lines that
  *   run to a goal
- * @typedef {ServedLines & { faults: [number, string][] }} BrokenLines the result of lines with breakpoints; `faults` are ids of
+ * @typedef {LinesReply & { faults: [number, string][] }} BreakpointReply the result of lines with breakpoints; `faults` are ids of
  *   breakpoints that cannot be read, each with a message
  *
  * The messages to the worker.
  * @typedef {{ kind: "request", number: number, call: string, words: any[], spare: ArrayBuffer[] }} Request `words` are the
- *   arguments of the call; `spare` are buffers as in `Spare`
+ *   arguments of the call; `spare` are buffers as in `SpareBuffer`
  * @typedef {{ kind: "cancel", number: number }} Cancel cancels a request that serves lines
  * @typedef {{ kind: "ping" }} Ping checks whether the worker responds
- * @typedef {{ kind: "spare", buffer: ArrayBuffer }} Spare returns the buffer of a received file (transferred)
- * @typedef {Request | Cancel | Ping | Spare} ToWorker
+ * @typedef {{ kind: "spare", buffer: ArrayBuffer }} SpareBuffer returns the buffer of a received file (transferred)
+ * @typedef {Request | Cancel | Ping | SpareBuffer} ToWorker
  *
  * The messages to the page.
  * @typedef {{ kind: "reply", number: number, result?: any, fault?: PackedFault }} Reply
- * @typedef {{ kind: "early", number: number, result: any }} Early a copy of the result, sent before the reply
- * @typedef {{ kind: "progress", number: number, done: number, total: number }} Progress the lines of a request that are done,
- *   and all of them
- * @typedef {{ kind: "frame", frame: Frame }} FrameMessage the result of a piece of running time at full speed
- * @typedef {{ kind: "failed", fault: PackedFault }} Failed the error that stopped time at full speed
+ * @typedef {{ kind: "early", number: number, result: any }} EarlyReply a copy of the result, sent before the reply
+ * @typedef {{ kind: "progress", number: number, done: number, total: number }} Progress the completed amount of a request's work, and
+ *   the total amount
+ * @typedef {{ kind: "frame", frame: Frame }} FrameMessage the result of a period of running time at full speed
+ * @typedef {{ kind: "failed", fault: PackedFault }} FailureMessage the error that stopped time at full speed
  * @typedef {{ kind: "pong" }} Pong
- * @typedef {Reply | Early | Progress | FrameMessage | Failed | Pong} ToPage
+ * @typedef {Reply | EarlyReply | Progress | FrameMessage | FailureMessage | Pong} ToPage
  */
 
 export {};

@@ -1,14 +1,14 @@
 // Reads the bytes of ROM from the answers to `list`.
 
 import { readListing } from "./answers.js";
-import { LAST_ADDRESS, hex, upTo } from "./numbers.js";
+import { LAST_ADDRESS, hex, indices } from "./numbers.js";
 
-export const ADDRESSES = LAST_ADDRESS + 1;
+export const ADDRESS_COUNT = LAST_ADDRESS + 1;
 export const PAGE_BYTES = 256;
-/** The numbers of all pages: a ROM chip has one page of 256 bytes. */
-export const PAGES = upTo(ADDRESSES / PAGE_BYTES);
+/** The numbers of all pages. A page has PAGE_BYTES bytes, as many as a ROM chip. */
+export const PAGE_NUMBERS = indices(ADDRESS_COUNT / PAGE_BYTES);
 /** The maximum number of lines in the answer to `list`. */
-export const MAX_LISTED = 256;
+export const MAX_LISTING_LINES = 256;
 /** The value for an address that is not in the listing. */
 export const NO_BYTE = -1;
 
@@ -21,11 +21,11 @@ export function listQueries(pages) {
 }
 
 /**
- * Returns the bytes in `list` answers, by address; `NO_BYTE` for an address that is not in the listing.
+ * Parses the answers to `list`. Returns the bytes by address; `NO_BYTE` for an address that is not in the listing.
  * @param {string[]} answers
  */
-export function bytesOf(answers) {
-  const bytes = new Int16Array(ADDRESSES).fill(NO_BYTE);
+export function parseRomBytes(answers) {
+  const bytes = new Int16Array(ADDRESS_COUNT).fill(NO_BYTE);
   for (const { address, line } of readListing(answers)) {
     bytes[address] = parseInt(line.slice(4, 6), 16);
     if (line[7] !== " ") bytes[address + 1] = parseInt(line.slice(7, 9), 16);

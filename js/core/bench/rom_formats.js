@@ -1,11 +1,11 @@
-// Reads ROM images in the S-record format and the BNPF format; customers sent 4001 masks to Intel in BNPF. Writes BNPF. Detects the image
-// format from the first bytes and the file name.
+// Reads ROM images in the S-record format and in BNPF, Intel's format for the masks of the 4001. Writes BNPF. Detects the format of an
+// image from its file name and its first bytes.
 
 import { hex } from "./numbers.js";
 import { ImageBytes, NotARecord, NotAnImage, readLines } from "./rom_image.js";
 import * as say from "../../words/bench.js";
 
-/** @typedef {"hex" | "srec" | "bnpf" | "binary"} ImageForm */
+/** @typedef {"hex" | "srec" | "bnpf" | "binary"} ImageFormat */
 
 // --- S-records ---
 
@@ -54,18 +54,18 @@ export function readSRecords(text, offset = 0) {
 // --- BNPF ---
 
 const WORD_LENGTH = 9;
-/** The text after the `B` of a BNPF word: three letters of the word, or fewer at the end of the line. */
-const AFTER_B = /[ \t]*(?:[NP][ \t]*[NP][ \t]*[NP]|(?:[NP][ \t]*)?(?:[NP][ \t]*)?$)/iy;
+/** Matches the text after the `B` of a BNPF word: three letters of the word, or fewer at the end of the line. */
+const TEXT_AFTER_B = /[ \t]*(?:[NP][ \t]*[NP][ \t]*[NP]|(?:[NP][ \t]*)?(?:[NP][ \t]*)?$)/iy;
 
 /**
- * Returns whether a BNPF word begins at a `B`. A `B` in a comment, as in the word `BNPF`, does not begin one.
+ * Returns whether the `B` at an index begins a BNPF word. A `B` in a comment, as in the word `BNPF`, does not.
  * @param {string} line
- * @param {number} at
+ * @param {number} index
  */
-function beginsWord(line, at) {
-  if (at > 0 && /[A-EG-Z]/i.test(line[at - 1])) return false;
-  AFTER_B.lastIndex = at + 1;
-  return AFTER_B.test(line);
+function beginsWord(line, index) {
+  if (index > 0 && /[A-EG-Z]/i.test(line[index - 1])) return false;
+  TEXT_AFTER_B.lastIndex = index + 1;
+  return TEXT_AFTER_B.test(line);
 }
 
 /**
@@ -77,9 +77,9 @@ function beginsWord(line, at) {
 export function readBnpf(text, from = 0) {
   const image = new ImageBytes(from);
   let [word, count] = ["", 0];
-  const takeLetter = (/** @type {string} */ letter, /** @type {boolean} */ begins) => {
+  const takeLetter = (/** @type {string} */ letter, /** @type {boolean} */ startsWord) => {
     if (word === "") {
-      if (begins) word = letter;
+      if (startsWord) word = letter;
     } else if (/[NP]/.test(letter) && word.length < WORD_LENGTH) word += letter;
     else if (letter === "F" && word.length === WORD_LENGTH) {
       image.put(count, [parseInt(word.slice(1).replace(/P/g, "1").replace(/N/g, "0"), 2)]);
@@ -87,8 +87,8 @@ export function readBnpf(text, from = 0) {
       word = "";
     } else if (!/[ \t]/.test(letter)) throw new NotAnImage(say.bnpfForm(word + letter));
   };
-  readLines(text, (whole) => {
-    const line = whole.trim();
+  readLines(text, (rawLine) => {
+    const line = rawLine.trim();
     for (let at = 0; at < line.length; at++) takeLetter(line[at].toUpperCase(), /b/i.test(line[at]) && beginsWord(line, at));
   });
   const lines = text.replace(/\n$/, "").split("\n").length;
@@ -117,8 +117,8 @@ const WORDS_PER_LINE = 4;
 export function writeBnpf(bytes, from, count) {
   let text = "";
   for (let at = from; at < from + count; at += WORDS_PER_LINE) {
-    const words = [...bytes.subarray(at, Math.min(at + WORDS_PER_LINE, from + count))].map(bnpfWord);
-    text += `${String(at).padStart(4)} ${words.join(" ")}\n`;
+    const bnpfWords = [...bytes.subarray(at, Math.min(at + WORDS_PER_LINE, from + count))].map(bnpfWord);
+    text += `${String(at).padStart(4)} ${bnpfWords.join(" ")}\n`;
   }
   return text;
 }
@@ -126,7 +126,7 @@ export function writeBnpf(bytes, from, count) {
 // --- The format of an image ---
 
 /** @type {(bytes: Uint8Array, is: (byte: number) => boolean) => boolean} */
-const hasOnly = (bytes, is) => bytes.every(is);
+const containsOnly = (bytes, isAllowed) => bytes.every(isAllowed);
 const isTextByte = (/** @type {number} */ byte) => byte === 9 || byte === 10 || byte === 13 || (byte >= 32 && byte < 127);
 
 /**
@@ -134,7 +134,7 @@ const isTextByte = (/** @type {number} */ byte) => byte === 9 || byte === 10 || 
  * @param {Uint8Array} bytes
  */
 function isText(bytes) {
-  if (!hasOnly(bytes, (byte) => isTextByte(byte) || byte >= 128)) return false;
+  if (!containsOnly(bytes, (byte) => isTextByte(byte) || byte >= 128)) return false;
   if (bytes.every((byte) => byte < 128)) return true;
   if (!bytes.includes(10)) return false;
   try {
@@ -149,14 +149,14 @@ function isText(bytes) {
  * Returns the image format, detected from the name and the first bytes; null for text in an unknown format.
  * @param {string} name
  * @param {Uint8Array} bytes
- * @returns {ImageForm | null}
+ * @returns {ImageFormat | null}
  */
-export function formatOf(name, bytes) {
+export function detectFormat(name, bytes) {
   if (/\.(hex|ihx)$/i.test(name)) return "hex";
   if (/\.bnpf?$/i.test(name)) return "bnpf";
   const begin = String.fromCharCode(...bytes.subarray(0, 2));
   if (begin.startsWith(":")) return "hex";
   if (/^S\d/.test(begin)) return "srec";
-  if (hasOnly(bytes, isTextByte) && /B[NP]{8}F/i.test(new TextDecoder("latin1").decode(bytes))) return "bnpf";
+  if (containsOnly(bytes, isTextByte) && /B[NP]{8}F/i.test(new TextDecoder("latin1").decode(bytes))) return "bnpf";
   return isText(bytes) ? null : "binary";
 }

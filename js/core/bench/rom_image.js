@@ -1,13 +1,13 @@
 // Reads raw ROM images and Intel HEX; writes Intel HEX. (For S-records and BNPF, see rom_formats.js.)
 
-import { ADDRESSES, NO_BYTE } from "./rom_bytes.js";
+import { ADDRESS_COUNT, NO_BYTE } from "./rom_bytes.js";
 import { hex } from "./numbers.js";
 import * as say from "../../words/bench.js";
 
-/** An error in a ROM image. */
+/** The error for a file that is not a valid ROM image. */
 export class NotAnImage extends Error {}
 
-/** A line that is not a record: the file can have another format. */
+/** The error for a line that is not a record. The file can have another format. */
 export class NotARecord extends NotAnImage {}
 
 /** The maximum number of data bytes per written record. */
@@ -20,12 +20,12 @@ const BASE_TYPES = [2, 4];
 /** The record types for a program's start address, which linkers write. Such records are ignored: the 4004 starts at 000. */
 const START_TYPES = [3, 5];
 
-/** The bytes of an image during reading. */
+/** The bytes of a ROM image that is being read. */
 export class ImageBytes {
   /** @param {number} offset added to each address */
   constructor(offset) {
     this.offset = offset;
-    this.bytes = new Int16Array(ADDRESSES).fill(NO_BYTE);
+    this.bytes = new Int16Array(ADDRESS_COUNT).fill(NO_BYTE);
   }
 
   get isEmpty() {
@@ -33,13 +33,13 @@ export class ImageBytes {
   }
 
   /**
-   * Stores bytes from an address on. Throws `NotAnImage` if an address is outside ROM or already has a byte.
+   * Stores bytes at consecutive addresses. Throws `NotAnImage` if an address is outside ROM or already has a byte.
    * @param {number} address
    * @param {ArrayLike<number>} data
    */
   put(address, data) {
     const from = address + this.offset;
-    if (from + data.length > ADDRESSES) throw new NotAnImage(say.PAST_LAST);
+    if (from + data.length > ADDRESS_COUNT) throw new NotAnImage(say.PAST_LAST);
     for (let at = 0; at < data.length; at++) {
       if (this.bytes[from + at] !== NO_BYTE) throw new NotAnImage(say.duplicateAddress(hex(from + at, 3)));
       this.bytes[from + at] = data[at];
@@ -54,8 +54,8 @@ export class ImageBytes {
  */
 export function readBytes(file, from = 0) {
   if (file.length === 0) throw new NotAnImage(say.NO_BYTE);
-  if (from + file.length > ADDRESSES) {
-    const [size, room] = [file.length, ADDRESSES - from].map((count) => count.toLocaleString("en"));
+  if (from + file.length > ADDRESS_COUNT) {
+    const [size, room] = [file.length, ADDRESS_COUNT - from].map((count) => count.toLocaleString("en"));
     throw new NotAnImage(from === 0 ? say.tooManyBytes(size, room) : say.tooManyFrom(size, room, hex(from, 3)));
   }
   const image = new ImageBytes(from);
@@ -153,9 +153,9 @@ function formatRecord(address, type, data) {
  */
 export function writeHex(bytes) {
   let records = "";
-  for (let at = 0; at < ADDRESSES;) {
+  for (let at = 0; at < ADDRESS_COUNT;) {
     let end = at;
-    while (end < ADDRESSES && end < at + BYTES_PER_RECORD && bytes[end] !== NO_BYTE) end += 1;
+    while (end < ADDRESS_COUNT && end < at + BYTES_PER_RECORD && bytes[end] !== NO_BYTE) end += 1;
     if (end > at) records += formatRecord(at, DATA_TYPE, [...bytes.subarray(at, end)]);
     at = Math.max(end, at + 1);
   }

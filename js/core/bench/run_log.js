@@ -1,22 +1,23 @@
-// A console log of the lines that running time served: one entry per key change, and one entry for consecutive runs.
+// A console log of the lines that are served while time runs: one entry per key change, and one entry for consecutive runs.
 
 import * as say from "../../words/bench.js";
 
 /**
- * Served lines with the last answer. `runs` is the number of consecutive `run` lines, 0 for any other line.
- * @typedef {{ line: string, answer: string, runs: number, cycles: number }} RanEntry
+ * A log entry: a served line and its answer, or consecutive `run` lines with their last answer. `runs` is the number of `run` lines, 0 for
+ * any other line.
+ * @typedef {{ line: string, answer: string, runs: number, cycles: number }} RunEntry
  */
 
 /** The entries since the last report. */
 export class RunLog {
   constructor() {
-    /** @type {RanEntry[]} */
+    /** @type {RunEntry[]} */
     this.entries = [];
   }
 
   /**
    * Appends entries. Merges consecutive runs into one entry.
-   * @param {RanEntry[]} entries
+   * @param {RunEntry[]} entries
    */
   add(entries) {
     for (const entry of entries) {
@@ -41,8 +42,8 @@ export class RunLog {
 
 /**
  * Returns the console text of an entry.
- * @param {RanEntry} entry
+ * @param {RunEntry} entry
  */
-export function wordsOfRuns({ line, runs, cycles }) {
+export function formatRuns({ line, runs, cycles }) {
   return runs > 1 ? say.manyRuns(runs, cycles.toLocaleString("en")) : line;
 }

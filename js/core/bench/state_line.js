@@ -1,4 +1,5 @@
-// Parses the answer to `state`: one line of keys and values in a fixed order. It covers everything except ROM and RAM.
+// Parses the answer to `state`, which is one line of keys and values in a fixed order. The line contains the whole state except ROM and
+// RAM.
 
 import { readRegisters } from "./answers.js";
 
@@ -11,15 +12,15 @@ import { readRegisters } from "./answers.js";
  * @typedef {{ registers: string, test: string, ports: string, keys: string, lamps: string, breaks: string, watches: string }} StateParts
  */
 
-const STATE = /^state seq \d+ (acc .* test (\d) .*) src (.* keys (\S+)) lamps (\S+) breaks (\S+) watches (\S+)$/;
+const STATE_ANSWER = /^state seq \d+ (acc .* test (\d) .*) src (.* keys (\S+)) lamps (\S+) breaks (\S+) watches (\S+)$/;
 
 /**
  * Splits the answer to `state` into its parts.
  * @param {string} answer
  * @returns {StateParts}
  */
-export function partsOfState(answer) {
-  const found = STATE.exec(answer);
+export function parseState(answer) {
+  const found = STATE_ANSWER.exec(answer);
   if (!found) throw new Error(`the bench answers state by ${answer}`);
   const [, registers, test, ports, keys, lamps, breaks, watches] = found;
   return { registers, test, ports, keys, lamps, breaks, watches };
@@ -30,7 +31,7 @@ export function partsOfState(answer) {
  * @param {string} answer
  * @param {string} key
  */
-export function valueIn(answer, key) {
+export function stateValue(answer, key) {
   const at = answer.indexOf(` ${key} `);
   if (at < 0) throw new Error(`the bench answers state by ${answer}`);
   return answer.slice(at + key.length + 2).split(" ", 1)[0];
@@ -40,7 +41,7 @@ export function valueIn(answer, key) {
  * Removes the command count from the line, so that states of two sessions can be compared.
  * @param {string} answer the answer to `state`; other answers can follow in the same text
  */
-export function withoutSeq(answer) {
+export function stripSeq(answer) {
   return answer.replace(/^state seq \d+ /, "");
 }
 
@@ -48,7 +49,7 @@ export function withoutSeq(answer) {
  * Returns the items of a list value; an empty list for `-`.
  * @param {string} value
  */
-export function itemsOf(value) {
+export function parseItems(value) {
   return value === "-" ? [] : value.split(",");
 }
 
@@ -57,7 +58,7 @@ export function itemsOf(value) {
  * @param {string} part
  * @returns {Registers}
  */
-export function registersOf(part) {
+export function parseRegisters(part) {
   return readRegisters(part.replace(/,/g, " "));
 }
 
@@ -66,15 +67,15 @@ export function registersOf(part) {
  * @param {string} part the text after `src`
  * @returns {Ports}
  */
-export function portsOf(part) {
+export function parsePorts(part) {
   const [source, , banks, , roms, , , , chains, , keys] = part.split(" ");
   return {
-    sources: [source, ...itemsOf(banks)],
-    roms: itemsOf(roms).map((rom) => {
+    sources: [source, ...parseItems(banks)],
+    roms: parseItems(roms).map((rom) => {
       const [chip, out, reads] = rom.split(".");
       return { chip, out, in: reads };
     }),
-    chains: itemsOf(chains),
-    keys: itemsOf(keys),
+    chains: parseItems(chains),
+    keys: parseItems(keys),
   };
 }

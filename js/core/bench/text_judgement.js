@@ -1,4 +1,4 @@
-// Parses the answers to `wiring` and `errors`. Both queries check a text without any change to the session.
+// Parses the answers to `wiring` and `errors`. These queries check a board text and a program text. They do not change the session.
 
 /**
  * The error in a board text.
@@ -18,7 +18,7 @@ export const MAX_ERRORS = 100;
 const WIRING_REFUSAL = /^no (\d+)(?: line (\d+))?(?: (rom|ram|chain|keys|lamp))?(?: (\d+))?(?: key (\S+))?$/;
 
 /**
- * Parses the answer to `wiring`. Returns null if the text is valid.
+ * Parses the answer to `wiring`. Returns null if the answer names no error.
  * @param {string} answer
  * @returns {BoardError | null}
  */

@@ -1,11 +1,11 @@
 // Texts for users: messages for refusals and errors, and durations.
 
-import { BenchRefusal, BenchTrap, Cancelled, WorkerDied } from "./faults.js";
+import { BenchRefusal, BenchTrap, CancelledError, WorkerDiedError } from "./faults.js";
 import { counted } from "./numbers.js";
 import * as say from "../../words/bench.js";
 
 /** Messages for refusals and errors. */
-export class Words {
+export class ErrorMessages {
   /** @param {Record<string, string>} refusals the refusal meanings, by refusal number */
   constructor(refusals) {
     this.refusals = refusals;
@@ -15,31 +15,31 @@ export class Words {
    * Returns the meaning of a refusal number.
    * @param {number} number
    */
-  ofRefusal(number) {
+  refusalMeaning(number) {
     return this.refusals[number] || say.UNKNOWN_REFUSAL;
   }
 
   /**
    * Returns the error message. The message for a refusal includes its number.
-   * @param {unknown} fault
+   * @param {unknown} error
    */
-  ofFault(fault) {
-    if (fault instanceof BenchRefusal) return `${fault.message}: ${this.ofRefusal(fault.number)}`;
-    if (fault instanceof BenchTrap) return say.moduleStopped(fault.message);
-    if (fault instanceof WorkerDied) return say.startedAgain(fault.message);
-    return (fault instanceof Error && fault.message) || String(fault);
+  errorMessage(error) {
+    if (error instanceof BenchRefusal) return `${error.message}: ${this.refusalMeaning(error.number)}`;
+    if (error instanceof BenchTrap) return say.moduleStopped(error.message);
+    if (error instanceof WorkerDiedError) return say.startedAgain(error.message);
+    return (error instanceof Error && error.message) || String(error);
   }
 
   /**
    * Returns the message after a failed call to the session.
-   * @param {unknown} fault
+   * @param {unknown} error
    */
-  ofFailure(fault) {
-    if (fault instanceof Cancelled) return say.WAS_CANCELLED;
-    if (fault instanceof BenchRefusal || fault instanceof BenchTrap || fault instanceof WorkerDied) {
-      return say.wasNotDone(this.ofFault(fault));
+  failureMessage(error) {
+    if (error instanceof CancelledError) return say.WAS_CANCELLED;
+    if (error instanceof BenchRefusal || error instanceof BenchTrap || error instanceof WorkerDiedError) {
+      return say.wasNotDone(this.errorMessage(error));
     }
-    return say.pageFailed(this.ofFault(fault));
+    return say.pageFailed(this.errorMessage(error));
   }
 }
 
@@ -47,7 +47,7 @@ export class Words {
  * Returns the number of errors as text, such as `2 faults`.
  * @param {number} count
  */
-export function countOfFaults(count) {
+export function formatErrorCount(count) {
   return counted(count, "fault");
 }
 
@@ -55,7 +55,7 @@ export function countOfFaults(count) {
  * Formats a duration with its two largest units, such as `1 hour 2 minutes`; "" for less than half a second.
  * @param {number} milliseconds
  */
-export function wordsOfTime(milliseconds) {
+export function formatDuration(milliseconds) {
   const seconds = Math.round(milliseconds / 1000);
   /** @type {[number, string][]} */
   const parts = [[Math.floor(seconds / 3600), "hour"], [Math.floor(seconds / 60) % 60, "minute"], [seconds % 60, "second"]];

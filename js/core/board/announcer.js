@@ -1,7 +1,8 @@
-// Announcements for screen readers. A text is announced after it has been unchanged for STILL_TIME. Texts that change earlier are skipped.
+// Announces a changing text to screen readers. A text is announced after it has been unchanged for ANNOUNCEMENT_DELAY. A text that changes
+// earlier is not announced.
 
 /** The time without a change before an announcement, and the minimum time between announcements, in milliseconds. */
-export const STILL_TIME = 1000;
+export const ANNOUNCEMENT_DELAY = 1000;
 
 /** Announces one changing text, such as a display text. */
 export class Announcer {
@@ -9,7 +10,7 @@ export class Announcer {
   constructor(say) {
     this.say = say;
     this.text = "";
-    this.announced = "";
+    this.lastAnnounced = "";
     /** True until the first text of a board arrives. The first text is not announced. */
     this.isFirst = true;
     /** True if the text has not changed since the timer started. */
@@ -17,19 +18,19 @@ export class Announcer {
     this.timer = 0;
   }
 
-  /** Starts with a new board. The first text of a board is not announced. */
+  /** Prepares for the texts of a new board. The first text of a board is not announced. */
   begin() {
     this.isFirst = true;
   }
 
   /**
-   * Sets the text. It is announced after it stays unchanged for STILL_TIME.
+   * Sets the text. The text is announced after it has been unchanged for ANNOUNCEMENT_DELAY.
    * @param {string} text
    */
   announce(text) {
     if (this.isFirst) {
       this.isFirst = false;
-      this.text = this.announced = text;
+      this.text = this.lastAnnounced = text;
     }
     if (text === this.text) return;
     this.text = text;
@@ -37,10 +38,9 @@ export class Announcer {
     if (this.timer === 0) this.startTimer();
   }
 
-  /** Starts the timer. */
   startTimer() {
     this.isStill = true;
-    this.timer = Number(setTimeout(() => this.onTimer(), STILL_TIME));
+    this.timer = Number(setTimeout(() => this.onTimer(), ANNOUNCEMENT_DELAY));
   }
 
   /** Announces the text if it did not change while the timer ran; otherwise restarts the timer. */
@@ -48,8 +48,8 @@ export class Announcer {
     this.timer = 0;
     if (!this.isStill) {
       this.startTimer();
-    } else if (this.text !== this.announced) {
-      this.announced = this.text;
+    } else if (this.text !== this.lastAnnounced) {
+      this.lastAnnounced = this.text;
       this.say(this.text);
     }
   }

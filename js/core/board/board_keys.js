@@ -1,6 +1,6 @@
 // The keys of a board: their positions, their legends, and the keyboard characters that press them.
 
-import { matrixKey, pinKey, textOfKey } from "./key_place.js";
+import { matrixKey, pinKey, formatKey } from "./key_place.js";
 import * as say from "../../words/board.js";
 
 /**
@@ -14,16 +14,16 @@ import * as say from "../../words/board.js";
  * @typedef {{ key: Key, legend: string, words: string, isNamed: boolean, isSwitch: boolean, letter: string }} BoardKey
  */
 
-/** The characters for keys whose names have no free character, in order. */
+/** The characters for keys whose names contain no free character. The first free one is used. */
 const FALLBACK_LETTERS = "1234567890qwertyuiopasdfghjklzxcvbnm";
 
 /**
- * Returns a free character for a key: the first one in its name, or else in `FALLBACK_LETTERS`; "" if none is free.
+ * Returns a free character for a key: the first free character of its name, otherwise of `FALLBACK_LETTERS`. Returns "" if none is free.
  * @param {string} name
- * @param {Set<string>} used
+ * @param {Set<string>} usedLetters
  */
-function freeLetter(name, used) {
-  return [...name.toLowerCase(), ...name.toUpperCase(), ...FALLBACK_LETTERS].find((letter) => !used.has(letter)) || "";
+function freeLetter(name, usedLetters) {
+  return [...name.toLowerCase(), ...name.toUpperCase(), ...FALLBACK_LETTERS].find((letter) => !usedLetters.has(letter)) || "";
 }
 
 /**
@@ -32,7 +32,7 @@ function freeLetter(name, used) {
  * @param {Pick<Face, "keys" | "test">} face
  * @returns {BoardKey[]}
  */
-export function keysOf(board, face) {
+export function boardKeys(board, face) {
   const keys = [];
   const usedLetters = new Set([...face.keys.values()].map(({ text }) => text).filter((name) => name.length === 1));
   /** @type {(legend: string, name: string) => string} */
@@ -44,11 +44,11 @@ export function keysOf(board, face) {
   for (let row = 0; row < board.rows; row++) {
     for (let column = 0; column < board.columns; column++) {
       const key = matrixKey(row, column);
-      const named = face.keys.get(textOfKey(key));
-      const legend = named ? named.text.replace(/_/g, " ") : `${row}.${column}`;
+      const keyName = face.keys.get(formatKey(key));
+      const legend = keyName ? keyName.text.replace(/_/g, " ") : `${row}.${column}`;
       const description = say.keyAt(legend, row, column);
-      const letter = legend === "" ? "" : takeLetter(legend, named ? named.text : "");
-      keys.push({ key, legend, words: description, isNamed: Boolean(named && legend), isSwitch: false, letter });
+      const letter = legend === "" ? "" : takeLetter(legend, keyName ? keyName.text : "");
+      keys.push({ key, legend, words: description, isNamed: Boolean(keyName && legend), isSwitch: false, letter });
     }
   }
   return face.test ? [...keys, testKey(face.test, takeLetter)] : keys;
@@ -66,33 +66,33 @@ function testKey({ kind, name, level }, takeLetter) {
 }
 
 /**
- * The legends of the board keys that special keyboard keys press, by keyboard key.
+ * The legend of the board key that a special keyboard key presses, by keyboard key.
  * @type {Record<string, string>}
  */
 const SPECIAL_KEYS = { Enter: "=", Escape: "C", Backspace: "CE", Delete: "CE", ",": "." };
 
 /**
- * Returns the board key for a keyboard key; undefined if there is none. A letter also matches in the other case.
- * @template {BoardKey} Shown
- * @param {Shown[]} keys
+ * Returns the board key that a keyboard key presses; undefined if there is none. A letter also matches in the other case.
+ * @template {BoardKey} ShownKey
+ * @param {ShownKey[]} keys
  * @param {string} keyboardKey the `key` of the keyboard event
- * @returns {Shown | undefined}
+ * @returns {ShownKey | undefined}
  */
-export function keyOfKeyboard(keys, keyboardKey) {
+export function findBoardKey(keys, keyboardKey) {
   const letter = keyboardKey.length === 1 ? keyboardKey : "";
-  const exact = keys.find((key) => letter !== "" && key.letter === letter);
-  if (exact) return exact;
+  const exactMatch = keys.find((key) => letter !== "" && key.letter === letter);
+  if (exactMatch) return exactMatch;
   const name = SPECIAL_KEYS[keyboardKey];
-  const named = name && keys.find((key) => key.legend === name);
-  if (named) return named;
+  const namedKey = name && keys.find((key) => key.legend === name);
+  if (namedKey) return namedKey;
   return keys.find((key) => letter !== "" && key.letter.toLowerCase() === letter.toLowerCase());
 }
 
 /**
- * Returns the hint below the keys.
+ * Returns the hint that the page shows below the keys.
  * @param {BoardKey[]} keys
  */
-export function hintOfKeys(keys) {
+export function keyHint(keys) {
   if (keys.length === 0) return say.NO_KEYS;
   const naming = keys.some((key) => key.isNamed) ? "" : say.NAMES_KEYS;
   return say.keysHint(naming);

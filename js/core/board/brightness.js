@@ -2,12 +2,12 @@
 // cycle. Earlier light fades with the persistence of vision (`EYE_MS`).
 
 import { fittingGroups, isScanned } from "./face_board.js";
-import { NOT_LIT, isLit } from "./digit_patterns.js";
+import { UNLIT_PATTERN, isLit } from "./digit_patterns.js";
 import { EYE_MS } from "../time/mcs4_time.js";
 
 /**
  * @typedef {import("./face.js").Face} Face
- * @typedef {import("../engine/brightness_meter.js").Moved} Moved
+ * @typedef {import("../engine/brightness_meter.js").ChangeSummary} ChangeSummary
  * @typedef {import("../engine/brightness_meter.js").LitShares} LitShares
  * @typedef {import("../engine/brightness_meter.js").ShownDisplay} ShownDisplay
  */
@@ -21,7 +21,7 @@ const GAMMA = 2.2;
 /** The minimum duty cycles of the brightness levels: dim, half, full. */
 const LEVELS = [0.01, 0.15, 0.6];
 export const FULL_LEVEL = LEVELS.length;
-/** The smallest stored duty cycle; smaller ones become 0. */
+/** The smallest stored duty cycle or share. Smaller values become 0. */
 const MIN_DUTY = 0.0001;
 const SEGMENTS = 8;
 
@@ -29,7 +29,7 @@ const SEGMENTS = 8;
  * Returns the perceived brightness of a lamp, from 0 to 1, rounded to hundredths.
  * @param {number} duty the duty cycle, from 0 to 1
  */
-export function brightnessOf(duty) {
+export function perceivedBrightness(duty) {
   return Math.round(100 * Math.min(1, duty) ** (1 / GAMMA)) / 100;
 }
 
@@ -37,54 +37,54 @@ export function brightnessOf(duty) {
  * Returns the brightness level of a lamp: 0 for dark, otherwise 1 (dim) to `FULL_LEVEL`.
  * @param {number} duty the duty cycle
  */
-export function levelOf(duty) {
+export function brightnessLevel(duty) {
   return LEVELS.filter((minDuty) => duty >= minDuty).length;
 }
 
 /**
- * Decides whether a lamp or display is steady. It is steady if it has not changed for the persistence of vision, or if the current rest is
- * more than twice the longest rest in the current series of changes. A single change is therefore perceived at once. Bits that shift in are
- * perceived at the end of the shift. A flickering lamp is never steady.
+ * Decides whether a lamp or display is steady. A rest is a time without a change. A lamp is steady if the current rest is at least EYE_MS,
+ * or more than twice the longest rest in the current series of changes. A single change is therefore perceived at once. Bits that shift in
+ * are perceived at the end of the shift. A flickering lamp is never steady.
  */
 class Stillness {
   constructor() {
-    /** The milliseconds since the last change, and the longest rest in the current series of changes. */
-    this.rest = Infinity;
-    this.longest = 0;
+    /** The time since the last change, and the longest rest in the current series of changes, in milliseconds. */
+    this.currentRest = Infinity;
+    this.longestRest = 0;
   }
 
   /**
-   * Updates the rests with a period of time.
-   * @param {Moved} moved the changes in the period
+   * Updates both rests with the changes in a period.
+   * @param {ChangeSummary} changes the changes in the period
    * @param {number} cycles the length of the period in cycles
    * @param {number} time the length of the period in milliseconds; Infinity after a gap
    */
-  add(moved, cycles, time) {
+  add(changes, cycles, time) {
     if (time === Infinity) {
-      this.rest = 0;
-      this.longest = Infinity;
-    } else if (moved) {
-      const before = this.rest + (moved.first * time) / cycles;
-      const longest = before < EYE_MS ? Math.max(this.longest, before) : 0;
-      this.longest = Math.max(longest, (moved.longest * time) / cycles);
-      this.rest = (moved.rest * time) / cycles;
+      this.currentRest = 0;
+      this.longestRest = Infinity;
+    } else if (changes) {
+      const restBefore = this.currentRest + (changes.first * time) / cycles;
+      const longestBefore = restBefore < EYE_MS ? Math.max(this.longestRest, restBefore) : 0;
+      this.longestRest = Math.max(longestBefore, (changes.longest * time) / cycles);
+      this.currentRest = (changes.rest * time) / cycles;
     } else {
-      this.rest += time;
+      this.currentRest += time;
     }
   }
 
   get isStill() {
-    return this.rest >= EYE_MS || (this.rest >= MIN_REST && this.rest > 2 * this.longest);
+    return this.currentRest >= EYE_MS || (this.currentRest >= MIN_REST && this.currentRest > 2 * this.longestRest);
   }
 }
 
 /** A perceived digit. */
-export class SeenDigit {
+export class PerceivedDigit {
   constructor() {
-    /** @type {Map<number, number>} the shares of the patterns in the perceived picture */
-    this.parts = new Map();
-    /** The pattern of a steady digit; NOT_LIT for a changing digit. */
-    this.steady = NOT_LIT;
+    /** @type {Map<number, number>} the share of each pattern in the perceived picture, by pattern */
+    this.shares = new Map();
+    /** The pattern of a steady digit; UNLIT_PATTERN for a changing digit. */
+    this.steady = UNLIT_PATTERN;
   }
 
   /**
@@ -94,19 +94,19 @@ export class SeenDigit {
   showSteady(pattern) {
     if (pattern === this.steady) return;
     this.steady = pattern;
-    this.parts.clear();
-    this.parts.set(pattern, 1);
+    this.shares.clear();
+    this.shares.set(pattern, 1);
   }
 
   /**
    * Reduces the shares of all patterns in the picture.
-   * @param {number} remaining the factor for each share, from 0 to 1
+   * @param {number} remainingShare the factor by which each share is multiplied, from 0 to 1
    */
-  fade(remaining) {
-    this.steady = NOT_LIT;
-    for (const [pattern, part] of this.parts) {
-      if (part * remaining < MIN_DUTY) this.parts.delete(pattern);
-      else this.parts.set(pattern, part * remaining);
+  fade(remainingShare) {
+    this.steady = UNLIT_PATTERN;
+    for (const [pattern, share] of this.shares) {
+      if (share * remainingShare < MIN_DUTY) this.shares.delete(pattern);
+      else this.shares.set(pattern, share * remainingShare);
     }
   }
 
@@ -116,34 +116,34 @@ export class SeenDigit {
    * @param {number} share the share of the pattern, from 0 to 1
    */
   add(pattern, share) {
-    this.parts.set(pattern, (this.parts.get(pattern) || 0) + share);
+    this.shares.set(pattern, (this.shares.get(pattern) || 0) + share);
   }
 
   /** The pattern with the largest share; 0 (dark) if the picture is empty. */
   get pattern() {
-    return this.longest.pattern;
+    return this.largestShare.pattern;
   }
 
-  /** True if no pattern has at least half of the picture. */
+  /** True if no pattern has a share of at least half of the picture. */
   get isSmeared() {
-    const total = [...this.parts.values()].reduce((sum, part) => sum + part, 0);
-    return this.longest.part < MIN_ON_DUTY * total;
+    const total = [...this.shares.values()].reduce((sum, share) => sum + share, 0);
+    return this.largestShare.share < MIN_ON_DUTY * total;
   }
 
   /** The pattern with the largest share, and that share. */
-  get longest() {
-    const longest = { pattern: 0, part: 0 };
-    for (const [pattern, part] of this.parts) if (part > longest.part) Object.assign(longest, { pattern, part });
-    return longest;
+  get largestShare() {
+    const largest = { pattern: 0, share: 0 };
+    for (const [pattern, share] of this.shares) if (share > largest.share) Object.assign(largest, { pattern, share });
+    return largest;
   }
 
   /** The duty cycles of the segments and the decimal point. */
   get segments() {
-    const seen = new Array(SEGMENTS).fill(0);
-    for (const [pattern, part] of this.parts) {
-      for (let segment = 0; segment < SEGMENTS; segment++) if (pattern & (1 << segment)) seen[segment] += part;
+    const duties = new Array(SEGMENTS).fill(0);
+    for (const [pattern, share] of this.shares) {
+      for (let segment = 0; segment < SEGMENTS; segment++) if (pattern & (1 << segment)) duties[segment] += share;
     }
-    return seen;
+    return duties;
   }
 }
 
@@ -163,12 +163,12 @@ export class Brightness {
     /** @type {number[][]} the duty cycles of the lamps in other multiplexed groups, row by row */
     this.scanned = groups.filter((group) => isScanned(group) && group.kind !== "display")
       .map(({ rows, columns }) => new Array(rows * columns).fill(0));
-    /** @type {SeenDigit[][]} */
+    /** @type {PerceivedDigit[][]} */
     this.digits = [];
     /** @type {Stillness[]} the stillness of the lamps */
     this.stillness = [];
     /** @type {Stillness[]} the stillness of the displays */
-    this.stillDisplays = [];
+    this.displayStillness = [];
     this.begin("");
   }
 
@@ -179,10 +179,10 @@ export class Brightness {
   begin(marks) {
     this.isOn = this.lamps.map((_, at) => isLit(marks, at));
     this.lamps = this.isOn.map(Number);
-    this.digits = this.displays.map(({ rows }) => Array.from({ length: rows }, () => new SeenDigit()));
+    this.digits = this.displays.map(({ rows }) => Array.from({ length: rows }, () => new PerceivedDigit()));
     this.scanned = this.scanned.map((lamps) => lamps.map(() => 0));
     this.stillness = this.lamps.map(() => new Stillness());
-    this.stillDisplays = this.displays.map(() => new Stillness());
+    this.displayStillness = this.displays.map(() => new Stillness());
   }
 
   /**
@@ -193,58 +193,58 @@ export class Brightness {
   add(litShares, time) {
     const { cycles } = litShares;
     if (cycles === 0) return;
-    const remaining = Math.exp(-time / EYE_MS);
-    this.fade(this.lamps, litShares.lamps, cycles, remaining);
+    const remainingShare = Math.exp(-time / EYE_MS);
+    this.fade(this.lamps, litShares.lamps, cycles, remainingShare);
     this.stillness.forEach((stillness, at) => {
       stillness.add(litShares.moved[at], cycles, time);
       const { isStill } = stillness;
       const isLitNow = isLit(litShares.marks, at);
-      // A lamp that goes out fades, so that a short flash stays visible.
+      // A lamp that goes off fades, so that a short flash stays visible.
       if (isStill && isLitNow) this.lamps[at] = 1;
       this.isOn[at] = isStill ? isLitNow : this.lamps[at] >= MIN_ON_DUTY;
     });
-    this.scanned.forEach((parts, at) => this.fade(parts, litShares.scanned[at], cycles, remaining));
-    litShares.displays.forEach((shown, at) => {
-      this.stillDisplays[at].add(shown.moved, cycles, time);
-      this.addDisplay(at, shown, cycles, remaining);
+    this.scanned.forEach((parts, at) => this.fade(parts, litShares.scanned[at], cycles, remainingShare));
+    litShares.displays.forEach((display, at) => {
+      this.displayStillness[at].add(display.moved, cycles, time);
+      this.addDisplay(at, display, cycles, remainingShare);
     });
   }
 
   /**
    * Updates duty cycles with the light of a period.
-   * @param {number[]} parts the duty cycles, by lamp
-   * @param {number[]} lit the number of cycles for which each lamp was on
+   * @param {number[]} duties the duty cycles, by lamp
+   * @param {number[]} litCycles the number of cycles for which each lamp was on
    * @param {number} cycles the length of the period in cycles
-   * @param {number} remaining the share of the earlier picture that remains
+   * @param {number} remainingShare the share of the earlier picture that remains
    */
-  fade(parts, lit, cycles, remaining) {
-    for (let at = 0; at < parts.length; at++) {
-      const part = parts[at] * remaining + (lit[at] / cycles) * (1 - remaining);
-      parts[at] = part < MIN_DUTY ? 0 : part;
+  fade(duties, litCycles, cycles, remainingShare) {
+    for (let at = 0; at < duties.length; at++) {
+      const duty = duties[at] * remainingShare + (litCycles[at] / cycles) * (1 - remainingShare);
+      duties[at] = duty < MIN_DUTY ? 0 : duty;
     }
   }
 
   /**
    * Updates a display with the patterns of a period.
-   * @param {number} at the index of the display
+   * @param {number} displayIndex the index of the display
    * @param {ShownDisplay} shown
    * @param {number} cycles the length of the period in cycles
-   * @param {number} remaining the share of the earlier picture that remains
+   * @param {number} remainingShare the share of the earlier picture that remains
    */
-  addDisplay(at, { patterns, moved, shown }, cycles, remaining) {
-    const isStill = this.stillDisplays[at].isStill && !isScanned(this.displays[at]);
-    this.digits[at].forEach((digit, index) => {
+  addDisplay(displayIndex, { patterns, moved, shown }, cycles, remainingShare) {
+    const isStill = this.displayStillness[displayIndex].isStill && !isScanned(this.displays[displayIndex]);
+    this.digits[displayIndex].forEach((digit, index) => {
       if (isStill) {
         digit.showSteady(patterns[index]);
         return;
       }
-      digit.fade(remaining);
-      if (moved) for (const [pattern, time] of shown[index]) digit.add(pattern, (time / cycles) * (1 - remaining));
-      else if (patterns[index] !== NOT_LIT) digit.add(patterns[index], 1 - remaining);
+      digit.fade(remainingShare);
+      if (moved) for (const [pattern, time] of shown[index]) digit.add(pattern, (time / cycles) * (1 - remainingShare));
+      else if (patterns[index] !== UNLIT_PATTERN) digit.add(patterns[index], 1 - remainingShare);
     });
   }
 
-  /** The patterns with the largest shares, by display and digit. */
+  /** The pattern with the largest share of each digit, by display. */
   get patterns() {
     return this.digits.map((display) => display.map(({ pattern }) => pattern));
   }

@@ -1,48 +1,49 @@
-// Display digits as patterns: bit masks with 1 for segment a, 2 for b, up to 64 for g, and 128 for the decimal point.
+// Converts the lamps of display digits to patterns. A pattern is a bit mask: 1 for segment a, 2 for b, up to 64 for g, and 128 for the
+// decimal point.
 
-import { SEGMENTS } from "./face_words.js";
+import { SEGMENT_CHARACTERS } from "./face_words.js";
 
 /** @typedef {import("./face.js").Group} Group */
 
-export const MINUS = 64;
-export const POINT = 128;
-/** The pattern of a multiplexed digit whose digit line is currently 0. */
-export const NOT_LIT = -1;
-const LIT = "*".charCodeAt(0);
+export const MINUS_PATTERN = 64;
+export const POINT_BIT = 128;
+/** The value for a multiplexed digit whose digit line is currently 0, so that it shows no pattern. */
+export const UNLIT_PATTERN = -1;
+const LIT_CODE = "*".charCodeAt(0);
 
-/** @type {Map<number, string>} the characters of the seven-segment patterns */
-const CHARACTERS = new Map([...SEGMENTS].map(([marks, sign]) => [segmentsAt(marks, 0), sign]));
+/** @type {Map<number, string>} the displayed characters, by seven-segment pattern */
+const DISPLAY_CHARACTERS = new Map([...SEGMENT_CHARACTERS].map(([marks, sign]) => [segmentsAt(marks, 0), sign]));
 /** The pattern for a BCD value above 9: segments a, b, e and g. */
 const INVALID_DIGIT = 1 + 2 + 16 + 64;
 /** The patterns of the digits 0 to 9, in the shapes of a 7447 decoder. */
-const DIGITS = [..."0123456789"].map(patternOf);
+const DIGIT_PATTERNS = [..."0123456789"].map(digitPattern);
 
 /**
  * Returns the pattern of a digit, a minus or a blank; `INVALID_DIGIT` for any other character.
  * @param {string} character
  */
-export function patternOf(character) {
-  const [[pattern] = [INVALID_DIGIT]] = [...CHARACTERS].filter(([, shown]) => shown === character);
+export function digitPattern(character) {
+  const [[pattern] = [INVALID_DIGIT]] = [...DISPLAY_CHARACTERS].filter(([, shown]) => shown === character);
   return pattern;
 }
 
 /**
  * Returns whether a lamp is on.
  * @param {string} marks one mark per lamp, `*` if the lamp is on
- * @param {number} at the lamp number
+ * @param {number} lamp the lamp number
  */
-export function isLit(marks, at) {
-  return marks.charCodeAt(at) === LIT;
+export function isLit(marks, lamp) {
+  return marks.charCodeAt(lamp) === LIT_CODE;
 }
 
 /**
- * Returns the pattern on seven lamps, segment a first.
+ * Returns the pattern that seven consecutive lamps show, segment a first.
  * @param {string} marks
- * @param {number} at the number of the first lamp
+ * @param {number} firstLamp the number of the first lamp
  */
-function segmentsAt(marks, at) {
+function segmentsAt(marks, firstLamp) {
   let bits = 0;
-  for (let segment = 0; segment < 7; segment++) if (isLit(marks, at + segment)) bits |= 1 << segment;
+  for (let segment = 0; segment < 7; segment++) if (isLit(marks, firstLamp + segment)) bits |= 1 << segment;
   return bits;
 }
 
@@ -55,22 +56,23 @@ export function hasPoints(columns) {
 }
 
 /**
- * Returns the value of four lamps, most significant first.
+ * Returns the binary value of four consecutive lamps, most significant bit first.
  * @param {string} marks
- * @param {number} at the number of the first lamp
+ * @param {number} firstLamp the number of the first lamp
  */
-function valueAt(marks, at) {
-  return (isLit(marks, at) ? 8 : 0) + (isLit(marks, at + 1) ? 4 : 0) + (isLit(marks, at + 2) ? 2 : 0) + (isLit(marks, at + 3) ? 1 : 0);
+function valueAt(marks, firstLamp) {
+  return (isLit(marks, firstLamp) ? 8 : 0) + (isLit(marks, firstLamp + 1) ? 4 : 0)
+    + (isLit(marks, firstLamp + 2) ? 2 : 0) + (isLit(marks, firstLamp + 3) ? 1 : 0);
 }
 
 /**
- * Returns the pattern of each digit at one instant. A BCD display without multiplexing blanks leading zeros and a point after the last
- * digit.
+ * Returns the pattern of each digit of a display at one instant. A BCD display without multiplexing does not show leading zeros, and no
+ * point after the last digit.
  * @param {Group} display
  * @param {string} marks one mark per lamp, `*` if the lamp is on
  * @returns {number[]}
  */
-export function patternsAt(display, marks) {
+export function digitPatterns(display, marks) {
   return display.by < 0 ? directPatterns(display, marks) : multiplexedPatterns(display, marks);
 }
 
@@ -81,9 +83,9 @@ export function patternsAt(display, marks) {
  */
 function multiplexedPatterns({ first, rows, columns, by }, marks) {
   const value = valueAt(marks, first);
-  const segments = columns >= 7 ? segmentsAt(marks, first) : value < 10 ? DIGITS[value] : INVALID_DIGIT;
-  const point = hasPoints(columns) && isLit(marks, first + columns - 1) ? POINT : 0;
-  return Array.from({ length: rows }, (_, digit) => (isLit(marks, by + digit) ? segments + point : NOT_LIT));
+  const segments = columns >= 7 ? segmentsAt(marks, first) : value < 10 ? DIGIT_PATTERNS[value] : INVALID_DIGIT;
+  const point = hasPoints(columns) && isLit(marks, first + columns - 1) ? POINT_BIT : 0;
+  return Array.from({ length: rows }, (_, digit) => (isLit(marks, by + digit) ? segments + point : UNLIT_PATTERN));
 }
 
 /**
@@ -96,7 +98,7 @@ function directPatterns({ first, rows, columns }, marks) {
   let isLeading = true;
   for (let digit = 0; digit < rows; digit++) {
     const at = first + digit * columns;
-    const point = hasPoints(columns) && isLit(marks, at + columns - 1) ? POINT : 0;
+    const point = hasPoints(columns) && isLit(marks, at + columns - 1) ? POINT_BIT : 0;
     if (columns >= 7) {
       patterns.push(segmentsAt(marks, at) + point);
       continue;
@@ -104,7 +106,7 @@ function directPatterns({ first, rows, columns }, marks) {
     const isLast = digit === rows - 1;
     const value = valueAt(marks, at);
     isLeading = isLeading && value === 0 && point === 0 && !isLast;
-    patterns.push(isLeading ? 0 : (value < 10 ? DIGITS[value] : INVALID_DIGIT) + (isLast ? 0 : point));
+    patterns.push(isLeading ? 0 : (value < 10 ? DIGIT_PATTERNS[value] : INVALID_DIGIT) + (isLast ? 0 : point));
   }
   return patterns;
 }
@@ -113,10 +115,10 @@ function directPatterns({ first, rows, columns }, marks) {
  * Returns the number that the patterns show, without leading blanks and without a trailing point. An unknown pattern becomes `?`.
  * @param {number[]} patterns
  */
-export function shownNumber(patterns) {
+export function displayedNumber(patterns) {
   const characters = patterns.map((pattern) => {
-    const bits = pattern === NOT_LIT ? 0 : pattern & ~POINT;
-    return `${CHARACTERS.get(bits) ?? "?"}${pattern !== NOT_LIT && pattern & POINT ? "." : ""}`;
+    const bits = pattern === UNLIT_PATTERN ? 0 : pattern & ~POINT_BIT;
+    return `${DISPLAY_CHARACTERS.get(bits) ?? "?"}${pattern !== UNLIT_PATTERN && pattern & POINT_BIT ? "." : ""}`;
   });
   return characters.join("").replace(/\.$/, "").replace(/^ +/, "");
 }

@@ -1,6 +1,6 @@
-// The text of the displays on a board, as `mcs4 display` prints it.
+// Formats the displays and named lamps of a board as text, as `mcs4 display` prints it.
 
-import { isLit, patternsAt, shownNumber } from "./digit_patterns.js";
+import { isLit, digitPatterns, displayedNumber } from "./digit_patterns.js";
 
 /** @typedef {import("./face.js").Group} Group */
 
@@ -8,7 +8,7 @@ import { isLit, patternsAt, shownNumber } from "./digit_patterns.js";
 export class DisplayText {
   /**
    * @param {Group[]} displays
-   * @param {{ at: number, text: string }[]} names the named lamps: their numbers and names
+   * @param {{ at: number, text: string }[]} names the named lamps: the number (`at`) and the name (`text`) of each
    */
   constructor(displays, names) {
     this.displays = displays;
@@ -21,11 +21,11 @@ export class DisplayText {
    * @param {string} marks one mark per lamp, `*` if the lamp is on
    */
   read(marks) {
-    return this.words(this.displays.map((display) => patternsAt(display, marks)), (at) => isLit(marks, at));
+    return this.words(this.displays.map((display) => digitPatterns(display, marks)), (at) => isLit(marks, at));
   }
 
   /**
-   * Returns the number and the names like `read`, for a perceived picture.
+   * Returns the number and the names like `read`, but for a perceived picture.
    * @param {number[][]} patterns the digit patterns, by display
    * @param {(lamp: number) => boolean} isSeen returns whether a lamp is perceived as on
    */
@@ -37,14 +37,14 @@ export class DisplayText {
       if (text === "minus") minus = "-";
       else names += `${names && " "}${text.replace(/_/g, " ")}`;
     }
-    return { number: minus + patterns.map(shownNumber).join(" "), names };
+    return { number: minus + patterns.map(displayedNumber).join(" "), names };
   }
 }
 
 /**
  * Joins the number and the names into one text.
- * @param {{ number: string, names: string }} read
+ * @param {{ number: string, names: string }} displayText
  */
-export function wholeText({ number, names }) {
+export function joinDisplayText({ number, names }) {
   return names === "" ? number : `${number} ${names}`;
 }

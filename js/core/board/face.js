@@ -1,8 +1,8 @@
 // Parses the front panel of a board: the names, colours and positions in the comments of the board text. tools/lib/face.txt defines the
 // syntax.
 
-import { COLOURS, fitsHead, fitsWords, headOf, isNumber, limit, messageOf, sizeOf, wordsOf } from "./face_words.js";
-import { matrixKey, textOfKey } from "./key_place.js";
+import { COLOURS, fitsHead, fitsWords, parseFaceLine, isNumber, limit, formatMessage, parseSize, splitWords } from "./face_words.js";
+import { matrixKey, formatKey } from "./key_place.js";
 import * as say from "../../words/board.js";
 
 /**
@@ -29,7 +29,7 @@ import * as say from "../../words/board.js";
  * @typedef {{ strobe: string, port: string, words: string[], line: number }} Printer
  */
 
-/** The maximum number of words in all lists of names, colours and positions together; several times what a board needs. */
+/** The maximum total number of words in all lists of names, colours and positions. A board needs far fewer. */
 const MAX_WORDS = limit("words");
 
 /** The front panel in a board's text. */
@@ -37,7 +37,7 @@ export class Face {
   /** @param {string} text the board text */
   constructor(text) {
     this.title = "";
-    /** @type {Map<string, FaceText & { key: MatrixKey }>} the key names, by `row column`; "" for a position without a key */
+    /** @type {Map<string, FaceText & { key: MatrixKey }>} the key names, by row and column (`0 2`); "" for a position without a key */
     this.keys = new Map();
     /** @type {Map<number, FaceText>} the lamp names, by number */
     this.lamps = new Map();
@@ -59,11 +59,11 @@ export class Face {
     this.ports = new Map();
     /** @type {Fault[]} */
     this.faults = [];
-    /** All front-panel lines as one text, for comparisons. */
+    /** All front-panel lines as one text. Callers compare it to find changes of the front panel. */
     this.comments = "";
     /** @type {Map<string, number>} the line numbers of definitions that can occur only once, by definition */
     this.lines = new Map();
-    /** @type {{ row: number, column: number, word: string, line: number }[]} the words of grid lines */
+    /** @type {{ row: number, column: number, word: string, line: number }[]} the words of grid lines, before lamp names are resolved */
     this.gridWords = [];
     /** True if names or displays depend on the current line. */
     this.isRefused = false;
@@ -76,24 +76,24 @@ export class Face {
   /**
    * Reports an error.
    * @param {number} line
-   * @param {string} words the message
+   * @param {string} message
    */
-  reportError(line, words) {
-    this.faults.push({ line, words, isRefused: this.isRefused });
+  reportError(line, message) {
+    this.faults.push({ line, words: message, isRefused: this.isRefused });
   }
 
   /**
    * Records a definition that can occur only once. Returns true for the first definition; otherwise reports an error and returns false.
    * @param {string} name the identifier of the definition
    * @param {number} line
-   * @param {string} words the name of the error message
-   * @param {...(string | number)} about values for the error message
+   * @param {string} messageName the name of the error message
+   * @param {...(string | number)} values values for the error message
    */
-  defineOnce(name, line, words, ...about) {
-    const before = this.lines.get(name);
-    if (before === undefined) this.lines.set(name, line);
-    else this.reportError(line, messageOf(words, ...about, before));
-    return before === undefined;
+  defineOnce(name, line, messageName, ...values) {
+    const firstLine = this.lines.get(name);
+    if (firstLine === undefined) this.lines.set(name, line);
+    else this.reportError(line, formatMessage(messageName, ...values, firstLine));
+    return firstLine === undefined;
   }
 
   /**
@@ -102,17 +102,17 @@ export class Face {
    * @param {number} line
    */
   read(text, line) {
-    const found = this.wordCount <= MAX_WORDS ? headOf(text) : null;
+    const found = this.wordCount <= MAX_WORDS ? parseFaceLine(text) : null;
     if (!found) return;
     const { name, kind, first, last, words } = found;
     this.comments += `${text}\n`;
     this.isRefused = kind.isRefused;
-    if (kind.counts) this.wordCount += wordsOf(words).filter((word) => word !== "_").length;
-    if (this.wordCount > MAX_WORDS) this.reportError(line, messageOf("too many words"));
+    if (kind.counts) this.wordCount += splitWords(words).filter((word) => word !== "_").length;
+    if (this.wordCount > MAX_WORDS) this.reportError(line, formatMessage("too many words"));
     else if (!fitsHead(kind, first, last)) this.reportError(line, kind.form);
-    else if (kind.size === "-" && !fitsWords(kind, wordsOf(words))) this.reportError(line, kind.other);
+    else if (kind.size === "-" && !fitsWords(kind, splitWords(words))) this.reportError(line, kind.other);
     else if (name === "colour" && last !== undefined) this.readRange(Number(first), Number(last), words, line, kind);
-    else READERS[name](this, { name, kind, first: (first || "").toLowerCase(), words, line });
+    else LINE_READERS[name](this, { name, kind, first: (first || "").toLowerCase(), words, line });
   }
 
   /**
@@ -121,7 +121,7 @@ export class Face {
    * @param {number} line
    */
   readTitle(text, line) {
-    if (this.defineOnce("title", line, "second title")) this.title = wordsOf(text).join(" ");
+    if (this.defineOnce("title", line, "second title")) this.title = splitWords(text).join(" ");
   }
 
   /**
@@ -132,11 +132,11 @@ export class Face {
    */
   readRow(row, text, line) {
     if (!this.defineOnce(`row ${row}`, line, "second row", row)) return;
-    wordsOf(text).forEach((name, column) => {
+    splitWords(text).forEach((name, column) => {
       const isNone = name === "_";
       if (!isNone && !this.defineOnce(`key ${name}`, line, "second key", name)) return;
       const key = matrixKey(row, column);
-      this.keys.set(textOfKey(key), { text: isNone ? "" : name, line, key });
+      this.keys.set(formatKey(key), { text: isNone ? "" : name, line, key });
     });
   }
 
@@ -147,13 +147,13 @@ export class Face {
    * @param {number} line
    */
   readLamps(first, text, line) {
-    wordsOf(text).forEach((name, at) => {
+    splitWords(text).forEach((name, at) => {
       if (name === "_") return;
-      const before = this.lines.get(`lamp ${name}`);
-      const other = this.lamps.get(first + at);
-      if (before !== undefined) this.reportError(line, messageOf("second name", name, before));
-      else if (/^[*.?-]+$/.test(name)) this.reportError(line, messageOf("a pattern", name));
-      else if (other) this.reportError(line, messageOf("named before", first + at, other.text));
+      const firstLine = this.lines.get(`lamp ${name}`);
+      const namedLamp = this.lamps.get(first + at);
+      if (firstLine !== undefined) this.reportError(line, formatMessage("second name", name, firstLine));
+      else if (/^[*.?-]+$/.test(name)) this.reportError(line, formatMessage("a pattern", name));
+      else if (namedLamp) this.reportError(line, formatMessage("named before", first + at, namedLamp.text));
       else {
         this.lines.set(`lamp ${name}`, line);
         this.lamps.set(first + at, { text: name, line });
@@ -169,7 +169,7 @@ export class Face {
    * @param {number} line
    */
   readColours(first, text, line) {
-    this.setColours(first, wordsOf(text.toLowerCase()), line);
+    this.setColours(first, splitWords(text.toLowerCase()), line);
   }
 
   /**
@@ -181,26 +181,26 @@ export class Face {
    * @param {Kind} kind
    */
   readRange(first, last, text, line, kind) {
-    const words = wordsOf(text.toLowerCase());
+    const words = splitWords(text.toLowerCase());
     if (words.length !== 1 || last < first) this.reportError(line, kind.form);
-    else this.setColours(first, COLOURS.has(words[0]) ? repeated(words[0], last - first + 1) : words, line);
+    else this.setColours(first, COLOURS.has(words[0]) ? repeatWord(words[0], last - first + 1) : words, line);
   }
 
   /**
-   * Sets the colours of consecutive lamps.
+   * Sets the colours of consecutive lamps. Reports an error for an unknown colour and for a lamp that already has a colour.
    * @param {number} first the number of the first lamp
-   * @param {Iterable<string>} words the colours; `_` for none
+   * @param {Iterable<string>} colours the colours; `_` for none
    * @param {number} line
    */
-  setColours(first, words, line) {
+  setColours(first, colours, line) {
     let lamp = first - 1;
-    for (const word of words) {
+    for (const word of colours) {
       lamp += 1;
-      const before = this.colours.get(lamp);
+      const earlierColour = this.colours.get(lamp);
       if (word === "_") continue;
-      if (!COLOURS.has(word)) this.reportError(line, messageOf("no colour", word));
-      else if (before) {
-        this.reportError(line, messageOf("coloured before", lamp, before.line));
+      if (!COLOURS.has(word)) this.reportError(line, formatMessage("no colour", word));
+      else if (earlierColour) {
+        this.reportError(line, formatMessage("coloured before", lamp, earlierColour.line));
         return;
       } else this.colours.set(lamp, { text: word, line });
     }
@@ -213,9 +213,9 @@ export class Face {
    * @param {number} line
    */
   readGrid(row, text, line) {
-    if (row >= limit("rows")) this.reportError(line, messageOf("no such row"));
+    if (row >= limit("rows")) this.reportError(line, formatMessage("no such row"));
     else if (this.defineOnce(`grid ${row}`, line, "second row of grid", row)) {
-      wordsOf(text).forEach((word, column) => {
+      splitWords(text).forEach((word, column) => {
         if (word !== "_") this.gridWords.push({ row, column, word, line });
       });
     }
@@ -229,7 +229,7 @@ export class Face {
     const named = this.lampNumbers.get(word);
     if (named !== undefined) this.grid.push({ row, column, lamp: named, line });
     else if (isNumber(word)) this.grid.push({ row, column, lamp: Number(word), line });
-    else this.reportError(line, messageOf("no such lamp", word));
+    else this.reportError(line, formatMessage("no such lamp", word));
   }
 
   /**
@@ -237,25 +237,27 @@ export class Face {
    * @param {Line} line
    */
   readGroup({ name, kind, first, words, line }) {
-    const size = sizeOf(kind, wordsOf(words));
+    const size = parseSize(kind, splitWords(words));
     const group = size && { kind: name, first: Number(first), ...size, line };
     if (!group) this.reportError(line, kind.other);
-    else if (group.by < 0 || this.canBeScanned(group)) this.groups.push(group);
+    else if (group.by < 0 || this.checkMultiplexing(group)) this.groups.push(group);
   }
 
   /**
    * Returns whether a multiplexed group is within the limits and uses each lamp only once; otherwise reports an error.
    * @param {Group} group
    */
-  canBeScanned({ kind, first, rows, columns, by, line }) {
+  checkMultiplexing({ kind, first, rows, columns, by, line }) {
     const [row, column] = kind === "display" ? ["digits", say.A_SEGMENT] : ["rows", say.A_COLUMN];
     const max = limit("scanned");
     const fits = rows <= max && columns <= max;
-    const twice = Math.max(first, by);
-    const isTwice = twice < Math.min(first + columns, by + rows);
-    if (!fits) this.reportError(line, messageOf("too many scanned", row));
-    else if (isTwice) this.reportError(line, messageOf("scanned twice", twice, column, row === "digits" ? say.A_DIGIT : say.A_ROW));
-    return fits && !isTwice;
+    const sharedLamp = Math.max(first, by);
+    const isShared = sharedLamp < Math.min(first + columns, by + rows);
+    if (!fits) this.reportError(line, formatMessage("too many scanned", row));
+    else if (isShared) {
+      this.reportError(line, formatMessage("scanned twice", sharedLamp, column, row === "digits" ? say.A_DIGIT : say.A_ROW));
+    }
+    return fits && !isShared;
   }
 
   /**
@@ -264,7 +266,7 @@ export class Face {
    * @param {number} line
    */
   readTest(text, line) {
-    const [kind, name, , level] = wordsOf(text);
+    const [kind, name, , level] = splitWords(text);
     if (this.defineOnce("test", line, "second test")) this.test = { kind, name, level: Number(level || 0), line };
   }
 
@@ -275,7 +277,7 @@ export class Face {
    * @param {number} line
    */
   readBuzzer(place, text, line) {
-    if (this.defineOnce("buzzer", line, "second buzzer")) this.buzzer = { place, name: wordsOf(text).join(" "), line };
+    if (this.defineOnce("buzzer", line, "second buzzer")) this.buzzer = { place, name: splitWords(text).join(" "), line };
   }
 
   /**
@@ -285,10 +287,10 @@ export class Face {
    * @param {number} line
    */
   readPrinter(strobe, text, line) {
-    const [port, ...words] = wordsOf(text);
+    const [port, ...words] = splitWords(text);
     if (!this.defineOnce("printer", line, "second printer")) return;
-    if (words.length > limit("codes")) this.reportError(line, messageOf("too many codes", words.length));
-    else if (strobe.startsWith(`${port}.`)) this.reportError(line, messageOf("strobe in code", strobe));
+    if (words.length > limit("codes")) this.reportError(line, formatMessage("too many codes", words.length));
+    else if (strobe.startsWith(`${port}.`)) this.reportError(line, formatMessage("strobe in code", strobe));
     else this.printer = { strobe, port, words, line };
   }
 
@@ -299,7 +301,7 @@ export class Face {
    * @param {number} line
    */
   readPort(port, text, line) {
-    if (this.defineOnce(port, line, "second port", port)) this.ports.set(port, { text: wordsOf(text).join(" "), line });
+    if (this.defineOnce(port, line, "second port", port)) this.ports.set(port, { text: splitWords(text).join(" "), line });
   }
 }
 
@@ -308,7 +310,7 @@ export class Face {
  * @param {string} word
  * @param {number} count
  */
-function* repeated(word, count) {
+function* repeatWord(word, count) {
   for (let at = 0; at < count; at++) yield word;
 }
 
@@ -316,10 +318,10 @@ function* repeated(word, count) {
 const readGroup = (face, line) => face.readGroup(line);
 
 /**
- * The methods that read lines, by the first word of the line.
+ * The functions that read front-panel lines, by the first word of the line.
  * @type {Record<string, (face: Face, line: Line) => void>}
  */
-const READERS = {
+const LINE_READERS = {
   title: (face, { words, line }) => face.readTitle(words, line),
   row: (face, { first, words, line }) => face.readRow(Number(first), words, line),
   lamp: (face, { first, words, line }) => face.readLamps(Number(first), words, line),
@@ -337,23 +339,23 @@ const READERS = {
  * @param {string} text
  * @returns {Fault[]}
  */
-export function faceFaults(text) {
-  return sortedByLine(new Face(text).faults);
+export function findFaceErrors(text) {
+  return sortByLine(new Face(text).faults);
 }
 
 /**
- * Returns a message with the number of unlisted errors; "" if all errors are listed.
+ * Returns a message with the number of errors beyond a maximum; "" if all errors are listed.
  * @param {unknown[]} faults
- * @param {number} most the maximum number of listed errors
+ * @param {number} maxListed the maximum number of listed errors
  */
-export function moreFaults(faults, most) {
-  return faults.length > most ? say.andMore((faults.length - most).toLocaleString("en")) : "";
+export function moreErrors(faults, maxListed) {
+  return faults.length > maxListed ? say.andMore((faults.length - maxListed).toLocaleString("en")) : "";
 }
 
 /**
  * Returns errors sorted by line.
  * @param {Fault[]} faults
  */
-export function sortedByLine(faults) {
+export function sortByLine(faults) {
   return [...faults].sort((one, other) => one.line - other.line);
 }

@@ -1,10 +1,10 @@
-// Compares a front panel with its board: finds parts that the board does not have, and looks up the groups, names and colours of existing
-// lamps.
+// Compares a front panel with its board: finds front-panel parts that are missing on the board, and looks up the groups, names and colours
+// of existing lamps.
 
-import { sortedByLine } from "./face.js";
-import { KINDS, messageOf } from "./face_words.js";
+import { sortByLine } from "./face.js";
+import { LINE_KINDS, formatMessage } from "./face_words.js";
 import { BITS_PER_CHIP } from "../bench/board_form.js";
-import { upTo } from "../bench/numbers.js";
+import { indices } from "../bench/numbers.js";
 
 /**
  * @typedef {import("../bench/answers.js").Board} Board
@@ -43,7 +43,7 @@ export function hasOutput(board, line) {
  * @param {Board} board
  * @param {Face} face
  */
-export function buzzerOf(board, { buzzer }) {
+export function findBuzzer(board, { buzzer }) {
   return buzzer && hasOutput(board, buzzer.place) ? buzzer : null;
 }
 
@@ -52,15 +52,15 @@ export function buzzerOf(board, { buzzer }) {
  * @param {Board} board
  * @param {Face} face
  */
-export function printerOf(board, { printer }) {
-  return printer && linesOfPrinter(printer).every((line) => hasOutput(board, line)) ? printer : null;
+export function findPrinter(board, { printer }) {
+  return printer && printerLines(printer).every((line) => hasOutput(board, line)) ? printer : null;
 }
 
 /**
- * Returns the number of the lamp after a group.
+ * Returns the number of the lamp that follows a group.
  * @param {Group} group
  */
-export function endOfGroup({ first, rows, columns, by }) {
+export function groupEnd({ first, rows, columns, by }) {
   return by < 0 ? first + rows * columns : Math.max(first + columns, by + rows);
 }
 
@@ -68,12 +68,12 @@ export function endOfGroup({ first, rows, columns, by }) {
  * Returns the lamp numbers of a group.
  * @param {Group} group
  */
-export function lampsOfGroup({ first, rows, columns, by }) {
-  const from = (/** @type {number} */ begin, /** @type {number} */ count) => upTo(count).map((at) => begin + at);
-  return by < 0 ? from(first, rows * columns) : [...from(first, columns), ...from(by, rows)];
+export function groupLamps({ first, rows, columns, by }) {
+  const numbersFrom = (/** @type {number} */ begin, /** @type {number} */ count) => indices(count).map((at) => begin + at);
+  return by < 0 ? numbersFrom(first, rows * columns) : [...numbersFrom(first, columns), ...numbersFrom(by, rows)];
 }
 
-/** @param {Group} group returns whether the group is multiplexed */
+/** @type {(group: Group) => boolean} returns whether a group is multiplexed */
 export const isScanned = ({ by }) => by >= 0;
 
 /**
@@ -82,7 +82,7 @@ export const isScanned = ({ by }) => by >= 0;
  * @param {number} count the number of lamps on the board
  */
 export function fittingGroups(face, count) {
-  return face.groups.filter((group) => endOfGroup(group) <= count);
+  return face.groups.filter((group) => groupEnd(group) <= count);
 }
 
 /**
@@ -94,23 +94,23 @@ export function minusLamp({ lampNumbers }) {
 }
 
 /**
- * Returns the numbers of lamps that are neither in a group nor on the grid. The minus lamp counts as part of the display.
+ * Returns the numbers of lamps that are neither in a group nor on the grid. The minus lamp belongs to the display.
  * @param {Face} face
  * @param {number} count the number of lamps on the board
  */
 export function looseLamps(face, count) {
   const groups = fittingGroups(face, count);
-  const placed = new Set([...groups.flatMap(lampsOfGroup), ...face.grid.map(({ lamp }) => lamp)]);
+  const placed = new Set([...groups.flatMap(groupLamps), ...face.grid.map(({ lamp }) => lamp)]);
   if (groups.some(({ kind }) => kind === "display")) placed.add(minusLamp(face));
-  return upTo(count).filter((at) => !placed.has(at));
+  return indices(count).filter((at) => !placed.has(at));
 }
 
 /**
  * Returns the output lines of a printer: the strobe line and four code lines.
  * @param {import("./face.js").Printer} printer
  */
-export function linesOfPrinter({ strobe, port }) {
-  return [strobe, ...upTo(4).map((bit) => `${port}.${bit}`)];
+export function printerLines({ strobe, port }) {
+  return [strobe, ...indices(4).map((bit) => `${port}.${bit}`)];
 }
 
 /**
@@ -125,7 +125,7 @@ export function missingParts(face, board) {
   const count = board.lamps.length;
   /** @type {(kind: string, line: number, words: string, ...about: (string | number)[]) => void} */
   const add = (kind, line, words, ...about) => {
-    faults.push({ line, words: messageOf(words, ...about), isRefused: isRefused(kind) });
+    faults.push({ line, words: formatMessage(words, ...about), isRefused: isRefused(kind) });
   };
   for (const { text, line, key: { row, column } } of face.keys.values()) {
     if (text === "" || (row < board.rows && column < board.columns)) continue;
@@ -135,15 +135,15 @@ export function missingParts(face, board) {
   for (const [line, lamp] of lastColouredLamps(face)) if (lamp >= count) add("colour", line, "no lamp for colour", lamp, count);
   for (const { lamp, line } of face.grid) if (lamp >= count) add("grid", line, "no lamp for place", lamp, count);
   for (const group of face.groups) {
-    if (endOfGroup(group) > count) add(group.kind, group.line, "no lamps for group", group.kind, endOfGroup(group) - 1, count);
+    if (groupEnd(group) > count) add(group.kind, group.line, "no lamps for group", group.kind, groupEnd(group) - 1, count);
   }
   const { buzzer } = face;
   if (buzzer && !hasOutput(board, buzzer.place)) add("buzzer", buzzer.line, "no output line", buzzer.place);
   const { printer } = face;
-  const missingLine = printer && linesOfPrinter(printer).find((line) => !hasOutput(board, line));
+  const missingLine = printer && printerLines(printer).find((line) => !hasOutput(board, line));
   if (printer && missingLine) add("printer", printer.line, "no output line", missingLine);
   for (const [place, { line }] of face.ports) if (!hasPlace(board, place)) add("port", line, "port not there", place);
-  return sortedByLine(faults);
+  return sortByLine(faults);
 }
 
 /**
@@ -151,7 +151,7 @@ export function missingParts(face, board) {
  * @param {string} kind the first word of the line
  */
 function isRefused(kind) {
-  const found = KINDS.get(kind);
+  const found = LINE_KINDS.get(kind);
   return found !== undefined && found.isRefused;
 }
 
@@ -161,7 +161,7 @@ function isRefused(kind) {
  * @param {number} count the number of lamps on the board
  */
 export function lampNames(face, count) {
-  return upTo(count).map((at) => (face.lamps.get(at) || { text: "" }).text.replace(/_/g, " "));
+  return indices(count).map((at) => (face.lamps.get(at) || { text: "" }).text.replace(/_/g, " "));
 }
 
 /**
@@ -170,11 +170,11 @@ export function lampNames(face, count) {
  * @param {number} count the number of lamps on the board
  */
 export function lampColours(face, count) {
-  return upTo(count).map((at) => (face.colours.get(at) || { text: "" }).text);
+  return indices(count).map((at) => (face.colours.get(at) || { text: "" }).text);
 }
 
 /**
- * Returns the number of the last lamp in each colour line, by line number.
+ * Returns the number of the last lamp that each colour line colours, by line number.
  * @param {Face} face
  */
 function lastColouredLamps(face) {

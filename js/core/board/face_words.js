@@ -1,30 +1,30 @@
-// The syntax of the front panel: the first words of lines, the words after them, and the error messages. All of it comes from the table
-// tools/lib/face.txt; its header explains the columns.
+// The syntax of the front-panel lines in a board text: their first words, the words after them, and the error messages. The syntax comes
+// from the table tools/lib/face.txt; its header explains the columns.
 
 import table from "#face-table";
 
 /**
- * A kind of line. `head`: the form of the text between the first word and the colon (`N`, `N to N`, `place`, `line`, or `-` for none).
- * `counts`: true if the words count towards the limit. `isRefused`: true if names or displays depend on the line. `size`: the meaning of
- * the numbers. `words`: the pattern of the text after the colon, null for any text. `form` and `other`: the messages for a wrong head and
- * for wrong words.
+ * A kind of front-panel line. `head`: the form of the text between the first word and the colon (`N`, `N to N`, `place`, `line`, or `-` for
+ * none). `counts`: true if the words count towards the limit. `isRefused`: true if names or displays depend on the line. `size`: the
+ * meaning of the numbers. `words`: the pattern of the text after the colon, null for any text. `form` and `other`: the messages for a wrong
+ * head and for wrong words.
  * @typedef {{ head: string, counts: boolean, isRefused: boolean, size: string, words: RegExp | null, form: string, other: string }} Kind
  */
 
 const rows = table.split("\n").filter((line) => line !== "" && !line.startsWith("#")).map((line) => line.split("\t"));
 
 /**
- * Returns the table rows that start with a word, without that word.
+ * Returns the rows of the table that start with a word. The word is removed.
  * @param {string} word
  */
-const rowsOf = (word) => rows.filter((row) => row[0] === word).map((row) => row.slice(1));
+const tableRows = (word) => rows.filter((row) => row[0] === word).map((row) => row.slice(1));
 
 /**
- * Returns the first word and the kind of line from a table row.
+ * Converts a table row to the first word of a line and its kind.
  * @param {string[]} columns
  * @returns {[string, Kind]}
  */
-function kindOf([word, head, counts, weight, size, words, form, other]) {
+function parseKind([word, head, counts, weight, size, words, form, other]) {
   return [word, {
     head, counts: counts === "list", isRefused: weight === "refused", size, words: words === "-" ? null : new RegExp(words), form,
     other: other === "-" ? form : other,
@@ -32,43 +32,43 @@ function kindOf([word, head, counts, weight, size, words, form, other]) {
 }
 
 /** @type {Map<string, Kind>} the kinds of lines, by first word */
-export const KINDS = new Map(rowsOf("kind").map(kindOf));
-export const COLOURS = new Set(rowsOf("colour").map(([word]) => word));
+export const LINE_KINDS = new Map(tableRows("kind").map(parseKind));
+export const COLOURS = new Set(tableRows("colour").map(([word]) => word));
 /** @type {Map<string, string>} the characters of a seven-segment digit, by the marks of segments a to g */
-export const SEGMENTS = new Map(rowsOf("digit").map(([marks, sign]) => [marks, sign === "_" ? " " : sign]));
-const LIMITS = new Map(rowsOf("limit").map(([name, number]) => [name, Number(number)]));
-const HEADS = new Map(rowsOf("head").map(([name, expression]) => [name, new RegExp(expression)]));
+export const SEGMENT_CHARACTERS = new Map(tableRows("digit").map(([marks, sign]) => [marks, sign === "_" ? " " : sign]));
+const LIMITS = new Map(tableRows("limit").map(([name, number]) => [name, Number(number)]));
+const HEADS = new Map(tableRows("head").map(([name, expression]) => [name, new RegExp(expression)]));
 /** The synonyms of first words, mapped to the words that they replace. */
-const SYNONYMS = new Map(rowsOf("other").map(([word, meant]) => [word, meant]));
-const MESSAGES = new Map(rowsOf("say").map(([name, words]) => [name, words]));
-/** A front-panel line: the first word, the number or place, the number after `to`, and the text after the colon. */
-const LINE = /^[ \t]*#[ \t]*([A-Za-z]+)(?:[ \t]+([^ \t:]+)(?:[ \t]+to[ \t]+([^ \t:]+))?)?[ \t]*:(.*)$/i;
+const SYNONYMS = new Map(tableRows("other").map(([word, meant]) => [word, meant]));
+const MESSAGES = new Map(tableRows("say").map(([name, words]) => [name, words]));
+/** Matches a front-panel line: the first word, the number or place, the number after `to`, and the text after the colon. */
+const FACE_LINE = /^[ \t]*#[ \t]*([A-Za-z]+)(?:[ \t]+([^ \t:]+)(?:[ \t]+to[ \t]+([^ \t:]+))?)?[ \t]*:(.*)$/i;
 
-/** @param {string} name a limit of the table; returns its value */
+/** @type {(name: string) => number} returns the value of a limit in the table */
 export const limit = (name) => LIMITS.get(name) || 0;
 
 /**
  * Returns an error message.
  * @param {string} name the name of the message
- * @param {...(string | number)} about values for `{1}`, `{2}` ..
+ * @param {...(string | number)} values values for `{1}`, `{2}` ..
  */
-export function messageOf(name, ...about) {
+export function formatMessage(name, ...values) {
   const message = MESSAGES.get(name) || name;
-  return about.reduce((/** @type {string} */ words, value, at) => words.replace(`{${at + 1}}`, () => String(value)), message);
+  return values.reduce((/** @type {string} */ words, value, at) => words.replace(`{${at + 1}}`, () => String(value)), message);
 }
 
-/** @param {string} text the text to split at blanks and tabs */
-export const wordsOf = (text) => text.split(/[ \t]+/).filter(Boolean);
+/** @type {(text: string) => string[]} splits a text at blanks and tabs */
+export const splitWords = (text) => text.split(/[ \t]+/).filter(Boolean);
 
-/** @param {string | undefined} word returns whether the word is a decimal number of at most four digits */
-export const isNumber = (word) => isHead("N", word);
+/** @type {(word: string | undefined) => boolean} returns whether a word is a decimal number of at most four digits */
+export const isNumber = (word) => matchesHead("N", word);
 
 /**
  * Returns whether a word matches a head pattern.
  * @param {string} name the name of the pattern
  * @param {string | undefined} word
  */
-function isHead(name, word) {
+function matchesHead(name, word) {
   const expression = HEADS.get(name);
   return expression !== undefined && word !== undefined && expression.test(word.toLowerCase());
 }
@@ -82,7 +82,7 @@ function isHead(name, word) {
 export function fitsHead({ head }, first, last) {
   if (head === "-") return first === undefined;
   if (head === "N to N") return isNumber(first) && (last === undefined || isNumber(last));
-  return isHead(head, first) && last === undefined;
+  return matchesHead(head, first) && last === undefined;
 }
 
 /**
@@ -95,18 +95,18 @@ export function fitsWords({ words: expression }, words) {
 }
 
 /**
- * Parses the size of a group. Returns its rows and columns, and the first lamp that scans it (-1 for a group without multiplexing). Returns
- * null if the words are not a size.
+ * Parses the size of a group. Returns its rows and columns, and the number of the board lamp for its first row (-1 for a group without
+ * multiplexing). Returns null if the words are not a size.
  * @param {Kind} kind
  * @param {string[]} words
  */
-export function sizeOf(kind, words) {
+export function parseSize(kind, words) {
   if (!fitsWords(kind, words)) return null;
   const end = words.indexOf("scanned");
-  const by = end < 0 ? "" : words[words.length - 1];
-  if (by && !isNumber(by)) return null;
+  const rowLamp = end < 0 ? "" : words[words.length - 1];
+  if (rowLamp && !isNumber(rowLamp)) return null;
   const [first, second] = words.slice(0, end < 0 ? words.length : end).filter(isNumber).map(Number);
-  const size = { rows: 1, columns: first, by: by ? Number(by) : -1 };
+  const size = { rows: 1, columns: first, by: rowLamp ? Number(rowLamp) : -1 };
   if (kind.size === "rows") Object.assign(size, { rows: first, columns: second });
   if (kind.size === "digits") Object.assign(size, { rows: first, columns: (second || 4) + (words.includes("points") ? 1 : 0) });
   return size.rows * size.columns > 0 ? size : null;
@@ -116,12 +116,12 @@ export function sizeOf(kind, words) {
  * Parses a front-panel line: its first word, the words before the colon, and the text after the colon. Returns null for any other line.
  * @param {string} text
  */
-export function headOf(text) {
-  const found = LINE.exec(text);
-  if (!found) return null;
-  const word = found[1].toLowerCase().replace(/s$/, "");
+export function parseFaceLine(text) {
+  const match = FACE_LINE.exec(text);
+  if (!match) return null;
+  const word = match[1].toLowerCase().replace(/s$/, "");
   const name = SYNONYMS.get(word) || word;
-  const kind = KINDS.get(name);
-  const [, , first, last, words] = found;
+  const kind = LINE_KINDS.get(name);
+  const [, , first, last, words] = match;
   return kind ? { name, kind, first, last, words } : null;
 }

@@ -1,4 +1,4 @@
-// A key of a board as a value: a row and column, or the TEST pin. Only this module converts keys to text and back.
+// Defines the keys of a board: a key is at a row and a column, or at the TEST pin. Only this module converts keys to text and back.
 
 /**
  * A matrix key: its row and column, from 0.
@@ -11,7 +11,7 @@
  */
 
 /** The factor that combines row and column into one number; larger than the maximum number of columns. */
-const COLUMNS = 256;
+const COLUMN_FACTOR = 256;
 
 /**
  * Creates a matrix key.
@@ -46,7 +46,7 @@ export function isSameKey(one, other) {
  * Returns a key as text: `0 2`, as in bench lines, or `test 0`.
  * @param {Key} key
  */
-export function textOfKey(key) {
+export function formatKey(key) {
   return key.kind === "matrix" ? `${key.row} ${key.column}` : `test ${key.level}`;
 }
 
@@ -55,7 +55,7 @@ export function textOfKey(key) {
  * @param {string} text
  * @returns {Key | null}
  */
-export function keyOfText(text) {
+export function parseKey(text) {
   const [, row, column, level] = /^(?:(\d{1,3}) (\d{1,3})|test ([01]))$/.exec(text) || [];
   if (level !== undefined) return pinKey(Number(level));
   return row === undefined ? null : matrixKey(Number(row), Number(column));
@@ -66,20 +66,20 @@ export function keyOfText(text) {
  * @param {"press" | "release"} word
  * @param {Key} key
  */
-export function lineOfKey(word, key) {
+export function keyLine(word, key) {
   if (key.kind === "matrix") return `${word} ${key.row} ${key.column}`;
   return `test ${word === "press" ? key.level : 1 - key.level}`;
 }
 
 /** The set of pressed matrix keys, as reported by the bench. */
-export class KeysDown {
+export class PressedKeys {
   /** @param {string[]} items the pressed keys: `0.2` for row 0, column 2 */
   constructor(items = []) {
     /** @type {Set<number>} */
     this.numbers = new Set();
     for (const item of items) {
       const [row, column] = item.split(".");
-      this.numbers.add(Number(row) * COLUMNS + Number(column));
+      this.numbers.add(Number(row) * COLUMN_FACTOR + Number(column));
     }
   }
 
@@ -93,6 +93,6 @@ export class KeysDown {
    * @param {string} level the current TEST level, `0` or `1`
    */
   has(key, level) {
-    return key.kind === "matrix" ? this.numbers.has(key.row * COLUMNS + key.column) : level === String(key.level);
+    return key.kind === "matrix" ? this.numbers.has(key.row * COLUMN_FACTOR + key.column) : level === String(key.level);
   }
 }

@@ -6,21 +6,22 @@ import { isSameKey } from "./key_place.js";
 /**
  * @typedef {import("../engine/key_queue.js").Change} Change
  * @typedef {import("./key_place.js").Key} Key
- * @typedef {{ key: Key, word: "press" | "release" | "forget" }} Asked a key change, or `forget` to drop the queued changes of the key
+ * @typedef {{ key: Key, word: "press" | "release" | "forget" }} RequestedChange a key change, or `forget` to drop the queued changes
+ *   of the key
  */
 
-/** The key changes that are not done yet. */
+/** The key changes that the worker has not made yet. */
 export class PendingKeys {
   constructor() {
     /** @type {Change[]} the worker's queue in its last report */
     this.waiting = [];
-    /** @type {Asked[]} the changes in transit to the worker */
+    /** @type {RequestedChange[]} the changes in transit to the worker */
     this.sent = [];
   }
 
   /**
    * Adds a change in transit to the worker. Returns a function that the caller calls when the worker has received the change.
-   * @param {Asked} change
+   * @param {RequestedChange} change
    */
   send(change) {
     this.sent.push(change);
@@ -35,7 +36,7 @@ export class PendingKeys {
    * @param {boolean} isDown true if the bench reports the key as pressed
    */
   willBeDown(key, isDown) {
-    /** @type {Asked[]} */
+    /** @type {RequestedChange[]} */
     const all = [...this.waiting, ...this.sent];
     const last = all.filter((each) => isSameKey(each.key, key)).pop();
     return last && last.word !== "forget" ? last.word === "press" : isDown;

@@ -1,5 +1,5 @@
-// Computes wire routes in the wiring diagram. A wire runs straight to its pin. If a part is in the way, the wire runs through the gap above
-// or below that part. After the user moves parts, a wire can run from right to left. This module does not draw.
+// Computes the routes of wires in the wiring diagram, in SVG units. A wire runs straight to its pin. If a part is in the way, the wire runs
+// through the gap above or below that part. After the user moves parts, a wire can run from right to left. This module does not draw.
 
 /**
  * @typedef {import("./wiring.js").Point} Point
@@ -17,9 +17,9 @@ const TURN_DISTANCE = 8;
 const MIN_BEND = 30;
 /** The distance between a wire and the part that it runs along. */
 const LANE_DISTANCE = 5;
-/** The offsets that separate several wires along the same part. */
+/** The offsets from a lane that separate several wires along the same part. */
 const LANE_OFFSETS = [0, -2, 2, -4, 4];
-/** The number of sampling intervals per curve. */
+/** The number of intervals into which a curve is divided to test whether a part covers it. */
 const SAMPLES = 24;
 
 /**
@@ -47,12 +47,12 @@ function levelCurve(from, to) {
 /**
  * Returns a point on a curve.
  * @param {Curve} curve
- * @param {number} part the curve parameter, from 0 (start) to 1 (end)
+ * @param {number} parameter the curve parameter, from 0 (start) to 1 (end)
  * @returns {Point}
  */
-export function pointAt(curve, part) {
-  const opposite = 1 - part;
-  const weights = [opposite ** 3, 3 * opposite ** 2 * part, 3 * opposite * part ** 2, part ** 3];
+export function pointAt(curve, parameter) {
+  const opposite = 1 - parameter;
+  const weights = [opposite ** 3, 3 * opposite ** 2 * parameter, 3 * opposite * parameter ** 2, parameter ** 3];
   /** @type {(coordinate: (point: Point) => number) => number} */
   const sum = (coordinate) => curve.reduce((all, point, at) => all + weights[at] * coordinate(point), 0);
   return { x: sum(({ x }) => x), y: sum(({ y }) => y) };
@@ -72,33 +72,33 @@ function isInside({ x, y }, box) {
  * @param {Curve} curve
  * @param {Box} box
  */
-export function isCovered(curve, box) {
+export function isCurveCovered(curve, box) {
   return Array.from({ length: SAMPLES - 1 }, (_, at) => pointAt(curve, (at + 1) / SAMPLES)).some((point) => isInside(point, box));
 }
 
 /**
- * Returns the y coordinates of the lanes above and below all parts, shortest detour first.
+ * Returns the y coordinates of the lanes above and below each part, shortest detour first.
  * @param {Ends} ends
  * @param {Box[]} boxes
  */
-function lanesOf({ from, to }, boxes) {
+function sortedLanes({ from, to }, boxes) {
   /** @type {(lane: number) => number} */
-  const lengthBy = (lane) => Math.abs(lane - from.y) + Math.abs(lane - to.y);
+  const detourLength = (lane) => Math.abs(lane - from.y) + Math.abs(lane - to.y);
   return boxes.flatMap(({ y, height }) => [y - LANE_DISTANCE, y + height + LANE_DISTANCE]).filter((lane) => lane > 0)
-    .sort((one, other) => lengthBy(one) - lengthBy(other));
+    .sort((one, other) => detourLength(one) - detourLength(other));
 }
 
 /**
  * Returns the y coordinate of the shortest lane that avoids all parts between the ends.
  * @param {Ends} ends
- * @param {Box[]} between
+ * @param {Box[]} boxesBetween
  */
-function laneAround({ from, to }, between) {
-  const lanes = between.flatMap(({ y, height }) => [y - LANE_DISTANCE, y + height + LANE_DISTANCE]);
-  const free = lanes.filter((lane) => between.every(({ y, height }) => lane < y || lane > y + height));
+function laneAround({ from, to }, boxesBetween) {
+  const lanes = boxesBetween.flatMap(({ y, height }) => [y - LANE_DISTANCE, y + height + LANE_DISTANCE]);
+  const freeLanes = lanes.filter((lane) => boxesBetween.every(({ y, height }) => lane < y || lane > y + height));
   /** @type {(lane: number) => number} */
-  const lengthBy = (lane) => Math.abs(lane - from.y) + Math.abs(lane - to.y);
-  return free.reduce((one, other) => (lengthBy(other) < lengthBy(one) ? other : one));
+  const detourLength = (lane) => Math.abs(lane - from.y) + Math.abs(lane - to.y);
+  return freeLanes.reduce((one, other) => (detourLength(other) < detourLength(one) ? other : one));
 }
 
 /**
@@ -132,28 +132,28 @@ function detourRoute(ends, y) {
 }
 
 /**
- * Returns the curves of a wire: the first route that no part covers, or the direct curve if there is no such route.
+ * Returns the curves of a wire: the first route that no part covers. If there is no such route, returns the direct curve.
  * @param {Ends} ends
  * @param {Box[]} boxes the boxes of the parts
  * @param {number} number the wire number; it selects the offset that separates wires along the same part
  * @returns {Curve[]}
  */
-export function routeOf(ends, boxes, number) {
+export function routeWire(ends, boxes, number) {
   const { from, to } = ends;
   // A part that covers an end of the wire cannot be avoided.
-  const others = boxes.filter((box) => !isInside(from, box) && !isInside(to, box));
+  const avoidableBoxes = boxes.filter((box) => !isInside(from, box) && !isInside(to, box));
   /** @type {(route: Curve[]) => boolean} */
-  const isFree = (route) => !route.some((curve) => others.some((box) => isCovered(curve, box)));
-  const direct = [directCurve(ends)];
-  if (isFree(direct)) return direct;
+  const isRouteFree = (route) => !route.some((curve) => avoidableBoxes.some((box) => isCurveCovered(curve, box)));
+  const directRoute = [directCurve(ends)];
+  if (isRouteFree(directRoute)) return directRoute;
   const offset = LANE_OFFSETS[number % LANE_OFFSETS.length];
-  const between = others.filter(({ x, width }) => x > from.x && x + width < to.x);
-  const left = Math.min(...between.map(({ x }) => x)) - TURN_DISTANCE;
-  const right = Math.max(...between.map(({ x, width }) => x + width)) + TURN_DISTANCE;
-  const hasRoom = between.length > 0 && left > from.x && right < to.x;
-  const around = hasRoom ? [turningRoute(ends, laneAround(ends, between) + offset, left, right)] : [];
-  const further = lanesOf(ends, others).map((lane) => detourRoute(ends, lane + offset));
-  return [...around, ...further].find(isFree) || direct;
+  const boxesBetween = avoidableBoxes.filter(({ x, width }) => x > from.x && x + width < to.x);
+  const left = Math.min(...boxesBetween.map(({ x }) => x)) - TURN_DISTANCE;
+  const right = Math.max(...boxesBetween.map(({ x, width }) => x + width)) + TURN_DISTANCE;
+  const hasRoom = boxesBetween.length > 0 && left > from.x && right < to.x;
+  const lanesAround = hasRoom ? [turningRoute(ends, laneAround(ends, boxesBetween) + offset, left, right)] : [];
+  const detours = sortedLanes(ends, avoidableBoxes).map((lane) => detourRoute(ends, lane + offset));
+  return [...lanesAround, ...detours].find(isRouteFree) || directRoute;
 }
 
 /**

@@ -1,22 +1,22 @@
-// Converts the levels of a buzzer line to sound samples, one per cycle.
+// Converts the levels of the buzzer's signal line to sound samples, one per cycle.
 
-/** @typedef {import("../engine/sounding.js").Heard} Heard */
+/** @typedef {import("../engine/sounding.js").BuzzerLevels} BuzzerLevels */
 
 /**
- * Returns the samples of a line: 1 for high, -1 for low.
- * @param {Heard} heard
+ * Returns one sample per cycle: 1 for a high level, -1 for a low level.
+ * @param {BuzzerLevels} levels
  */
-export function samplesOf({ cycles, level, edges }) {
+export function soundSamples({ cycles, level, edges }) {
   const samples = new Float32Array(cycles);
-  let [from, now] = [0, level];
+  let [from, currentLevel] = [0, level];
   for (const edge of [...edges, cycles]) {
-    samples.fill(now === 1 ? 1 : -1, from, edge);
-    [from, now] = [edge, 1 - now];
+    samples.fill(currentLevel === 1 ? 1 : -1, from, edge);
+    [from, currentLevel] = [edge, 1 - currentLevel];
   }
   return samples;
 }
 
-/** Collects the samples of frames until there are enough for playback. */
+/** Collects samples until there are enough for playback. */
 export class SoundPieces {
   /** @param {number} minSamples the minimum number of samples for playback */
   constructor(minSamples) {
@@ -33,20 +33,20 @@ export class SoundPieces {
   }
 
   /**
-   * Adds the samples of a frame. Returns all collected samples if there are enough, and removes them; otherwise returns null.
-   * @param {Heard} heard
+   * Adds the samples of an interval. If there are enough samples, removes and returns them all; otherwise returns null.
+   * @param {BuzzerLevels} levels
    */
-  add(heard) {
-    this.pieces.push(samplesOf(heard));
-    this.count += heard.cycles;
+  add(levels) {
+    this.pieces.push(soundSamples(levels));
+    this.count += levels.cycles;
     if (this.count < this.minSamples) return null;
-    const joined = new Float32Array(this.count);
+    const allSamples = new Float32Array(this.count);
     let at = 0;
     for (const piece of this.pieces) {
-      joined.set(piece, at);
+      allSamples.set(piece, at);
       at += piece.length;
     }
     this.forget();
-    return joined;
+    return allSamples;
   }
 }

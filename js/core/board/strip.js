@@ -1,20 +1,20 @@
-// Converts the codes sent to a printer to printout lines.
+// Converts the codes that a printer has received to the lines of a printout.
 
 /** The width of the printer tape in characters. A word that does not fit on a line starts the next line. */
-const WIDTH = 24;
-/** The front-panel word for a code that ends the line. */
-const FEED = "feed";
+const TAPE_WIDTH = 24;
+/** The front-panel word for a code that ends the line instead of printing a word. */
+const FEED_WORD = "feed";
 
 /**
- * Returns the printed text of a code; `?` if the front panel defines no word for it.
+ * Returns the text that is printed for a word; `?` if the front panel defines no word for the code.
  * @param {string | undefined} word
  */
-function textOfWord(word) {
+function printedText(word) {
   return word === undefined ? "?" : word.replace(/_/g, " ");
 }
 
 /**
- * Returns the printout lines. The last line can still grow.
+ * Returns the printout lines. Later codes can extend the last line.
  * @param {number[]} codes
  * @param {string[]} words the words for the codes, by code
  */
@@ -22,12 +22,12 @@ export function printoutLines(codes, words) {
   const lines = [""];
   for (const code of codes) {
     const last = lines.length - 1;
-    if (words[code] === FEED) {
+    if (words[code] === FEED_WORD) {
       lines.push("");
       continue;
     }
-    const printed = textOfWord(words[code]);
-    if (lines[last] !== "" && lines[last].length + printed.length > WIDTH) lines.push(printed);
+    const printed = printedText(words[code]);
+    if (lines[last] !== "" && lines[last].length + printed.length > TAPE_WIDTH) lines.push(printed);
     else lines[last] += printed;
   }
   return lines;

@@ -13,16 +13,16 @@ import * as say from "../../words/board.js";
  * otherwise it names the function: `clock 0`, `data 0`, `row 1`, `column 2`, `lamp 3` or `buzzer 0`. `colour` is the lamp colour. `number`
  * is the pin number on the 16-pin chip package.
  * @typedef {{ id: string, line: string, label: string, colour?: string, number?: number, x: number, y: number }} Pin
- * @typedef {Omit<Pin, "x" | "y">} PinToPut
+ * @typedef {Omit<Pin, "x" | "y">} UnplacedPin
  *
- * A part. `id` is its name (`rom 1`, `ram 0.2`, `chain 0`, `keys`, `lamps`, `test`, `buzzer` or `processor`). `says` are its description
- * lines.
+ * A part. `id` is its name (`rom 1`, `ram 0.2`, `chain 0`, `keys`, `lamps`, `test`, `buzzer` or `processor`). `descriptions` are the texts
+ * that describe the part.
  * @typedef {{ id: string, kind: string, title: string, x: number, y: number, width: number, height: number, pins: Pin[],
- *   says: string[] }} Part
+ *   descriptions: string[] }} Part
  *
  * A wire from the pin that drives a signal line to a pin that uses the line.
  * @typedef {{ line: string, from: Pin, to: Pin }} Wire
- * @typedef {{ parts: Part[], wires: Wire[], width: number, height: number }} Picture
+ * @typedef {{ parts: Part[], wires: Wire[], width: number, height: number }} WiringDiagram
  *
  * The front-panel parts in the diagram. `names` and `colours` are those of the lamps, "" for none. `test` is the button or switch at the
  * TEST pin.
@@ -31,28 +31,28 @@ import * as say from "../../words/board.js";
  * @typedef {{ x: number, y: number }} Point
  *
  * The positions of parts that the user dragged, by part id.
- * @typedef {Map<string, Point>} Moved
+ * @typedef {Map<string, Point>} Positions
  */
 
-/** Lengths in the diagram: the distance between pins, the title bar height, the gap between parts, and the margin. */
+/** Lengths in the diagram, in SVG units: the distance between pins, the height of a title, the gap between parts, and the margin. */
 export const PIN_STEP = 18;
 export const TITLE_HEIGHT = 26;
-const GAP = 14;
+const PART_GAP = 14;
 const MARGIN = 10;
-/** The maximum number of unused chain bits in the diagram; the user can wire them. */
+/** The maximum number of unused bits that the diagram shows for each chain, so that the user can wire them. */
 const MAX_FREE_BITS = 6;
-/** The columns of the diagram: their widths, and the space for wires on their left. */
-const COLUMNS = [
+/** The columns of the diagram: their widths, and the space for wires (`room`) on their left, in SVG units. */
+const DIAGRAM_COLUMNS = [
   { room: 0, width: 84 },
   { room: 24, width: 112 },
   { room: 80, width: 138 },
   { room: 90, width: 150 },
 ];
 
-/** The maximum length of a title in the first column. */
+/** The maximum length of a title in the first column, in characters. */
 const MAX_TITLE_LENGTH = 11;
 
-/** Pin numbers on the package: TEST of the 4004; port lines 0 to 3 of the 4001 and 4002; clock, data and bits 0 to 9 of the 4003. */
+/** Pin numbers on the chip package: TEST of the 4004; port lines 0 to 3 of the 4001 and 4002; clock, data and bits 0 to 9 of the 4003. */
 const TEST_NUMBER = 10;
 const PORT_NUMBERS = [16, 15, 14, 13];
 const CLOCK_NUMBER = 1;
@@ -73,33 +73,33 @@ class Column {
 
   /**
    * Adds a part with pins on its left and right sides.
-   * @param {Pick<Part, "id" | "kind" | "title" | "says">} part
-   * @param {PinToPut[]} left
-   * @param {PinToPut[]} right
+   * @param {Pick<Part, "id" | "kind" | "title" | "descriptions">} part
+   * @param {UnplacedPin[]} left
+   * @param {UnplacedPin[]} right
    * @returns {Part}
    */
   add(part, left, right) {
     const { x, width } = this;
     const y = this.bottom;
     const height = TITLE_HEIGHT + Math.max(left.length, right.length, 1) * PIN_STEP;
-    this.bottom += height + GAP;
-    /** @type {(pinX: number) => (pin: PinToPut, at: number) => Pin} */
+    this.bottom += height + PART_GAP;
+    /** @type {(pinX: number) => (pin: UnplacedPin, at: number) => Pin} */
     const placePin = (pinX) => (pin, at) => ({ ...pin, x: pinX, y: y + TITLE_HEIGHT + at * PIN_STEP + PIN_STEP / 2 });
     return { ...part, x, y, width, height, pins: [...left.map(placePin(x)), ...right.map(placePin(x + width))] };
   }
 }
 
-/** The uses of each signal line, as descriptions. */
-class Uses {
+/** The uses of each signal line of a board: which inputs the line drives. */
+class LineUses {
   /**
    * @param {Board} board
    * @param {Buzzer | null} buzzer
    */
   constructor(board, buzzer) {
-    /** @type {Map<string, string[]>} the use descriptions, by line */
-    this.words = new Map();
+    /** @type {Map<string, string[]>} the descriptions of the uses, by line */
+    this.descriptions = new Map();
     /** @type {Map<string, number>} the ranks of the lines, in the order of first use */
-    this.order = new Map();
+    this.ranks = new Map();
     board.chains.forEach(({ clock, data }, at) => {
       this.add(clock, say.clocksChain(at));
       this.add(data, say.isData(at));
@@ -121,27 +121,27 @@ class Uses {
   /**
    * Adds a use of a signal line.
    * @param {string} line
-   * @param {string} words the description of the use
+   * @param {string} description the description of the use
    */
-  add(line, words) {
-    if (!this.words.has(line)) this.order.set(line, this.order.size);
-    this.words.set(line, [...(this.words.get(line) || []), words]);
+  add(line, description) {
+    if (!this.descriptions.has(line)) this.ranks.set(line, this.ranks.size);
+    this.descriptions.set(line, [...(this.descriptions.get(line) || []), description]);
   }
 
   /**
    * Returns the rank of a line. The order is that of first use: clock and data lines, rows, columns, lamps.
    * @param {string} line
    */
-  rankOf(line) {
-    return this.order.get(line) || 0;
+  usageRank(line) {
+    return this.ranks.get(line) || 0;
   }
 
   /**
-   * Returns the use descriptions of a line.
+   * Returns the descriptions of the uses of a line.
    * @param {string} line
    */
-  of(line) {
-    return this.words.get(line) || [];
+  descriptionsFor(line) {
+    return this.descriptions.get(line) || [];
   }
 
   /**
@@ -150,7 +150,7 @@ class Uses {
    * @param {string} line
    */
   describe(name, line) {
-    const uses = this.of(line);
+    const uses = this.descriptionsFor(line);
     return `${name} ${uses.join(say.AND) || say.NOT_USED}`;
   }
 }
@@ -159,7 +159,7 @@ class Uses {
  * Returns the four pins of a port, line 0 first.
  * @param {string} chip `rom1` or `ram0.2`
  */
-function linesOfPort(chip) {
+function portPins(chip) {
   return PORT_NUMBERS.map((number, at) => ({ id: `${chip}.${at}`, line: `${chip}.${at}`, number }));
 }
 
@@ -169,17 +169,17 @@ function linesOfPort(chip) {
  * @param {TestPin | null} test
  */
 function drawProcessor(column, test) {
-  const says = [say.PROCESSOR_ROLE,
-    test ? say.testIsAt(test.kind, nameOf(test)) : say.TEST_IS_ONLY_INPUT];
+  const descriptions = [say.PROCESSOR_ROLE,
+    test ? say.testIsAt(test.kind, displayedName(test)) : say.TEST_IS_ONLY_INPUT];
   const pin = { id: "TEST", line: "", label: "TEST", number: TEST_NUMBER };
-  return column.add({ id: "processor", kind: "processor", title: "4004", says }, [], [pin]);
+  return column.add({ id: "processor", kind: "processor", title: "4004", descriptions }, [], [pin]);
 }
 
 /**
  * Returns the name of a button or switch, with blanks instead of underscores.
  * @param {TestPin} test
  */
-function nameOf({ name }) {
+function displayedName({ name }) {
   return name.replace(/_/g, " ");
 }
 
@@ -189,23 +189,23 @@ function nameOf({ name }) {
  * @param {TestPin} test
  */
 function drawTest(column, test) {
-  const name = nameOf(test);
+  const name = displayedName(test);
   const title = name.length > MAX_TITLE_LENGTH ? `${name.slice(0, MAX_TITLE_LENGTH - 1)}…` : name;
-  const says = [say.drivesTest(test.kind, name, test.level)];
-  return column.add({ id: "test", kind: "test", title, says }, [], [{ id: "test", line: "", label: test.kind }]);
+  const descriptions = [say.drivesTest(test.kind, name, test.level)];
+  return column.add({ id: "test", kind: "test", title, descriptions }, [], [{ id: "test", line: "", label: test.kind }]);
 }
 
 /**
  * Adds a ROM to a column.
  * @param {Column} column
  * @param {Board["roms"][number]} rom
- * @param {Uses} uses
+ * @param {LineUses} uses
  */
 function drawRom(column, { chip, port }, uses) {
   const isInput = (/** @type {number} */ at) => port[3 - at] === "i";
-  const pins = linesOfPort(`rom${chip}`).map((pin, at) => ({ ...pin, label: say.portPin(isInput(at), at) }));
-  const says = pins.map(({ line }, at) => uses.describe(say.lineOfPort(line, isInput(at)), line));
-  return column.add({ id: `rom ${chip}`, kind: "rom", title: say.romTitle(chip), says }, [], pins);
+  const pins = portPins(`rom${chip}`).map((pin, at) => ({ ...pin, label: say.portPin(isInput(at), at) }));
+  const descriptions = pins.map(({ line }, at) => uses.describe(say.lineOfPort(line, isInput(at)), line));
+  return column.add({ id: `rom ${chip}`, kind: "rom", title: say.romTitle(chip), descriptions }, [], pins);
 }
 
 /**
@@ -213,30 +213,32 @@ function drawRom(column, { chip, port }, uses) {
  * @param {Column} column
  * @param {number} bank
  * @param {number} chip
- * @param {Uses} uses
+ * @param {LineUses} uses
  */
 function drawRam(column, bank, chip, uses) {
-  const pins = linesOfPort(`ram${bank}.${chip}`).map((pin, at) => ({ ...pin, label: say.portPin(false, at) }));
-  const says = pins.map(({ line }) => uses.describe(say.lineOfPort(line, false), line));
-  return column.add({ id: `ram ${bank}.${chip}`, kind: "ram", title: say.ramTitle(bank, chip), says }, [], pins);
+  const pins = portPins(`ram${bank}.${chip}`).map((pin, at) => ({ ...pin, label: say.portPin(false, at) }));
+  const descriptions = pins.map(({ line }) => uses.describe(say.lineOfPort(line, false), line));
+  return column.add({ id: `ram ${bank}.${chip}`, kind: "ram", title: say.ramTitle(bank, chip), descriptions }, [], pins);
 }
 
 /**
  * Adds a chain to a column, with its used bits and some unused bits.
  * @param {Column} column
  * @param {Board["chains"][number]} chain
- * @param {number} at the chain number
- * @param {Uses} uses
+ * @param {number} number the chain number
+ * @param {LineUses} uses
  */
-function drawChain(column, { clock, data, chips }, at, uses) {
+function drawChain(column, { clock, data, chips }, number, uses) {
   const bits = Array.from({ length: BITS_PER_CHIP * chips }, (_, bit) => (
-    { id: `chain${at}.${bit}`, line: `chain${at}.${bit}`, label: say.bitPin(bit), number: BIT_NUMBERS[bit % BITS_PER_CHIP] }));
-  const used = bits.filter(({ line }) => uses.of(line).length > 0).sort((one, other) => uses.rankOf(one.line) - uses.rankOf(other.line));
-  const free = bits.filter(({ line }) => uses.of(line).length === 0).slice(0, MAX_FREE_BITS);
-  const says = [say.clockIs(clock), say.dataIs(data), ...used.map(({ line, label }) => uses.describe(label, line))];
-  const inputs = [{ id: `clock ${at}`, line: clock, label: say.CLOCK_PIN, number: CLOCK_NUMBER },
-    { id: `data ${at}`, line: data, label: say.DATA_PIN, number: DATA_NUMBER }];
-  return column.add({ id: `chain ${at}`, kind: "chain", title: say.chainTitle(at, chips), says }, inputs, [...used, ...free]);
+    { id: `chain${number}.${bit}`, line: `chain${number}.${bit}`, label: say.bitPin(bit), number: BIT_NUMBERS[bit % BITS_PER_CHIP] }));
+  const usedBits = bits.filter(({ line }) => uses.descriptionsFor(line).length > 0)
+    .sort((one, other) => uses.usageRank(one.line) - uses.usageRank(other.line));
+  const unusedBits = bits.filter(({ line }) => uses.descriptionsFor(line).length === 0).slice(0, MAX_FREE_BITS);
+  const descriptions = [say.clockIs(clock), say.dataIs(data), ...usedBits.map(({ line, label }) => uses.describe(label, line))];
+  const inputs = [{ id: `clock ${number}`, line: clock, label: say.CLOCK_PIN, number: CLOCK_NUMBER },
+    { id: `data ${number}`, line: data, label: say.DATA_PIN, number: DATA_NUMBER }];
+  const part = { id: `chain ${number}`, kind: "chain", title: say.chainTitle(number, chips), descriptions };
+  return column.add(part, inputs, [...usedBits, ...unusedBits]);
 }
 
 /**
@@ -248,21 +250,22 @@ function drawKeys(column, { chain, first, rows, columns }) {
   const rowPins = Array.from({ length: rows }, (_, row) => (
     { id: `row ${row}`, line: `chain${chain}.${first + row}`, label: say.rowPin(row) }));
   const columnPins = columns.map((line, at) => ({ id: `column ${at}`, line, label: say.columnPin(at) }));
-  const says = [...rowPins.map(({ line, label }) => say.drivenBy(label, line)), ...columnPins.map(({ line, label }) => (
+  const descriptions = [...rowPins.map(({ line, label }) => say.drivenBy(label, line)), ...columnPins.map(({ line, label }) => (
     say.readAt(label, line)))];
-  return column.add({ id: "keys", kind: "keys", title: say.keysTitle(rows, columns.length), says }, [...rowPins, ...columnPins], []);
+  const part = { id: "keys", kind: "keys", title: say.keysTitle(rows, columns.length), descriptions };
+  return column.add(part, [...rowPins, ...columnPins], []);
 }
 
 /**
  * Adds the lamps to a column, as one part.
  * @param {Column} column
  * @param {string[]} lamps
- * @param {Appearance} look
+ * @param {Appearance} appearance
  */
 function drawLamps(column, lamps, { names, colours }) {
   const pins = lamps.map((line, at) => ({ id: `lamp ${at}`, line, label: names[at] || say.lampPin(at), colour: colours[at] || "red" }));
-  const says = pins.map(({ line, label }) => say.isAt(label, line));
-  return column.add({ id: "lamps", kind: "lamps", title: say.lampsTitle(lamps.length), says }, pins, []);
+  const descriptions = pins.map(({ line, label }) => say.isAt(label, line));
+  return column.add({ id: "lamps", kind: "lamps", title: say.lampsTitle(lamps.length), descriptions }, pins, []);
 }
 
 /**
@@ -271,15 +274,15 @@ function drawLamps(column, lamps, { names, colours }) {
  * @param {Buzzer} buzzer
  */
 function drawBuzzer(column, { place, name }) {
-  const says = [say.soundsEdges(name, place)];
-  return column.add({ id: "buzzer", kind: "buzzer", title: say.BUZZER, says }, [{ id: "buzzer 0", line: place, label: name }], []);
+  const descriptions = [say.soundsEdges(name, place)];
+  return column.add({ id: "buzzer", kind: "buzzer", title: say.BUZZER, descriptions }, [{ id: "buzzer 0", line: place, label: name }], []);
 }
 
 /**
  * Returns all wires. A wire runs from the pin of the port or chain that owns the line to each other pin on the line.
  * @param {Part[]} parts
  */
-function wiresOf(parts) {
+function collectWires(parts) {
   /** @type {Map<string, Pin>} */
   const sources = new Map();
   for (const part of parts) {
@@ -300,25 +303,25 @@ function wiresOf(parts) {
 
 /**
  * Returns the columns of the diagram. An empty column takes no space.
- * @param {boolean[]} areUsed true for each column with parts
+ * @param {boolean[]} isUsed true for each column with parts
  */
-function columnsOf(areUsed) {
+function layOutColumns(isUsed) {
   let right = MARGIN;
-  return COLUMNS.map(({ room, width }, at) => {
+  return DIAGRAM_COLUMNS.map(({ room, width }, at) => {
     const column = new Column(right + room, width);
-    if (areUsed[at]) right += room + width;
+    if (isUsed[at]) right += room + width;
     return column;
   });
 }
 
 /**
- * Moves parts with their pins to the positions that the user chose.
+ * Moves parts with their pins to the positions to which the user dragged them.
  * @param {Part[]} parts
- * @param {Moved} moved
+ * @param {Positions} positions
  */
-function moveParts(parts, moved) {
+function moveParts(parts, positions) {
   for (const part of parts) {
-    const point = moved.get(part.id);
+    const point = positions.get(part.id);
     if (!point) continue;
     const [right, down] = [point.x - part.x, point.y - part.y];
     Object.assign(part, point);
@@ -330,14 +333,14 @@ function moveParts(parts, moved) {
  * Returns the wiring diagram of a board.
  * @param {Board} board
  * @param {Appearance} appearance
- * @param {Moved} [moved]
- * @returns {Picture}
+ * @param {Positions} [positions]
+ * @returns {WiringDiagram}
  */
-export function drawBoard(board, appearance = { names: [], colours: [], test: null, buzzer: null }, moved = new Map()) {
-  const uses = new Uses(board, appearance.buzzer);
+export function drawBoard(board, appearance = { names: [], colours: [], test: null, buzzer: null }, positions = new Map()) {
+  const uses = new LineUses(board, appearance.buzzer);
   const hasChips = board.roms.length + board.banks.length > 0;
   const hasFront = board.matrix !== null || board.lamps.length > 0 || Boolean(appearance.buzzer);
-  const columns = columnsOf([true, hasChips, board.chains.length > 0, hasFront]);
+  const columns = layOutColumns([true, hasChips, board.chains.length > 0, hasFront]);
   const [first, second, third, fourth] = columns;
   const parts = [drawProcessor(first, appearance.test)];
   if (appearance.test) parts.push(drawTest(first, appearance.test));
@@ -349,10 +352,10 @@ export function drawBoard(board, appearance = { names: [], colours: [], test: nu
   if (board.matrix) parts.push(drawKeys(fourth, board.matrix));
   if (board.lamps.length > 0) parts.push(drawLamps(fourth, board.lamps, appearance));
   if (appearance.buzzer) parts.push(drawBuzzer(fourth, appearance.buzzer));
-  moveParts(parts, moved);
+  moveParts(parts, positions);
   const width = Math.max(...parts.map((part) => part.x + part.width)) + MARGIN;
-  const height = Math.max(...parts.map((part) => part.y + part.height)) + GAP;
-  return { parts, wires: wiresOf(parts), width, height };
+  const height = Math.max(...parts.map((part) => part.y + part.height)) + PART_GAP;
+  return { parts, wires: collectWires(parts), width, height };
 }
 
 /**

@@ -1,15 +1,15 @@
 // Parses durations in tests: `538`, `538 cycles`, `54 us`, `20 ms` or `1.5 s`. The blank before the unit is optional for `us`, `ms` and
 // `s`.
 
-import { cyclesOfMs } from "../time/mcs4_time.js";
+import { cyclesFromMilliseconds } from "../time/mcs4_time.js";
 
-/** The maximum duration in a line, in cycles: three hours. */
+/** The maximum duration in a test line, in cycles: about three hours of a real 4004. */
 const MAX_CYCLES = 1000000000;
 /** The lengths of the units in milliseconds. */
 const UNIT_MILLISECONDS = new Map([["us", 0.001], ["ms", 1], ["s", 1000]]);
 
 /**
- * A duration in cycles (0 if it is invalid), and the number of words that it uses.
+ * A duration in cycles (0 if it is invalid), and the number of words that form it.
  * @typedef {{ cycles: number, words: number }} Duration
  */
 
@@ -19,14 +19,14 @@ const UNIT_MILLISECONDS = new Map([["us", 0.001], ["ms", 1], ["s", 1000]]);
  * @param {number} from the index of the first word
  * @returns {Duration}
  */
-export function durationOf(words, from) {
-  const joined = /^([0-9.]+)(us|ms|s)$/.exec(words[from] || "");
-  const [number, unit] = joined ? joined.slice(1) : [words[from] || "", words[from + 1] || ""];
+export function parseDuration(words, from) {
+  const joinedMatch = /^([0-9.]+)(us|ms|s)$/.exec(words[from] || "");
+  const [number, unit] = joinedMatch ? joinedMatch.slice(1) : [words[from] || "", words[from + 1] || ""];
   if (!/^\d+(\.\d+)?$/.test(number) || number.length > 12) return { cycles: 0, words: 0 };
   const milliseconds = UNIT_MILLISECONDS.get(unit);
   if (milliseconds) {
-    const cycles = cyclesOfMs(Number(number) * milliseconds);
-    return { cycles: cycles > MAX_CYCLES ? 0 : cycles, words: joined ? 1 : 2 };
+    const cycles = cyclesFromMilliseconds(Number(number) * milliseconds);
+    return { cycles: cycles > MAX_CYCLES ? 0 : cycles, words: joinedMatch ? 1 : 2 };
   }
   if (number.includes(".")) return { cycles: 0, words: 0 };
   const hasUnit = unit === "cycles" || unit === "cycle";
@@ -37,7 +37,7 @@ export function durationOf(words, from) {
  * Parses words that must form exactly one duration. Returns its cycles, or 0 if the words are invalid.
  * @param {string[]} words
  */
-export function wholeDuration(words) {
-  const { cycles, words: count } = durationOf(words, 0);
+export function parseWholeDuration(words) {
+  const { cycles, words: count } = parseDuration(words, 0);
   return count === words.length ? cycles : 0;
 }

@@ -1,40 +1,41 @@
-// Compiles conditions that start with a keyword: `lamps`, `display` and `printed` for the front panel, `cycles`, and `chain0` for the bits
-// of a chain. Also compiles conditions on the program counter. The parser has already split them into words.
+// Compiles conditions that start with a keyword: `lamps`, `display`, `printed`, `cycles`, and `chain0` for the bits of a chain. Also
+// compiles conditions on the program counter. The parser has already split the conditions into words.
 
-import { hex, upTo } from "../bench/numbers.js";
+import { hex, indices } from "../bench/numbers.js";
 import { DisplayText } from "../board/display_text.js";
-import { lampsOfGroup, printerOf } from "../board/face_board.js";
-import { SeenText, hasScannedDisplay } from "../engine/seen_text.js";
-import { wholeDuration } from "./durations.js";
-import { placeOf } from "./places.js";
+import { groupLamps, findPrinter } from "../board/face_board.js";
+import { PerceivedText, hasScannedDisplay } from "../engine/seen_text.js";
+import { parseWholeDuration } from "./durations.js";
+import { parsePlace } from "./places.js";
 import { fail } from "./scanner.js";
-import { lampNumberOf } from "./values.js";
+import { findLampNumber } from "./values.js";
 import * as say from "../../words/conditions.js";
 
 /**
  * @typedef {import("./condition_language.js").Names} Names
- * @typedef {import("./condition_language.js").Beside} Beside
+ * @typedef {import("./condition_language.js").ExtraValues} ExtraValues
  * @typedef {import("./meaning.js").Meaning} Meaning
- * @typedef {import("./values.js").Looked} Looked
+ * @typedef {import("./values.js").Dependencies} Dependencies
  *
- * The parts of a keyword condition. `what` names the measured value; `isMany` is true if that name is plural. `want` is the text of the
- * required value. `measure` returns the text of the actual value, `matches` compares it, and `remark` returns an addition to the message.
- * @typedef {{ what: string, want: string, isMany?: boolean, measure: (values: string[], beside: Beside) => string,
- *   matches: (is: string, beside: Beside) => boolean, remark?: (is: string) => string, address?: number }} Asked
+ * The parts of a keyword condition. `subject` names the measured value; `isPlural` is true if that name is plural. `required` is the text
+ * of the required value. `measure` returns the text of the actual value, `matches` compares it, and `remark` returns an addition to the
+ * message.
+ * @typedef {{ subject: string, required: string, isPlural?: boolean, measure: (values: string[], extraValues: ExtraValues) => string,
+ *   matches: (actual: string, extraValues: ExtraValues) => boolean, remark?: (actual: string) => string, address?: number }} FormParts
  */
 
 /**
  * Compiles a keyword condition from its parts.
- * @param {Asked} asked
+ * @param {FormParts} parts
  * @returns {Meaning}
  */
-function meaningOfForm({ what, want, isMany = false, measure, matches, remark, address = -1 }) {
+function makeMeaning({ subject, required, isPlural = false, measure, matches, remark, address = -1 }) {
   return {
     address,
-    matches: (values, beside) => matches(measure(values, beside), beside),
-    explain: (values, beside, isNot) => {
-      const is = measure(values, beside);
-      return say.mustBe(what, is, want + (remark ? remark(is) : ""), isMany, isNot);
+    matches: (values, extraValues) => matches(measure(values, extraValues), extraValues),
+    explain: (values, extraValues, isNot) => {
+      const actual = measure(values, extraValues);
+      return say.mustBe(subject, actual, required + (remark ? remark(actual) : ""), isPlural, isNot);
     },
   };
 }
@@ -48,17 +49,17 @@ function matchesPattern(text, pattern) {
   return text.length === pattern.length && [...pattern].every((mark, at) => mark === "?" || mark === text[at]);
 }
 
-/** @type {(value: string) => string} converts the value of the place `lamps` to lamp marks */
-const marksOf = (value) => (value === "-" ? "" : value);
+/** @type {(value: string) => string} returns one mark per lamp, from the value of the place `lamps` */
+const lampMarks = (value) => (value === "-" ? "" : value);
 
 /**
  * Returns whether a lamp is an unnamed lamp of a display.
- * @param {number} at the lamp number
+ * @param {number} lamp the lamp number
  * @param {Names} names
  */
-function isDisplayLamp(at, { face }) {
-  if (face.lamps.has(at)) return false;
-  return face.groups.some((group) => group.kind === "display" && lampsOfGroup(group).includes(at));
+function isDisplayLamp(lamp, { face }) {
+  if (face.lamps.has(lamp)) return false;
+  return face.groups.some((group) => group.kind === "display" && groupLamps(group).includes(lamp));
 }
 
 /**
@@ -66,25 +67,26 @@ function isDisplayLamp(at, { face }) {
  * display lamps are ignored.
  * @param {string[]} words
  * @param {Names} names
- * @param {Looked} dependencies
+ * @param {Dependencies} dependencies
  */
-export function lampsMeaning(words, names, dependencies) {
+export function compileLamps(words, names, dependencies) {
   const count = names.board.lamps.length;
   if (words.length === 0) fail(say.LAMPS_FORM);
-  let want = words.join("");
-  if (!/^[*.?]+$/.test(want)) {
-    const wanted = new Set(words.join(" ") === "none" ? [] : words.map((name) => lampNumberOf(name, names)));
-    want = upTo(count).map((at) => (wanted.has(at) ? "*" : isDisplayLamp(at, names) ? "?" : ".")).join("");
+  let required = words.join("");
+  if (!/^[*.?]+$/.test(required)) {
+    const requiredLamps = new Set(words.join(" ") === "none" ? [] : words.map((name) => findLampNumber(name, names)));
+    required = indices(count).map((at) => (requiredLamps.has(at) ? "*" : isDisplayLamp(at, names) ? "?" : ".")).join("");
   }
-  if (want.length !== count) fail(say.wrongPatternLength(want.length, count));
-  const place = dependencies.at("lamps");
-  /** @type {(is: string) => string} */
-  const remark = (is) => {
-    const lit = [...names.face.lamps].filter(([at]) => is[at] === "*").sort(([one], [other]) => one - other);
-    return lit.length === 0 ? "" : say.litLamps(lit.map(([, { text }]) => text).join(" "));
+  if (required.length !== count) fail(say.wrongPatternLength(required.length, count));
+  const place = dependencies.addPlace("lamps");
+  /** @type {(actual: string) => string} */
+  const describeLitLamps = (actual) => {
+    const litLamps = [...names.face.lamps].filter(([at]) => actual[at] === "*").sort(([one], [other]) => one - other);
+    return litLamps.length === 0 ? "" : say.litLamps(litLamps.map(([, { text }]) => text).join(" "));
   };
-  return meaningOfForm({
-    what: "lamps", isMany: true, want, remark, measure: (values) => marksOf(values[place]), matches: (is) => matchesPattern(is, want),
+  return makeMeaning({
+    subject: "lamps", isPlural: true, required, remark: describeLitLamps, measure: (values) => lampMarks(values[place]),
+    matches: (actual) => matchesPattern(actual, required),
   });
 }
 
@@ -93,40 +95,41 @@ export function lampsMeaning(words, names, dependencies) {
  * For multiplexed digits, the perceived number counts.
  * @param {string[]} words
  * @param {Names} names
- * @param {Looked} dependencies
+ * @param {Dependencies} dependencies
  */
-export function displayMeaning(words, names, dependencies) {
+export function compileDisplay(words, names, dependencies) {
   const { face, board } = names;
   const displays = face.groups.filter(({ kind }) => kind === "display");
   if (displays.length === 0) fail(say.NO_DISPLAY);
   if (words.length === 0 || /^([<>]=?|!=?|==?)$/.test(words[0])) fail(say.DISPLAY_FORM);
-  const want = words.join(" ");
+  const required = words.join(" ");
   /** @type {(shown: { number: string, names: string }) => string} */
-  const wordsOf = ({ number, names: lit }) => (lit === "" || number === want ? number : `${number} ${lit}`);
-  const matches = (/** @type {string} */ is) => is === want;
+  const displayedWords = ({ number, names: lit }) => (lit === "" || number === required ? number : `${number} ${lit}`);
+  const matches = (/** @type {string} */ actual) => actual === required;
   if (hasScannedDisplay(face)) {
-    dependencies.need("seen", say.DIGITS_ARE_MULTIPLEXED);
-    const seen = new SeenText(face, board.lamps.length);
-    return meaningOfForm({ what: "display", want, matches, measure: (_, beside) => wordsOf(seen.read(beside.seen)) });
+    dependencies.addNeed("seen", say.DIGITS_ARE_MULTIPLEXED);
+    const seen = new PerceivedText(face, board.lamps.length);
+    return makeMeaning({ subject: "display", required, matches, measure: (_, extraValues) => displayedWords(seen.read(extraValues.seen)) });
   }
   const reader = new DisplayText(displays, [...face.lamps].map(([at, { text }]) => ({ at, text })));
-  const place = dependencies.at("lamps");
-  return meaningOfForm({ what: "display", want, matches, measure: (values) => wordsOf(reader.read(marksOf(values[place]))) });
+  const place = dependencies.addPlace("lamps");
+  return makeMeaning({ subject: "display", required, matches, measure: (values) => displayedWords(reader.read(lampMarks(values[place]))) });
 }
 
 /**
  * Compiles `printed 12+ 30= 42`, which compares the last printed words. The word `nothing` stands for an empty printout.
  * @param {string[]} words
  * @param {Names} names
- * @param {Looked} dependencies
+ * @param {Dependencies} dependencies
  */
-export function printedMeaning(words, { face, board }, dependencies) {
-  if (!printerOf(board, face)) fail(say.NO_PRINTER);
+export function compilePrinted(words, { face, board }, dependencies) {
+  if (!findPrinter(board, face)) fail(say.NO_PRINTER);
   if (words.length === 0) fail(say.PRINTED_FORM);
-  dependencies.need("printed", say.LINE_BY_LINE);
-  const want = words.join(" ");
-  return meaningOfForm({
-    what: "printed", want, matches: (is) => is === want, measure: (_, { printed }) => printed.slice(-words.length).join(" ") || "nothing",
+  dependencies.addNeed("printed", say.LINE_BY_LINE);
+  const required = words.join(" ");
+  return makeMeaning({
+    subject: "printed", required, matches: (actual) => actual === required,
+    measure: (_, { printed }) => printed.slice(-words.length).join(" ") || "nothing",
   });
 }
 
@@ -134,18 +137,18 @@ export function printedMeaning(words, { face, board }, dependencies) {
  * Compiles `cycles 538`, `cycles at most 20 ms` or `cycles at least 1 s`, which compare the cycles since the last mark in a test.
  * @param {string[]} words
  * @param {Names} names
- * @param {Looked} dependencies
+ * @param {Dependencies} dependencies
  */
-export function cyclesMeaning(words, names, dependencies) {
-  const bound = words[0] === "at" ? words.slice(0, 2).join(" ") : "";
-  const cycles = wholeDuration(words.slice(bound === "" ? 0 : 2));
-  if (cycles < 1 || !/^(|at most|at least)$/.test(bound)) fail(say.CYCLES_FORM);
-  dependencies.need("cycles", say.onlyInTests("cycles"));
-  /** @type {(is: number) => boolean} */
-  const matches = (is) => (bound === "" ? is === cycles : bound === "at most" ? is <= cycles : is >= cycles);
-  return meaningOfForm({
-    what: "cycles", isMany: true, want: `${bound && `${bound} `}${cycles}`, matches: (is) => matches(Number(is)),
-    measure: (_, beside) => String(beside.cycles),
+export function compileCycles(words, names, dependencies) {
+  const comparison = words[0] === "at" ? words.slice(0, 2).join(" ") : "";
+  const cycles = parseWholeDuration(words.slice(comparison === "" ? 0 : 2));
+  if (cycles < 1 || !/^(|at most|at least)$/.test(comparison)) fail(say.CYCLES_FORM);
+  dependencies.addNeed("cycles", say.onlyInTests("cycles"));
+  /** @type {(actual: number) => boolean} */
+  const matches = (actual) => (comparison === "" ? actual === cycles : comparison === "at most" ? actual <= cycles : actual >= cycles);
+  return makeMeaning({
+    subject: "cycles", isPlural: true, required: `${comparison && `${comparison} `}${cycles}`, matches: (actual) => matches(Number(actual)),
+    measure: (_, extraValues) => String(extraValues.cycles),
   });
 }
 
@@ -154,16 +157,16 @@ export function cyclesMeaning(words, names, dependencies) {
  * @param {string} name the name of the chain
  * @param {string[]} words
  * @param {Names} names
- * @param {Looked} dependencies
+ * @param {Dependencies} dependencies
  */
-export function chainMeaning(name, words, { board }, dependencies) {
-  const place = placeOf(name);
+export function compileChain(name, words, { board }, dependencies) {
+  const place = parsePlace(name);
   if (!place || place.probesOn(board).length === 0) return fail(say.boardLacks(name));
   const bits = 10 * board.chains[Number(name.slice("chain".length))].chips;
-  const want = words.join("");
-  if (!/^[01?]+$/.test(want) || want.length !== bits) fail(say.chainBits(name.slice("chain".length), bits));
-  const at = dependencies.at(name);
-  return meaningOfForm({ what: name, want, measure: (values) => values[at], matches: (is) => matchesPattern(is, want) });
+  const required = words.join("");
+  if (!/^[01?]+$/.test(required) || required.length !== bits) fail(say.chainBits(name.slice("chain".length), bits));
+  const at = dependencies.addPlace(name);
+  return makeMeaning({ subject: name, required, measure: (values) => values[at], matches: (actual) => matchesPattern(actual, required) });
 }
 
 /**
@@ -171,7 +174,7 @@ export function chainMeaning(name, words, { board }, dependencies) {
  * @param {number} address
  * @param {Names} names
  */
-function namedAddress(address, { map }) {
+function formatAddress(address, { map }) {
   const name = map ? map.nameOf(address) : "";
   return `${hex(address, 3)}${name && ` (${name})`}`;
 }
@@ -179,16 +182,16 @@ function namedAddress(address, { map }) {
 /**
  * Compiles a comparison of the program counter with an address. It is true only between two instructions.
  * @param {number} address
- * @param {string} want the address as written in the condition
+ * @param {string} required the address as written in the condition
  * @param {Names} names
- * @param {Looked} dependencies
+ * @param {Dependencies} dependencies
  */
-export function counterMeaning(address, want, names, dependencies) {
+export function compileCounter(address, required, names, dependencies) {
   const digits = hex(address, 3);
-  const at = dependencies.at("pc");
-  return meaningOfForm({
-    what: "pc", want, address,
-    measure: (values, { owed }) => `${namedAddress(parseInt(values[at], 16), names)}${owed === "1" ? say.WITHIN_INSTRUCTION : ""}`,
-    matches: (is, { owed }) => is.slice(0, 3) === digits && owed !== "1",
+  const at = dependencies.addPlace("pc");
+  return makeMeaning({
+    subject: "pc", required, address,
+    measure: (values, { owed }) => `${formatAddress(parseInt(values[at], 16), names)}${owed === "1" ? say.WITHIN_INSTRUCTION : ""}`,
+    matches: (actual, { owed }) => actual.slice(0, 3) === digits && owed !== "1",
   });
 }

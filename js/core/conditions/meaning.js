@@ -1,54 +1,55 @@
-// Compiles a condition's syntax tree, for a board and a program, into functions that evaluate it on the bench's answers. Collects the
-// places that the condition depends on. This module does not simulate the machine.
+// Compiles the syntax tree of a condition, for a board and a program, into functions that evaluate the condition on the bench's answers.
+// Collects the places that the condition depends on. This module does not simulate the machine.
 
-import { chainMeaning, counterMeaning, cyclesMeaning, displayMeaning, lampsMeaning, printedMeaning } from "./forms.js";
+import { compileChain, compileCounter, compileCycles, compileDisplay, compileLamps, compilePrinted } from "./forms.js";
 import { fail } from "./scanner.js";
-import { atColumn, characterValues, keyValue, labelIn, lampValue, valueIn } from "./values.js";
+import { withErrorColumn, characterValues, keyValue, findLabelAddress, lampValue, compileValue } from "./values.js";
 import * as say from "../../words/conditions.js";
 
 /**
  * @typedef {import("./condition_language.js").Names} Names
- * @typedef {import("./condition_language.js").Beside} Beside
+ * @typedef {import("./condition_language.js").ExtraValues} ExtraValues
  * @typedef {import("./parser.js").ConditionNode} ConditionNode
  * @typedef {import("./parser.js").CompareNode} CompareNode
  * @typedef {import("./parser.js").FormNode} FormNode
- * @typedef {import("./parser.js").HoldsNode} HoldsNode
+ * @typedef {import("./parser.js").PlaceValuesNode} PlaceValuesNode
  * @typedef {import("./parser.js").PanelIsNode} PanelIsNode
  * @typedef {import("./parser.js").ValueNode} ValueNode
- * @typedef {import("./values.js").Looked} Looked
+ * @typedef {import("./values.js").Dependencies} Dependencies
  * @typedef {import("./values.js").Value} Value
  *
  * A compiled condition. `explain` returns a message with the actual and the required value; if `isNot` is true, with the forbidden value.
  * `address` is the address in a condition `pc = ADDRESS`, otherwise -1.
- * @typedef {{ matches: (values: string[], beside: Beside) => boolean,
- *   explain: (values: string[], beside: Beside, isNot: boolean) => string, address: number }} Meaning
+ * @typedef {{ matches: (values: string[], extraValues: ExtraValues) => boolean,
+ *   explain: (values: string[], extraValues: ExtraValues, isNot: boolean) => string, address: number }} Meaning
  */
 
-/** @type {Record<CompareNode["sign"], (is: number, than: number) => boolean>} */
+/** @type {Record<CompareNode["sign"], (actual: number, expected: number) => boolean>} */
 const COMPARISONS = {
-  "=": (is, than) => is === than, "!=": (is, than) => is !== than, "<": (is, than) => is < than, "<=": (is, than) => is <= than,
-  ">": (is, than) => is > than, ">=": (is, than) => is >= than,
+  "=": (actual, expected) => actual === expected, "!=": (actual, expected) => actual !== expected,
+  "<": (actual, expected) => actual < expected, "<=": (actual, expected) => actual <= expected,
+  ">": (actual, expected) => actual > expected, ">=": (actual, expected) => actual >= expected,
 };
 
-/** @type {Record<string, (words: string[], names: Names, looked: Looked) => Meaning>} the condition compilers, by keyword */
-const COMPILERS = { lamps: lampsMeaning, display: displayMeaning, printed: printedMeaning, cycles: cyclesMeaning };
+/** @type {Record<string, (words: string[], names: Names, dependencies: Dependencies) => Meaning>} the condition compilers, by keyword */
+const COMPILERS = { lamps: compileLamps, display: compileDisplay, printed: compilePrinted, cycles: compileCycles };
 
 /**
- * Compiles a comparison of a value with the value on the other side of the sign.
+ * Compiles a comparison of two compiled values.
  * @param {Value} value
  * @param {CompareNode["sign"]} sign
- * @param {Value} wanted
+ * @param {Value} required
  * @returns {Meaning}
  */
-function comparisonMeaning(value, sign, wanted) {
+function compareValues(value, sign, required) {
   const compare = COMPARISONS[sign];
   return {
     address: -1,
-    matches: (values) => compare(value.read(values), wanted.read(values)),
+    matches: (values) => compare(value.read(values), required.read(values)),
     explain: (values, _, isNot) => {
-      const number = wanted.read(values);
-      const than = wanted.isConstant ? String(number) : say.valueIs(wanted.name, number);
-      return say.mustBe(value.name, String(value.read(values)), sign === "=" ? than : `${sign} ${than}`, false, isNot);
+      const number = required.read(values);
+      const expected = required.isConstant ? String(number) : say.valueIs(required.name, number);
+      return say.mustBe(value.name, String(value.read(values)), sign === "=" ? expected : `${sign} ${expected}`, false, isNot);
     },
   };
 }
@@ -57,11 +58,11 @@ function comparisonMeaning(value, sign, wanted) {
  * Throws `Unreadable` if the constant in a comparison exceeds the maximum of the other value.
  * @param {Value} value
  * @param {ValueNode} node the syntax node of the constant
- * @param {Value} wanted the constant
+ * @param {Value} required the constant
  */
-function checkRange(value, node, wanted) {
-  if (value.isConstant || !wanted.isConstant) return;
-  const number = wanted.read([]);
+function checkRange(value, node, required) {
+  if (value.isConstant || !required.isConstant) return;
+  const number = required.read([]);
   if (number <= value.most) return;
   fail(say.holds(value.name, value.most, node.kind === "number" ? node.text : say.valueIs(node.text, number)), node.column);
 }
@@ -70,45 +71,47 @@ function checkRange(value, node, wanted) {
  * Compiles a comparison.
  * @param {CompareNode} node
  * @param {Names} names
- * @param {Looked} dependencies
+ * @param {Dependencies} dependencies
  * @returns {Meaning}
  */
-function compareMeaning({ sign, left, right }, names, dependencies) {
-  const value = valueIn(left, names, dependencies);
-  const wanted = valueIn(right, names, dependencies);
-  checkRange(value, right, wanted);
-  checkRange(wanted, left, value);
-  if (value.name !== "pc" || !wanted.isConstant || (sign !== "=" && sign !== "!=")) return comparisonMeaning(value, sign, wanted);
-  const address = wanted.read([]);
-  const meaning = counterMeaning(address, String(address), names, dependencies);
-  return sign === "=" ? meaning : notMeaning(meaning, "");
+function compileComparison({ sign, left, right }, names, dependencies) {
+  const value = compileValue(left, names, dependencies);
+  const required = compileValue(right, names, dependencies);
+  checkRange(value, right, required);
+  checkRange(required, left, value);
+  if (value.name !== "pc" || !required.isConstant || (sign !== "=" && sign !== "!=")) return compareValues(value, sign, required);
+  const address = required.read([]);
+  const meaning = compileCounter(address, String(address), names, dependencies);
+  return sign === "=" ? meaning : negateMeaning(meaning, "");
 }
 
 /**
- * Compiles a place followed by its value, such as `r0 5`. Several values after a RAM character apply to that character and the following
- * ones.
- * @param {HoldsNode} node
+ * Compiles a place followed by its required value, such as `r0 5`. Several values after a RAM character apply to that character and the
+ * following characters.
+ * @param {PlaceValuesNode} node
  * @param {Names} names
- * @param {Looked} dependencies
+ * @param {Dependencies} dependencies
  * @returns {Meaning}
  */
-function holdsMeaning({ place, values, text, column }, names, dependencies) {
+function compilePlaceValues({ place, values, text, column }, names, dependencies) {
   const [first] = values;
   if (values.length === 1) {
-    return compareMeaning({ kind: "compare", sign: "=", left: place, right: first, text, column }, names, dependencies);
+    return compileComparison({ kind: "compare", sign: "=", left: place, right: first, text, column }, names, dependencies);
   }
   const characters = characterValues(place, values.length, names, dependencies);
-  const wanted = values.map((value, at) => {
-    const each = valueIn(value, names, dependencies);
+  const required = values.map((value, at) => {
+    const each = compileValue(value, names, dependencies);
     checkRange(characters[at], value, each);
     return each;
   });
   /** @type {(each: Value[], given: string[]) => string} */
-  const joined = (each, answers) => each.map((value) => value.read(answers)).join(" ");
+  const joinValues = (each, answers) => each.map((value) => value.read(answers)).join(" ");
   return {
     address: -1,
-    matches: (answers) => characters.every((value, at) => value.read(answers) === wanted[at].read(answers)),
-    explain: (answers, _, isNot) => say.mustBe(characters[0].name, joined(characters, answers), joined(wanted, answers), false, isNot),
+    matches: (answers) => characters.every((value, at) => value.read(answers) === required[at].read(answers)),
+    explain: (answers, _, isNot) => (
+      say.mustBe(characters[0].name, joinValues(characters, answers), joinValues(required, answers), false, isNot)
+    ),
   };
 }
 
@@ -116,28 +119,28 @@ function holdsMeaning({ place, values, text, column }, names, dependencies) {
  * Compiles a condition that starts with a keyword.
  * @param {FormNode} node
  * @param {Names} names
- * @param {Looked} dependencies
+ * @param {Dependencies} dependencies
  */
-function formMeaning({ words: [head, ...following] }, names, dependencies) {
+function compileKeyword({ words: [head, ...following] }, names, dependencies) {
   const words = following.map(({ text }) => text);
   const form = COMPILERS[head.text];
-  return form ? form(words, names, dependencies) : chainMeaning(head.text, words, names, dependencies);
+  return form ? form(words, names, dependencies) : compileChain(head.text, words, names, dependencies);
 }
 
 /**
  * Compiles `lamp NAME on` or `key NAME down`.
  * @param {PanelIsNode} node
  * @param {Names} names
- * @param {Looked} dependencies
+ * @param {Dependencies} dependencies
  * @returns {Meaning}
  */
-function panelMeaning({ what, name, isOn }, names, dependencies) {
+function compilePanelState({ what, name, isOn }, names, dependencies) {
   const value = what === "lamp" ? lampValue(name, names, dependencies) : keyValue(name, names, dependencies);
-  const words = what === "lamp" ? ["off", "on"] : ["up", "down"];
+  const stateNames = what === "lamp" ? ["off", "on"] : ["up", "down"];
   return {
     address: -1,
     matches: (values) => value.read(values) === Number(isOn),
-    explain: (values, _, isNot) => say.mustBe(`${what} ${name}`, words[value.read(values)], words[Number(isOn)], false, isNot),
+    explain: (values, _, isNot) => say.mustBe(`${what} ${name}`, stateNames[value.read(values)], stateNames[Number(isOn)], false, isNot),
   };
 }
 
@@ -147,12 +150,12 @@ function panelMeaning({ what, name, isOn }, names, dependencies) {
  * @param {string} text the condition's text if it is joined by `and` or `or`, otherwise ""
  * @returns {Meaning}
  */
-function notMeaning(meaning, text) {
+function negateMeaning(meaning, text) {
   return {
     address: -1,
-    matches: (values, beside) => !meaning.matches(values, beside),
-    explain: (values, beside, isNot) => (text === "" ? meaning.explain(values, beside, !isNot)
-      : isNot ? meaning.explain(values, beside, false)
+    matches: (values, extraValues) => !meaning.matches(values, extraValues),
+    explain: (values, extraValues, isNot) => (text === "" ? meaning.explain(values, extraValues, !isNot)
+      : isNot ? meaning.explain(values, extraValues, false)
       : say.holdsButMustNot(text)),
   };
 }
@@ -164,17 +167,18 @@ function notMeaning(meaning, text) {
  * @param {string} text
  * @returns {Meaning}
  */
-function joinedMeaning(operator, parts, text) {
+function joinMeanings(operator, parts, text) {
   const isAnd = operator === "and";
   return {
     address: -1,
-    matches: (values, beside) => (
-      isAnd ? parts.every((part) => part.matches(values, beside)) : parts.some((part) => part.matches(values, beside))
+    matches: (values, extraValues) => (
+      isAnd ? parts.every((part) => part.matches(values, extraValues)) : parts.some((part) => part.matches(values, extraValues))
     ),
-    explain: (values, beside, isNot) => {
+    explain: (values, extraValues, isNot) => {
       if (isNot) return say.holdsButMustNot(text);
-      const failing = parts.filter(({ matches }) => !matches(values, beside)).map(({ explain }) => explain(values, beside, false));
-      return isAnd ? failing[0] : failing.join("; ");
+      const failedParts = parts.filter(({ matches }) => !matches(values, extraValues));
+      const messages = failedParts.map(({ explain }) => explain(values, extraValues, false));
+      return isAnd ? messages[0] : messages.join("; ");
     },
   };
 }
@@ -183,20 +187,20 @@ function joinedMeaning(operator, parts, text) {
  * Compiles a condition.
  * @param {ConditionNode} node
  * @param {Names} names
- * @param {Looked} dependencies collects the places that the condition depends on
+ * @param {Dependencies} dependencies collects the places that the condition depends on
  * @returns {Meaning}
  */
-export function meaningOf(node, names, dependencies) {
-  return atColumn(node.column, () => {
+export function compileNode(node, names, dependencies) {
+  return withErrorColumn(node.column, () => {
     if (node.kind === "not") {
       const isJoined = node.part.kind === "or" || node.part.kind === "and";
-      return notMeaning(meaningOf(node.part, names, dependencies), isJoined ? node.part.text : "");
+      return negateMeaning(compileNode(node.part, names, dependencies), isJoined ? node.part.text : "");
     }
-    if (node.kind === "compare") return compareMeaning(node, names, dependencies);
-    if (node.kind === "holds") return holdsMeaning(node, names, dependencies);
-    if (node.kind === "panel") return panelMeaning(node, names, dependencies);
-    if (node.kind === "at") return counterMeaning(labelIn(node.label, names), `@${node.label}`, names, dependencies);
-    if (node.kind === "form") return formMeaning(node, names, dependencies);
-    return joinedMeaning(node.kind, node.parts.map((part) => meaningOf(part, names, dependencies)), node.text);
+    if (node.kind === "compare") return compileComparison(node, names, dependencies);
+    if (node.kind === "values") return compilePlaceValues(node, names, dependencies);
+    if (node.kind === "panel") return compilePanelState(node, names, dependencies);
+    if (node.kind === "at") return compileCounter(findLabelAddress(node.label, names), `@${node.label}`, names, dependencies);
+    if (node.kind === "form") return compileKeyword(node, names, dependencies);
+    return joinMeanings(node.kind, node.parts.map((part) => compileNode(part, names, dependencies)), node.text);
   });
 }

@@ -1,57 +1,58 @@
-// Parses conditions (docs/MANUAL.md, "Conditions") into a syntax tree. Each node has its text and column. Most names are resolved later.
-// Names of lamps and keys can contain any character, so the parser itself must recognise them.
+// Parses conditions (docs/MANUAL.md, "Conditions") into a syntax tree. Each node contains its text and column. Most names are resolved when
+// the condition is compiled. The names of lamps and keys can contain any character, so the parser itself must recognise these names.
 //
 //     condition  = and { or and }      and = not { and not }      not = { "not" } ( lamps | .. | value [ sign value ] )
 //     value      = operand { ("+" | "-" | "&") operand }          operand = number | name | place | "(" value ")"
 
-import { Scanner, fail, numeralOf } from "./scanner.js";
+import { Scanner, fail, parseNumeral } from "./scanner.js";
 import * as say from "../../words/conditions.js";
 
 /**
  * @typedef {import("./scanner.js").Token} Token
  * @typedef {"=" | "!=" | "<" | "<=" | ">" | ">="} Sign
  *
- * A value. `name`: a named value or a place; `way` is the direction after a port. `lamp`, `key`: a lamp or key with its name. `sum`: the
- * sum, difference or bitwise AND of two values.
+ * A value. `name`: a named value or a place; `direction` is the direction after a port. `lamp`, `key`: a lamp or key with its name. `sum`:
+ * the sum, difference or bitwise AND of two values.
  * @typedef {{ kind: "number", value: number, text: string, column: number }} NumberNode
- * @typedef {{ kind: "name", text: string, way: "" | "in" | "out", column: number }} NameNode
+ * @typedef {{ kind: "name", text: string, direction: "" | "in" | "out", column: number }} NameNode
  * @typedef {{ kind: "lamp" | "key", text: string, column: number }} PanelNode
  * @typedef {{ kind: "sum", sign: "+" | "-" | "&", left: ValueNode, right: ValueNode, text: string, column: number }} SumNode
  * @typedef {NumberNode | NameNode | PanelNode | SumNode} ValueNode
  *
- * A condition. `form`: a keyword (`lamps`, `display`, `printed`, `cycles` or a chain) with the words after it. `holds`: a place with its
+ * A condition. `form`: a keyword (`lamps`, `display`, `printed`, `cycles` or a chain) with the words after it. `values`: a place with its
  * required values. `panel`: `lamp NAME on` or `key NAME down`. `at`: `at LABEL`.
  * @typedef {{ kind: "or" | "and", parts: ConditionNode[], text: string, column: number }} JoinedNode
  * @typedef {{ kind: "not", part: ConditionNode, text: string, column: number }} NotNode
  * @typedef {{ kind: "compare", sign: Sign, left: ValueNode, right: ValueNode, text: string, column: number }} CompareNode
  * @typedef {{ kind: "form", words: Token[], text: string, column: number }} FormNode
- * @typedef {{ kind: "holds", place: NameNode, values: ValueNode[], text: string, column: number }} HoldsNode
+ * @typedef {{ kind: "values", place: NameNode, values: ValueNode[], text: string, column: number }} PlaceValuesNode
  * @typedef {{ kind: "panel", what: "lamp" | "key", name: string, isOn: boolean, text: string, column: number }} PanelIsNode
  * @typedef {{ kind: "at", label: string, text: string, column: number }} AtNode
- * @typedef {JoinedNode | NotNode | CompareNode | FormNode | HoldsNode | PanelIsNode | AtNode} ConditionNode
+ * @typedef {JoinedNode | NotNode | CompareNode | FormNode | PlaceValuesNode | PanelIsNode | AtNode} ConditionNode
  * @typedef {ConditionNode | ValueNode} Node
  */
 
 /** The keywords of conditions, for syntax colouring. */
-export const WORDS = new Set(["or", "and", "not", "lamps", "lamp", "key", "display", "printed", "cycles", "at", "most", "least", "on",
+export const KEYWORDS = new Set(["or", "and", "not", "lamps", "lamp", "key", "display", "printed", "cycles", "at", "most", "least", "on",
   "off", "down", "up", "none", "in", "out"]);
 
-/** The maximum length of a condition in characters, and the maximum nesting depth of parentheses. */
+/** The maximum length of a condition in characters. */
 export const MAX_LENGTH = 2000;
+/** The maximum nesting depth of parentheses. */
 export const MAX_DEPTH = 30;
 
 /** @type {Record<string, Sign>} the comparison operators, by spelling */
 const OPERATORS = { "=": "=", "==": "=", "!=": "!=", "<": "<", "<=": "<=", ">": ">", ">=": ">=" };
-const JOINS = new Map([["or", "or"], ["||", "or"], ["and", "and"], ["&&", "and"]]);
-const PORT = /^(rom\d+|ram\d+\.\d+)$/i;
+const JOIN_OPERATORS = new Map([["or", "or"], ["||", "or"], ["and", "and"], ["&&", "and"]]);
+const PORT_NAME = /^(rom\d+|ram\d+\.\d+)$/i;
 /** The node kinds that are conditions. */
-const CONDITION_KINDS = new Set(["or", "and", "not", "compare", "form", "holds", "panel", "at"]);
-/** The number of numerals after the first word of a place in the spelling with blanks, such as `ram 0 0x12`. */
+const CONDITION_KINDS = new Set(["or", "and", "not", "compare", "form", "values", "panel", "at"]);
+/** The number of numerals in a place that is spelled with blanks, such as `ram 0 0x12`, by the first word. */
 const SPACED_NUMERALS = new Map([["ram", 2], ["st", 3]]);
 /** The node kinds whose text needs no parentheses: single names and numbers. */
 const BARE_KINDS = new Set(["number", "name", "lamp", "key"]);
 const PANEL_MESSAGES = { lamp: say.LAMP_FORM, key: say.KEY_FORM };
-const STATES = new Map([["on", true], ["off", false], ["down", true], ["up", false]]);
+const PANEL_STATES = new Map([["on", true], ["off", false], ["down", true], ["up", false]]);
 
 /**
  * Returns whether a node is a condition. Any other node is a value.
@@ -89,9 +90,9 @@ class Parser {
    * Returns "or" or "and" if a token is one of these operators, otherwise "".
    * @param {Token} token
    */
-  operatorOf({ kind, text }) {
+  findOperator({ kind, text }) {
     const word = text.toLowerCase();
-    return kind === "sign" || kind === "word" ? JOINS.get(word) || "" : "";
+    return kind === "sign" || kind === "word" ? JOIN_OPERATORS.get(word) || "" : "";
   }
 
   /**
@@ -99,7 +100,7 @@ class Parser {
    * @param {number} column
    */
   textFrom(column) {
-    return this.text.slice(column, this.scanner.place).trim();
+    return this.text.slice(column, this.scanner.position).trim();
   }
 
   // --- conditions ---
@@ -111,7 +112,7 @@ class Parser {
   parseWhole() {
     const node = this.parseJoined("or");
     const token = this.scanner.peek();
-    if (token.kind !== "end") fail(say.notExpected(this.textOf(token)), token.column);
+    if (token.kind !== "end") fail(say.notExpected(this.tokenText(token)), token.column);
     return node;
   }
 
@@ -119,25 +120,25 @@ class Parser {
    * Returns a token as it appears in the text.
    * @param {Token} token
    */
-  textOf({ kind, text }) {
+  tokenText({ kind, text }) {
     return kind === "text" ? `"${text}"` : text;
   }
 
   /**
    * Parses operands joined by one operator, `or` or `and`.
-   * @param {"or" | "and"} by
+   * @param {"or" | "and"} operator
    * @returns {Node}
    */
-  parseJoined(by) {
+  parseJoined(operator) {
     const { column } = this.scanner.peek();
-    const read = () => (by === "or" ? this.parseJoined("and") : this.parseNegated());
-    const parts = [read()];
-    while (this.operatorOf(this.scanner.peek()) === by) {
+    const parsePart = () => (operator === "or" ? this.parseJoined("and") : this.parseNegated());
+    const parts = [parsePart()];
+    while (this.findOperator(this.scanner.peek()) === operator) {
       this.scanner.next();
-      parts.push(read());
+      parts.push(parsePart());
     }
     if (parts.length === 1) return parts[0];
-    return { kind: by, parts: parts.map((part) => this.requireCondition(part)), text: this.textFrom(column), column };
+    return { kind: operator, parts: parts.map((part) => this.requireCondition(part)), text: this.textFrom(column), column };
   }
 
   /**
@@ -189,8 +190,10 @@ class Parser {
       this.scanner.next();
       return this.parseRightSide(left, OPERATORS[token.text]);
     }
-    if (left.kind === "name" && PORT.test(left.text) && left.way === "" && this.isValueNext()) fail(say.portForm(left.text), left.column);
-    return left.kind === "name" && this.isValueNext() ? this.holdsNode(left, this.parseValues()) : left;
+    if (left.kind === "name" && PORT_NAME.test(left.text) && left.direction === "" && this.isValueNext()) {
+      fail(say.portForm(left.text), left.column);
+    }
+    return left.kind === "name" && this.isValueNext() ? this.placeValuesNode(left, this.parseValues()) : left;
   }
 
   /**
@@ -204,8 +207,8 @@ class Parser {
     this.requireMore(sign);
     const right = this.requireValue(this.parseSum());
     if (this.isValueNext() && (sign === "=" || sign === "!=") && left.kind === "name") {
-      const holds = this.holdsNode(left, [right, ...this.parseValues()]);
-      return sign === "=" ? holds : { kind: "not", part: holds, text: this.textFrom(column), column };
+      const node = this.placeValuesNode(left, [right, ...this.parseValues()]);
+      return sign === "=" ? node : { kind: "not", part: node, text: this.textFrom(column), column };
     }
     return { kind: "compare", sign, left, right, text: this.textFrom(column), column };
   }
@@ -214,16 +217,16 @@ class Parser {
    * Returns the node for a place followed by values.
    * @param {NameNode} place
    * @param {ValueNode[]} values
-   * @returns {HoldsNode}
+   * @returns {PlaceValuesNode}
    */
-  holdsNode(place, values) {
-    return { kind: "holds", place, values, text: this.textFrom(place.column), column: place.column };
+  placeValuesNode(place, values) {
+    return { kind: "values", place, values, text: this.textFrom(place.column), column: place.column };
   }
 
   /** Returns whether the next token starts a value. */
   isValueNext() {
     const token = this.scanner.peek();
-    return token.kind === "number" || (token.kind === "word" && this.operatorOf(token) === "" && !this.isNot(token));
+    return token.kind === "number" || (token.kind === "word" && this.findOperator(token) === "" && !this.isNot(token));
   }
 
   /** Parses consecutive values. */
@@ -271,10 +274,10 @@ class Parser {
     if (kind === "sign" && text === "(") return this.parseParentheses();
     if (kind === "number") {
       this.scanner.next();
-      return { kind: "number", value: numeralOf(text), text, column };
+      return { kind: "number", value: parseNumeral(text), text, column };
     }
-    if (kind !== "word" || this.operatorOf(token) !== "" || this.isNot(token)) {
-      return fail(kind === "end" ? say.NO_CONDITION : say.missingBefore(this.textOf(token)), Math.min(column, this.lastColumn));
+    if (kind !== "word" || this.findOperator(token) !== "" || this.isNot(token)) {
+      return fail(kind === "end" ? say.NO_CONDITION : say.missingBefore(this.tokenText(token)), Math.min(column, this.lastColumn));
     }
     return this.parseNamed(token);
   }
@@ -295,7 +298,7 @@ class Parser {
     const node = this.parseJoined("or");
     const token = this.scanner.peek();
     if (token.text !== ")" || token.kind !== "sign") {
-      fail(token.kind === "end" ? say.NOT_CLOSED : say.notExpected(this.textOf(token)), token.kind === "end" ? column : token.column);
+      fail(token.kind === "end" ? say.NOT_CLOSED : say.notExpected(this.tokenText(token)), token.kind === "end" ? column : token.column);
     }
     this.depth -= 1;
     this.scanner.next();
@@ -320,13 +323,13 @@ class Parser {
     this.scanner.next();
     if (word === "at") return this.parseLabel(token.column);
     if (/^chain\d+$/.test(word)) return this.parseChain(token);
-    const more = SPACED_NUMERALS.get(word) || 0;
-    for (let count = 0; count < more; count++) {
+    const numeralCount = SPACED_NUMERALS.get(word) || 0;
+    for (let count = 0; count < numeralCount; count++) {
       const { kind, column } = this.scanner.next();
       if (kind !== "number") fail(say.SPACED_FORM, Math.min(column, this.lastColumn));
     }
-    const text = more === 0 ? token.text : this.textFrom(token.column);
-    return { kind: "name", text, way: this.parseDirection(word), column: token.column };
+    const text = numeralCount === 0 ? token.text : this.textFrom(token.column);
+    return { kind: "name", text, direction: this.parseDirection(word), column: token.column };
   }
 
   /**
@@ -336,10 +339,10 @@ class Parser {
    */
   parseDirection(word) {
     const next = this.scanner.peek();
-    const way = next.text.toLowerCase();
-    if (!PORT.test(word) || next.kind !== "word" || (way !== "in" && way !== "out")) return "";
+    const direction = next.text.toLowerCase();
+    if (!PORT_NAME.test(word) || next.kind !== "word" || (direction !== "in" && direction !== "out")) return "";
     this.scanner.next();
-    return way;
+    return direction;
   }
 
   /**
@@ -360,26 +363,26 @@ class Parser {
    * Parses `lamp NAME on` or `key NAME down`. Without `on` or `down`, the result is a value. Returns null if the word `lamp` or `key` is
    * itself a program name before an operator.
    * @param {Token} token
-   * @param {"lamp" | "key"} what
+   * @param {"lamp" | "key"} kind
    * @returns {Node | null}
    */
-  parsePanel(token, what) {
+  parsePanel(token, kind) {
     const { scanner } = this;
     scanner.goTo(token.end);
-    const name = scanner.raw(this.depth > 0);
-    if (!name) return fail(PANEL_MESSAGES[what], token.column);
-    const state = this.peekLoosely();
-    const isOn = state.kind === "word" ? STATES.get(state.text.toLowerCase()) : undefined;
-    if (isOn !== undefined && (what === "key") === /^(down|up)$/i.test(state.text)) {
+    const name = scanner.nextRawWord(this.depth > 0);
+    if (!name) return fail(PANEL_MESSAGES[kind], token.column);
+    const state = this.peekName();
+    const isOn = state.kind === "word" ? PANEL_STATES.get(state.text.toLowerCase()) : undefined;
+    if (isOn !== undefined && (kind === "key") === /^(down|up)$/i.test(state.text)) {
       scanner.next();
-      return { kind: "panel", what, name: name.text, isOn, text: this.textFrom(token.column), column: token.column };
+      return { kind: "panel", what: kind, name: name.text, isOn, text: this.textFrom(token.column), column: token.column };
     }
     if (/^([=<>!+\-&|]\S*|or|and)$/i.test(name.text) && !this.isLampName(name.text)) {
       scanner.goTo(token.column);
       return null;
     }
-    if (state.kind === "word") return fail(PANEL_MESSAGES[what], token.column);
-    return { kind: what, text: name.text, column: token.column };
+    if (state.kind === "word") return fail(PANEL_MESSAGES[kind], token.column);
+    return { kind, text: name.text, column: token.column };
   }
 
   /**
@@ -390,9 +393,9 @@ class Parser {
   parseLamps(token) {
     const { scanner } = this;
     scanner.goTo(token.end);
-    const { kind, text } = this.peekLoosely();
+    const { kind, text } = this.peekName();
     if (kind === "sign" && (text in OPERATORS || /^[+\-&]$/.test(text))) {
-      return { kind: "name", text: token.text, way: "", column: token.column };
+      return { kind: "name", text: token.text, direction: "", column: token.column };
     }
     return this.formNode(token, this.wordsAfter(false, true));
   }
@@ -411,17 +414,17 @@ class Parser {
 
   /** Skips an optional `=`, `==` or `!=`; returns true for `!=`. */
   skipEquality() {
-    const { text } = this.peekLoosely();
+    const { text } = this.peekName();
     if (text === "=" || text === "==" || text === "!=") this.scanner.next();
     return text === "!=";
   }
 
-  /** Returns the next token without consuming it. A text that does not start with an operator counts as a word. */
-  peekLoosely() {
+  /** Returns the next token without consuming it. Any text that does not start with an operator counts as one word. */
+  peekName() {
     const { scanner } = this;
-    const { place } = scanner;
-    const name = scanner.raw(false);
-    scanner.goTo(place);
+    const { position } = scanner;
+    const name = scanner.nextRawWord(false);
+    scanner.goTo(position);
     const isWord = name && (this.isLampName(name.text) || !/^([=<>+\-&|)]|!=)/.test(name.text));
     if (name && isWord) return { kind: "word", text: name.text.replace(/\)+$/, "") };
     return scanner.peek();
@@ -429,25 +432,25 @@ class Parser {
 
   /**
    * Returns the words before the next `and`, `or` or closing parenthesis.
-   * @param {boolean} isText true if the words can be quoted
-   * @param {boolean} [hasLamps] true if the words can be lamp names, which include names such as `or`
+   * @param {boolean} canBeQuoted true if the words can be quoted
+   * @param {boolean} [canBeLamps] true if the words can be lamp names, which include names such as `or`
    */
-  wordsAfter(isText, hasLamps = false) {
+  wordsAfter(canBeQuoted, canBeLamps = false) {
     const { scanner } = this;
-    scanner.back();
+    scanner.unpeek();
     /** @type {Token[]} */
     const words = [];
     for (;;) {
-      const { place } = scanner;
-      const word = scanner.raw(this.depth > 0);
+      const { position } = scanner;
+      const word = scanner.nextRawWord(this.depth > 0);
       if (!word) return words;
-      if (isText && words.length === 0 && word.text.startsWith('"')) {
+      if (canBeQuoted && words.length === 0 && word.text.startsWith('"')) {
         scanner.goTo(word.column);
         return this.parseQuoted();
       }
-      const isEnd = this.operatorOf(word) !== "" && !(hasLamps && this.isLampsFrom(word.column));
+      const isEnd = this.findOperator(word) !== "" && !(canBeLamps && this.isLampsFrom(word.column));
       if (isEnd || (this.depth > 0 && word.text === ")")) {
-        scanner.goTo(place);
+        scanner.goTo(position);
         return words;
       }
       words.push(word);
@@ -490,10 +493,10 @@ class Parser {
     /** @type {Token[]} */
     const words = [];
     for (;;) {
-      const { place } = scanner;
-      const word = scanner.raw(this.depth > 0);
+      const { position } = scanner;
+      const word = scanner.nextRawWord(this.depth > 0);
       if (!word || !/^[01?]+$/.test(word.text)) {
-        scanner.goTo(place);
+        scanner.goTo(position);
         break;
       }
       words.push(word);
@@ -509,7 +512,7 @@ class Parser {
  * @param {(name: string) => boolean} [isLampName] returns whether the name is a lamp name
  * @returns {Node}
  */
-export function parse(text, isLampName = () => false) {
+export function parseExpression(text, isLampName = () => false) {
   if (text.length > MAX_LENGTH) fail(say.tooLong(MAX_LENGTH), MAX_LENGTH - 1);
   return new Parser(text, isLampName).parseWhole();
 }

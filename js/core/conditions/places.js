@@ -1,8 +1,8 @@
-// Parses place names: a register, a register pair, a RAM character, a line, a port, a chain or the lamps. If a place has several spellings,
-// it is shown in the spelling of `trace`. Each place lists the `trace` places that report its value on a board.
+// Parses place names: a register, a register pair, a RAM character, a line, a port, a chain or the lamps. A place is displayed as `trace`
+// spells it. Each place lists the `trace` places that report its value on a board.
 
 import { BITS_PER_CHIP } from "../bench/board_form.js";
-import { LAST_ADDRESS, hex, numberOf, upTo } from "../bench/numbers.js";
+import { LAST_ADDRESS, hex, parseNumber, indices } from "../bench/numbers.js";
 
 /**
  * @typedef {import("../bench/answers.js").Board} Board
@@ -14,33 +14,34 @@ import { LAST_ADDRESS, hex, numberOf, upTo } from "../bench/numbers.js";
  * number: (answers: string[]) => number }} Place
  */
 
-/** The accumulator name in the manuals of other processors. */
+/** The name of the accumulator in the manuals of other processors. */
 const ACCUMULATOR = "a";
-/** The number of nibbles, and of status characters, in a RAM register. */
+/** The number of nibbles in a RAM register, without the status characters. */
 export const CHARACTERS = 16;
-export const STATUS = 4;
+/** The number of status characters in a RAM register. */
+export const STATUS_COUNT = 4;
 /** The maximum values of places. All other places have 4 bits, except register pairs and ROM bytes. The value of `ret` is not a number. */
 const MAX_VALUES = new Map([["cy", 1], ["test", 1], ["owed", 1], ["pc", LAST_ADDRESS], ["dcl", 7], ["src", 255], ["ret", -1]]);
 const MAX_BYTE = 255;
 const MAX_DIGIT = 15;
-/** The maximum number of lamps whose bits fit exactly into one JavaScript number. */
+/** The maximum number of lamps whose bits a JavaScript number can represent exactly. */
 const MAX_LAMPS = 52;
 
 /** The place names that exist on every board, for completion. */
 export const PLACE_WORDS = [
-  "acc", "cy", "pc", "dcl", "src", "test", "lamps", ...upTo(16).map((at) => `r${at}`), ...upTo(8).map((at) => `p${at}`)];
+  "acc", "cy", "pc", "dcl", "src", "test", "lamps", ...indices(16).map((at) => `r${at}`), ...indices(8).map((at) => `p${at}`)];
 
-/** @param {string} place a place name; returns its maximum value, -1 if the value is not a number */
-export const maxOf = (place) => MAX_VALUES.get(place) ?? (/^(p\d$|rom\.)/.test(place) ? MAX_BYTE : MAX_DIGIT);
+/** @type {(place: string) => number} returns the maximum value of a place; -1 if the value is not a number */
+export const maxPlaceValue = (place) => MAX_VALUES.get(place) ?? (/^(p\d$|rom\.)/.test(place) ? MAX_BYTE : MAX_DIGIT);
 
-/** @param {string[]} answers the answers; returns the first one */
+/** @type {(answers: string[]) => string} returns the first answer */
 const firstAnswer = ([answer]) => answer;
 
 /**
  * Returns the number for hexadecimal digits, most significant first.
  * @param {string[]} answers
  */
-const asNumber = (answers) => parseInt(answers.join(""), 16);
+const parseHexDigits = (answers) => parseInt(answers.join(""), 16);
 
 /**
  * Returns a place that `trace` reports under the same name.
@@ -49,7 +50,9 @@ const asNumber = (answers) => parseInt(answers.join(""), 16);
  * @returns {Place}
  */
 function singlePlace(name, isOn = () => true) {
-  return { name, most: () => maxOf(name), probesOn: (board) => (isOn(board) ? [name] : []), value: firstAnswer, number: asNumber };
+  return {
+    name, most: () => maxPlaceValue(name), probesOn: (board) => (isOn(board) ? [name] : []), value: firstAnswer, number: parseHexDigits,
+  };
 }
 
 /**
@@ -92,9 +95,9 @@ function registerPlace(name) {
  */
 function memoryPlace(text) {
   const [word, ...parts] = text.split(/[\s.]+/);
-  const [bank, at, third = 0] = parts.map(numberOf);
+  const [bank, at, third = 0] = parts.map(parseNumber);
   const isCharacter = word === "ram" && parts.length === 2 && at <= MAX_BYTE;
-  const isStatus = word === "st" && parts.length === 3 && at <= MAX_DIGIT && third < STATUS;
+  const isStatus = word === "st" && parts.length === 3 && at <= MAX_DIGIT && third < STATUS_COUNT;
   if (!(bank <= 7) || (!isCharacter && !isStatus)) return null;
   const chip = (isStatus ? at : at >> 4) >> 2;
   return singlePlace(isStatus ? `st.${bank}.${at}.${third}` : `ram.${bank}.0x${hex(at, 2)}`, (board) => hasRam(board, bank, chip));
@@ -119,7 +122,7 @@ function portPlace(name) {
  * Converts lamp marks to a number: bit k is 1 if lamp k is on.
  * @param {string[]} answers
  */
-function lampsNumber([marks]) {
+function marksToNumber([marks]) {
   return [...marks].reduce((sum, mark, at) => sum + (mark === "*" ? 2 ** at : 0), 0);
 }
 
@@ -132,7 +135,7 @@ function lampPlace(name) {
   if (name === "lamps") {
     return {
       name, most: ({ lamps }) => (lamps.length <= MAX_LAMPS ? 2 ** lamps.length - 1 : -1),
-      probesOn: ({ lamps }) => (lamps.length > 0 ? ["lamps"] : []), value: firstAnswer, number: lampsNumber,
+      probesOn: ({ lamps }) => (lamps.length > 0 ? ["lamps"] : []), value: firstAnswer, number: marksToNumber,
     };
   }
   const lamp = /^lamp[ .]?(\d+)$/.exec(name);
@@ -156,7 +159,7 @@ function lampPlace(name) {
  * @param {string} text
  * @returns {Place | null}
  */
-export function placeOf(text) {
+export function parsePlace(text) {
   const name = text.trim().toLowerCase().replace(/\s+/g, " ");
   return registerPlace(name) || memoryPlace(name) || portPlace(name) || lampPlace(name);
 }
@@ -167,5 +170,5 @@ export function placeOf(text) {
  * @param {string} text
  */
 export function placeByAlias(text) {
-  return text.trim().toLowerCase() === ACCUMULATOR ? placeOf("acc") : null;
+  return text.trim().toLowerCase() === ACCUMULATOR ? parsePlace("acc") : null;
 }

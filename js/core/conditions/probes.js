@@ -1,8 +1,9 @@
-// Queries the bench for the values of places. `trace` reports most places. `state` reports the places that only commands change.
+// Queries the bench for the values of places. The query `trace` reports most places. The query `state` reports the places that only
+// commands change.
 
-import { MOST_PLACES } from "../bench/inputs.js";
-import { valueIn } from "../bench/state_line.js";
-import { valuesOf } from "../engine/tracing.js";
+import { MAX_PLACES } from "../bench/inputs.js";
+import { stateValue } from "../bench/state_line.js";
+import { rowValues } from "../engine/tracing.js";
 import { STATE_PLACES } from "./values.js";
 
 /** @typedef {import("../engine/tracing.js").Answers} Answers */
@@ -14,10 +15,10 @@ export class Probes {
     this.places = places;
     const traced = places.filter((place) => !STATE_PLACES.has(place));
     this.groups = [];
-    for (let from = 0; from < traced.length; from += MOST_PLACES) this.groups.push(traced.slice(from, from + MOST_PLACES));
-    this.asksState = traced.length < places.length;
+    for (let from = 0; from < traced.length; from += MAX_PLACES) this.groups.push(traced.slice(from, from + MAX_PLACES));
+    this.queriesState = traced.length < places.length;
     /** The query lines. */
-    this.lines = this.groups.map((group) => `trace 1 ${group.join(" ")}\n`).join("") + (this.asksState ? "state\n" : "");
+    this.lines = this.groups.map((group) => `trace 1 ${group.join(" ")}\n`).join("") + (this.queriesState ? "state\n" : "");
   }
 
   /**
@@ -26,10 +27,10 @@ export class Probes {
    * @returns {string[]}
    */
   take(answers) {
-    const traced = this.groups.flatMap(() => valuesOf(answers.takeTrace().row));
-    if (!this.asksState) return traced;
+    const traced = this.groups.flatMap(() => rowValues(answers.takeTrace().row));
+    if (!this.queriesState) return traced;
     const state = answers.take();
     let at = 0;
-    return this.places.map((place) => (STATE_PLACES.has(place) ? valueIn(state, place) : traced[at++]));
+    return this.places.map((place) => (STATE_PLACES.has(place) ? stateValue(state, place) : traced[at++]));
   }
 }

@@ -8,41 +8,41 @@ import * as say from "../../words/conditions.js";
  *   `end` is the column after the last one
  */
 
-/** An error in a condition or in a property line. `column` counts from 0; it is -1 until it is known. */
-export class Unreadable extends Error {
+/** The error for a wrong condition or property line. `column` counts from 0; it is -1 until the column is known. */
+export class ConditionError extends Error {
   /**
-   * @param {string} words
+   * @param {string} message
    * @param {number} [column]
    */
-  constructor(words, column = -1) {
-    super(words);
+  constructor(message, column = -1) {
+    super(message);
     this.column = column;
   }
 }
 
 /**
- * Throws `Unreadable`.
- * @param {string} words the message
+ * Throws `ConditionError`.
+ * @param {string} message
  * @param {number} [column]
  * @returns {never}
  */
-export function fail(words, column = -1) {
-  throw new Unreadable(words, column);
+export function fail(message, column = -1) {
+  throw new ConditionError(message, column);
 }
 
 const BLANKS = /\s*/y;
 const SIGN = /\|\||&&|==|!=|<=|>=|[=<>!()+\-&]/y;
-const TEXT = /"([^"]*)"/y;
+const QUOTED_TEXT = /"([^"]*)"/y;
 const WORD = /[A-Za-z_@][\w.@]*/y;
 const NUMBER = /\d\w*/y;
 /** A word of any characters except blanks. */
-const RAW = /\S+/y;
+const RAW_WORD = /\S+/y;
 
 /**
  * Parses a numeral such as `10`, `0xA` or `0b1010`; returns NaN for any other text.
  * @param {string} text
  */
-export function numeralOf(text) {
+export function parseNumeral(text) {
   return /^(\d{1,15}|0x[0-9a-f]{1,12}|0b[01]{1,48})$/i.test(text) ? Number(text) : NaN;
 }
 
@@ -51,58 +51,58 @@ export class Scanner {
   /** @param {string} text */
   constructor(text) {
     this.text = text;
-    this.at = 0;
+    this.index = 0;
     /** @type {Token | null} the next token, if `peek` has already scanned it */
-    this.seen = null;
+    this.peeked = null;
   }
 
   /**
    * Consumes the text that matches a sticky regular expression; returns the match, or null.
-   * @param {RegExp} form
+   * @param {RegExp} pattern
    * @returns {RegExpExecArray | null}
    */
-  take(form) {
-    form.lastIndex = this.at;
-    const found = form.exec(this.text);
-    if (found) this.at = form.lastIndex;
+  match(pattern) {
+    pattern.lastIndex = this.index;
+    const found = pattern.exec(this.text);
+    if (found) this.index = pattern.lastIndex;
     return found;
   }
 
   /** Returns the next token without consuming it. */
   peek() {
-    if (!this.seen) this.seen = this.scan();
-    return this.seen;
+    if (!this.peeked) this.peeked = this.scan();
+    return this.peeked;
   }
 
   /** Consumes the next token and returns it. */
   next() {
     const token = this.peek();
-    this.seen = null;
+    this.peeked = null;
     return token;
   }
 
   /**
-   * Scans a token; throws `Unreadable` at characters that start no token.
+   * Scans a token; throws `ConditionError` if the characters do not start a token.
    * @returns {Token}
    */
   scan() {
-    this.take(BLANKS);
-    const column = this.at;
+    this.match(BLANKS);
+    const column = this.index;
     /** @type {(kind: TokenKind, text: string) => Token} */
-    const token = (kind, text) => ({ kind, text, column, end: this.at });
+    const token = (kind, text) => ({ kind, text, column, end: this.index });
     if (column === this.text.length) return token("end", "");
-    const sign = this.take(SIGN);
+    const sign = this.match(SIGN);
     if (sign) return token("sign", sign[0]);
-    const text = this.take(TEXT);
+    const text = this.match(QUOTED_TEXT);
     if (text) return token("text", text[1]);
-    const word = this.take(WORD);
+    const word = this.match(WORD);
     if (word) return token("word", word[0]);
-    const number = this.take(NUMBER);
+    const number = this.match(NUMBER);
     if (!number) {
-      const [rest] = /** @type {RegExpExecArray} */ (this.take(RAW));
-      return fail(rest.startsWith('"') ? say.NO_END_OF_TEXT : say.unknownSign(rest), column);
+      const [invalidText] = /** @type {RegExpExecArray} */ (this.match(RAW_WORD));
+      return fail(invalidText.startsWith('"') ? say.NO_END_OF_TEXT : say.unknownSign(invalidText), column);
     }
-    if (Number.isNaN(numeralOf(number[0]))) fail(say.noNumeral(number[0]), column);
+    if (Number.isNaN(parseNumeral(number[0]))) fail(say.noNumeral(number[0]), column);
     return token("number", number[0]);
   }
 
@@ -111,37 +111,37 @@ export class Scanner {
    * @param {boolean} isInside true inside parentheses: closing parentheses at the end do not belong to the word
    * @returns {Token | null}
    */
-  raw(isInside) {
-    this.back();
-    this.take(BLANKS);
-    const column = this.at;
-    const found = this.take(RAW);
+  nextRawWord(isInside) {
+    this.unpeek();
+    this.match(BLANKS);
+    const column = this.index;
+    const found = this.match(RAW_WORD);
     if (!found) return null;
     const text = isInside && found[0].length > 1 ? found[0].replace(/(.)\)+$/, "$1") : found[0];
-    this.at = column + text.length;
-    return { kind: "word", text, column, end: this.at };
+    this.index = column + text.length;
+    return { kind: "word", text, column, end: this.index };
   }
 
-  /** Moves back to before the token that `peek` has scanned. */
-  back() {
-    if (this.seen) this.at = this.seen.column;
-    this.seen = null;
+  /** Returns to the start of the token that `peek` has scanned. */
+  unpeek() {
+    if (this.peeked) this.index = this.peeked.column;
+    this.peeked = null;
   }
 
   /**
-   * The column of the next token, for a later `goTo`.
+   * The column of the next token. A later `goTo` can return to this column.
    * @returns {number}
    */
-  get place() {
-    return this.seen ? this.seen.column : this.at;
+  get position() {
+    return this.peeked ? this.peeked.column : this.index;
   }
 
   /**
    * Moves to a column.
-   * @param {number} place
+   * @param {number} position
    */
-  goTo(place) {
-    this.at = place;
-    this.seen = null;
+  goTo(position) {
+    this.index = position;
+    this.peeked = null;
   }
 }

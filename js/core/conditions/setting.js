@@ -1,10 +1,10 @@
 // Parses `set PLACE = VALUE` or `set PLACE VALUE`, and translates it to bench lines.
 
-import { LAST_ADDRESS, hex, numberOf } from "../bench/numbers.js";
-import { parse } from "./parser.js";
-import { maxOf, placeOf } from "./places.js";
-import { Unreadable, fail } from "./scanner.js";
-import { constantIn, hintFor } from "./values.js";
+import { LAST_ADDRESS, hex, parseNumber } from "../bench/numbers.js";
+import { parseExpression } from "./parser.js";
+import { maxPlaceValue, parsePlace } from "./places.js";
+import { ConditionError, fail } from "./scanner.js";
+import { evaluateConstant, hintFor } from "./values.js";
 import * as say from "../../words/conditions.js";
 
 /**
@@ -12,12 +12,12 @@ import * as say from "../../words/conditions.js";
  * @typedef {import("./parser.js").ValueNode} ValueNode
  * @typedef {{ place: string, value: ValueNode }} Setting `place` has the spelling that `settablePlace` returns
  *
- * The bench lines; or an error message, with its column in the text after `set`.
- * @typedef {{ place: string, lines: string, fault: string, column: number }} ReadSetting
+ * The place and the bench lines that set it. For an error, `fault` is the message and `column` the column in the text after `set`.
+ * @typedef {{ place: string, lines: string, fault: string, column: number }} SettingResult
  */
 
 /** The places that can be set, except `test` and ROM bytes. */
-const SETTABLE = /^(acc|cy|pc|dcl|r\d+|p\d|(ram|st)\..*)$/;
+const SETTABLE_PLACE = /^(acc|cy|pc|dcl|r\d+|p\d|(ram|st)\..*)$/;
 
 /**
  * Returns the bench's spelling of a place if `set` can change it; "" for any other text.
@@ -27,9 +27,9 @@ export function settablePlace(text) {
   const word = text.trim().toLowerCase();
   if (word === "test") return word;
   const address = /^rom\.(\w+)$/.exec(word);
-  if (address) return numberOf(address[1]) <= LAST_ADDRESS ? `rom.0x${hex(numberOf(address[1]), 3)}` : "";
-  const place = placeOf(word);
-  return place && SETTABLE.test(place.name) ? place.name : "";
+  if (address) return parseNumber(address[1]) <= LAST_ADDRESS ? `rom.0x${hex(parseNumber(address[1]), 3)}` : "";
+  const place = parsePlace(word);
+  return place && SETTABLE_PLACE.test(place.name) ? place.name : "";
 }
 
 /**
@@ -37,7 +37,7 @@ export function settablePlace(text) {
  * @param {string} place the place, as spelled by `settablePlace`
  * @param {number} value the value, in the range of the place
  */
-export function linesOfSetting(place, value) {
+export function settingLines(place, value) {
   if (place === "test") return `test ${value}\n`;
   const pair = /^p(\d)$/.exec(place);
   if (!pair) return `poke ${place} ${value}\n`;
@@ -46,27 +46,27 @@ export function linesOfSetting(place, value) {
 }
 
 /**
- * Parses the text after `set`; throws `Unreadable` for an error.
+ * Parses the text after `set`; throws `ConditionError` for an error.
  * @param {string} text
  * @returns {Setting}
  */
-export function settingOf(text) {
+export function parseSetting(text) {
   if (text.trim() === "") return fail(say.SET_FORM, 0);
-  const node = parse(text);
-  if (node.kind === "compare" && node.sign === "=" && node.left.kind === "name") return settingOfParts(node.left, node.right);
-  return node.kind === "holds" && node.values.length === 1 ? settingOfParts(node.place, node.values[0]) : fail(say.SET_FORM, node.column);
+  const node = parseExpression(text);
+  if (node.kind === "compare" && node.sign === "=" && node.left.kind === "name") return makeSetting(node.left, node.right);
+  return node.kind === "values" && node.values.length === 1 ? makeSetting(node.place, node.values[0]) : fail(say.SET_FORM, node.column);
 }
 
 /**
- * Returns the setting for a place; throws `Unreadable` if the place cannot be set.
+ * Returns the setting for a place; throws `ConditionError` if the place cannot be set.
  * @param {import("./parser.js").NameNode} left the node of the place
  * @param {ValueNode} value
  * @returns {Setting}
  */
-function settingOfParts({ text, column }, value) {
+function makeSetting({ text, column }, value) {
   const place = settablePlace(text);
   if (place !== "") return { place, value };
-  return fail(placeOf(text) || !hintFor(text) ? say.cannotBeSet(text) : say.noSuchPlace(text, hintFor(text)), column);
+  return fail(parsePlace(text) || !hintFor(text) ? say.cannotBeSet(text) : say.noSuchPlace(text, hintFor(text)), column);
 }
 
 /**
@@ -74,18 +74,18 @@ function settingOfParts({ text, column }, value) {
  * @param {string} text
  * @param {Names["map"]} map the source map of the program
  * @param {import("./condition_language.js").Board | null} [board] if given, a place that the board does not have is an error
- * @returns {ReadSetting}
+ * @returns {SettingResult}
  */
 export function readSetting(text, map, board = null) {
   try {
-    const { place, value } = settingOf(text);
-    const found = placeOf(place);
+    const { place, value } = parseSetting(text);
+    const found = parsePlace(place);
     if (board && found && found.probesOn(board).length === 0) fail(say.boardLacks(place), 0);
-    const number = constantIn(value, map);
-    if (number < 0 || number > maxOf(place)) fail(say.holds(place, maxOf(place), value.text), value.column);
-    return { place, lines: linesOfSetting(place, number), fault: "", column: -1 };
+    const number = evaluateConstant(value, map);
+    if (number < 0 || number > maxPlaceValue(place)) fail(say.holds(place, maxPlaceValue(place), value.text), value.column);
+    return { place, lines: settingLines(place, number), fault: "", column: -1 };
   } catch (fault) {
-    if (fault instanceof Unreadable) return { place: "", lines: "", fault: fault.message, column: Math.max(0, fault.column) };
+    if (fault instanceof ConditionError) return { place: "", lines: "", fault: fault.message, column: Math.max(0, fault.column) };
     throw fault;
   }
 }

@@ -1,41 +1,41 @@
-// Looks ahead: finds the number of cycles until a goal is reached, with queries or on a temporary copy of the session. The session itself
-// does not change, even if the page is closed during the search. Afterwards, the session runs for that number of cycles.
+// Searches for a goal in the future: finds the number of cycles until the goal, with queries or on a temporary copy of the session. The
+// session does not change during the search, even if the page is closed. Afterwards, the session runs for that number of cycles.
 
-import { Cancelled } from "../bench/faults.js";
-import { LONGEST_RUN } from "../engine/key_queue.js";
-import { FIRST_CYCLES, PieceSize } from "../engine/pieces.js";
+import { CancelledError } from "../bench/faults.js";
+import { MAX_RUN_CYCLES } from "../engine/key_queue.js";
+import { FIRST_PIECE_CYCLES, PieceSize } from "../engine/pieces.js";
 import { Answers } from "../engine/tracing.js";
-import { LARGEST_PIECE, endWithout, watcherOf } from "./goals.js";
+import { LARGEST_PIECE, missingGoalEnd, createWatcher } from "./goals.js";
 
 /**
  * @typedef {import("../engine/engine_host.js").EngineHost} Engine
  * @typedef {import("../engine/key_queue.js").PlannedLine} PlannedLine
- * @typedef {import("./goals.js").Found} Found
+ * @typedef {import("./goals.js").SearchResult} SearchResult
  * @typedef {import("./goals.js").Goal} Goal
  * @typedef {import("./goals.js").Watcher} Watcher
  */
 
 /**
- * Returns the lines that run a piece, including the watcher's queries.
+ * Returns the bench lines that run a number of cycles, with the watcher's queries between the runs.
  * @param {Watcher} watcher
  * @param {number} cycles
  */
 function pieceLines(watcher, cycles) {
   let lines = "";
-  for (let left = cycles; left > 0; left -= LONGEST_RUN) {
-    const run = Math.min(left, LONGEST_RUN);
+  for (let left = cycles; left > 0; left -= MAX_RUN_CYCLES) {
+    const run = Math.min(left, MAX_RUN_CYCLES);
     lines += `${watcher.before(run)}run ${run}\n${watcher.after}`;
   }
   return lines;
 }
 
 /**
- * Searches the answers of a piece for the goal or a stop; returns null if neither is found.
+ * Searches the answers to run lines for the goal or a stop. Returns null if the runs reach neither.
  * @param {Answers} answers
  * @param {Watcher} watcher
- * @returns {Found | null} the cycles count from the start of the piece
+ * @returns {SearchResult | null} the cycles count from the start of the first run
  */
-function foundIn(answers, watcher) {
+function searchAnswers(answers, watcher) {
   let done = 0;
   while (!answers.isEmpty) {
     const found = watcher.take(answers);
@@ -46,28 +46,28 @@ function foundIn(answers, watcher) {
 }
 
 /**
- * Searches for a goal from the current state; the keys do not move.
+ * Searches for a goal from the current state, without key changes.
  * @param {Engine} engine
  * @param {Uint8Array} file the session file; not changed
  * @param {Goal} goal
  * @param {(done: number) => Promise<boolean>} shouldContinue called after each piece with the number of cycles searched. If it returns
- *   false, `searchGoal` throws `Cancelled`
+ *   false, `searchGoal` throws `CancelledError`
  * @param {number} maxCycles the maximum number of cycles to search
  * @param {() => Uint8Array} [codes] returns the contents of ROM
- * @returns {Promise<Found>}
+ * @returns {Promise<SearchResult>}
  */
 export async function searchGoal(engine, file, goal, shouldContinue, maxCycles, codes) {
   const copy = file.slice();
-  const watcher = watcherOf(engine, file, goal, codes);
-  if (!watcher) return { cycles: 0, isReached: false, end: endWithout(goal) };
+  const watcher = createWatcher(engine, file, goal, codes);
+  if (!watcher) return { cycles: 0, isReached: false, end: missingGoalEnd(goal) };
   if (watcher.first) engine.serve(copy, watcher.first, copy);
-  const piece = new PieceSize(FIRST_CYCLES, 1, LARGEST_PIECE);
+  const piece = new PieceSize(FIRST_PIECE_CYCLES, 1, LARGEST_PIECE);
   for (let done = 0; done < maxCycles;) {
     const cycles = Math.min(piece.size, watcher.most(), maxCycles - done);
-    const found = piece.measure(() => foundIn(new Answers(engine.serve(copy, pieceLines(watcher, cycles), copy).answers), watcher));
+    const found = piece.measure(() => searchAnswers(new Answers(engine.serve(copy, pieceLines(watcher, cycles), copy).answers), watcher));
     if (found) return { ...found, cycles: done + found.cycles };
     done += cycles;
-    if (!(await shouldContinue(done))) throw new Cancelled();
+    if (!(await shouldContinue(done))) throw new CancelledError();
   }
   return { cycles: maxCycles, isReached: false, end: "bound" };
 }
@@ -76,20 +76,20 @@ export async function searchGoal(engine, file, goal, shouldContinue, maxCycles, 
  * Returns the number of cycles of a `run` line; 0 for a key change.
  * @param {import("../engine/asking.js").SentLine} planned
  */
-export function cyclesOfLine({ line, change }) {
+export function plannedCycles({ line, change }) {
   return change ? 0 : Number(line.slice("run ".length));
 }
 
 /**
- * Returns the cycles until the next lines reach the goal; -1 if they do not reach it or stop earlier.
+ * Returns the number of cycles until the next lines reach the goal; -1 if the lines do not reach the goal or stop earlier.
  * @param {Engine} engine
  * @param {Uint8Array} file the session file; not changed
  * @param {PlannedLine[]} planned the next lines
- * @param {Watcher} watcher up to date with all earlier runs
+ * @param {Watcher} watcher a watcher that has read the answers to all earlier runs
  */
 export function cyclesToGoal(engine, file, planned, watcher) {
   const lines = planned.map((each) => (
-    each.change ? `${each.line}\n` : `${watcher.before(cyclesOfLine(each))}${each.line}\n${watcher.after}`));
+    each.change ? `${each.line}\n` : `${watcher.before(plannedCycles(each))}${each.line}\n${watcher.after}`));
   const answers = new Answers(engine.ask(file, watcher.first + lines.join("")).answers);
   if (watcher.first) answers.take();
   let done = 0;
@@ -107,20 +107,20 @@ export function cyclesToGoal(engine, file, planned, watcher) {
 }
 
 /**
- * Returns the lines up to a number of cycles. The last run is shortened if necessary.
+ * Returns the first lines, as far as they run a number of cycles. Shortens the last run if necessary.
  * @param {PlannedLine[]} planned
  * @param {number} cycles
  * @returns {PlannedLine[]}
  */
-export function linesUpTo(planned, cycles) {
+export function truncateLines(planned, cycles) {
   /** @type {PlannedLine[]} */
   const result = [];
-  let left = cycles;
+  let cyclesLeft = cycles;
   for (const each of planned) {
-    const run = cyclesOfLine(each);
-    if (left === 0) break;
-    result.push(run > left ? { line: `run ${left}`, change: null } : each);
-    left -= Math.min(run, left);
+    const run = plannedCycles(each);
+    if (cyclesLeft === 0) break;
+    result.push(run > cyclesLeft ? { line: `run ${cyclesLeft}`, change: null } : each);
+    cyclesLeft -= Math.min(run, cyclesLeft);
   }
   return result;
 }

@@ -1,26 +1,29 @@
-// Soft breakpoints. A soft breakpoint does not stop at every arrival: it has a condition, a hit count, or a note that is logged instead of
-// a stop. Arrivals are found in advance on a copy of the session. The copy stops at each arrival and reports the places in the conditions.
+// Finds arrivals at soft breakpoints. A soft breakpoint does not stop time at every arrival: it has a condition, a hit count, or a note
+// that is logged instead of a stop. A copy of the session runs in advance. The copy stops at each arrival, where queries read the places
+// that the conditions use.
 
 import { Probes } from "../conditions/probes.js";
 import { Answers } from "../engine/tracing.js";
-import { cyclesOfLine } from "./ahead.js";
+import { plannedCycles } from "./ahead.js";
 
 /**
  * @typedef {import("../engine/engine_host.js").EngineHost} Engine
  * @typedef {import("../engine/key_queue.js").PlannedLine} PlannedLine
  *
- * A compiled soft breakpoint. `from` is the number of the first hit that stops. `holds` evaluates the condition on the values of `places`.
- * `words` returns the note text for these values; it is null for a breakpoint that stops.
+ * A compiled soft breakpoint. `from` is the number of the first hit that stops time. `holds` evaluates the condition for the values of
+ * `places`. `words` returns the text of the note for these values; `words` is null for a breakpoint that stops time.
  * @typedef {{ id: number, address: number, from: number, hits: number, places: string[], holds: (values: string[]) => boolean,
  *   words: ((values: string[]) => string) | null }} SoftBreakpoint
  *
- * @typedef {{ id: number, cycles: number, words: string }} Logged a logged note: its breakpoint, the cycles before it, and its text
+ * @typedef {{ id: number, cycles: number, words: string }} LoggedNote a logged note: the id of its breakpoint, the cycles before the
+ *   note, and its text
  *
- * The result of looking ahead. `cycles`: the cycles before the first stop, -1 for no stop. `id`: the breakpoint or watch that stops.
- * `hits`: the hits by breakpoint. `notes`: the last logged notes; `noted`: the number of all logged notes. `why`: "watch" if a change of a
- * place stops; `change` describes that change. `changes`: the counted changes by watch (data_watches.js).
- * @typedef {{ cycles: number, id: number, hits: Map<number, number>, notes: Logged[], noted: number, why: "break" | "watch",
- *   change: string, changes: Map<number, number> }} Seen
+ * The breakpoint events that the next lines will cause. `cycles`: the cycles before the first stop, -1 for no stop. `id`: the breakpoint or
+ * watch that stops time. `hits`: the hit counts by breakpoint id. `notes`: the last logged notes; `noted`: the number of all logged notes.
+ * `why`: "watch" if a change of a watched place stops time, and `change` describes this change. `changes`: the numbers of counted changes
+ * by watch id (data_watches.js).
+ * @typedef {{ cycles: number, id: number, hits: Map<number, number>, notes: LoggedNote[], noted: number, why: "break" | "watch",
+ *   change: string, changes: Map<number, number> }} BreakpointEvents
  */
 
 /** The maximum number of runs in one request to the bench. */
@@ -29,10 +32,10 @@ const MAX_RUNS = 400;
 export const MAX_NOTES = 200;
 
 /**
- * Returns an empty result.
- * @returns {Seen}
+ * Returns an empty result, without events.
+ * @returns {BreakpointEvents}
  */
-export function nothingSeen() {
+export function emptyEvents() {
   return { cycles: -1, id: 0, hits: new Map(), notes: [], noted: 0, why: "break", change: "", changes: new Map() };
 }
 
@@ -61,12 +64,12 @@ export class Arrivals {
    * @param {Engine} engine
    * @param {Uint8Array} file the session file; not changed
    * @param {PlannedLine[]} planned
-   * @returns {Seen}
+   * @returns {BreakpointEvents}
    */
-  look(engine, file, planned) {
-    const seen = nothingSeen();
-    if (this.isEmpty) return seen;
-    if (this.density === 0 && this.hasNoArrival(engine, file, planned)) return seen;
+  searchLines(engine, file, planned) {
+    const events = emptyEvents();
+    if (this.isEmpty) return events;
+    if (this.density === 0 && this.hasNoArrival(engine, file, planned)) return events;
     if (this.copy.length !== file.length) this.copy = new Uint8Array(file.length);
     this.copy.set(file);
     let [lines, count, done] = [this.first, this.breakpoints.length, 0];
@@ -76,14 +79,14 @@ export class Arrivals {
         count += 1;
         continue;
       }
-      const before = done;
-      const cyclesRun = this.run(engine, this.copy, { lines, count, cycles: cyclesOfLine(each) },
-        (end, row, part) => end !== "break" || this.isStop(row, before + part, seen));
-      if (cyclesRun < 0) return seen;
+      const cyclesBefore = done;
+      const cyclesRun = this.run(engine, this.copy, { lines, count, cycles: plannedCycles(each) },
+        (end, row, partCycles) => end !== "break" || this.isStop(row, cyclesBefore + partCycles, events));
+      if (cyclesRun < 0) return events;
       done += cyclesRun;
       [lines, count] = ["", 0];
     }
-    return seen;
+    return events;
   }
 
   /**
@@ -98,26 +101,27 @@ export class Arrivals {
   }
 
   /**
-   * Runs a copy of the session in which the breakpoints are set. Returns the number of cycles, or -1 if `visit` ends the run.
+   * Runs a copy of the session that has the breakpoints. Returns the number of cycles that have run, or -1 if `visit` ends the run.
    * @param {Engine} engine
    * @param {Uint8Array} file the copy of the session; changed
-   * @param {{ lines: string, count: number, cycles: number }} run the lines before the run, the number of their answers, and the cycles
-   * @param {(end: string, row: string[], ran: number) => boolean} visit called at each stop with the word for why the run ended, the values
-   *   of `places`, and the cycles so far; returns whether to end the run
+   * @param {{ lines: string, count: number, cycles: number }} run the lines before the run, the number of their answers, and the number of
+   *   cycles to run
+   * @param {(end: string, row: string[], ran: number) => boolean} visit called at each stop with the word that ended the run ("break"), the
+   *   values of `places`, and the cycles so far; returns true to end the run
    */
   run(engine, file, { lines, count, cycles }, visit) {
-    let [before, skipped, cyclesRun, arrivals] = [lines, count, 0, 0];
+    let [before, skippedCount, cyclesRun, arrivals] = [lines, count, 0, 0];
     while (cyclesRun < cycles) {
-      const left = cycles - cyclesRun;
-      const runs = Math.min(left, MAX_RUNS, Math.max(1, Math.round(2 * this.density * left)));
-      const pair = `run ${Math.floor(left / runs)}\n${this.probes.lines}`;
+      const cyclesLeft = cycles - cyclesRun;
+      const runs = Math.min(cyclesLeft, MAX_RUNS, Math.max(1, Math.round(2 * this.density * cyclesLeft)));
+      const pair = `run ${Math.floor(cyclesLeft / runs)}\n${this.probes.lines}`;
       const answers = new Answers(engine.serve(file, before + pair.repeat(runs), file).answers);
-      answers.skip(skipped);
-      [before, skipped] = ["", 0];
+      answers.skip(skippedCount);
+      [before, skippedCount] = ["", 0];
       while (!answers.isEmpty) {
-        const { cycles: part, end } = answers.takeRun();
+        const { cycles: partCycles, end } = answers.takeRun();
         const row = this.probes.take(answers);
-        cyclesRun += part;
+        cyclesRun += partCycles;
         if (end === "end") continue;
         arrivals += 1;
         if (visit(end, row, cyclesRun)) return -1;
@@ -133,7 +137,7 @@ export class Arrivals {
    */
   breakpointAt(row) {
     const found = this.byAddress.get(parseInt(row[0], 16));
-    return found && found.holds(this.valuesFor(found, row)) ? found : null;
+    return found && found.holds(this.breakpointValues(found, row)) ? found : null;
   }
 
   /**
@@ -141,34 +145,34 @@ export class Arrivals {
    * @param {SoftBreakpoint} breakpoint
    * @param {string[]} row the values of `places`
    */
-  valuesFor({ id }, row) {
+  breakpointValues({ id }, row) {
     return (this.placeIndexes.get(id) || []).map((at) => row[at]);
   }
 
   /**
-   * Counts an arrival and logs the note of its breakpoint. Returns whether the arrival stops time.
+   * Counts an arrival at a breakpoint and logs the note of the breakpoint. Returns whether the arrival stops time.
    * @param {string[]} row the values of `places`
    * @param {number} cycles the cycles before the arrival
-   * @param {Seen} seen collects the hit, and the note or the stop
+   * @param {BreakpointEvents} events receives the hit, and the note or the stop
    */
-  isStop(row, cycles, seen) {
+  isStop(row, cycles, events) {
     const found = this.byAddress.get(parseInt(row[0], 16));
-    // A breakpoint that always stops is not in the list; the session itself stops there.
+    // The list lacks breakpoints that always stop time, because the session has these breakpoints.
     if (!found) return true;
     const { id, holds, words, from } = found;
-    const values = this.valuesFor(found, row);
+    const values = this.breakpointValues(found, row);
     if (!holds(values)) return false;
-    const hits = (seen.hits.get(id) || 0) + 1;
-    seen.hits.set(id, hits);
+    const hits = (events.hits.get(id) || 0) + 1;
+    events.hits.set(id, hits);
     if (found.hits + hits < from) return false;
     if (words) {
-      seen.noted += 1;
-      if (seen.notes.length === MAX_NOTES) seen.notes.shift();
-      seen.notes.push({ id, cycles, words: words(values) });
+      events.noted += 1;
+      if (events.notes.length === MAX_NOTES) events.notes.shift();
+      events.notes.push({ id, cycles, words: words(values) });
       return false;
     }
-    seen.cycles = cycles;
-    seen.id = id;
+    events.cycles = cycles;
+    events.id = id;
     return true;
   }
 
@@ -178,7 +182,7 @@ export class Arrivals {
   }
 
   /**
-   * Restores earlier hit counts after lines failed: the counted hits did not happen.
+   * Restores earlier hit counts after lines have failed, because the counted hits did not happen.
    * @param {number[]} hits
    */
   restoreHits(hits) {
@@ -189,7 +193,7 @@ export class Arrivals {
 
   /**
    * Adds new hits to the hit counts after the session has run the lines.
-   * @param {Seen} seen the result of `look` for these lines
+   * @param {BreakpointEvents} events the result of `searchLines` for these lines
    */
   count({ hits }) {
     for (const breakpoint of this.breakpoints) breakpoint.hits += hits.get(breakpoint.id) || 0;

@@ -1,7 +1,7 @@
-// Manages the breakpoints of the current session: a list that moves with the source text, and the bench's breakpoints, which follow the
-// list. Breakpoints that only the bench has are added to the list, for example from a typed `break` or from a session file written by mcs4.
+// Manages the breakpoints of the current session. A list of breakpoints moves with the source text. After each change of the list, the
+// bench receives the new breakpoints. Breakpoints that only the bench has, for example from a typed `break`, are added to the list.
 
-import { BreakpointList, MAX_BREAKPOINTS, MOST_ON, instructionOfAddress, instructionOfLine } from "./breakpoints.js";
+import { BreakpointList, MAX_BREAKPOINTS, MAX_ENABLED, instructionAtAddress, instructionForLine } from "./breakpoints.js";
 import { isSoft } from "./soft_breakpoints.js";
 import * as say from "../../words/debug.js";
 
@@ -9,24 +9,24 @@ import * as say from "../../words/debug.js";
  * @typedef {import("../machine/source_map.js").SourceMap} SourceMap
  * @typedef {import("./breakpoints.js").Breakpoint} Breakpoint
  * @typedef {import("./breakpoints.js").Edit} Edit
- * @typedef {import("./breakpoints.js").KeptBreakpoint} KeptBreakpoint
+ * @typedef {import("./breakpoints.js").SavedBreakpoint} SavedBreakpoint
  * @typedef {import("./debugger.js").Tally} Tally
- * @typedef {import("./soft_breakpoints.js").Placed} Placed
+ * @typedef {import("./soft_breakpoints.js").LocatedBreakpoint} LocatedBreakpoint
  */
 
 /**
  * The callbacks of the keeper.
  * @typedef {object} KeeperCalls
- * @property {(placed: Placed[]) => Promise<[number, string][]>} set Replaces all breakpoints of the bench. Resolves to the ids and error
- *   messages of the breakpoints that cannot be compiled.
+ * @property {(placed: LocatedBreakpoint[]) => Promise<[number, string][]>} set Replaces all breakpoints of the bench. Resolves to the ids
+ *   and error messages of breakpoints that cannot be compiled.
  * @property {() => void} changed Handles a change of the list or of its error messages.
- * @property {() => void} counted Handles a change of hit counts only.
+ * @property {() => void} counted Handles a change of hit counts, without another change of the list.
  * @property {() => void} touched Handles a change by the user; the list must be saved.
  * @property {(words: string) => void} showMessage Shows a message near the user's last action.
  * @property {(fault: unknown) => void} failed Reports an error that `set` threw.
  */
 
-const TOO_MANY = say.tooManyEnabled(MOST_ON);
+const TOO_MANY_ENABLED = say.tooManyEnabled(MAX_ENABLED);
 /** The maximum number of sessions with a stored list. */
 const MAX_LISTS = 30;
 
@@ -41,49 +41,50 @@ export class BreakpointKeeper {
     /** @type {SourceMap | null} the source map; null if the source is not the program in ROM */
     this.map = null;
     /** The reason why ROM does not contain the bytes of the source, or "". */
-    this.words = "";
-    /** @type {string[]} the watch expressions; conditions can use their names */
+    this.mapError = "";
+    /** @type {string[]} the watch expressions, whose names conditions can use */
     this.watched = [];
     /** @type {Map<number, string>} the error messages of breakpoints that cannot be compiled, by id */
     this.faults = new Map();
     /** @type {Set<number> | null} the breakpoint addresses on the bench; null before the first report about a session */
     this.onBench = null;
-    /** @type {string[] | null} a bench report from before the last request; applied after its answer */
-    this.waiting = null;
+    /** @type {string[] | null} the bench's breakpoint addresses that arrived during a request; applied after the request */
+    this.postponedBreaks = null;
     /** True if the saved session contains a list of breakpoints. */
-    this.isKept = false;
-    /** The number of unanswered requests to the bench, and the contents of the last request. */
-    this.asked = 0;
-    this.last = "";
-    /** @type {Promise<void>} resolves when all requests are done */
+    this.hasSavedList = false;
+    /** The number of unanswered requests to the bench, and the contents of the last request as JSON. */
+    this.pendingCount = 0;
+    this.lastRequest = "";
+    /** @type {Promise<void>} resolves after all requests are answered */
     this.settled = Promise.resolve();
-    /** @type {{ id: number, some: Partial<KeptBreakpoint> } | null} a breakpoint edit that the user has typed but not entered */
-    this.typed = null;
+    /** @type {{ id: number, changes: Partial<SavedBreakpoint> } | null} the changed fields of a breakpoint that the user edits */
+    this.typedEdit = null;
   }
 
   // --- Reports from other parts of the page ---
 
   /**
-   * Switches to another session. The stored list of that session is reused if it equals the saved one: only the stored list can restore
-   * breakpoints on undo.
+   * Switches to another session. If the list of this session is still in memory and equals the saved breakpoints, reuses that list, because
+   * only that list can restore breakpoints on undo.
    * @param {string} id the session id
-   * @param {KeptBreakpoint[] | undefined} savedBreakpoints the saved breakpoints; if undefined, the breakpoints of the session file are
+   * @param {SavedBreakpoint[] | undefined} savedBreakpoints the saved breakpoints; if undefined, the breakpoints of the session file are
    *   used
    */
   open(id, savedBreakpoints) {
-    const old = this.lists.get(id);
-    this.list = old && JSON.stringify(old.kept) === JSON.stringify(savedBreakpoints) ? old : new BreakpointList(savedBreakpoints);
-    this.list.forgetHits();
+    const storedList = this.lists.get(id);
+    const isReusable = storedList && JSON.stringify(storedList.kept) === JSON.stringify(savedBreakpoints);
+    this.list = storedList && isReusable ? storedList : new BreakpointList(savedBreakpoints);
+    this.list.resetHits();
     this.lists.delete(id);
     this.lists.set(id, this.list);
     for (const oldest of [...this.lists.keys()].slice(0, -MAX_LISTS)) this.lists.delete(oldest);
-    this.isKept = savedBreakpoints !== undefined;
+    this.hasSavedList = savedBreakpoints !== undefined;
     this.map = null;
-    this.words = "";
+    this.mapError = "";
     this.onBench = null;
-    this.waiting = null;
-    this.last = "";
-    this.typed = null;
+    this.postponedBreaks = null;
+    this.lastRequest = "";
+    this.typedEdit = null;
     this.faults.clear();
     this.calls.changed();
   }
@@ -92,14 +93,14 @@ export class BreakpointKeeper {
    * Sets the watch expressions.
    * @param {string[]} texts
    */
-  takeWatched(texts) {
+  setWatchExpressions(texts) {
     this.watched = texts;
     if (this.onBench) this.apply();
   }
 
-  /** Sends the list again after a restart of the bench without breakpoints. */
+  /** Sends the list again, after the bench has restarted and has no breakpoints. */
   again() {
-    this.last = "";
+    this.lastRequest = "";
     this.apply();
   }
 
@@ -108,52 +109,54 @@ export class BreakpointKeeper {
    * @param {Edit[]} edits the edits, in order
    */
   edited(edits) {
-    const moved = edits.filter((edit) => this.list.edit(edit));
-    if (moved.length === 0) return;
+    const effectiveEdits = edits.filter((edit) => this.list.edit(edit));
+    if (effectiveEdits.length === 0) return;
     if (this.onBench) this.apply();
     else this.calls.changed();
   }
 
   /**
-   * Sets the source map, and moves the breakpoints to its instructions.
+   * Sets the source map, and moves each breakpoint to an instruction of the program.
    * @param {SourceMap | null} map null if the source is not the program in ROM
    * @param {string} words the reason if `map` is null
    */
-  takeMap(map, words) {
+  setSourceMap(map, words) {
     this.map = map;
-    this.words = words;
+    this.mapError = words;
     if (!this.onBench) return;
-    const moved = map ? this.list.locate(map) : [];
-    if (moved.length > 0) this.calls.showMessage(moved.join(" "));
+    const messages = map ? this.list.locate(map) : [];
+    if (messages.length > 0) this.calls.showMessage(messages.join(" "));
     this.apply();
   }
 
   /**
-   * Updates the list from the bench's breakpoint addresses in a snapshot.
-   * @param {string[]} breaks the addresses, as in the answer
+   * Updates the list from the bench's breakpoint addresses.
+   * @param {string[]} breaks the addresses, as hexadecimal digits
    */
   take(breaks) {
     const addresses = breaks.map((address) => parseInt(address, 16));
-    const before = this.onBench;
-    if (before && this.isApplying) {
-      this.waiting = breaks;
+    const previousAddresses = this.onBench;
+    if (previousAddresses && this.isApplying) {
+      this.postponedBreaks = breaks;
       return;
     }
     this.onBench = new Set(addresses);
-    if (!before) {
+    if (!previousAddresses) {
       // This is the first report after opening. If the session was saved without a list, its breakpoints come from the file.
-      if (!this.isKept) for (const address of addresses) this.addFromBench(address);
+      if (!this.hasSavedList) for (const address of addresses) this.addFromBench(address);
       this.calls.changed();
       return;
     }
-    const wanted = new Set(this.hard);
-    for (const address of addresses.filter((each) => !wanted.has(each) && !before.has(each))) this.addFromBench(address);
-    for (const address of [...wanted].filter((each) => before.has(each) && !addresses.includes(each))) this.removeGone(address);
+    const wantedAddresses = new Set(this.hardAddresses);
+    const newAddresses = addresses.filter((each) => !wantedAddresses.has(each) && !previousAddresses.has(each));
+    for (const address of newAddresses) this.addFromBench(address);
+    const missingAddresses = [...wantedAddresses].filter((each) => previousAddresses.has(each) && !addresses.includes(each));
+    for (const address of missingAddresses) this.removeMissing(address);
     this.apply();
   }
 
-  /** The addresses of the breakpoints that always stop. */
-  get hard() {
+  /** The addresses of the breakpoints that stop time at every arrival. */
+  get hardAddresses() {
     return this.list.placed.filter((each) => !isSoft(each)).map(({ address }) => address);
   }
 
@@ -162,15 +165,15 @@ export class BreakpointKeeper {
    * @param {number} address
    */
   addFromBench(address) {
-    const found = this.list.atAddress(address);
+    const found = this.list.findByAddress(address);
     if (found) {
       this.list.change(found.id, { isOn: true });
       return;
     }
     const { map } = this;
-    const instruction = map ? instructionOfAddress(address, map) : { line: 0, address, words: "" };
+    const instruction = map ? instructionAtAddress(address, map) : { line: 0, address, words: "" };
     if (instruction.words) this.calls.showMessage(instruction.words);
-    if (instruction.line > 0 && this.list.atLine(instruction.line)) return;
+    if (instruction.line > 0 && this.list.findByLine(instruction.line)) return;
     this.list.add({ line: instruction.line, address: instruction.address });
   }
 
@@ -178,8 +181,8 @@ export class BreakpointKeeper {
    * Removes a breakpoint from the list because the bench no longer has it.
    * @param {number} address
    */
-  removeGone(address) {
-    const found = this.list.atAddress(address);
+  removeMissing(address) {
+    const found = this.list.findByAddress(address);
     if (found) this.list.remove(found.id);
   }
 
@@ -200,31 +203,31 @@ export class BreakpointKeeper {
    * @param {number} line
    */
   toggleLine(line) {
-    const existing = this.list.atLine(line);
-    if (existing) {
-      this.remove(existing.id);
+    const existingBreakpoint = this.list.findByLine(line);
+    if (existingBreakpoint) {
+      this.remove(existingBreakpoint.id);
       return;
     }
-    const instruction = this.map ? instructionOfLine(line, this.map) : { line, address: -1, words: this.wordsOfLater() };
+    const instruction = this.map ? instructionForLine(line, this.map) : { line, address: -1, words: this.pendingMessage() };
     if (instruction.words) this.calls.showMessage(instruction.words);
-    if (instruction.line !== line && this.list.atLine(instruction.line)) return;
+    if (instruction.line !== line && this.list.findByLine(instruction.line)) return;
     if (this.map && instruction.address < 0) return;
     this.add({ line: instruction.line, address: instruction.address });
   }
 
   /**
-   * Returns the breakpoint of a line; adds one if there is none. Returns undefined if no instruction follows the line.
+   * Returns the breakpoint of a line; adds a breakpoint if the line has none. Returns undefined if no instruction follows the line.
    * @param {number} line
    */
-  ofLine(line) {
-    if (!this.list.atLine(line)) this.toggleLine(line);
-    const next = this.map ? instructionOfLine(line, this.map).line : line;
-    return this.list.atLine(line) || this.list.atLine(next);
+  breakpointOnLine(line) {
+    if (!this.list.findByLine(line)) this.toggleLine(line);
+    const nextLine = this.map ? instructionForLine(line, this.map).line : line;
+    return this.list.findByLine(line) || this.list.findByLine(nextLine);
   }
 
-  /** Returns a message that the breakpoint has no effect yet, with the reason; "" if there is no reason. */
-  wordsOfLater() {
-    return this.words ? say.untilThen(this.words) : "";
+  /** Returns a message that a breakpoint has no effect yet, with the reason; "" if no reason is known. */
+  pendingMessage() {
+    return this.mapError ? say.untilThen(this.mapError) : "";
   }
 
   /**
@@ -232,28 +235,28 @@ export class BreakpointKeeper {
    * @param {number} address
    */
   toggleAddress(address) {
-    const existing = this.list.atAddress(address);
-    if (existing) {
-      this.remove(existing.id);
+    const existingBreakpoint = this.list.findByAddress(address);
+    if (existingBreakpoint) {
+      this.remove(existingBreakpoint.id);
       return;
     }
-    const instruction = this.map ? instructionOfAddress(address, this.map) : { line: 0, address, words: "" };
+    const instruction = this.map ? instructionAtAddress(address, this.map) : { line: 0, address, words: "" };
     if (instruction.words) this.calls.showMessage(instruction.words);
     this.add({ line: instruction.line, address: instruction.address });
   }
 
   /**
    * Adds a breakpoint. It is disabled if the maximum number of breakpoints is already enabled.
-   * @param {Partial<KeptBreakpoint>} some
+   * @param {Partial<SavedBreakpoint>} fields
    */
-  add(some) {
+  add(fields) {
     if (this.list.all.length >= MAX_BREAKPOINTS) {
       this.calls.showMessage(say.tooManyBreakpoints(MAX_BREAKPOINTS));
       return;
     }
-    const isFull = this.list.countOn >= MOST_ON;
-    if (isFull) this.calls.showMessage(TOO_MANY);
-    this.list.add({ ...some, isOn: !isFull });
+    const isFull = this.list.enabledCount >= MAX_ENABLED;
+    if (isFull) this.calls.showMessage(TOO_MANY_ENABLED);
+    this.list.add({ ...fields, isOn: !isFull });
     this.saveAndApply();
   }
 
@@ -264,41 +267,41 @@ export class BreakpointKeeper {
   }
 
   /**
-   * Saves a breakpoint edit while the user types. The bench receives it when the user enters it.
+   * Saves changes of a breakpoint while the user types. The bench receives the changes when the user enters them.
    * @param {number} id
-   * @param {Partial<KeptBreakpoint>} some
+   * @param {Partial<SavedBreakpoint>} changes the changed fields
    */
-  type(id, some) {
-    this.typed = { id, some };
+  type(id, changes) {
+    this.typedEdit = { id, changes };
     this.calls.changed();
     this.calls.touched();
   }
 
   /**
-   * The breakpoints to save in the session, including the edit that the user is typing.
-   * @returns {KeptBreakpoint[]}
+   * The breakpoints to save in the session, including the changes that the user is typing.
+   * @returns {SavedBreakpoint[]}
    */
   get kept() {
-    const { list, typed } = this;
-    return list.kept.map((each, at) => (typed && typed.id === list.all[at].id ? { ...each, ...typed.some } : each));
+    const { list, typedEdit } = this;
+    return list.kept.map((each, at) => (typedEdit && typedEdit.id === list.all[at].id ? { ...each, ...typedEdit.changes } : each));
   }
 
   /**
    * Changes some fields of a breakpoint.
    * @param {number} id
-   * @param {Partial<KeptBreakpoint>} some
+   * @param {Partial<SavedBreakpoint>} changes the changed fields
    */
-  change(id, some) {
+  change(id, changes) {
     const found = this.list.get(id);
     if (!found) return;
-    if (this.typed && this.typed.id === id) this.typed = null;
-    else if (JSON.stringify({ ...found, ...some }) === JSON.stringify(found)) return;
-    if (some.isOn && !found.isOn && this.list.countOn >= MOST_ON) {
-      this.calls.showMessage(TOO_MANY);
+    if (this.typedEdit && this.typedEdit.id === id) this.typedEdit = null;
+    else if (JSON.stringify({ ...found, ...changes }) === JSON.stringify(found)) return;
+    if (changes.isOn && !found.isOn && this.list.enabledCount >= MAX_ENABLED) {
+      this.calls.showMessage(TOO_MANY_ENABLED);
       this.calls.changed();
       return;
     }
-    this.list.change(id, some);
+    this.list.change(id, changes);
     this.saveAndApply();
   }
 
@@ -307,10 +310,10 @@ export class BreakpointKeeper {
    * @param {boolean} isOn
    */
   switchAll(isOn) {
-    let room = MOST_ON;
+    let freeCount = MAX_ENABLED;
     for (const { id } of [...this.list.all]) {
-      this.list.change(id, { isOn: isOn && room > 0 });
-      room -= 1;
+      this.list.change(id, { isOn: isOn && freeCount > 0 });
+      freeCount -= 1;
     }
     this.saveAndApply();
   }
@@ -321,9 +324,9 @@ export class BreakpointKeeper {
   }
 
   /** Resets the hit counts. */
-  forgetHits() {
-    this.list.forgetHits();
-    this.last = "";
+  resetHits() {
+    this.list.resetHits();
+    this.lastRequest = "";
     this.apply();
   }
 
@@ -331,7 +334,7 @@ export class BreakpointKeeper {
 
   /** True while a request to the bench is unanswered. */
   get isApplying() {
-    return this.asked > 0;
+    return this.pendingCount > 0;
   }
 
   /** Saves and applies a change by the user. */
@@ -340,53 +343,53 @@ export class BreakpointKeeper {
     this.apply();
   }
 
-  /** Sends the list to the bench unless the bench already has it. `settled` resolves after the bench has set it. */
+  /** Sends the list to the bench, unless the bench already has this list. `settled` resolves after the bench has set the breakpoints. */
   apply() {
     this.calls.changed();
     const { placed } = this.list;
-    // The same name can have another meaning in another text, so texts are part of the comparison.
+    // A name can have another meaning in another text, so the comparison includes the texts.
     const names = placed.some(isSoft) ? [this.map ? this.map.text : "", this.watched] : [];
-    const next = JSON.stringify([names, placed.map((each) => ({ ...each, line: 0, hits: 0 }))]);
-    const isNone = placed.length === 0 && this.onBench !== null && this.onBench.size === 0;
-    if (next === this.last || (this.last === "" && isNone)) return;
-    this.last = next;
+    const request = JSON.stringify([names, placed.map((each) => ({ ...each, line: 0, hits: 0 }))]);
+    const isNothingSet = placed.length === 0 && this.onBench !== null && this.onBench.size === 0;
+    if (request === this.lastRequest || (this.lastRequest === "" && isNothingSet)) return;
+    this.lastRequest = request;
     this.send(placed);
   }
 
   /**
-   * Sends the list at once, so that no later request to the bench overtakes it. Answers are handled in request order.
-   * @param {Placed[]} placed
+   * Sends the list at once, before any later request to the bench. Handles the answers in the order of the requests.
+   * @param {LocatedBreakpoint[]} placed
    */
   send(placed) {
-    const { list, hard } = this;
-    this.asked += 1;
+    const { list, hardAddresses } = this;
+    this.pendingCount += 1;
     this.settled = Promise.all([this.calls.set(placed), this.settled])
       .finally(() => {
-        this.asked -= 1;
+        this.pendingCount -= 1;
       })
-      .then(([faults]) => this.handleAnswer(list, hard, faults))
+      .then(([faults]) => this.handleAnswer(list, hardAddresses, faults))
       .catch((fault) => this.calls.failed(fault));
   }
 
   /**
    * Handles the bench's answer to a list.
    * @param {BreakpointList} list
-   * @param {number[]} hard the addresses of the breakpoints that always stop
+   * @param {number[]} hardAddresses the addresses of the breakpoints that stop time at every arrival
    * @param {[number, string][]} faults the ids and error messages of breakpoints that cannot be compiled
    */
-  handleAnswer(list, hard, faults) {
+  handleAnswer(list, hardAddresses, faults) {
     if (list !== this.list) return;
     this.faults = new Map(faults);
-    this.onBench = new Set(hard);
+    this.onBench = new Set(hardAddresses);
     this.calls.changed();
-    this.takeWaiting();
+    this.takePostponed();
   }
 
-  /** Applies the postponed report: a line typed in the meantime can have set or deleted breakpoints. */
-  takeWaiting() {
-    const { waiting } = this;
-    if (this.isApplying || !waiting) return;
-    this.waiting = null;
-    this.take(waiting);
+  /** Applies the addresses that arrived during a request. A line that the user typed meanwhile can have changed breakpoints. */
+  takePostponed() {
+    const { postponedBreaks } = this;
+    if (this.isApplying || !postponedBreaks) return;
+    this.postponedBreaks = null;
+    this.take(postponedBreaks);
   }
 }

@@ -1,14 +1,14 @@
-// Reads and writes breakpoints as project lines: `break line 14 at 0x00F off from 5 if "r4 = 7" log "R4 is {r4}"`. Default values are
-// omitted.
+// Reads and writes the breakpoint lines of a project file, such as `break line 14 at 0x00F off from 5 if "r4 = 7" log "R4 is {r4}"`. The
+// lines omit default values.
 
 import { hex } from "../bench/numbers.js";
 import { MAX_BREAKPOINTS } from "./breakpoints.js";
 
-/** @typedef {import("./breakpoints.js").KeptBreakpoint} KeptBreakpoint */
+/** @typedef {import("./breakpoints.js").SavedBreakpoint} SavedBreakpoint */
 
-const TEXT = '"((?:[^"\\\\]|\\\\.)*)"';
-const LINE = new RegExp("^break(?: line (\\d{1,5}))?(?: at 0x([0-9A-F]{3}))?( off)?(?: from (\\d{1,9}))?"
-  + `(?: if ${TEXT})?(?: log ${TEXT})?$`);
+const QUOTED_TEXT = '"((?:[^"\\\\]|\\\\.)*)"';
+const BREAKPOINT_LINE = new RegExp("^break(?: line (\\d{1,5}))?(?: at 0x([0-9A-F]{3}))?( off)?(?: from (\\d{1,9}))?"
+  + `(?: if ${QUOTED_TEXT})?(?: log ${QUOTED_TEXT})?$`);
 /** The maximum length of a condition or note, in characters. */
 export const MAX_TEXT_LENGTH = 250;
 
@@ -30,9 +30,9 @@ function unquote(text = "") {
 
 /**
  * Returns one line per breakpoint.
- * @param {KeptBreakpoint[]} breakpoints
+ * @param {SavedBreakpoint[]} breakpoints
  */
-export function linesOfBreakpoints(breakpoints) {
+export function formatBreakpoints(breakpoints) {
   return breakpoints.map(({ line, address, isOn, from, condition, note }) => ["break",
     ...(line > 0 ? [`line ${line}`] : []), ...(address >= 0 ? [`at 0x${hex(address, 3)}`] : []), ...(isOn ? [] : ["off"]),
     ...(from > 1 ? [`from ${from}`] : []), ...(condition ? [`if ${quote(condition)}`] : []), ...(note ? [`log ${quote(note)}`] : []),
@@ -42,10 +42,10 @@ export function linesOfBreakpoints(breakpoints) {
 /**
  * Parses a breakpoint line. Returns null for any other line, and for a breakpoint with neither a line number nor an address.
  * @param {string} line
- * @returns {KeptBreakpoint | null}
+ * @returns {SavedBreakpoint | null}
  */
-export function breakpointOfLine(line) {
-  const found = LINE.exec(line);
+export function parseBreakpoint(line) {
+  const found = BREAKPOINT_LINE.exec(line);
   if (!found || (found[1] === undefined && found[2] === undefined)) return null;
   const [, sourceLine = "0", address, off, from = "1", condition, note] = found;
   return {
@@ -56,7 +56,7 @@ export function breakpointOfLine(line) {
 
 /**
  * Returns the first breakpoints, up to the maximum number in a session.
- * @param {KeptBreakpoint[]} breakpoints
+ * @param {SavedBreakpoint[]} breakpoints
  */
 export function limitBreakpoints(breakpoints) {
   return breakpoints.slice(0, MAX_BREAKPOINTS);

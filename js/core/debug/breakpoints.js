@@ -5,13 +5,13 @@ import * as say from "../../words/debug.js";
 
 /**
  * @typedef {import("../machine/source_map.js").SourceMap} SourceMap
- * @typedef {import("./soft_breakpoints.js").Placed} Placed
+ * @typedef {import("./soft_breakpoints.js").LocatedBreakpoint} LocatedBreakpoint
  *
  * A breakpoint. `line` counts from 1; it is 0 if the breakpoint has no line. `address` is the last known address, -1 if there was none.
- * `isOn` is true if the breakpoint is enabled. The other fields are those of `Placed`.
+ * `isOn` is true if the breakpoint is enabled. The other fields are those of `LocatedBreakpoint`.
  * @typedef {{ id: number, line: number, address: number, isOn: boolean, condition: string, from: number, note: string, hits: number }}
  *   Breakpoint
- * @typedef {Omit<Breakpoint, "id" | "hits">} KeptBreakpoint a breakpoint in a saved session or project
+ * @typedef {Omit<Breakpoint, "id" | "hits">} SavedBreakpoint a breakpoint as saved in a session or project
  *
  * An edit that replaces the text between two positions. Lines count from 0. `isWhole` is true if the edit replaces the whole text.
  * @typedef {{ from: { line: number, ch: number }, to: { line: number, ch: number }, text: string[], removed?: string[],
@@ -19,42 +19,42 @@ import * as say from "../../words/debug.js";
  */
 
 /** The maximum number of enabled breakpoints, a limit of the bench. */
-export const MOST_ON = 32;
+export const MAX_ENABLED = 32;
 /** The maximum number of breakpoints in a list. */
 export const MAX_BREAKPOINTS = 256;
-/** The maximum number of stored deleted breakpoints. Undo restores them with their lines. */
+/** The maximum number of deleted breakpoints that the list stores, so that undo can restore them with their lines. */
 const MAX_DELETED = 256;
-/** The maximum number of replaced texts with stored breakpoints. */
+/** The maximum number of replaced texts whose breakpoints the list stores. */
 const MAX_TEXTS = 30;
 
-/** @type {Omit<Breakpoint, "id" | "line" | "address">} the default values */
+/** @type {Omit<Breakpoint, "id" | "line" | "address">} the default fields of a breakpoint */
 const DEFAULTS = { isOn: true, condition: "", from: 1, note: "", hits: 0 };
 
 /** The breakpoints of a source text and of ROM. */
 export class BreakpointList {
-  /** @param {Partial<KeptBreakpoint>[]} [savedBreakpoints] */
+  /** @param {Partial<SavedBreakpoint>[]} [savedBreakpoints] */
   constructor(savedBreakpoints = []) {
     this.lastId = 0;
     /** @type {Breakpoint[]} sorted by line; breakpoints without a line are last */
-    this.all = savedBreakpoints.map((each) => this.make(each));
+    this.all = savedBreakpoints.map((each) => this.createBreakpoint(each));
     /**
      * @type {{ text: string, breakpoint: Breakpoint }[]} the breakpoints that were deleted with their lines, and the texts of the lines,
      *   newest last
      */
-    this.deleted = [];
+    this.deletedBreakpoints = [];
     /** @type {Map<string, Breakpoint[]>} the breakpoints of replaced texts, by text, newest last */
-    this.byText = new Map();
+    this.breakpointsByText = new Map();
     this.sort();
   }
 
   /**
    * Returns a breakpoint with a new id.
-   * @param {Partial<KeptBreakpoint>} some
+   * @param {Partial<SavedBreakpoint>} fields
    * @returns {Breakpoint}
    */
-  make(some) {
+  createBreakpoint(fields) {
     this.lastId += 1;
-    return { ...DEFAULTS, line: 0, address: -1, ...some, hits: 0, id: this.lastId };
+    return { ...DEFAULTS, line: 0, address: -1, ...fields, hits: 0, id: this.lastId };
   }
 
   sort() {
@@ -65,10 +65,10 @@ export class BreakpointList {
 
   /**
    * Adds a breakpoint and returns it.
-   * @param {Partial<KeptBreakpoint>} some
+   * @param {Partial<SavedBreakpoint>} fields
    */
-  add(some) {
-    const breakpoint = this.make(some);
+  add(fields) {
+    const breakpoint = this.createBreakpoint(fields);
     this.all.push(breakpoint);
     this.sort();
     return breakpoint;
@@ -82,10 +82,10 @@ export class BreakpointList {
   /**
    * Changes some fields of a breakpoint.
    * @param {number} id
-   * @param {Partial<KeptBreakpoint>} some
+   * @param {Partial<SavedBreakpoint>} changes the changed fields
    */
-  change(id, some) {
-    this.all = this.all.map((each) => (each.id === id ? { ...each, ...some } : each));
+  change(id, changes) {
+    this.all = this.all.map((each) => (each.id === id ? { ...each, ...changes } : each));
   }
 
   /**
@@ -100,7 +100,7 @@ export class BreakpointList {
    * @param {number} line
    * @returns {Breakpoint | undefined}
    */
-  atLine(line) {
+  findByLine(line) {
     return this.all.find((each) => each.line === line);
   }
 
@@ -108,12 +108,12 @@ export class BreakpointList {
    * @param {number} address
    * @returns {Breakpoint | undefined}
    */
-  atAddress(address) {
+  findByAddress(address) {
     return this.all.find((each) => each.address === address);
   }
 
   /** The number of enabled breakpoints. */
-  get countOn() {
+  get enabledCount() {
     return this.all.filter(({ isOn }) => isOn).length;
   }
 
@@ -126,43 +126,43 @@ export class BreakpointList {
   }
 
   /**
-   * Handles the replacement of the whole text. Stores the breakpoints of the old text. If the new text was in the editor before, restores
-   * its breakpoints and returns true; otherwise returns false.
+   * Handles an edit that replaces the whole text. Stores the breakpoints of the old text. If the new text was in the editor before,
+   * restores the breakpoints of the new text and returns true. Otherwise returns false.
    * @param {Edit} edit
    */
   replaceText({ removed = [], text }) {
-    this.remember(removed.join("\n"));
-    const known = this.byText.get(text.join("\n"));
-    if (!known) return false;
-    const ids = new Set(known.map(({ id }) => id));
-    // A breakpoint that has changed since keeps the change. A breakpoint without a line belongs to ROM, not to the text.
-    const restored = known.filter(({ id, line }) => line > 0 || this.get(id))
+    this.storeForText(removed.join("\n"));
+    const storedBreakpoints = this.breakpointsByText.get(text.join("\n"));
+    if (!storedBreakpoints) return false;
+    const ids = new Set(storedBreakpoints.map(({ id }) => id));
+    // A breakpoint that has changed meanwhile keeps its changes. A breakpoint without a line belongs to ROM, not to the text.
+    const restoredBreakpoints = storedBreakpoints.filter(({ id, line }) => line > 0 || this.get(id))
       .map((each) => ({ ...(this.get(each.id) || each), line: each.line, address: each.address }));
-    const ofRom = this.all.filter(({ id, line, address }) => (
-      !ids.has(id) && line === 0 && !restored.some((each) => each.address === address)));
-    this.all = [...restored, ...ofRom];
-    this.deleted = this.deleted.filter(({ breakpoint }) => !ids.has(breakpoint.id));
+    const romBreakpoints = this.all.filter(({ id, line, address }) => (
+      !ids.has(id) && line === 0 && !restoredBreakpoints.some((each) => each.address === address)));
+    this.all = [...restoredBreakpoints, ...romBreakpoints];
+    this.deletedBreakpoints = this.deletedBreakpoints.filter(({ breakpoint }) => !ids.has(breakpoint.id));
     this.sort();
-    this.limit();
+    this.enforceLimits();
     return true;
   }
 
   /**
-   * Stores the current breakpoints as those of a text.
+   * Stores the current breakpoints as the breakpoints of a text.
    * @param {string} text
    */
-  remember(text) {
-    this.byText.delete(text);
-    this.byText.set(text, [...this.all]);
-    for (const oldest of [...this.byText.keys()].slice(0, -MAX_TEXTS)) this.byText.delete(oldest);
+  storeForText(text) {
+    this.breakpointsByText.delete(text);
+    this.breakpointsByText.set(text, [...this.all]);
+    for (const oldest of [...this.breakpointsByText.keys()].slice(0, -MAX_TEXTS)) this.breakpointsByText.delete(oldest);
   }
 
-  /** Limits the number of breakpoints and of enabled breakpoints. */
-  limit() {
+  /** Drops breakpoints above the maximum number, and disables enabled breakpoints above their maximum number. */
+  enforceLimits() {
     let count = 0;
     this.all = this.all.slice(0, MAX_BREAKPOINTS).map((each) => {
       count += each.isOn ? 1 : 0;
-      return each.isOn && count > MOST_ON ? { ...each, isOn: false } : each;
+      return each.isOn && count > MAX_ENABLED ? { ...each, isOn: false } : each;
     });
   }
 
@@ -181,7 +181,7 @@ export class BreakpointList {
       if (each.line > last) return [{ ...each, line: each.line + shift }];
       // The breakpoint of a replaced line keeps its line number if the replacement has enough lines.
       if (each.line < first + count) return [each];
-      this.keepDeleted(each, edit);
+      this.storeDeleted(each, edit);
       return [];
     });
     const isUndone = edit.origin === "undo" || edit.origin === "redo";
@@ -189,7 +189,7 @@ export class BreakpointList {
   }
 
   /**
-   * Detaches breakpoints with an address from their lines, after another text has replaced the whole text. Returns whether there are any
+   * Removes the line of each breakpoint that has an address, after another text has replaced the whole text. Returns whether there are any
    * breakpoints.
    */
   detachAll() {
@@ -203,56 +203,56 @@ export class BreakpointList {
    * @param {Breakpoint} breakpoint
    * @param {Edit} edit
    */
-  keepDeleted(breakpoint, { from, removed = [] }) {
-    this.deleted.push({ text: removed[breakpoint.line - from.line - 1] || "", breakpoint });
-    if (this.deleted.length > MAX_DELETED) this.deleted.shift();
+  storeDeleted(breakpoint, { from, removed = [] }) {
+    this.deletedBreakpoints.push({ text: removed[breakpoint.line - from.line - 1] || "", breakpoint });
+    if (this.deletedBreakpoints.length > MAX_DELETED) this.deletedBreakpoints.shift();
   }
 
   /**
-   * Restores the breakpoints on lines that an undo restores. Returns whether any was restored.
+   * Restores the breakpoints on lines that an undo restores. Returns whether any breakpoint was restored.
    * @param {Edit} edit
    * @param {number} first the first restored line, from 1
    * @param {number} count the number of restored lines
    */
   restoreDeleted({ from, text }, first, count) {
-    const before = this.all.length;
+    const countBefore = this.all.length;
     for (let line = first + count - 1; line >= first; line--) {
-      const at = this.deleted.map((each) => each.text).lastIndexOf(text[line - from.line - 1]);
-      if (at < 0 || this.atLine(line)) continue;
-      const [{ breakpoint }] = this.deleted.splice(at, 1);
+      const at = this.deletedBreakpoints.map((each) => each.text).lastIndexOf(text[line - from.line - 1]);
+      if (at < 0 || this.findByLine(line)) continue;
+      const [{ breakpoint }] = this.deletedBreakpoints.splice(at, 1);
       this.all.push({ ...breakpoint, line });
     }
     this.sort();
-    this.limit();
-    return this.all.length > before;
+    this.enforceLimits();
+    return this.all.length > countBefore;
   }
 
   /**
-   * Computes the addresses of all breakpoints, after the text became the program in ROM. Returns a message about each breakpoint that
-   * moved.
+   * Moves each breakpoint to an instruction of the program, and sets its address. Called after the text became the program in ROM. Returns
+   * a message about each breakpoint that moved.
    * @param {SourceMap} map
    */
   locate(map) {
     /** @type {string[]} */
     const words = [];
     /** @type {Map<number, Breakpoint>} */
-    const placed = new Map();
+    const byAddress = new Map();
     for (const each of this.all) {
-      const found = each.line > 0 ? instructionOfLine(each.line, map) : instructionOfAddress(each.address, map);
+      const found = each.line > 0 ? instructionForLine(each.line, map) : instructionAtAddress(each.address, map);
       if (found.words) words.push(found.words);
       const { line, address } = found;
       // Two breakpoints at the same address become one.
-      if (address >= 0 && placed.has(address)) continue;
-      placed.set(address >= 0 ? address : -1 - each.id, { ...each, line, address });
+      if (address >= 0 && byAddress.has(address)) continue;
+      byAddress.set(address >= 0 ? address : -1 - each.id, { ...each, line, address });
     }
-    this.all = [...placed.values()];
+    this.all = [...byAddress.values()];
     this.sort();
     return words;
   }
 
   /**
    * The enabled breakpoints that have an address.
-   * @returns {Placed[]}
+   * @returns {LocatedBreakpoint[]}
    */
   get placed() {
     return this.all.filter(({ isOn, address }) => isOn && address >= 0);
@@ -270,11 +270,11 @@ export class BreakpointList {
   }
 
   /** Resets the hit counts. */
-  forgetHits() {
+  resetHits() {
     this.all = this.all.map((each) => ({ ...each, hits: 0 }));
   }
 
-  /** @returns {KeptBreakpoint[]} */
+  /** @returns {SavedBreakpoint[]} */
   get kept() {
     return this.all.map(({ line, address, isOn, condition, from, note }) => ({ line, address, isOn, condition, from, note }));
   }
@@ -284,41 +284,41 @@ export class BreakpointList {
  * Returns the number of equal lines at the start or the end of two texts.
  * @param {string[]} oldLines the lines of one text
  * @param {string[]} newLines the lines of the other text
- * @param {number} max the largest possible result
+ * @param {number} max the maximum result
  * @param {boolean} isAtEnd
  */
 function countEqualLines(oldLines, newLines, max, isAtEnd) {
   let count = 0;
   /** @type {(lines: string[]) => string} */
-  const next = (lines) => lines[isAtEnd ? lines.length - 1 - count : count];
-  while (count < max && next(oldLines) === next(newLines)) count += 1;
+  const nextLine = (lines) => lines[isAtEnd ? lines.length - 1 - count : count];
+  while (count < max && nextLine(oldLines) === nextLine(newLines)) count += 1;
   return count;
 }
 
 /**
- * Returns the first and last line that an edit replaces, from 1, and the number of new lines. Equal lines at the start and the end are
- * excluded. Text inserted at the start of a line counts as before that line. `isOther` is true if the edit replaces the whole text with a
- * completely different text.
+ * Returns the first and last line that an edit replaces, counted from 1, and the number of new lines. Excludes equal lines at the start and
+ * the end. Treats text that is inserted at the start of a line as new lines before this line. `isOther` is true if the edit replaces the
+ * whole text with a text that has no line in common.
  * @param {Edit} edit
  */
 function replacedLines({ from, to, text, removed = Array(to.line - from.line + 1).fill("\n"), isWhole = false }) {
-  const most = Math.min(removed.length, text.length);
+  const maxCount = Math.min(removed.length, text.length);
   const isBefore = from.ch === 0;
-  const one = countEqualLines(removed, text, most, isBefore);
-  const other = countEqualLines(removed, text, most - one, !isBefore);
-  const [before, after] = isBefore ? [other, one] : [one, other];
+  const firstCount = countEqualLines(removed, text, maxCount, isBefore);
+  const secondCount = countEqualLines(removed, text, maxCount - firstCount, !isBefore);
+  const [before, after] = isBefore ? [secondCount, firstCount] : [firstCount, secondCount];
   const unchangedLines = [...text.slice(0, before), ...text.slice(text.length - after)];
   const isOther = isWhole && unchangedLines.join("").trim() === "" && removed.length > 2 && text.length > 2;
   return { first: from.line + 1 + before, last: to.line + 1 - after, count: text.length - before - after, isOther };
 }
 
 /**
- * Returns the line and address of the instruction on a line, or of the next instruction. `words` is a message if the result is another
- * line. If no instruction follows, the address is -1.
+ * Returns the line and the address of the instruction on a line, or else of the next instruction, with a message about the move in `words`.
+ * If no instruction follows, the address is -1.
  * @param {number} line
  * @param {SourceMap} map
  */
-export function instructionOfLine(line, map) {
+export function instructionForLine(line, map) {
   const ownAddress = map.addressOf(line);
   if (ownAddress !== undefined) return { line, address: ownAddress, words: "" };
   for (let next = line + 1; next <= map.count; next++) {
@@ -332,16 +332,16 @@ export function instructionOfLine(line, map) {
 }
 
 /**
- * Returns the line of the instruction at an address. For the second byte of an instruction, returns the next instruction with a message, or
- * the same instruction if none follows.
+ * Returns the line and the address of the instruction at an address. For the second byte of an instruction, returns the next instruction,
+ * or this instruction if no instruction follows, with a message in `words`.
  * @param {number} address
  * @param {SourceMap} map
  */
-export function instructionOfAddress(address, map) {
+export function instructionAtAddress(address, map) {
   if (address < 0 || !map.isInside(address)) return { line: address < 0 ? 0 : map.lineOf(address), address, words: "" };
   const line = map.lineOf(address);
   const digits = address.toString(16).toUpperCase().padStart(3, "0");
-  const next = instructionOfLine(line + 1, map);
-  if (next.address < 0) return { line, address: map.addresses[line], words: say.insideInstruction(digits, line) };
-  return { ...next, words: say.insideAndMoved(digits, line, next.line) };
+  const nextInstruction = instructionForLine(line + 1, map);
+  if (nextInstruction.address < 0) return { line, address: map.addresses[line], words: say.insideInstruction(digits, line) };
+  return { ...nextInstruction, words: say.insideAndMoved(digits, line, nextInstruction.line) };
 }

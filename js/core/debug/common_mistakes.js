@@ -4,23 +4,24 @@
 // - a WRR at a port without outputs, or an RDR at a port without inputs;
 // - a write to a chip that is not on the board;
 // - an instruction at an address outside the program text;
-// - an SRC that was sent for another instruction.
+// - an instruction that uses an SRC that the program sent for another instruction.
 //
-// Before each run, this module asks the bench what the run will do. It does not simulate instructions. selected.js knows which instructions
-// use the selection by SRC.
+// Before each run, this module asks the bench what the run will do. This module does not simulate instructions. selected.js determines
+// which instructions use the chip and register that SRC selects.
 //
 //     const mistakes = new CommonMistakes(session);
-//     mistakes.begin();                                  before time runs; each kind is then reported once
-//     const { faults, stop } = mistakes.look(lines);     before the lines run; `stop`: the cycles up to a mistake that stops time, or -1
+//     mistakes.begin();                                  before the machine runs; each kind is then reported once
+//     const { faults, stop } = mistakes.searchLines(lines);     before the lines run
+//     stop                                               the cycles up to a mistake that stops time, -1 for none
 
 import { readBoard } from "../bench/answers.js";
 import { hex } from "../bench/numbers.js";
 import { Probes } from "../conditions/probes.js";
-import { areLive, callBefore } from "../machine/returns.js";
+import { findLiveReturns, callAddress } from "../machine/returns.js";
 import { isCall, isReturn, romCodes } from "../engine/rom_codes.js";
-import { Answers, valuesOf } from "../engine/tracing.js";
-import { cyclesOfLine, linesUpTo } from "./ahead.js";
-import { Selected, usesSelected } from "./selected.js";
+import { Answers, rowValues } from "../engine/tracing.js";
+import { plannedCycles, truncateLines } from "./ahead.js";
+import { SrcSelection, usesSelection } from "./selected.js";
 import * as say from "../../words/debug.js";
 
 /**
@@ -30,29 +31,29 @@ import * as say from "../../words/debug.js";
  * @typedef {import("../engine/worker_session.js").WorkerSession} WorkerSession
  * @typedef {"calls" | "return" | "lines" | "chip" | "bytes" | "source"} Kind
  *
- * A mistake: the address of the instruction, the cycles before the instruction, and a description. `isAgain` is true if a mistake of the
+ * A mistake: the address of the instruction, the cycles before the instruction, and a description. `isRepeat` is true if a mistake of the
  * same kind was reported before.
- * @typedef {{ kind: Kind, address: number, cycles: number, words: string, isAgain?: boolean }} CommonMistake
+ * @typedef {{ kind: Kind, address: number, cycles: number, words: string, isRepeat?: boolean }} CommonMistake
  * @typedef {import("../conditions/condition_language.js").Condition} Condition
- * @typedef {{ faults: CommonMistake[], stop: number }} Looked
+ * @typedef {{ faults: CommonMistake[], stop: number }} FoundMistakes
  */
 
 const KIND_COUNT = Object.keys(say.KINDS).length;
 /**
- * The number of cycles that are fully checked after time starts and after each key change: half a second of a real 4004. Later, only
- * samples are checked.
+ * The number of cycles whose instructions are all checked after time starts and after each key change: half a second of a real 4004. After
+ * these cycles, only samples are checked.
  */
 const CHECKED_CYCLES = 50000;
-/** One of SAMPLE_INTERVAL calls of `look` checks a sample of SAMPLE_CYCLES cycles. */
+/** Every SAMPLE_INTERVAL-th call of `searchLines` checks a sample of SAMPLE_CYCLES cycles. */
 const SAMPLE_INTERVAL = 16;
 const SAMPLE_CYCLES = 2000;
 /**
- * The maximum number of cycles that one call of `look` checks. Lines at full speed have more cycles; a check of all cycles would be too
- * slow.
+ * The maximum number of cycles that a call of `searchLines` checks. Lines at full speed have more cycles. A check of all cycles would be
+ * too slow.
  */
 export const MAX_CYCLES_PER_CALL = 10000;
 
-/** @type {Looked} */
+/** @type {FoundMistakes} */
 const NO_MISTAKES = { faults: [], stop: -1 };
 
 /** Finds common mistakes in the next lines of a session. */
@@ -68,48 +69,48 @@ export class CommonMistakes {
     this.map = null;
     /** @type {Uint8Array | null} the contents of ROM; null until they are read */
     this.codes = null;
-    /** @type {Selected | null} */
-    this.selected = null;
+    /** @type {SrcSelection | null} the selection by SRC; null until the board is read */
+    this.selection = null;
     /** @type {Set<Kind>} the kinds reported since time started */
-    this.reported = new Set();
+    this.reportedKinds = new Set();
     /** The address of the last mistake that stopped time, -1 for none. */
-    this.stoppedAt = -1;
-    /** The address of a mistake that is skipped once because the session continues there; -1 for none. */
-    this.skippedAt = -1;
-    /** The number of cycles that must still be fully checked. */
+    this.stopAddress = -1;
+    /** The address of a mistake that is not reported again, because it stopped time and time continues there; -1 for none. */
+    this.skippedAddress = -1;
+    /** The number of cycles until only samples are checked. */
     this.left = CHECKED_CYCLES;
     this.callCount = 0;
   }
 
-  /** Prepares for running time: every kind can be reported again. */
+  /** Prepares for running time: allows each kind of mistake to be reported again. */
   begin() {
-    this.reported.clear();
+    this.reportedKinds.clear();
     this.left = CHECKED_CYCLES;
-    this.skippedAt = this.stoppedAt;
-    this.stoppedAt = -1;
+    this.skippedAddress = this.stopAddress;
+    this.stopAddress = -1;
   }
 
-  /** Forgets ROM, the board and the selection by SRC. Called after anything but running time has changed the session. */
+  /** Forgets the contents of ROM, the board and the selection by SRC. Called after any change of the session except a run. */
   forget() {
     this.codes = null;
-    this.selected = null;
+    this.selection = null;
   }
 
   /**
    * Returns the mistakes in the next lines, up to the first mistake that stops time.
    * @param {PlannedLine[]} planned the next lines
    * @param {Uint8Array} [file] the session before the lines, if the lines have already run
-   * @returns {Looked}
+   * @returns {FoundMistakes}
    */
-  look(planned, file = this.session.file) {
-    const most = this.cyclesToCheck(planned);
-    if (most === 0 || (this.reported.size === KIND_COUNT && this.conditions.size === 0)) return NO_MISTAKES;
-    const all = this.faultsIn(linesUpTo(planned, most), file);
-    const last = all.find((fault) => this.isStop(fault, planned, file));
-    const faults = all.filter(({ isAgain }) => !isAgain);
-    if (!last) return { faults, stop: -1 };
-    this.stoppedAt = last.address;
-    return { faults: faults.filter((fault) => fault.cycles <= last.cycles), stop: last.cycles };
+  searchLines(planned, file = this.session.file) {
+    const maxCycles = this.cyclesToCheck(planned);
+    if (maxCycles === 0 || (this.reportedKinds.size === KIND_COUNT && this.conditions.size === 0)) return NO_MISTAKES;
+    const found = this.findMistakes(truncateLines(planned, maxCycles), file);
+    const stoppingMistake = found.find((fault) => this.isStop(fault, planned, file));
+    const faults = found.filter(({ isRepeat }) => !isRepeat);
+    if (!stoppingMistake) return { faults, stop: -1 };
+    this.stopAddress = stoppingMistake.address;
+    return { faults: faults.filter((fault) => fault.cycles <= stoppingMistake.cycles), stop: stoppingMistake.cycles };
   }
 
   /**
@@ -122,35 +123,35 @@ export class CommonMistakes {
     if (!this.stops.has(kind)) return false;
     const condition = this.conditions.get(kind);
     if (!condition) return true;
-    const before = linesUpTo(planned, cycles);
+    const linesBefore = truncateLines(planned, cycles);
     const probes = new Probes(condition.places);
-    const answers = new Answers(this.session.engine.ask(file, before.map(({ line }) => `${line}\n`).join("") + probes.lines).answers);
-    answers.skip(before.length);
+    const answers = new Answers(this.session.engine.ask(file, linesBefore.map(({ line }) => `${line}\n`).join("") + probes.lines).answers);
+    answers.skip(linesBefore.length);
     return condition.holds(probes.take(answers));
   }
 
   /**
-   * Returns the number of cycles to check in the next lines. All cycles are checked soon after time starts, soon after a key change, and if
-   * mistakes stop time, up to a maximum at full speed. Otherwise only samples are checked: a check executes each cycle three more times.
+   * Returns the number of cycles to check in the next lines. This is the number of all cycles soon after time starts, soon after a key
+   * change, and if mistakes stop time. Otherwise it is the size of a sample, because a check executes each cycle three more times.
    * @param {PlannedLine[]} planned
    */
   cyclesToCheck(planned) {
-    const cycles = planned.reduce((sum, each) => sum + cyclesOfLine(each), 0);
+    const cycles = planned.reduce((sum, each) => sum + plannedCycles(each), 0);
     if (planned.some(({ change }) => change !== null)) this.left = CHECKED_CYCLES;
     this.callCount += 1;
     const isAll = this.stops.size > 0 && cycles <= MAX_CYCLES_PER_CALL;
     const sample = this.callCount % SAMPLE_INTERVAL === 0 ? SAMPLE_CYCLES : 0;
-    const most = isAll ? cycles : Math.min(cycles, MAX_CYCLES_PER_CALL, Math.max(this.left, sample));
-    this.left = Math.max(0, this.left - most);
-    return most;
+    const maxCycles = isAll ? cycles : Math.min(cycles, MAX_CYCLES_PER_CALL, Math.max(this.left, sample));
+    this.left = Math.max(0, this.left - maxCycles);
+    return maxCycles;
   }
 
-  /** Returns the ROM contents and the selection by SRC. Reads them if they are unknown. */
-  read() {
+  /** Returns the contents of ROM and the selection by SRC. Reads both from the session if they are unknown. */
+  readRom() {
     const { engine, file, statusQueries } = this.session;
     this.codes = this.codes || romCodes(engine, file);
-    this.selected = this.selected || new Selected(readBoard(statusQueries.board));
-    return { codes: this.codes, selected: this.selected };
+    this.selection = this.selection || new SrcSelection(readBoard(statusQueries.board));
+    return { codes: this.codes, selection: this.selection };
   }
 
   /**
@@ -158,15 +159,15 @@ export class CommonMistakes {
    * @param {PlannedLine[]} planned
    * @param {Uint8Array} file the session before the lines
    */
-  faultsIn(planned, file) {
+  findMistakes(planned, file) {
     const { engine } = this.session;
-    const { codes, selected } = this.read();
+    const { codes, selection } = this.readRom();
     const lines = planned.map((each) => {
-      const cycles = cyclesOfLine(each);
+      const cycles = plannedCycles(each);
       return each.change ? `${each.line}\n` : `trace ${cycles} src dcl ret\ntrace ${cycles}\n${each.line}\n`;
     });
     const answers = new Answers(engine.ask(file, `state\n${lines.join("")}`).answers);
-    selected.begin(answers.take());
+    selection.begin(answers.take());
     /** @type {CommonMistake[]} */
     const faults = [];
     let done = 0;
@@ -176,7 +177,7 @@ export class CommonMistakes {
         continue;
       }
       const [changes, instructions] = [answers.takeTrace(), answers.takeTrace()];
-      this.checkRun({ codes, selected, done }, changes, instructions.lines, faults);
+      this.checkRun({ codes, selection, done }, changes, instructions.lines, faults);
       const { cycles, end } = answers.takeRun();
       done += cycles;
       if (end !== "end") break;
@@ -186,46 +187,47 @@ export class CommonMistakes {
 
   /**
    * Checks the instructions of a run.
-   * @param {{ codes: Uint8Array, selected: Selected, done: number }} known the bytes of ROM, the selection, and the cycles before the run
+   * @param {{ codes: Uint8Array, selection: SrcSelection, done: number }} context the bytes of ROM, the selection by SRC, and the number of
+   *   cycles before the run
    * @param {Trace} changes the trace of the places `src`, `dcl` and `ret`
    * @param {string[]} instructions the trace lines of all instructions
-   * @param {CommonMistake[]} faults collects the mistakes
+   * @param {CommonMistake[]} faults receives the mistakes
    */
-  checkRun({ codes, selected, done }, changes, instructions, faults) {
-    let values = valuesOf(changes.row);
-    let at = 0;
+  checkRun({ codes, selection, done }, changes, instructions, faults) {
+    let values = rowValues(changes.row);
+    let changeIndex = 0;
     for (const line of instructions) {
       const blank = line.indexOf(" ");
       const address = parseInt(line.slice(blank + 1), 16);
       const code = codes[address];
-      const changed = at < changes.lines.length && changes.lines[at].startsWith(line);
-      if (changed || usesSelected(code) || isCall(code) || isReturn(code) || this.isOutsideProgram(address)) {
+      const hasChanged = changeIndex < changes.lines.length && changes.lines[changeIndex].startsWith(line);
+      if (hasChanged || usesSelection(code) || isCall(code) || isReturn(code) || this.isOutsideProgram(address)) {
         const cycles = done + Number(line.slice(0, blank));
-        this.report(faults, address, cycles, this.faultOf(codes, address, values) || selected.faultOf(code, address, values));
-        if (changed) {
-          values = valuesOf(changes.lines[at].slice(line.length));
-          at += 1;
+        this.report(faults, address, cycles, this.findMistake(codes, address, values) || selection.findMistake(code, address, values));
+        if (hasChanged) {
+          values = rowValues(changes.lines[changeIndex].slice(line.length));
+          changeIndex += 1;
         }
-        selected.follow(code, address, values);
+        selection.applyInstruction(code, address, values);
       }
     }
   }
 
   /**
    * Adds a mistake unless its kind was reported before.
-   * @param {CommonMistake[]} faults collects the mistakes
+   * @param {CommonMistake[]} faults receives the mistake
    * @param {number} address the address of the instruction
    * @param {number} cycles the cycles before the instruction
-   * @param {{ kind: Kind, words: string } | null} fault null if the instruction is right
+   * @param {{ kind: Kind, words: string } | null} fault null if the instruction has no mistake
    */
   report(faults, address, cycles, fault) {
-    const isSkipped = cycles === 0 && address === this.skippedAt;
-    if (cycles === 0) this.skippedAt = -1;
+    const isSkipped = cycles === 0 && address === this.skippedAddress;
+    if (cycles === 0) this.skippedAddress = -1;
     if (!fault || isSkipped) return;
-    const isAgain = this.reported.has(fault.kind);
-    if (isAgain && !this.conditions.has(fault.kind)) return;
-    this.reported.add(fault.kind);
-    faults.push({ ...fault, address, cycles, ...(isAgain ? { isAgain } : {}) });
+    const isRepeat = this.reportedKinds.has(fault.kind);
+    if (isRepeat && !this.conditions.has(fault.kind)) return;
+    this.reportedKinds.add(fault.kind);
+    faults.push({ ...fault, address, cycles, ...(isRepeat ? { isRepeat } : {}) });
   }
 
   /**
@@ -235,15 +237,15 @@ export class CommonMistakes {
    * @param {string[]} values the values of src, dcl and ret before the instruction
    * @returns {{ kind: Kind, words: string } | null}
    */
-  faultOf(codes, address, values) {
+  findMistake(codes, address, values) {
     const code = codes[address];
     if (this.isOutsideProgram(address)) return { kind: "bytes", words: say.LEFT_PROGRAM };
     if (!isCall(code) && !isReturn(code)) return null;
     const returns = values[2].split(",").map((each) => parseInt(each, 16));
     const [newest, , oldest] = returns.map((each) => hex(each, 3));
-    const live = areLive(returns, returns.map((each) => hex(codes[callBefore(each)], 2)), this.map);
-    if (isReturn(code)) return live[0] ? null : { kind: "return", words: say.returnWithoutCall(newest) };
-    return live[2] ? { kind: "calls", words: say.returnAddressLost(oldest) } : null;
+    const liveFlags = findLiveReturns(returns, returns.map((each) => hex(codes[callAddress(each)], 2)), this.map);
+    if (isReturn(code)) return liveFlags[0] ? null : { kind: "return", words: say.returnWithoutCall(newest) };
+    return liveFlags[2] ? { kind: "calls", words: say.returnAddressLost(oldest) } : null;
   }
 
   /**

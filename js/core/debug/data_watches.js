@@ -1,15 +1,15 @@
-// Data watches: a change of a place stops time. The place is a register, a port, the lamps, a chain, or a RAM character that the bench
-// itself cannot watch, for example because the watch has a condition. Changes are found in advance with queries. The session file contains
-// no data watch.
+// Finds the changes of watched places. A data watch stops time when its place changes. The place is a register, a port, the lamps, a chain,
+// or a RAM character that the bench cannot watch, for example because the watch has a condition. Queries find the changes before the
+// session runs. The session file contains no data watch.
 
 import { readBoard } from "../bench/answers.js";
-import { MOST_PLACES } from "../bench/inputs.js";
-import { tracedConditionOf } from "../conditions/condition_language.js";
-import { placeOf } from "../conditions/places.js";
-import { LastChange } from "../engine/going_back.js";
-import { cyclesOf } from "../engine/rom_codes.js";
-import { Answers, readTraced, valuesOf } from "../engine/tracing.js";
-import { cyclesOfLine, linesUpTo } from "./ahead.js";
+import { MAX_PLACES } from "../bench/inputs.js";
+import { compileTracedCondition } from "../conditions/condition_language.js";
+import { parsePlace } from "../conditions/places.js";
+import { LastChangeFinder } from "../engine/going_back.js";
+import { instructionCycles } from "../engine/rom_codes.js";
+import { Answers, parseTraceLine, rowValues } from "../engine/tracing.js";
+import { plannedCycles, truncateLines } from "./ahead.js";
 import { boardLacks, inColumn, tooManyPlaces } from "../../words/conditions.js";
 import { changedFrom, CHANGES_ALWAYS } from "../../words/debug.js";
 
@@ -20,47 +20,48 @@ import { changedFrom, CHANGES_ALWAYS } from "../../words/debug.js";
  * @typedef {import("../engine/engine_host.js").EngineHost} Engine
  * @typedef {import("../engine/key_queue.js").PlannedLine} PlannedLine
  *
- * A requested watch. `name`: the name of the place. `condition`: a change counts only if the condition is true, "" for none. `from`: the
- * number of the first counted change that stops.
- * @typedef {{ id: number, name: string, condition: string, from: number }} WantedWatch
+ * A watch as requested. `name`: the name of the place. `condition`: the condition that must be true for a change to count, "" for none.
+ * `from`: the number of the first counted change that stops time.
+ * @typedef {{ id: number, name: string, condition: string, from: number }} RequestedWatch
  *
  * A compiled watch. `probes`: the `trace` places that report the value. `hits`: the number of counted changes so far.
  * @typedef {{ id: number, place: Place, probes: string[], condition: Condition | null, from: number, hits: number }} DataWatch
  *
- * The first change that stops: the cycles before the change (-1 for no change), the id of the watch, and a description. `hits` are the
- * counted changes by watch.
- * @typedef {{ cycles: number, id: number, change: string, hits: Map<number, number> }} SeenChange
+ * The first change that stops time. `cycles`: the cycles before the change, -1 for no change. `id`: the id of the watch. `change`: a
+ * description of the change. `hits`: the numbers of counted changes by watch id.
+ * @typedef {{ cycles: number, id: number, change: string, hits: Map<number, number> }} WatchEvents
  */
 
-/** The place that cannot be watched: every instruction changes the program counter. */
-const UNWATCHABLE = "pc";
+/** The name of the place that cannot be watched, because every instruction changes it: the program counter. */
+const UNWATCHABLE_PLACE = "pc";
 /** The maximum number of cycles in one query. */
 const QUERY_CYCLES = 50000;
 
-/** @returns {SeenChange} an empty result */
-const noChange = () => ({ cycles: -1, id: 0, change: "", hits: new Map() });
+/** @returns {WatchEvents} an empty result */
+const emptyChange = () => ({ cycles: -1, id: 0, change: "", hits: new Map() });
 
 /**
- * Compiles requested watches. `faults` holds an error message for each impossible watch, by watch id.
- * @param {WantedWatch[]} wanted
+ * Compiles requested watches. `faults` contains the error messages of impossible watches, by watch id.
+ * @param {RequestedWatch[]} requestedWatches
  * @param {Names} names
  * @returns {{ watches: DataWatch[], faults: Map<number, string> }}
  */
-export function readWatches(wanted, names) {
+export function compileWatches(requestedWatches, names) {
   /** @type {Map<number, string>} */
   const faults = new Map();
   const places = new Set();
-  const watches = wanted.flatMap(({ id, name, condition: text, from }) => {
-    const place = placeOf(name);
+  const watches = requestedWatches.flatMap(({ id, name, condition: text, from }) => {
+    const place = parsePlace(name);
     const probes = place ? place.probesOn(names.board) : [];
-    const { condition, fault, column } = text.trim() === "" ? { condition: null, fault: "", column: -1 } : tracedConditionOf(text, names);
-    const all = new Set([...places, ...probes, ...(condition ? condition.places : [])]);
-    const wrong = !place || probes.length === 0 ? boardLacks(name)
-      : name === UNWATCHABLE ? CHANGES_ALWAYS : fault && inColumn(fault, column);
-    const words = wrong || (all.size > MOST_PLACES ? tooManyPlaces(all.size, MOST_PLACES) : "");
+    const isUnconditional = text.trim() === "";
+    const { condition, fault, column } = isUnconditional ? { condition: null, fault: "", column: -1 } : compileTracedCondition(text, names);
+    const allPlaces = new Set([...places, ...probes, ...(condition ? condition.places : [])]);
+    const placeError = !place || probes.length === 0 ? boardLacks(name)
+      : name === UNWATCHABLE_PLACE ? CHANGES_ALWAYS : fault && inColumn(fault, column);
+    const words = placeError || (allPlaces.size > MAX_PLACES ? tooManyPlaces(allPlaces.size, MAX_PLACES) : "");
     if (words) faults.set(id, words);
     if (words || !place) return [];
-    for (const each of all) places.add(each);
+    for (const each of allPlaces) places.add(each);
     return [{ id, place, probes, condition, from, hits: 0 }];
   });
   return { watches, faults };
@@ -68,7 +69,7 @@ export function readWatches(wanted, names) {
 
 /** Finds changes of watched places. */
 export class DataWatches {
-  /** @param {DataWatch[]} watches the watches; together they use at most MOST_PLACES places */
+  /** @param {DataWatch[]} watches the watches; together they use at most MAX_PLACES places */
   constructor(watches) {
     this.watches = watches;
     this.places = [...new Set(watches.flatMap(({ probes, condition }) => [...probes, ...(condition ? condition.places : [])]))];
@@ -82,54 +83,54 @@ export class DataWatches {
   }
 
   /**
-   * Searches the next lines for changes, up to the first change that stops.
+   * Searches the next lines for changes, up to the first change that stops time.
    * @param {Engine} engine
    * @param {Uint8Array} file the session file; not changed
    * @param {PlannedLine[]} planned
    * @param {() => Uint8Array} codes returns the contents of ROM
-   * @returns {SeenChange}
+   * @returns {WatchEvents}
    */
-  look(engine, file, planned, codes) {
-    const seen = noChange();
-    if (this.isEmpty) return seen;
+  searchLines(engine, file, planned, codes) {
+    const events = emptyChange();
+    if (this.isEmpty) return events;
     const copy = file.slice();
     let done = 0;
-    for (const { line, change, cycles } of planned.flatMap(partsOf)) {
-      const ask = change ? "" : `trace ${cycles} ${this.places.join(" ")}\n`;
-      const answers = new Answers(engine.serve(copy, `${ask}${line}\n`, copy).answers);
+    for (const { line, change, cycles } of planned.flatMap(splitLine)) {
+      const query = change ? "" : `trace ${cycles} ${this.places.join(" ")}\n`;
+      const answers = new Answers(engine.serve(copy, `${query}${line}\n`, copy).answers);
       if (change) continue;
       const trace = answers.takeTrace();
       const run = answers.takeRun();
-      const stop = this.stopIn(trace.row, trace.lines, seen);
+      const stop = this.findStop(trace.row, trace.lines, events);
       if (stop) {
-        seen.cycles = done + Math.min(run.cycles, stop.cycles + cyclesOf(codes()[stop.address]));
-        return seen;
+        events.cycles = done + Math.min(run.cycles, stop.cycles + instructionCycles(codes()[stop.address]));
+        return events;
       }
-      if (run.end !== "end") return seen;
+      if (run.end !== "end") return events;
       done += run.cycles;
     }
-    return seen;
+    return events;
   }
 
   /**
-   * Returns the instruction with the first change that stops; null if there is none.
+   * Returns the instruction that makes the first change that stops time; null if there is none.
    * @param {string} row the values before the run
    * @param {string[]} lines the trace lines
-   * @param {SeenChange} seen collects the counts, and the change that stops
+   * @param {WatchEvents} events receives the counts, and the change that stops time
    */
-  stopIn(row, lines, seen) {
-    let before = valuesOf(row);
+  findStop(row, lines, events) {
+    let valuesBefore = rowValues(row);
     for (const line of lines) {
-      const { cycles, address, row: next } = readTraced(line);
-      const after = valuesOf(next);
-      const stops = this.watches.filter((watch) => this.countChange(watch, before, after, seen));
+      const { cycles, address, row: next } = parseTraceLine(line);
+      const valuesAfter = rowValues(next);
+      const stops = this.watches.filter((watch) => this.countChange(watch, valuesBefore, valuesAfter, events));
       if (stops.length > 0) {
         const [{ id, place }] = stops;
-        const [from, to] = [before, after].map((values) => this.valueOf(stops[0], values));
-        Object.assign(seen, { id, change: changedFrom(place.name, from, to) });
+        const [from, to] = [valuesBefore, valuesAfter].map((values) => this.formatValue(stops[0], values));
+        Object.assign(events, { id, change: changedFrom(place.name, from, to) });
         return { cycles, address };
       }
-      before = after;
+      valuesBefore = valuesAfter;
     }
     return null;
   }
@@ -139,10 +140,10 @@ export class DataWatches {
    * @param {DataWatch} watch
    * @param {string[]} before the values of all places
    * @param {string[]} after
-   * @param {SeenChange} seen
+   * @param {WatchEvents} events
    */
   countChange(watch, before, after, { hits }) {
-    if (!this.changes(watch, before, after)) return false;
+    if (!this.isCountedChange(watch, before, after)) return false;
     const count = (hits.get(watch.id) || 0) + 1;
     hits.set(watch.id, count);
     return watch.hits + count >= watch.from;
@@ -154,7 +155,7 @@ export class DataWatches {
    * @param {string[]} before the values of all places
    * @param {string[]} after
    */
-  changes({ id, condition }, before, after) {
+  isCountedChange({ id, condition }, before, after) {
     const [placeColumns, conditionColumns] = this.columns.get(id) || [[], []];
     if (placeColumns.every((at) => before[at] === after[at])) return false;
     return condition === null || condition.holds(conditionColumns.map((at) => after[at]));
@@ -165,30 +166,30 @@ export class DataWatches {
    * @param {DataWatch} watch
    * @param {string[]} values the values of all places
    */
-  valueOf({ id, place }, values) {
+  formatValue({ id, place }, values) {
     const [placeColumns] = this.columns.get(id) || [[]];
     return place.value(placeColumns.map((at) => values[at]));
   }
 
   /**
-   * Adds counted changes after the session has run the lines.
-   * @param {Map<number, number>} hits
+   * Adds to the counts of changes, after the session has run the lines.
+   * @param {Map<number, number>} hits the numbers of new changes by watch id
    */
   count(hits) {
     for (const watch of this.watches) watch.hits += hits.get(watch.id) || 0;
   }
 
   /**
-   * Returns one finder per watch. A finder finds the last change of its watch in the past; it ignores hit counts.
+   * Returns a finder for each watch. A finder searches the past for the last change of its place, and ignores hit counts.
    * @param {Engine} engine
    */
   finders(engine) {
-    return this.watches.map((watch) => new LastWatched(engine, watch));
+    return this.watches.map((watch) => new LastWatchedChange(engine, watch));
   }
 }
 
 /** Finds the last change of a watched place. */
-class LastWatched extends LastChange {
+class LastWatchedChange extends LastChangeFinder {
   /**
    * @param {Engine} engine
    * @param {DataWatch} watch
@@ -207,45 +208,45 @@ class LastWatched extends LastChange {
    */
   changeBetween(before, after) {
     const { watch, watches } = this;
-    const [from, to] = [before, after].map(valuesOf);
-    if (!watches.changes(watch, from, to)) return null;
-    return { place: watch.place.name, from: watches.valueOf(watch, from), to: watches.valueOf(watch, to), id: watch.id };
+    const [from, to] = [before, after].map(rowValues);
+    if (!watches.isCountedChange(watch, from, to)) return null;
+    return { place: watch.place.name, from: watches.formatValue(watch, from), to: watches.formatValue(watch, to), id: watch.id };
   }
 }
 
 /**
- * Splits a line into parts that are short enough for one query.
+ * Splits a run line into shorter run lines, each with few enough cycles for one query. Returns a key change unchanged, with 0 cycles.
  * @param {PlannedLine} planned
  */
-function partsOf(planned) {
-  const all = cyclesOfLine(planned);
+function splitLine(planned) {
+  const total = plannedCycles(planned);
   /** @type {(PlannedLine & { cycles: number })[]} */
-  const parts = planned.change ? [{ ...planned, cycles: 0 }] : [];
-  for (let done = 0; done < all; done += QUERY_CYCLES) {
-    const cycles = Math.min(QUERY_CYCLES, all - done);
-    parts.push({ line: `run ${cycles}`, change: null, cycles });
+  const shortLines = planned.change ? [{ ...planned, cycles: 0 }] : [];
+  for (let done = 0; done < total; done += QUERY_CYCLES) {
+    const cycles = Math.min(QUERY_CYCLES, total - done);
+    shortLines.push({ line: `run ${cycles}`, change: null, cycles });
   }
-  return parts;
+  return shortLines;
 }
 
 /**
- * All stops that are found in advance: soft breakpoints (arrivals.js) and data watches. The earliest stop ends the run. This class has the
- * same interface as `Arrivals`.
+ * Finds stops in advance, at soft breakpoints (arrivals.js) and at data watches. The earliest stop ends the run. This class has the
+ * interface of `Arrivals`.
  */
 export class SoftStops {
   /**
    * @param {import("./arrivals.js").Arrivals} arrivals
-   * @param {DataWatches} changes
+   * @param {DataWatches} dataWatches
    * @param {() => Uint8Array} codes returns the contents of ROM
    */
-  constructor(arrivals, changes, codes) {
+  constructor(arrivals, dataWatches, codes) {
     this.arrivals = arrivals;
-    this.changes = changes;
+    this.dataWatches = dataWatches;
     this.codes = codes;
   }
 
   get isEmpty() {
-    return this.arrivals.isEmpty && this.changes.isEmpty;
+    return this.arrivals.isEmpty && this.dataWatches.isEmpty;
   }
 
   /**
@@ -253,50 +254,51 @@ export class SoftStops {
    * @param {Engine} engine
    * @param {Uint8Array} file the session file; not changed
    * @param {PlannedLine[]} planned
-   * @returns {import("./arrivals.js").Seen}
+   * @returns {import("./arrivals.js").BreakpointEvents}
    */
-  look(engine, file, planned) {
-    const seen = this.arrivals.look(engine, file, planned);
-    if (this.changes.isEmpty) return seen;
-    const upTo = seen.cycles >= 0 ? linesUpTo(planned, seen.cycles) : planned;
-    const { hits, ...changed } = this.changes.look(engine, file, upTo, this.codes);
-    if (changed.cycles < 0 || changed.cycles === seen.cycles) return { ...seen, changes: hits };
-    return { ...this.arrivals.look(engine, file, linesUpTo(planned, changed.cycles)), ...changed, why: "watch", changes: hits };
+  searchLines(engine, file, planned) {
+    const events = this.arrivals.searchLines(engine, file, planned);
+    if (this.dataWatches.isEmpty) return events;
+    const limitedLines = events.cycles >= 0 ? truncateLines(planned, events.cycles) : planned;
+    const { hits, ...changed } = this.dataWatches.searchLines(engine, file, limitedLines, this.codes);
+    if (changed.cycles < 0 || changed.cycles === events.cycles) return { ...events, changes: hits };
+    return { ...this.arrivals.searchLines(engine, file, truncateLines(planned, changed.cycles)), ...changed, why: "watch", changes: hits };
   }
 
   /**
    * Adds hits and counted changes after the session has run the lines.
-   * @param {import("./arrivals.js").Seen} seen the result of `look` for these lines
+   * @param {import("./arrivals.js").BreakpointEvents} events the result of `searchLines` for these lines
    */
-  count(seen) {
-    this.arrivals.count(seen);
-    this.changes.count(seen.changes);
+  count(events) {
+    this.arrivals.count(events);
+    this.dataWatches.count(events.changes);
   }
 
   /** The hit counts of the breakpoints, followed by those of the watches. */
   get hits() {
-    return [...this.arrivals.hits, ...this.changes.watches.map(({ hits }) => hits)];
+    return [...this.arrivals.hits, ...this.dataWatches.watches.map(({ hits }) => hits)];
   }
 
   /**
-   * Restores earlier hit counts after lines failed: the counted hits did not happen.
+   * Restores earlier hit counts after lines have failed, because the counted hits did not happen.
    * @param {number[]} hits
    */
   restoreHits(hits) {
     const { length } = this.arrivals.hits;
     this.arrivals.restoreHits(hits.slice(0, length));
-    this.changes.watches.forEach((watch, at) => {
+    this.dataWatches.watches.forEach((watch, at) => {
       watch.hits = hits[length + at];
     });
   }
 }
 
 /**
- * Returns a place if it can be watched on a board, otherwise null. All `trace` places except the program counter can be watched.
+ * Returns the place with a name if this place can be watched on a board; null if not. All `trace` places except the program counter can be
+ * watched.
  * @param {string} name
  * @param {string[]} board the answer to `board`
  */
 export function watchablePlace(name, board) {
-  const place = placeOf(name);
-  return place && place.name !== UNWATCHABLE && place.probesOn(readBoard(board)).length > 0 ? place : null;
+  const place = parsePlace(name);
+  return place && place.name !== UNWATCHABLE_PLACE && place.probesOn(readBoard(board)).length > 0 ? place : null;
 }

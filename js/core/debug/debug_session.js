@@ -1,5 +1,5 @@
-// A session in memory with its debugger, the program's source lines, and breakpoints on these lines. Used by an editor, the prompt and
-// tests.
+// Combines a session in memory with a debugger, the source lines of the program, and breakpoints on these lines. Used by editors, the
+// prompt and tests.
 //
 //     const engine = await Engine.load(bytes of the module);         (engine/engine.js)
 //     const session = new DebugSession(engine, { board, program });  both are texts; `file` instead of them: the bytes of a session file
@@ -10,10 +10,10 @@
 //     await session.into(); await session.back({ kind: "instruction" }); session.forward();
 //     await session.setProgram(text);                                assembles another text; breakpoints move with their lines
 //
-// Nothing here follows real time. `go` runs as fast as possible, in pieces, and calls `shouldContinue` between pieces. Nothing is written
-// to disk: `session.file` holds the bytes of the session file.
+// `go` runs as fast as possible, not in real time. It runs in pieces, and calls `shouldContinue` between pieces. A DebugSession writes
+// nothing to disk: `session.file` contains the bytes of the session file.
 
-import { readBoard, readRegisters, readRun, refusalOf } from "../bench/answers.js";
+import { readBoard, readRegisters, readRun, parseRefusal } from "../bench/answers.js";
 import { Face } from "../board/face.js";
 import { SourceMap } from "../machine/source_map.js";
 import { sentText } from "../text/text_fault.js";
@@ -21,7 +21,7 @@ import { PieceSize } from "../engine/pieces.js";
 import { readProgram } from "../engine/program_check.js";
 import { WorkerSession } from "../engine/worker_session.js";
 import { BreakpointList } from "./breakpoints.js";
-import { Debugger, NO_TALLY, addTallies, nearOf } from "./debugger.js";
+import { Debugger, NO_TALLY, joinTallies, nearDistance } from "./debugger.js";
 import { wordsOfGone, wordsOfHalt, wordsOfAddress, wordsOfStop, wordsOfWhen } from "../../words/stops.js";
 import * as say from "../../words/debug.js";
 
@@ -29,13 +29,13 @@ import * as say from "../../words/debug.js";
  * @typedef {import("../bench/answers.js").Refusal} Refusal
  * @typedef {import("../engine/engine_host.js").EngineHost} Engine
  * @typedef {import("../engine/going_back.js").BackGoal} BackGoal
- * @typedef {import("./debugger.js").GoesOn} GoesOn
+ * @typedef {import("./debugger.js").ShouldContinue} ShouldContinue
  * @typedef {import("./debugger.js").Stop} Stop
  * @typedef {import("./debugger.js").Tally} Tally
  * @typedef {import("./goals.js").Goal} Goal
- * @typedef {{ file?: Uint8Array, board?: string, program?: string }} Opened the contents of a session: the texts of the board and the
- *   program, and the bytes of a session file
- * @typedef {Stop & { words: string, tally: Tally }} Stopped the end of a run; `words` is its description. `why` is "pause" if
+ * @typedef {{ file?: Uint8Array, board?: string, program?: string }} SessionContents the contents of a new session: the bytes of a session
+ *   file, and the texts of the board and the program
+ * @typedef {Stop & { words: string, tally: Tally }} DescribedStop the end of a run; `words` is its description. `why` is "pause" if
  *   `shouldContinue` ended it, and "lacks" if the board lacks a place
  */
 
@@ -44,18 +44,18 @@ const FIRST_PIECE = 50000;
 /** The maximum length of a piece in cycles: a step back replays at most one piece (engine/timeline.js). */
 export const LARGEST_PIECE = 500000;
 
-/** @type {GoesOn} */
-const always = async () => true;
+/** @type {ShouldContinue} a callback that never ends the work early */
+const continueAlways = async () => true;
 
 /** A session with a debugger. */
 export class DebugSession {
   /**
    * @param {Engine} engine
-   * @param {Opened} opened
+   * @param {SessionContents} opened
    */
   constructor(engine, { file, board = "", program = "" }) {
     const bytes = file ? file.slice() : engine.begin();
-    /** @type {{ word: "wire" | "asm", refusal: Refusal }[]} the texts that the bench rejected, with their refusals */
+    /** @type {{ word: "wire" | "asm", refusal: Refusal }[]} the refusals of the texts that the bench rejected */
     this.refused = [];
     this.boardText = board;
     this.program = program;
@@ -81,7 +81,7 @@ export class DebugSession {
    */
   sendText(engine, file, word, text) {
     if (text === "") return;
-    const refusal = refusalOf(engine.serve(file, `${word}\n${text}.\n`, file).answers[0]);
+    const refusal = parseRefusal(engine.serve(file, `${word}\n${text}.\n`, file).answers[0]);
     if (refusal) this.refused.push({ word, refusal });
   }
 
@@ -91,8 +91,8 @@ export class DebugSession {
 
   /** Returns the source map of the program. */
   readMap() {
-    const sent = sentText(this.program, ";");
-    return new SourceMap(readProgram(this.debugger.session.engine, sent).map, sent);
+    const programText = sentText(this.program, ";");
+    return new SourceMap(readProgram(this.debugger.session.engine, programText).map, programText);
   }
 
   // --- Program and breakpoints ---
@@ -103,14 +103,14 @@ export class DebugSession {
   }
 
   /**
-   * Assembles another text into ROM; the rest of the machine does not change. Resolves to the refusal if the bench rejects the text,
-   * otherwise to null.
+   * Assembles another text into ROM, without any other change of the machine. Resolves to the refusal if the bench rejects the text, or
+   * else to null.
    * @param {string} program
    * @returns {Promise<Refusal | null>}
    */
   async setProgram(program) {
-    const { first } = await this.debugger.session.serve(`asm\n${sentText(program, ";")}.\n`, always);
-    const refusal = refusalOf(first);
+    const { first } = await this.debugger.session.serve(`asm\n${sentText(program, ";")}.\n`, continueAlways);
+    const refusal = parseRefusal(first);
     if (refusal) return refusal;
     this.program = program;
     this.map = this.readMap();
@@ -119,14 +119,14 @@ export class DebugSession {
   }
 
   /**
-   * Sets the breakpoints of the list in the debugger. Resolves to `moved`, messages about the breakpoints that moved to another
-   * instruction, and to `faults`, the ids and error messages of breakpoints that cannot be compiled.
+   * Sets the breakpoints of the list in the debugger. Resolves to an object: `moved` are messages about breakpoints that moved to another
+   * instruction; `faults` are the ids and error messages of breakpoints that cannot be compiled.
    */
   async applyBreakpoints() {
     const { session } = this.debugger;
     const moved = this.breakpoints.locate(this.map);
     const { lines, faults } = this.debugger.setBreakpoints(this.breakpoints.placed, this.names);
-    if (lines) await session.serve(lines, always);
+    if (lines) await session.serve(lines, continueAlways);
     this.faults = new Map(faults);
     return { moved, faults };
   }
@@ -134,58 +134,58 @@ export class DebugSession {
   // --- Moves ---
 
   /**
-   * Runs to a goal or an earlier stop. Without a goal, runs to a stop.
+   * Runs to a goal, or to an earlier stop. Without a goal, runs to the next stop.
    * @param {Goal | null} [goal]
-   * @param {GoesOn} [shouldContinue]
-   * @returns {Promise<Stopped>}
+   * @param {ShouldContinue} [shouldContinue]
+   * @returns {Promise<DescribedStop>}
    */
-  async go(goal = null, shouldContinue = always) {
+  async go(goal = null, shouldContinue = continueAlways) {
     const debug = this.debugger;
     if (!goal) {
       debug.begin();
-      return this.runOn(null, shouldContinue);
+      return this.runInPieces(null, shouldContinue);
     }
     debug.names = this.names;
-    const { found, tally } = await debug.goOn(goal, nearOf(goal), shouldContinue);
+    const { found, tally } = await debug.goOn(goal, nearDistance(goal), shouldContinue);
     this.breakpoints.count(tally.hits);
-    if (debug.isMoving) return this.runOn(goal, shouldContinue);
+    if (debug.isMoving) return this.runInPieces(goal, shouldContinue);
     const { cycles, isReached, end, id, returns, change } = found;
-    return this.stopped(goal, { why: isReached ? "goal" : end, cycles, id, returns, change }, tally);
+    return this.describeStop(goal, { why: isReached ? "goal" : end, cycles, id, returns, change }, tally);
   }
 
   /**
-   * Runs for a number of cycles, or to an earlier stop. `why` is "passed" if all cycles have run.
+   * Runs for a number of cycles, or to an earlier stop. The result has the `why` "passed" if all cycles have run.
    * @param {number} cycles
-   * @param {GoesOn} [shouldContinue]
-   * @returns {Promise<Stopped>}
+   * @param {ShouldContinue} [shouldContinue]
+   * @returns {Promise<DescribedStop>}
    */
-  pass(cycles, shouldContinue = always) {
+  runCycles(cycles, shouldContinue = continueAlways) {
     this.debugger.begin();
-    return this.runOn(null, shouldContinue, cycles);
+    return this.runInPieces(null, shouldContinue, cycles);
   }
 
   /**
    * Runs in pieces to a stop, or for a maximum number of cycles.
    * @param {Goal | null} goal
-   * @param {GoesOn} shouldContinue
-   * @param {number} [most] the maximum number of cycles
-   * @returns {Promise<Stopped>}
+   * @param {ShouldContinue} shouldContinue
+   * @param {number} [maxCycles] the maximum number of cycles
+   * @returns {Promise<DescribedStop>}
    */
-  async runOn(goal, shouldContinue, most = Infinity) {
+  async runInPieces(goal, shouldContinue, maxCycles = Infinity) {
     const debug = this.debugger;
     const piece = new PieceSize(Math.min(FIRST_PIECE, this.largestPiece), 1, this.largestPiece);
     /** @type {Tally} */
     let tally = NO_TALLY;
     for (let done = 0; ;) {
-      const frame = piece.measure(() => debug.advance(Math.min(piece.size, most - done)));
+      const frame = piece.measure(() => debug.advance(Math.min(piece.size, maxCycles - done)));
       done += frame.cycles;
       this.breakpoints.count(frame.tally.hits);
-      tally = addTallies(tally, frame.tally);
-      if (frame.stop) return this.stopped(goal, frame.stop, tally);
-      const isOver = done >= most;
+      tally = joinTallies(tally, frame.tally);
+      if (frame.stop) return this.describeStop(goal, frame.stop, tally);
+      const isOver = done >= maxCycles;
       if (!isOver && await shouldContinue(done, frame.tally)) continue;
-      debug.stopped();
-      const words = wordsOfHalt(goal, done, this.counterWords);
+      debug.endMove();
+      const words = wordsOfHalt(goal, done, this.counterText);
       return { why: isOver ? "passed" : "pause", id: 0, cycles: done, returns: false, words, tally };
     }
   }
@@ -195,61 +195,62 @@ export class DebugSession {
    * @param {Goal | null} goal
    * @param {Stop} stop
    * @param {Tally} tally
-   * @returns {Stopped}
+   * @returns {DescribedStop}
    */
-  stopped(goal, stop, tally) {
-    const when = stop.why === "break" ? this.wordsOfBreakpoint(stop.id) : "";
-    return { ...stop, words: wordsOfStop(goal, stop, this.counterWords, when), tally };
+  describeStop(goal, stop, tally) {
+    const conditionText = stop.why === "break" ? this.describeBreakpoint(stop.id) : "";
+    return { ...stop, words: wordsOfStop(goal, stop, this.counterText, conditionText), tally };
   }
 
   /**
-   * Describes the condition of the breakpoint that stopped time.
+   * Describes the condition of a breakpoint that stops time.
    * @param {number} id
    */
-  wordsOfBreakpoint(id) {
+  describeBreakpoint(id) {
     return wordsOfWhen(this.breakpoints.get(id), this.faults.get(id));
   }
 
   /**
    * Steps one instruction. A step at a call enters the subroutine.
-   * @returns {Promise<Stopped>}
+   * @returns {Promise<DescribedStop>}
    */
   async into() {
-    const { first } = await this.debugger.session.serve("step\n", always);
+    const { first } = await this.debugger.session.serve("step\n", continueAlways);
     const run = readRun(first);
     const isDone = run !== null && run.end === "end";
     const stop = { why: isDone ? "goal" : run ? run.end : first, id: 0, cycles: run ? run.cycles : 0, returns: false };
-    return this.stopped({ kind: "over" }, stop, NO_TALLY);
+    return this.describeStop({ kind: "over" }, stop, NO_TALLY);
   }
 
   /**
    * Goes back to a goal in the past.
    * @param {BackGoal} goal
-   * @param {GoesOn} [shouldContinue]
+   * @param {ShouldContinue} [shouldContinue]
    */
-  async back(goal, shouldContinue = always) {
+  async back(goal, shouldContinue = continueAlways) {
     this.debugger.names = this.names;
     const result = await this.debugger.goBack(goal, (done = 0) => shouldContinue(done));
-    return { ...result, words: wordsOfGone(goal, result, this.counterWords, this.breakpoints.get(result.id)) };
+    return { ...result, words: wordsOfGone(goal, result, this.counterText, this.breakpoints.get(result.id)) };
   }
 
   /** Returns to the moment before the last move back. */
   forward() {
     const result = this.debugger.goForward();
-    return { ...result, words: wordsOfGone({ kind: "forward" }, result, this.counterWords) };
+    return { ...result, words: wordsOfGone({ kind: "forward" }, result, this.counterText) };
   }
 
   /**
-   * Serves typed lines. A run in them ends at its first breakpoint. `words` is a message if a breakpoint ended the last line, otherwise "".
+   * Serves typed lines. A run in these lines ends at its first breakpoint. In the result, `words` is a message if a breakpoint ended the
+   * last line, or else "".
    * @param {string} lines
    * @param {(done: number) => Promise<boolean>} [shouldContinue] called with the number of processed characters. If it returns false, no
    *   line takes effect
    */
-  async serve(lines, shouldContinue = always) {
+  async serve(lines, shouldContinue = continueAlways) {
     const { result, typed: { id, why, change, cut, cycles, tally } } = await this.debugger.serveTyped(lines, shouldContinue);
     this.breakpoints.count(tally.hits);
     if (id === 0) return { ...result, tally, words: "" };
-    const { words } = this.stopped(null, { why, id, cycles, returns: false, change }, tally);
+    const { words } = this.describeStop(null, { why, id, cycles, returns: false, change }, tally);
     return { ...result, tally, words: say.lineEnded(words, cut) };
   }
 
@@ -264,13 +265,13 @@ export class DebugSession {
     return parseInt(this.registers.counter, 16);
   }
 
-  /** The source line of the next instruction; 0 if it has none. */
+  /** The line number of the next instruction in the source; 0 if the instruction is not in the source. */
   get line() {
     return this.map.lineOf(this.address);
   }
 
   /** The address of the next instruction as text. */
-  get counterWords() {
+  get counterText() {
     return wordsOfAddress(this.registers.counter, this.map);
   }
 

@@ -1,42 +1,42 @@
-// The goals of moves, and a watcher for each goal. A watcher detects that a run reaches the goal. Most watchers ask the bench before a run
-// what the run will do.
+// Creates watchers for the goals of moves. A watcher detects that a run reaches the goal. Most watchers query the bench before a run: the
+// answers describe what the run will do.
 
 import { readBoard, readCounter, readRegisters } from "../bench/answers.js";
-import { placeOf } from "../conditions/places.js";
-import { callBefore } from "../machine/returns.js";
-import { LONGEST_RUN } from "../engine/key_queue.js";
+import { parsePlace } from "../conditions/places.js";
+import { callAddress } from "../machine/returns.js";
+import { MAX_RUN_CYCLES } from "../engine/key_queue.js";
 import { isCall, isReturn, romCodes } from "../engine/rom_codes.js";
-import { readTraced } from "../engine/tracing.js";
+import { parseTraceLine } from "../engine/tracing.js";
 import { becomesTrue } from "./becoming.js";
 
 /**
  * @typedef {import("../engine/engine_host.js").EngineHost} Engine
  * @typedef {import("../engine/tracing.js").Answers} Answers
- * @typedef {import("../engine/tracing.js").Traced} Traced
- * @typedef {import("./becoming.js").Asked} Asked
+ * @typedef {import("../engine/tracing.js").TracedInstruction} TracedInstruction
+ * @typedef {import("./becoming.js").SearchCondition} SearchCondition
  *
- * A goal. `over`: the next instruction, or the return from the subroutine that it calls. `out`: the return from the current subroutine.
- * `here`: an address. `count`: a number of instructions. `change`: a change of a place. `when`: a condition becomes true; `asked` is the
- * compiled condition.
+ * The goal of a move. `over`: the end of the next instruction, or of the subroutine that this instruction calls. `out`: the return from the
+ * current subroutine. `here`: an address. `count`: a number of instructions. `change`: a change of a place. `when`: a condition becomes
+ * true; `searchCondition` is the compiled condition.
  * @typedef {{ kind: "over" } | { kind: "out" } | { kind: "here", address: number } | { kind: "count", count: number } | { kind: "change",
- * place: string } | { kind: "when", condition: string, asked?: Asked }} Goal
+ * place: string } | { kind: "when", condition: string, searchCondition?: SearchCondition }} Goal
  *
- * The result of a search. `cycles`: the cycles up to the goal or an earlier stop. `end`: the word that ended the run early; "bound" if the
- * search found nothing; "lacks" if the place is not on the board; "outside" if no subroutine is open.
- * @typedef {{ cycles: number, isReached: boolean, end: string }} Found
+ * The result of a search for a goal. `cycles`: the number of cycles up to the goal or an earlier stop. `end`: the word that ended the run
+ * early; "bound" if the search reached its limit; "lacks" if the board lacks the place; "outside" if no subroutine is open.
+ * @typedef {{ cycles: number, isReached: boolean, end: string }} SearchResult
  *
- * The watcher of a goal. `first`: a line to send once before all runs, or "". `most`: returns the maximum length of the next run in cycles.
- * `before`: returns the queries before a run. `after`: the queries after a run. `take`: reads the answers to the queries and the run, and
- * returns the result. `returns`: true if a return reaches the goal.
+ * The watcher of a goal. `first`: a bench line to send once before all runs, "" for none. `most`: returns the maximum length of the next
+ * run in cycles. `before`: returns the queries before a run. `after`: the queries after a run. `take`: reads the answers to the queries and
+ * to the run, and returns the result. `returns`: true if a return from a subroutine reaches the goal.
  * @typedef {{ first: string, most: () => number, before: (cycles: number) => string, after: string,
- *   take: (answers: Answers) => Found, returns: boolean }} Watcher
+ *   take: (answers: Answers) => SearchResult, returns: boolean }} Watcher
  */
 
 /** The maximum length of a piece of a search, in cycles. */
-export const LARGEST_PIECE = 4 * LONGEST_RUN;
+export const LARGEST_PIECE = 4 * MAX_RUN_CYCLES;
 
 /**
- * Parses the program counter and the pending second cycle in an answer to `regs`.
+ * Reads an answer to `regs`. Returns the program counter, and in `isOwed` whether the second cycle of an instruction is pending.
  * @param {string} regs
  */
 export function parseCounter(regs) {
@@ -47,7 +47,7 @@ export function parseCounter(regs) {
 /**
  * Returns a watcher that examines the lines of a trace.
  * @param {string} places the trace places, each preceded by a blank
- * @param {(traced: Traced) => number} goal returns the cycles up to the goal if an instruction reaches it, otherwise -1
+ * @param {(traced: TracedInstruction) => number} goal returns the cycles up to the goal if an instruction reaches it, otherwise -1
  * @returns {Watcher}
  */
 function traceWatcher(places, goal) {
@@ -60,7 +60,7 @@ function traceWatcher(places, goal) {
       const { lines } = answers.takeTrace();
       const run = answers.takeRun();
       for (const line of lines) {
-        const cycles = goal(readTraced(line));
+        const cycles = goal(parseTraceLine(line));
         if (cycles >= 0) return { cycles, isReached: true, end: "" };
       }
       return { ...run, isReached: false };
@@ -70,24 +70,25 @@ function traceWatcher(places, goal) {
 }
 
 /**
- * Returns a watcher for a condition. If a key change made the condition true before a run, the run has one cycle.
- * @param {Asked} condition
+ * Returns a watcher for a condition. If a key change made the condition true before a run, the goal is one cycle after the start of the
+ * run.
+ * @param {SearchCondition} condition
  * @returns {Watcher}
  */
 function conditionWatcher(condition) {
-  let before = "";
+  let lastRow = "";
   const watcher = traceWatcher(` ${condition.places.join(" ")}`, () => -1);
   return {
     ...watcher,
     take: (answers) => {
       const { row, lines } = answers.takeTrace();
       const run = answers.takeRun();
-      if (before !== "" && becomesTrue(condition, before, row)) return { cycles: 1, isReached: true, end: "" };
-      before = row;
+      if (lastRow !== "" && becomesTrue(condition, lastRow, row)) return { cycles: 1, isReached: true, end: "" };
+      lastRow = row;
       for (const line of lines) {
-        const { cycles, row: after } = readTraced(line);
-        if (becomesTrue(condition, before, after)) return { cycles: cycles + 1, isReached: true, end: "" };
-        before = after;
+        const { cycles, row: after } = parseTraceLine(line);
+        if (becomesTrue(condition, lastRow, after)) return { cycles: cycles + 1, isReached: true, end: "" };
+        lastRow = after;
       }
       return { ...run, isReached: false };
     },
@@ -95,7 +96,7 @@ function conditionWatcher(condition) {
 }
 
 /**
- * Returns a watcher for a return to a call depth. The depth starts at 0. Each JMS adds 1, and each BBL subtracts 1.
+ * Returns a watcher for a return to a call depth. The depth is 0 at first. Each JMS adds 1, and each BBL subtracts 1.
  * @param {Uint8Array} codes the bytes of ROM
  * @param {number} level the depth: 0 for the return from the next call, -1 for the return from the current subroutine
  * @returns {Watcher}
@@ -118,28 +119,28 @@ function returnWatcher(codes, level) {
  * @returns {Watcher}
  */
 function countWatcher(count, isOwed) {
-  let left = count;
+  let instructionsLeft = count;
   let wasOwed = isOwed;
   return {
     first: "",
-    most: () => left,
+    most: () => instructionsLeft,
     before: (cycles) => `count ${cycles}\n`,
     after: "regs\n",
     take: (answers) => {
       const startedCount = answers.takeCounts().reduce((sum, each) => sum + each.begun, 0);
       const run = answers.takeRun();
       const isNowOwed = parseCounter(answers.take()).isOwed;
-      left -= startedCount + Number(wasOwed) - Number(isNowOwed);
+      instructionsLeft -= startedCount + Number(wasOwed) - Number(isNowOwed);
       wasOwed = isNowOwed;
-      return left === 0 ? { cycles: run.cycles, isReached: true, end: "" } : { ...run, isReached: false };
+      return instructionsLeft === 0 ? { cycles: run.cycles, isReached: true, end: "" } : { ...run, isReached: false };
     },
     returns: false,
   };
 }
 
 /**
- * Returns a watcher that sets a breakpoint at an address in the searched copy. If the bench has no room for another breakpoint, returns a
- * watcher that examines all instructions.
+ * Returns a watcher that sets a breakpoint at an address, in the copy of the session that the search runs. If the bench already has the
+ * maximum number of breakpoints, returns a watcher that examines all instructions.
  * @param {Engine} engine
  * @param {Uint8Array} file
  * @param {number} address
@@ -164,7 +165,7 @@ function addressWatcher(engine, file, address) {
 }
 
 /**
- * Returns a watcher that examines all instructions for an address. The first instruction is the current position and does not count.
+ * Returns a watcher that examines the addresses of all instructions, except the first one, which is the current position.
  * @param {number} address
  */
 function instructionWatcher(address) {
@@ -177,19 +178,19 @@ function instructionWatcher(address) {
 }
 
 /**
- * Returns whether a subroutine is open: true if the newest return address follows a JMS.
+ * Returns whether the program is in a subroutine: true if a JMS precedes the newest return address.
  * @param {string} regs the answer to `regs`
  * @param {Uint8Array} codes the bytes of ROM
  */
 function isInSubroutine(regs, codes) {
-  return isCall(codes[callBefore(parseInt(readRegisters(regs).returns[0], 16))]);
+  return isCall(codes[callAddress(parseInt(readRegisters(regs).returns[0], 16))]);
 }
 
 /**
- * Returns `end` of `Found` for a goal that does not exist.
+ * Returns the `end` of a search for a goal that does not exist.
  * @param {Goal} goal
  */
-export function endWithout(goal) {
+export function missingGoalEnd(goal) {
   return goal.kind === "out" ? "outside" : "lacks";
 }
 
@@ -201,14 +202,14 @@ export function endWithout(goal) {
  * @param {() => Uint8Array} [codes] returns the contents of ROM
  * @returns {Watcher | null} null if the goal does not exist
  */
-export function watcherOf(engine, file, goal, codes = () => romCodes(engine, file)) {
+export function createWatcher(engine, file, goal, codes = () => romCodes(engine, file)) {
   if (goal.kind === "here") return addressWatcher(engine, file, goal.address);
   if (goal.kind === "change") {
-    const place = placeOf(goal.place);
+    const place = parsePlace(goal.place);
     const probes = place ? place.probesOn(readBoard(engine.ask(file, "board\n").answers)) : [];
     return probes.length > 0 ? traceWatcher(` ${probes.join(" ")}`, ({ cycles }) => cycles + 1) : null;
   }
-  if (goal.kind === "when") return goal.asked ? conditionWatcher(goal.asked) : null;
+  if (goal.kind === "when") return goal.searchCondition ? conditionWatcher(goal.searchCondition) : null;
   const [regs] = engine.ask(file, "regs\n").answers;
   const { counter, isOwed } = parseCounter(regs);
   if (goal.kind === "count") return countWatcher(goal.count, isOwed);

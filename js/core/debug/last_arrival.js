@@ -1,29 +1,30 @@
-// Finds the last arrival at a breakpoint before the present, the last change of a watched place, or the last call of an open subroutine.
-// The past is replayed in blocks on a copy that has the current breakpoints. Breakpoints with a note do not stop. Hit counts are ignored.
+// Searches the past for the last arrival at a breakpoint, the last change of a watched place, or the last call of an open subroutine. A
+// copy of the session, with the current breakpoints, replays the past in blocks. The search ignores breakpoints with a note, and hit
+// counts.
 
-import { readMarks, watchedPlaces } from "../bench/answers.js";
-import { aim, changeFinder, lastInPast } from "../engine/going_back.js";
+import { readItems, watchedPlaces } from "../bench/answers.js";
+import { searchResult, makeChangeFinder, searchPast } from "../engine/going_back.js";
 import { Arrivals } from "./arrivals.js";
 import { parseCounter } from "./goals.js";
 
 /**
  * @typedef {import("../engine/engine_host.js").EngineHost} Engine
- * @typedef {import("../engine/going_back.js").Aim} Aim
+ * @typedef {import("../engine/going_back.js").BackSearchResult} BackSearchResult
  * @typedef {import("../engine/going_back.js").Finder} Finder
- * @typedef {import("../engine/timeline.js").GoesOn} GoesOn
+ * @typedef {import("../engine/timeline.js").ShouldContinue} ShouldContinue
  * @typedef {import("../engine/timeline.js").Present} Present
  * @typedef {import("../engine/units.js").Unit} Unit
  * @typedef {import("../engine/worker_session.js").WorkerSession} WorkerSession
  * @typedef {import("./arrivals.js").SoftBreakpoint} SoftBreakpoint
  */
 
-/** Matches lines that set or delete breakpoints or watches. */
+/** Matches bench lines that set or delete breakpoints or watches. */
 const MARK_LINE = /^(un)?(break|watch) /;
 /** The length of a JMS in cycles. */
 const JMS_CYCLES = 2;
 
 /** Finds the last arrival at a breakpoint whose condition is true. */
-class LastArrival {
+class LastArrivalFinder {
   /**
    * @param {WorkerSession} session
    * @param {SoftBreakpoint[]} breakpoints
@@ -31,21 +32,21 @@ class LastArrival {
   constructor(session, breakpoints) {
     this.engine = session.engine;
     this.arrivals = new Arrivals(breakpoints);
-    /** The present moment. An arrival at the present does not count. */
-    this.now = { total: session.count.total, counter: parseCounter(session.ask("regs\n")[0]).counter };
+    /** The cycle count and the program counter at the present moment. An arrival at this moment does not count. */
+    this.presentMoment = { total: session.count.total, counter: parseCounter(session.ask("regs\n")[0]).counter };
     this.copy = new Uint8Array(0);
     this.total = 0;
-    /** The cycle count at the last arrival found. */
+    /** The cycle count at the last arrival that was found. */
     this.foundAt = 0;
   }
 
   /**
-   * Starts at a past moment with a copy that has the current breakpoints.
+   * Starts the replay at a past moment, on a copy of the session with the current breakpoints.
    * @param {Present} present
    */
   begin({ file, count }) {
     const { engine, arrivals } = this;
-    const [breaks, watches] = engine.ask(file, "breaks\nwatches\n").answers.map(readMarks);
+    const [breaks, watches] = engine.ask(file, "breaks\nwatches\n").answers.map(readItems);
     const removalLines = [
       ...breaks.map((each) => `unbreak 0x${each}\n`), ...watches.map((each) => `unwatch ${each.replace(".", " 0x")}\n`)];
     this.copy = file.slice();
@@ -54,29 +55,30 @@ class LastArrival {
   }
 
   /**
-   * Replays units of the past. Returns the last arrival in them, or null.
+   * Replays units of the past. Returns the last arrival in these units; null if there is none.
    * @param {Unit[]} units
-   * @returns {Aim | null}
+   * @returns {BackSearchResult | null}
    */
   among(units) {
-    const { engine, arrivals, copy, now } = this;
-    /** @type {Aim | null} */
+    const { engine, arrivals, copy, presentMoment } = this;
+    /** @type {BackSearchResult | null} */
     let found = null;
     let [lines, count] = ["", 0];
     for (const { line, cycles, moment } of units) {
       if (cycles === 0) {
-        // Lines that changed breakpoints in the past are skipped, as are runs without a cycle.
+        // The replay skips lines that changed breakpoints in the past, and runs without a cycle.
         if (MARK_LINE.test(line) || /^(run|step)\b/.test(line)) continue;
         [lines, count] = [`${lines}${line}\n`, count + 1];
         continue;
       }
-      const before = this.total;
+      const countBefore = this.total;
       arrivals.run(engine, copy, { lines, count, cycles }, (_, row, cyclesRun) => {
         const breakpoint = arrivals.breakpointAt(row);
-        const isNow = before + cyclesRun === now.total && breakpoint !== null && breakpoint.address === now.counter;
+        const isNow = countBefore + cyclesRun === presentMoment.total
+          && breakpoint !== null && breakpoint.address === presentMoment.counter;
         if (breakpoint && !isNow) {
-          found = aim({ moment: { ...moment, cycles: moment.cycles + cyclesRun }, end: "break", id: breakpoint.id });
-          this.foundAt = before + cyclesRun;
+          found = searchResult({ moment: { ...moment, cycles: moment.cycles + cyclesRun }, end: "break", id: breakpoint.id });
+          this.foundAt = countBefore + cyclesRun;
         }
         return false;
       });
@@ -89,11 +91,11 @@ class LastArrival {
 }
 
 /**
- * Returns the later of two aims; the first one if their moments are equal.
- * @param {Aim | null} one
- * @param {Aim | null} other
+ * Returns the later one of two aims; the first searchResult if their moments are equal.
+ * @param {BackSearchResult | null} one
+ * @param {BackSearchResult | null} other
  */
-function laterOf(one, other) {
+function laterAim(one, other) {
   if (!one || !other) return one || other;
   const [a, b] = [one, other].map(({ moment }) => moment || { segment: -1, entry: -1, cycles: -1 });
   const isLater = [b.segment - a.segment, b.entry - a.entry, b.cycles - a.cycles].find((each) => each !== 0) || 0;
@@ -101,58 +103,58 @@ function laterOf(one, other) {
 }
 
 /**
- * Combines several finders into one that returns the latest aim.
+ * Returns a finder that calls several finders and returns their latest searchResult.
  * @param {Finder[]} finders
  * @returns {Finder}
  */
-function lastOf(finders) {
+function combineFinders(finders) {
   return {
     begin: ({ file, count }) => finders.forEach((finder) => finder.begin({ file: file.slice(), count })),
-    among: (units) => finders.map((finder) => finder.among(units)).reduce(laterOf, null),
+    among: (units) => finders.map((finder) => finder.among(units)).reduce(laterAim, null),
   };
 }
 
 /**
- * The watched places in addition to those of the bench: one place ("" for none), and the data watches.
- * @typedef {{ place: string, watches?: import("./data_watches.js").DataWatches }} Beside
+ * The watched places that the bench does not watch: a place ("" for none), and the places of the data watches.
+ * @typedef {{ place: string, watches?: import("./data_watches.js").DataWatches }} ExtraWatches
  */
 
 /**
- * Finds the last arrival or change before the present. If there is none, resolves to the start of the recorded past.
+ * Finds the last arrival or change before the present. Resolves to its moment, or else to the start of the recorded past.
  * @param {WorkerSession} session
- * @param {SoftBreakpoint[]} breakpoints the breakpoints that stop
- * @param {Beside} beside
- * @param {GoesOn} shouldContinue
- * @returns {Promise<Aim>}
+ * @param {SoftBreakpoint[]} breakpoints the breakpoints that stop time
+ * @param {ExtraWatches} extraWatches
+ * @param {ShouldContinue} shouldContinue
+ * @returns {Promise<BackSearchResult>}
  */
-export async function lastArrival(session, breakpoints, { place, watches }, shouldContinue) {
+export async function findLastArrival(session, breakpoints, { place, watches }, shouldContinue) {
   const { engine, file, timeline } = session;
   const places = [...watchedPlaces(session.ask("watches\n")[0]), ...(place === "" ? [] : [place])];
-  const changes = places.map((each) => changeFinder(engine, file, each));
-  if (changes.some((each) => each === null)) return aim({ why: "lacks", place });
+  const changes = places.map((each) => makeChangeFinder(engine, file, each));
+  if (changes.some((each) => each === null)) return searchResult({ why: "lacks", place });
   const finders = [...changes.flatMap((each) => (each ? [each] : [])), ...(watches ? watches.finders(engine) : [])];
-  const all = lastOf([...(breakpoints.length > 0 ? [new LastArrival(session, breakpoints)] : []), ...finders]);
-  const { found, beginning } = await lastInPast(engine, timeline, all, shouldContinue);
+  const all = combineFinders([...(breakpoints.length > 0 ? [new LastArrivalFinder(session, breakpoints)] : []), ...finders]);
+  const { found, beginning } = await searchPast(engine, timeline, all, shouldContinue);
   if (found) return found;
   const { end } = timeline;
   const isHere = beginning.segment === end.segment && end.entry === 0;
-  return isHere ? aim({ why: "short" }) : aim({ moment: beginning, end: "beginning" });
+  return isHere ? searchResult({ why: "short" }) : searchResult({ moment: beginning, end: "beginning" });
 }
 
 /**
- * Finds the moment after the JMS that called an open subroutine and before the first instruction of the subroutine.
+ * Finds the start of an open subroutine: resolves to the moment after the JMS that called the subroutine.
  * @param {WorkerSession} session
  * @param {number} call the address of the JMS
  * @param {string[]} returns the return addresses before the JMS, newest first
- * @param {GoesOn} shouldContinue
- * @returns {Promise<Aim>}
+ * @param {ShouldContinue} shouldContinue
+ * @returns {Promise<BackSearchResult>}
  */
-export async function lastCall(session, call, returns, shouldContinue) {
+export async function findLastCall(session, call, returns, shouldContinue) {
   const holds = (/** @type {string[]} */ [answer]) => returns.every((each, at) => answer.split(",")[at] === each);
-  const finder = new LastArrival(session, [{ id: 0, address: call, from: 1, hits: 0, places: ["ret"], holds, words: null }]);
-  const { found } = await lastInPast(session.engine, session.timeline, finder, shouldContinue);
-  const back = session.count.total - finder.foundAt - JMS_CYCLES;
-  if (!found || back < 0) return aim({ why: "short" });
-  const moment = back === 0 ? session.timeline.end : session.timeline.before(back);
-  return moment ? aim({ moment }) : aim({ why: "short" });
+  const finder = new LastArrivalFinder(session, [{ id: 0, address: call, from: 1, hits: 0, places: ["ret"], holds, words: null }]);
+  const { found } = await searchPast(session.engine, session.timeline, finder, shouldContinue);
+  const cyclesBack = session.count.total - finder.foundAt - JMS_CYCLES;
+  if (!found || cyclesBack < 0) return searchResult({ why: "short" });
+  const moment = cyclesBack === 0 ? session.timeline.end : session.timeline.before(cyclesBack);
+  return moment ? searchResult({ moment }) : searchResult({ why: "short" });
 }

@@ -1,16 +1,16 @@
-// At each pause, collects the changes that the last source line made in one step. A step is one instruction, or a call that was stepped
-// over.
+// Collects the changes that the last source lines made. At each pause, adds the changes of the last step: one instruction, or a call that
+// the user stepped over.
 //
 //     const changes = new LineChanges();
-//     changes.addPause(standing, cycles, map);   at a pause; `cycles` is the cycle count
+//     changes.addPause(machineState, cycles, map);   at a pause; `machineState` is the machine state, `cycles` is the cycle count
 //     changes.lines                              Map { 12 => "acc 5 cy 1" }, newest line last
 
-import { partsOf } from "../text/assembly.js";
+import { splitStatement } from "../text/assembly.js";
 import * as say from "../../words/debug.js";
 
 /**
  * @typedef {import("../machine/source_map.js").SourceMap} SourceMap
- * @typedef {import("./standing.js").MachineState} MachineState
+ * @typedef {import("./machine_state.js").MachineState} MachineState
  */
 
 /** The maximum number of reported lines, and of reported changes per line. */
@@ -22,15 +22,16 @@ const MAX_CHANGES = 6;
  * @param {MachineState} before
  * @param {MachineState} after
  */
-export function wordsOfChanges(before, after) {
-  const old = before.all();
-  const changed = [...after.all()].filter(([name, value]) => old.get(name) !== value).map(([name, value]) => `${name} ${value}`);
-  const more = changed.length - MAX_CHANGES;
-  return changed.slice(0, MAX_CHANGES).join(" ") + (more > 0 ? say.andMore(more) : "");
+export function describeChanges(before, after) {
+  const oldValues = before.all();
+  const descriptions = [...after.all()].filter(([name, value]) => oldValues.get(name) !== value).map(([name, value]) => `${name} ${value}`);
+  const omittedCount = descriptions.length - MAX_CHANGES;
+  return descriptions.slice(0, MAX_CHANGES).join(" ") + (omittedCount > 0 ? say.andMore(omittedCount) : "");
 }
 
 /**
- * Returns the source line that was the only step between two pauses; 0 if there is none. A call includes the whole subroutine.
+ * Returns the number of the source line whose instruction was the only step between two pauses; 0 if there is none. The step of a call
+ * includes the subroutine.
  * @param {MachineState} before
  * @param {MachineState} after
  * @param {number} cycles the cycles between the pauses
@@ -40,7 +41,7 @@ function steppedLine({ registers: before }, { registers: after }, cycles, map) {
   const address = parseInt(before.counter, 16);
   if (!map.beginsInstruction(address) || before.owed !== "0" || after.owed !== "0") return 0;
   const line = map.lineOf(address);
-  const { head } = partsOf(map.sources[line - 1]);
+  const { head } = splitStatement(map.sources[line - 1]);
   const name = head ? head.text.toUpperCase() : "";
   const size = map.sizes[line];
   if (cycles === (name === "FIN" ? 2 : size)) return line;
@@ -49,7 +50,7 @@ function steppedLine({ registers: before }, { registers: after }, cycles, map) {
   return name === "JMS" && isBack ? line : 0;
 }
 
-/** The changes that the last lines made. */
+/** The changes that the last source lines made. */
 export class LineChanges {
   constructor() {
     /** @type {MachineState | null} the state at the last pause; `cycles` is the cycle count at that pause */
@@ -67,22 +68,22 @@ export class LineChanges {
 
   /**
    * Adds a pause.
-   * @param {MachineState} standing the state
+   * @param {MachineState} machineState the state
    * @param {number} cycles the cycle count
    * @param {SourceMap | null} map the source map of the program in ROM; null if the source is unknown
    */
-  addPause(standing, cycles, map) {
+  addPause(machineState, cycles, map) {
     const { before } = this;
     const elapsed = cycles - this.cycles;
-    this.before = standing;
+    this.before = machineState;
     this.cycles = cycles;
     if (before && map && elapsed === 0) return;
-    const line = before && map && elapsed > 0 ? steppedLine(before, standing, elapsed, map) : 0;
+    const line = before && map && elapsed > 0 ? steppedLine(before, machineState, elapsed, map) : 0;
     if (!before || line === 0) {
       this.lines = new Map();
       return;
     }
     const lines = [...this.lines].filter(([each]) => each !== line);
-    this.lines = new Map([...lines, /** @type {[number, string]} */ ([line, wordsOfChanges(before, standing)])].slice(-MAX_LINES));
+    this.lines = new Map([...lines, /** @type {[number, string]} */ ([line, describeChanges(before, machineState)])].slice(-MAX_LINES));
   }
 }

@@ -1,20 +1,20 @@
-// Tracks the selection by SRC, and finds mistakes in instructions that use it: the selected port or chip is missing, or the last SRC was
-// sent for another instruction.
+// Tracks which chips and registers SRC has selected, and finds mistakes in instructions that use the selection: the selected port or chip
+// is missing, or the program sent the last SRC for another instruction.
 
-import { hex, numberOf } from "../bench/numbers.js";
-import { itemsOf, valueIn } from "../bench/state_line.js";
+import { hex, parseNumber } from "../bench/numbers.js";
+import { parseItems, stateValue } from "../bench/state_line.js";
 import { RDR, WRR } from "../engine/rom_codes.js";
 import * as say from "../../words/debug.js";
 
 /**
  * @typedef {import("../bench/answers.js").Board} Board
  * @typedef {import("./common_mistakes.js").Kind} Kind
- * @typedef {{ kind: Kind, words: string }} Fault
+ * @typedef {{ kind: Kind, words: string }} SelectionMistake
  */
 
-/** The opcodes of instructions that write to a RAM bank, with their names, and the opcodes of instructions that read from one. */
-const WRITES = new Map([[0xE0, "WRM"], [0xE1, "WMP"], [0xE4, "WR0"], [0xE5, "WR1"], [0xE6, "WR2"], [0xE7, "WR3"]]);
-const READS = new Set([0xE8, 0xE9, 0xEB, 0xEC, 0xED, 0xEE, 0xEF]);
+/** The opcodes of the instructions that write to a RAM bank, with their mnemonics; and the opcodes of those that read from a RAM bank. */
+const RAM_WRITES = new Map([[0xE0, "WRM"], [0xE1, "WMP"], [0xE4, "WR0"], [0xE5, "WR1"], [0xE6, "WR2"], [0xE7, "WR3"]]);
+const RAM_READS = new Set([0xE8, 0xE9, 0xEB, 0xEC, 0xED, 0xEE, 0xEF]);
 
 /**
  * Returns whether an instruction is SRC.
@@ -25,39 +25,39 @@ function isSrc(code) {
 }
 
 /**
- * Returns whether an instruction is SRC or uses the selection.
+ * Returns whether an instruction is SRC, or uses the selection by SRC.
  * @param {number} code
  */
-export function usesSelected(code) {
+export function usesSelection(code) {
   return code >> 4 === 0xE || isSrc(code);
 }
 
-/** The selection by SRC, and the instructions that have used the selection. */
-export class Selected {
+/** The selection by SRC, and the instructions that have used this selection. */
+export class SrcSelection {
   /** @param {Board} board */
   constructor(board) {
     /** @type {Map<number, string>} the port masks of the ROMs, by chip number */
-    this.ports = new Map(board.roms.map(({ chip, port }) => [Number(chip), port]));
+    this.portMasks = new Map(board.roms.map(({ chip, port }) => [Number(chip), port]));
     /** @type {Map<number, number>} the number of chips, by bank */
-    this.chips = new Map(board.banks.map(({ bank, chips }) => [Number(bank), Number(chips)]));
+    this.chipCounts = new Map(board.banks.map(({ bank, chips }) => [Number(bank), Number(chips)]));
     /** @type {Map<number, number>} the latched SRC bytes, by bank */
-    this.latched = new Map();
+    this.latchedBytes = new Map();
     /** The address of the last SRC, -1 before the first SRC. */
-    this.source = -1;
+    this.srcAddress = -1;
     /** @type {Set<string>} the kinds of instructions that used the last SRC: "WRR", "RDR", or "RAM" */
-    this.users = new Set();
-    /** @type {Map<number, number>} the ROM chip that each WRR and RDR last used, by instruction address */
-    this.used = new Map();
+    this.userKinds = new Set();
+    /** @type {Map<number, number>} the ROM chips that WRR and RDR last used, by address of the instruction */
+    this.lastChips = new Map();
   }
 
   /**
-   * Reads the latched SRC bytes of the banks.
+   * Reads the SRC bytes that the RAM banks have latched.
    * @param {string} state the answer to `state`
    */
   begin(state) {
-    for (const item of itemsOf(valueIn(state, "banks"))) {
+    for (const item of parseItems(stateValue(state, "banks"))) {
       const [bank, byte] = item.split(".");
-      this.latched.set(Number(bank), parseInt(byte, 16));
+      this.latchedBytes.set(Number(bank), parseInt(byte, 16));
     }
   }
 
@@ -67,15 +67,15 @@ export class Selected {
    * @param {number} address
    * @param {string[]} values the values of src, dcl and ret after the instruction
    */
-  follow(code, address, [source, bank]) {
+  applyInstruction(code, address, [source, bank]) {
     if (isSrc(code)) {
-      this.latched.set(numberOf(bank), parseInt(source, 16));
-      this.source = address;
-      this.users.clear();
-    } else if (WRITES.has(code) || READS.has(code)) this.users.add("RAM");
+      this.latchedBytes.set(parseNumber(bank), parseInt(source, 16));
+      this.srcAddress = address;
+      this.userKinds.clear();
+    } else if (RAM_WRITES.has(code) || RAM_READS.has(code)) this.userKinds.add("RAM");
     else if (code === WRR || code === RDR) {
-      this.users.add(code === WRR ? "WRR" : "RDR");
-      this.used.set(address, parseInt(source[0], 16));
+      this.userKinds.add(code === WRR ? "WRR" : "RDR");
+      this.lastChips.set(address, parseInt(source[0], 16));
     }
   }
 
@@ -84,12 +84,12 @@ export class Selected {
    * @param {number} code
    * @param {number} address
    * @param {string[]} values the values of src, dcl and ret before the instruction
-   * @returns {Fault | null}
+   * @returns {SelectionMistake | null}
    */
-  faultOf(code, address, [source, bank]) {
-    if (code === WRR || code === RDR) return this.faultOfPort(code === WRR ? "WRR" : "RDR", address, parseInt(source[0], 16));
-    const name = WRITES.get(code);
-    return name ? this.faultOfRam(name, numberOf(bank)) : null;
+  findMistake(code, address, [source, bank]) {
+    if (code === WRR || code === RDR) return this.findPortMistake(code === WRR ? "WRR" : "RDR", address, parseInt(source[0], 16));
+    const name = RAM_WRITES.get(code);
+    return name ? this.findRamMistake(name, parseNumber(bank)) : null;
   }
 
   /**
@@ -97,36 +97,36 @@ export class Selected {
    * @param {string} name the mnemonic of the instruction
    * @param {number} address
    * @param {number} chip the selected ROM
-   * @returns {Fault | null}
+   * @returns {SelectionMistake | null}
    */
-  faultOfPort(name, address, chip) {
-    const port = this.ports.get(chip);
+  findPortMistake(name, address, chip) {
+    const port = this.portMasks.get(chip);
     const isWrite = name === "WRR";
-    const what = say.usesRom(name, isWrite, chip);
-    if (port === undefined) return isWrite ? { kind: "chip", words: say.whichLacks(what, this.description) } : null;
-    if (isWrite && !/[01]/.test(port)) return { kind: "lines", words: say.noOutputs(what, this.description) };
-    if (!isWrite && !port.includes("i")) return { kind: "lines", words: say.noInputs(what, this.description) };
-    const before = this.used.get(address);
-    const user = [...this.users].find((each) => each !== name);
-    if (user === undefined || before === undefined || before === chip) return null;
-    const message = say.usedBefore(what, before, this.source < 0 ? "" : say.atAddress(hex(this.source, 3)));
-    return { kind: "source", words: say.sourceWasFor(message, user) };
+    const action = say.usesRom(name, isWrite, chip);
+    if (port === undefined) return isWrite ? { kind: "chip", words: say.whichLacks(action, this.description) } : null;
+    if (isWrite && !/[01]/.test(port)) return { kind: "lines", words: say.noOutputs(action, this.description) };
+    if (!isWrite && !port.includes("i")) return { kind: "lines", words: say.noInputs(action, this.description) };
+    const lastChip = this.lastChips.get(address);
+    const otherUser = [...this.userKinds].find((each) => each !== name);
+    if (otherUser === undefined || lastChip === undefined || lastChip === chip) return null;
+    const message = say.usedBefore(action, lastChip, this.srcAddress < 0 ? "" : say.atAddress(hex(this.srcAddress, 3)));
+    return { kind: "source", words: say.sourceWasFor(message, otherUser) };
   }
 
-  /** The message about the last SRC; "" before the first SRC. */
+  /** A message about the address of the last SRC; "" before the first SRC. */
   get description() {
-    return this.source < 0 ? "" : say.lastSource(hex(this.source, 3));
+    return this.srcAddress < 0 ? "" : say.lastSource(hex(this.srcAddress, 3));
   }
 
   /**
    * Returns the mistake of an instruction that writes to RAM; null if there is none.
    * @param {string} name the mnemonic of the instruction
    * @param {number} bank the selected bank
-   * @returns {Fault | null}
+   * @returns {SelectionMistake | null}
    */
-  faultOfRam(name, bank) {
-    const chips = this.chips.get(bank) || 0;
-    const chip = (this.latched.get(bank) || 0) >> 6;
+  findRamMistake(name, bank) {
+    const chips = this.chipCounts.get(bank) || 0;
+    const chip = (this.latchedBytes.get(bank) || 0) >> 6;
     if (chip < chips) return null;
     const chipText = chips === 0 ? say.bankWithoutRam(bank) : say.chipOf(chip, bank, chips);
     return { kind: "chip", words: say.writesTo(name, chipText, this.description) };

@@ -1,48 +1,50 @@
-// The watch expressions, with optional names chosen by the user: `count = R5`, `digit = ram 0 0x12`, `r5 + 1 > limit`.
+// Parses watch expressions, to which the user can give names: `count = R5`, `digit = ram 0 0x12`, `r5 + 1 > limit`.
 //
-//     const { watched, fault } = readWatched("digit = ram 0 0x12", names);
-//     watched.pieces(standing, names)    the current value as pieces (value_words.js)
+//     const { watched, fault } = parseWatch("digit = ram 0 0x12", names);
+//     watched.pieces(machineState, names)    the current value as pieces (value_words.js)
 
-import { expressionOf } from "../conditions/condition_language.js";
-import { WORDS, parse } from "../conditions/parser.js";
-import { placeOf } from "../conditions/places.js";
-import { Unreadable, numeralOf } from "../conditions/scanner.js";
+import { compileExpression } from "../conditions/condition_language.js";
+import { KEYWORDS, parseExpression } from "../conditions/parser.js";
+import { parsePlace } from "../conditions/places.js";
+import { ConditionError, parseNumeral } from "../conditions/scanner.js";
 import { inColumn } from "../../words/conditions.js";
-import { valueOfPlace } from "./standing_places.js";
+import { readPlaceValue } from "./standing_places.js";
 import { NAME } from "../text/assembly.js";
 import * as say from "../../words/debug.js";
 
 /**
- * @typedef {import("./standing.js").MachineState} MachineState
+ * @typedef {import("./machine_state.js").MachineState} MachineState
  * @typedef {import("./value_words.js").Piece} Piece
  * @typedef {import("../conditions/condition_language.js").Names} Names
  *
- * A watch expression. `text` is its saved text. `value` is the expression without the name. `place` is the place of a RAM or status
+ * A watch expression. `text` is its saved text. `value` is the expression without the name. `place` is the name of a RAM or status
  * character, "" for any other expression. `pieces` returns the current value.
- * @typedef {{ name: string, text: string, place: string, value: string, pieces: Reader }} Watched
- * @typedef {(standing: MachineState, names: Names) => Piece[]} Reader
+ * @typedef {{ name: string, text: string, place: string, value: string, pieces: Reader }} WatchExpression
+ *
+ * Returns the value of a watch expression in a machine state, as pieces of text.
+ * @typedef {(machineState: MachineState, names: Names) => Piece[]} Reader
  */
 
-/** The maximum number of watch expressions, and the maximum length of one in characters. */
-export const MAX_WATCHED = 40;
+/** The maximum number of watch expressions, and the maximum length of a watch expression in characters. */
+export const MAX_WATCH_EXPRESSIONS = 40;
 const MAX_LENGTH = 200;
-/** The largest number that is shown without a hexadecimal form. */
-const MAX_PLAIN = 9;
+/** The largest number that is shown only in decimal, without its hexadecimal form. */
+const MAX_DECIMAL_ONLY = 9;
 
 /**
- * Returns the reader of an editable place.
+ * Returns the reader of a place that the user can edit.
  * @param {string} place
- * @param {(standing: MachineState) => string} value
+ * @param {(machineState: MachineState) => string} value
  * @returns {Reader}
  */
 function editableReader(place, value) {
-  return (standing) => {
-    const is = value(standing);
-    return is === "" ? [say.LACKED] : [{ place, name: place, value: is }];
+  return (machineState) => {
+    const text = value(machineState);
+    return text === "" ? [say.LACKED] : [{ place, name: place, value: text }];
   };
 }
 
-/** @type {Record<string, (standing: MachineState) => string>} the values of named registers */
+/** @type {Record<string, (machineState: MachineState) => string>} the values of named registers */
 const REGISTERS = {
   acc: ({ registers }) => registers.accumulator, cy: ({ registers }) => registers.carry, dcl: ({ registers }) => registers.bank,
 };
@@ -55,11 +57,11 @@ const REGISTERS = {
 function machineReader(place) {
   if (Object.prototype.hasOwnProperty.call(REGISTERS, place)) return editableReader(place, REGISTERS[place]);
   const register = /^r(\d+)$/.exec(place);
-  if (register) return editableReader(place, (standing) => standing.register(Number(register[1])));
+  if (register) return editableReader(place, (machineState) => machineState.register(Number(register[1])));
   const pair = /^p(\d)$/.exec(place);
   if (!pair) return null;
   const halves = [0, 1].map((half) => 2 * Number(pair[1]) + half);
-  return (standing) => halves.map((half) => ({ place: `r${half}`, name: `R${half}`, value: standing.register(half) }));
+  return (machineState) => halves.map((half) => ({ place: `r${half}`, name: `R${half}`, value: machineState.register(half) }));
 }
 
 /**
@@ -69,8 +71,8 @@ function machineReader(place) {
  */
 function memoryReader(place) {
   const [kind, bank, at, number] = place.split(".");
-  if (kind === "ram") return editableReader(place, (standing) => standing.character(Number(bank), Number(at)));
-  return kind === "st" ? editableReader(place, (standing) => standing.status(Number(bank), Number(at), Number(number))) : null;
+  if (kind === "ram") return editableReader(place, (machineState) => machineState.character(Number(bank), Number(at)));
+  return kind === "st" ? editableReader(place, (machineState) => machineState.status(Number(bank), Number(at), Number(number))) : null;
 }
 
 /**
@@ -81,28 +83,28 @@ function memoryReader(place) {
 function portReader(place) {
   const rom = /^rom(\d+)$/.exec(place);
   if (rom) {
-    return (standing) => {
-      const port = standing.romPort(Number(rom[1]));
+    return (machineState) => {
+      const port = machineState.romPort(Number(rom[1]));
       return [port ? say.outAndIn(port.out, port.in) : say.LACKED];
     };
   }
   const ram = /^ram(\d)\.(\d)$/.exec(place);
   if (!ram) return null;
-  return (standing) => {
-    const out = standing.ramPort(Number(ram[1]), Number(ram[2]));
+  return (machineState) => {
+    const out = machineState.ramPort(Number(ram[1]), Number(ram[2]));
     return [out === "" ? say.LACKED : `out ${out}`];
   };
 }
 
 /**
- * Returns the reader of a place that is not editable.
+ * Returns the reader of a place that the user cannot edit.
  * @param {import("../conditions/places.js").Place} place
  * @returns {Reader}
  */
 function placeReader(place) {
-  return (standing, { board }) => {
+  return (machineState, { board }) => {
     const probes = place.probesOn(board);
-    return [probes.length === 0 ? say.LACKED : place.value(probes.map((probe) => valueOfPlace(probe, standing, board)))];
+    return [probes.length === 0 ? say.LACKED : place.value(probes.map((probe) => readPlaceValue(probe, machineState, board)))];
   };
 }
 
@@ -112,26 +114,26 @@ function placeReader(place) {
  * @returns {Reader}
  */
 function expressionReader(text) {
-  return (standing, names) => {
-    const { expression, fault } = expressionOf(text, names);
+  return (machineState, names) => {
+    const { expression, fault } = compileExpression(text, names);
     if (!expression) return [fault];
-    const answers = expression.places.map((place) => valueOfPlace(place, standing, names.board));
+    const answers = expression.places.map((place) => readPlaceValue(place, machineState, names.board));
     const number = expression.number ? expression.number(answers) : 0;
     const value = expression.textOf(answers);
-    return [number > MAX_PLAIN && /^\d+$/.test(value) ? say.withHex(value, number.toString(16).toUpperCase()) : value];
+    return [number > MAX_DECIMAL_ONLY && /^\d+$/.test(value) ? say.withHex(value, number.toString(16).toUpperCase()) : value];
   };
 }
 
 /**
- * Splits a text into a name and an expression. `count = R5` has the name `count`. `r5 = 10` is a comparison and has no name.
+ * Splits a watch expression into its name and its value. `count = R5` has the name `count`. `r5 = 10` is a comparison and has no name.
  * @param {string} text
  */
-function partsOfWatched(text) {
+function splitWatchExpression(text) {
   const [, name, value] = /^\s*([^\s=<>!&+()-]*)\s*=(?!=)\s*(.*?)\s*$/.exec(text) || [];
-  // `x = 5` is a comparison because a name for a number would be useless.
-  const isCompared = name === undefined || WORDS.has(name.toLowerCase()) || /^(test|owed)$/i.test(name) || placeOf(name) !== null
-    || !Number.isNaN(numeralOf(value));
-  if (isCompared) return { name: "", value: text.trim(), column: text.length - text.trimStart().length };
+  // `x = 5` is a comparison, because a name for a number would be useless.
+  const isComparison = name === undefined || KEYWORDS.has(name.toLowerCase()) || /^(test|owed)$/i.test(name) || parsePlace(name) !== null
+    || !Number.isNaN(parseNumeral(value));
+  if (isComparison) return { name: "", value: text.trim(), column: text.length - text.trimStart().length };
   return { name, value, column: text.trimEnd().length - value.length };
 }
 
@@ -141,16 +143,16 @@ function partsOfWatched(text) {
  * @param {number} begin the column at which the expression starts
  * @param {Names | null} names
  */
-function faultOf(value, begin, names) {
+function expressionError(value, begin, names) {
   if (names) {
-    const { fault, column } = expressionOf(value, names);
+    const { fault, column } = compileExpression(value, names);
     return fault && inColumn(fault, begin + column);
   }
   try {
-    parse(value);
+    parseExpression(value);
     return "";
   } catch (fault) {
-    if (fault instanceof Unreadable) return inColumn(fault.message, begin + Math.max(0, fault.column));
+    if (fault instanceof ConditionError) return inColumn(fault.message, begin + Math.max(0, fault.column));
     throw fault;
   }
 }
@@ -159,15 +161,15 @@ function faultOf(value, begin, names) {
  * Parses a watch expression. `fault` is an error message, or "".
  * @param {string} text
  * @param {Names | null} [names] the names of the board and the program, if known
- * @returns {{ watched: Watched | null, fault: string }}
+ * @returns {{ watched: WatchExpression | null, fault: string }}
  */
-export function readWatched(text, names = null) {
+export function parseWatch(text, names = null) {
   if (text.length > MAX_LENGTH) return { watched: null, fault: say.tooLong(MAX_LENGTH) };
-  const { name, value, column } = partsOfWatched(text);
+  const { name, value, column } = splitWatchExpression(text);
   if (name !== "" && !NAME.test(name)) return { watched: null, fault: say.NAME_FORM };
   if (value === "") return { watched: null, fault: say.EXPRESSION_MISSING };
-  const place = placeOf(value);
-  const fault = place ? "" : faultOf(value, column, names);
+  const place = parsePlace(value);
+  const fault = place ? "" : expressionError(value, column, names);
   if (fault) return { watched: null, fault };
   const placeName = place ? place.name : "";
   const pieces = machineReader(placeName) || portReader(placeName) || memoryReader(placeName)
@@ -177,15 +179,15 @@ export function readWatched(text, names = null) {
 }
 
 /**
- * Parses saved watch expressions. The data can be invalid. `fault` is the first error message, or "".
+ * Parses saved watch expressions, which can be invalid data. `fault` is the first error message, "" for none.
  * @param {unknown} texts
- * @returns {{ all: Watched[], fault: string }}
+ * @returns {{ all: WatchExpression[], fault: string }}
  */
-export function readAllWatched(texts) {
+export function parseWatches(texts) {
   if (!Array.isArray(texts)) return { all: [], fault: "" };
-  const read = texts.slice(0, MAX_WATCHED).flatMap((text) => (typeof text === "string" ? [readWatched(text)] : []));
-  const wrong = read.find(({ fault }) => fault !== "");
-  return { all: read.flatMap(({ watched }) => (watched ? [watched] : [])), fault: wrong ? wrong.fault : "" };
+  const results = texts.slice(0, MAX_WATCH_EXPRESSIONS).flatMap((text) => (typeof text === "string" ? [parseWatch(text)] : []));
+  const failedResult = results.find(({ fault }) => fault !== "");
+  return { all: results.flatMap(({ watched }) => (watched ? [watched] : [])), fault: failedResult ? failedResult.fault : "" };
 }
 
 /**
@@ -193,6 +195,6 @@ export function readAllWatched(texts) {
  * @param {unknown} texts
  * @returns {Map<string, string>}
  */
-export function namesOfWatched(texts) {
-  return new Map(readAllWatched(texts).all.filter(({ name, text }) => name !== text).map(({ name, value }) => [name, value]));
+export function collectWatchNames(texts) {
+  return new Map(parseWatches(texts).all.filter(({ name, text }) => name !== text).map(({ name, value }) => [name, value]));
 }

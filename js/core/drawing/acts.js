@@ -1,18 +1,18 @@
-// Translates an action in the board drawing to edits of the board text, or to a message if the action is impossible. Only the bench decides
-// whether the resulting text is valid.
+// Translates an action in the board drawing to edits of the board text. If the action is impossible, returns a message instead. Only the
+// bench decides whether the resulting text is valid.
 
 import { boardLines } from "../bench/board_form.js";
 import { counted } from "../bench/numbers.js";
 import { Face } from "../board/face.js";
-import { BUZZER, bitOf, canWire, nameOfTarget, splitTarget, wiringOf } from "./board_lines.js";
+import { BUZZER, parseChainBit, canWire, targetName, splitTarget, inputLines } from "./board_lines.js";
 import {
-  INPUTS, OUTPUTS, addBuzzer, addChain, addColumn, addDisplay, addKeys, addLamp, addRam, addRom, addScanned, nameOfPart, needRom,
-  requireOutputs, setChips, setRows,
+  INPUT_MASK, OUTPUT_MASK, addBuzzer, addChain, addColumn, addDisplay, addKeys, addLamp, addRam, addRom, addMultiplexedDisplay,
+  displayedPartName, ensureRom, requireOutputs, setChips, setRows,
 } from "./adding.js";
-import { deletePart, displayAt, groupLampsOf } from "./deleting.js";
-import { COLOURS, colourLamp, moveBuzzer, nameKey, nameLamp, setLineText, wordOf } from "./face_edits.js";
+import { deletePart, displayAt, lampsInSameGroup } from "./deleting.js";
+import { COLOURS, colourLamp, moveBuzzer, nameKey, nameLamp, setLineText, toWord } from "./face_edits.js";
 import { replaceValue, setValue } from "./part_edits.js";
-import { ActRefusal, Sketch } from "./sketch.js";
+import { ImpossibleAction, Sketch } from "./sketch.js";
 import * as say from "../../words/drawing.js";
 
 /**
@@ -28,35 +28,35 @@ import * as say from "../../words/drawing.js";
  * - `name`: names a part, a key (`key ROW COLUMN`), the board (`title`) or the button or switch at the TEST pin (`test`); "" removes the
  * name
  * - `colour`: sets the lamp colour; "" for the default colour
- * @typedef {{ kind: "add", part: Shelved, line?: string, digits?: number } | { kind: "wire", line: string, target: string }
+ * @typedef {{ kind: "add", part: ShelfPart, line?: string, digits?: number } | { kind: "wire", line: string, target: string }
  *   | { kind: "port", line: string, as: string } | { kind: "chips", chain: number, chips: number } | { kind: "rows", rows: number }
  *   | { kind: "column" } | { kind: "delete", part: string } | { kind: "copy", part: string }
- *   | { kind: "name", part: string, name: string } | { kind: "colour", lamp: number, colour: string }} Act
+ *   | { kind: "name", part: string, name: string } | { kind: "colour", lamp: number, colour: string }} DrawingAction
  * @typedef {"rom" | "inputs" | "ram" | "chain" | "keys" | "lamp" | "digit" | "segments" | "scanned" | "button" | "switch"
- *   | "buzzer"} Shelved a part on the shelf: `rom` has outputs, `inputs` is a ROM with inputs, `digit` and `segments` are displays with
- *   BCD digits or seven segments, and `scanned` is a multiplexed display
+ *   | "buzzer"} ShelfPart a kind of part on the shelf: `rom` is a ROM with outputs, `inputs` a ROM with inputs, `digit` a display with BCD
+ *   digits, `segments` a display with seven-segment digits, and `scanned` a multiplexed display
  *
- * The result of an action: the successive edits, the text after all edits, the affected part, a message (`words`), and the numbers of
- * deleted chains. If the action is impossible, `refusal` is a message and there are no edits; otherwise it is "".
- * @typedef {{ edits: TextEdit[], text: string, part: string, words: string, goneChains: number[], refusal: string }} Result
+ * The result of an action: the edits in order, the text after all edits, the affected part, a message (`words`), and the numbers of deleted
+ * chains. If the action is impossible, `refusal` is a message and there are no edits; otherwise `refusal` is "".
+ * @typedef {{ edits: TextEdit[], text: string, part: string, words: string, deletedChains: number[], refusal: string }} Result
  */
 
-/** @type {Shelved[]} the parts on the shelf, in order */
-export const SHELF = ["rom", "inputs", "ram", "chain", "keys", "lamp", "button", "switch", "buzzer", "digit", "segments", "scanned"];
+/** @type {ShelfPart[]} the kinds of parts on the shelf, in order */
+export const SHELF_PARTS = ["rom", "inputs", "ram", "chain", "keys", "lamp", "button", "switch", "buzzer", "digit", "segments", "scanned"];
 
 /**
  * Adds a part from the shelf; returns its name.
  * @param {Sketch} sketch
- * @param {Extract<Act, { kind: "add" }>} act
+ * @param {Extract<DrawingAction, { kind: "add" }>} act
  * @returns {string}
  */
 function addFromShelf(sketch, { part, line, digits = 1 }) {
   switch (part) {
-    case "scanned": return addScanned(sketch, digits);
-    case "rom": return addRom(sketch, OUTPUTS);
-    case "inputs": return addRom(sketch, INPUTS);
+    case "scanned": return addMultiplexedDisplay(sketch, digits);
+    case "rom": return addRom(sketch, OUTPUT_MASK);
+    case "inputs": return addRom(sketch, INPUT_MASK);
     case "ram":
-      needRom(sketch);
+      ensureRom(sketch);
       return addRam(sketch);
     case "chain": return addChain(sketch);
     case "keys": return addKeys(sketch);
@@ -73,33 +73,33 @@ function addFromShelf(sketch, { part, line, digits = 1 }) {
  * @param {"button" | "switch"} kind
  */
 function addTest(sketch, kind) {
-  if (new Face(sketch.text).test) throw new ActRefusal(say.TEST_IN_USE);
-  needRom(sketch);
+  if (new Face(sketch.text).test) throw new ImpossibleAction(say.TEST_IN_USE);
+  ensureRom(sketch);
   sketch.edit(setLineText(sketch.draft, "test", "", `${kind} ${kind === "button" ? "PUSH" : "RUN"}`));
   return "test";
 }
 
 /**
- * Connects a signal line to an input; throws `ActRefusal` if the connection is not allowed.
+ * Connects a signal line to an input; throws `ImpossibleAction` if the connection is not allowed.
  * @param {Sketch} sketch
  * @param {string} name the name of the line
  * @param {string} target the input
  */
-function wire(sketch, name, target) {
+function connectLine(sketch, name, target) {
   const { board, draft } = sketch;
   const line = boardLines(board).find((each) => each.name === name);
-  if (!line || !wiringOf(board).has(target)) throw new ActRefusal(say.boardHasNo(line ? target : name));
-  if (!canWire(board, line, target)) throw new ActRefusal(wireRefusal(line, target));
+  if (!line || !inputLines(board).has(target)) throw new ImpossibleAction(say.boardHasNo(line ? target : name));
+  if (!canWire(board, line, target)) throw new ImpossibleAction(wireRefusal(line, target));
   const [kind, number] = splitTarget(target);
   if (kind === "clock" || kind === "data") sketch.edit([setValue(draft, draft.entry("chain", number), kind, name)]);
   if (kind === "lamp") sketch.edit([setValue(draft, draft.entry("lamp", number), "line", name)]);
   if (kind === "buzzer") sketch.edit(moveBuzzer(draft, name));
   if (kind === "column") {
-    const columns = draft.keyOf(draft.entry("keys", 0), "columns").value;
+    const columns = draft.requireKey(draft.entry("keys", 0), "columns").value;
     sketch.edit([replaceValue(draft, /** @type {import("../text/board_reader.js").Value[]} */ (columns.inner)[number], name)]);
   }
   if (kind === "row") {
-    const { chain, bit } = bitOf(name);
+    const { chain, bit } = parseChainBit(name);
     const keys = draft.entry("keys", 0);
     sketch.edit([setValue(draft, keys, "chain", chain), setValue(draft, keys, "first", bit - number)]);
   }
@@ -111,31 +111,31 @@ function wire(sketch, name, target) {
  * @param {string} target
  */
 function wireRefusal({ name, kind, isInput }, target) {
-  const [what] = splitTarget(target);
-  if (what === "column") return say.needsInput(name, nameOfTarget(target));
-  if (isInput) return say.needsOutput(name, nameOfTarget(target));
-  if (what === "row") return say.cannotDrive(name);
-  return say.needsChipLine(name, kind, nameOfTarget(target));
+  const [inputKind] = splitTarget(target);
+  if (inputKind === "column") return say.needsInput(name, targetName(target));
+  if (isInput) return say.needsOutput(name, targetName(target));
+  if (inputKind === "row") return say.cannotDrive(name);
+  return say.needsChipLine(name, kind, targetName(target));
 }
 
 /**
- * Makes a ROM line an input or an output; throws `ActRefusal` if connected parts need the other direction.
+ * Makes a ROM line an input or an output; throws `ImpossibleAction` if connected parts need the other direction.
  * @param {Sketch} sketch
  * @param {string} line
- * @param {string} as `i`, `0` or `1`
+ * @param {string} mode `i`, `0` or `1`
  */
-function setPort(sketch, line, as) {
+function setPort(sketch, line, mode) {
   const [chip, at] = line.replace("rom", "").split(".").map(Number);
   const { draft, board } = sketch;
   const entry = draft.partByNumber("rom", chip);
-  const port = String(draft.keyOf(entry, "port").value.inner);
-  const users = [...wiringOf(board)].filter(([target, name]) => name === line && target !== BUZZER).map(([target]) => target);
-  const changesDirection = (port[3 - at] === "i") !== (as === "i");
+  const port = String(draft.requireKey(entry, "port").value.inner);
+  const users = [...inputLines(board)].filter(([target, name]) => name === line && target !== BUZZER).map(([target]) => target);
+  const changesDirection = (port[3 - at] === "i") !== (mode === "i");
   if (changesDirection && users.length > 0) {
-    throw new ActRefusal(say.takenLine(line, users.map(nameOfTarget).join(say.AND)));
+    throw new ImpossibleAction(say.takenLine(line, users.map(targetName).join(say.AND)));
   }
   requireOutputs(sketch, (each) => changesDirection && each === line);
-  sketch.edit([setValue(draft, entry, "port", port.slice(0, 3 - at) + as + port.slice(4 - at))]);
+  sketch.edit([setValue(draft, entry, "port", port.slice(0, 3 - at) + mode + port.slice(4 - at))]);
 }
 
 /**
@@ -147,32 +147,32 @@ function copyPart(sketch, part) {
   const { board, text } = sketch;
   const [kind, number] = splitTarget(part);
   const face = new Face(text);
-  if (kind === "rom") return addRom(sketch, (board.roms.find(({ chip }) => Number(chip) === number) || { port: OUTPUTS }).port);
+  if (kind === "rom") return addRom(sketch, (board.roms.find(({ chip }) => Number(chip) === number) || { port: OUTPUT_MASK }).port);
   if (kind === "ram") return addRam(sketch);
   if (kind === "chain") return addChain(sketch, board.chains[number].chips);
-  if (kind !== "lamp") throw new ActRefusal(say.ONLY_ONCE);
+  if (kind !== "lamp") throw new ImpossibleAction(say.ONLY_ONCE);
   const display = displayAt(face, number);
   if (display) return addDisplay(sketch, display.columns < 7 ? "digit" : "segments", display.rows);
-  if (groupLampsOf(face, number).length > 1) throw new ActRefusal(say.COPY_IN_TEXT);
+  if (lampsInSameGroup(face, number).length > 1) throw new ImpossibleAction(say.COPY_IN_TEXT);
   return addLamp(sketch, "", (face.colours.get(number) || { text: "" }).text);
 }
 
 /**
- * Names a lamp; throws `ActRefusal` if the new name would change the lamps on the grid.
+ * Names a lamp; throws `ImpossibleAction` if the new name would change the lamps on the grid.
  * @param {Sketch} sketch
  * @param {number} lamp
  * @param {string} name
  */
 function renameLamp(sketch, lamp, name) {
   /** @type {(text: string) => string} */
-  const gridOf = (text) => new Face(text).grid.map((each) => `${each.row} ${each.column} ${each.lamp}`).join();
-  const grid = gridOf(sketch.text);
+  const describeGrid = (text) => new Face(text).grid.map((each) => `${each.row} ${each.column} ${each.lamp}`).join();
+  const grid = describeGrid(sketch.text);
   sketch.edit(nameLamp(sketch.draft, lamp, name));
-  if (gridOf(sketch.text) !== grid) throw new ActRefusal(say.GRID_DIFFERS);
+  if (describeGrid(sketch.text) !== grid) throw new ImpossibleAction(say.GRID_DIFFERS);
 }
 
 /**
- * Names a part; throws `ActRefusal` if the name is not allowed.
+ * Names a part; throws `ImpossibleAction` if the name is not allowed.
  * @param {Sketch} sketch
  * @param {string} part
  * @param {string} name
@@ -185,130 +185,131 @@ function renamePart(sketch, part, name) {
   else if (kind === "title") sketch.edit(setLineText(draft, "title", "", name));
   else if (kind === "test") {
     const { test } = new Face(text);
-    if (!test || wordOf(name) === "") throw new ActRefusal(say.TEST_NEEDS_NAME);
-    sketch.edit(setLineText(draft, "test", "", `${test.kind} ${wordOf(name)}${test.level ? " to 1" : ""}`));
+    if (!test || toWord(name) === "") throw new ImpossibleAction(say.TEST_NEEDS_NAME);
+    sketch.edit(setLineText(draft, "test", "", `${test.kind} ${toWord(name)}${test.level ? " to 1" : ""}`));
   } else if (kind === "buzzer") {
-    if (!board.buzzer || name.trim() === "") throw new ActRefusal(say.BUZZER_NEEDS_NAME);
+    if (!board.buzzer || name.trim() === "") throw new ImpossibleAction(say.BUZZER_NEEDS_NAME);
     sketch.edit(setLineText(draft, "buzzer", board.buzzer, name));
   } else if (["rom", "ram", "chain"].includes(kind)) sketch.edit(setLineText(draft, "port", part.replace(" ", ""), name));
-  else throw new ActRefusal(say.NO_OWN_NAME);
+  else throw new ImpossibleAction(say.NO_OWN_NAME);
 }
 
 /**
- * Sets the lamp colour; throws `ActRefusal` for an unknown colour.
+ * Sets the lamp colour; throws `ImpossibleAction` for an unknown colour.
  * @param {Sketch} sketch
  * @param {number} lamp
  * @param {string} colour "" for the default
  */
 function setColour(sketch, lamp, colour) {
-  if (colour !== "" && !COLOURS.has(colour)) throw new ActRefusal(say.noColour(colour, [...COLOURS].join(", ")));
+  if (colour !== "" && !COLOURS.has(colour)) throw new ImpossibleAction(say.noColour(colour, [...COLOURS].join(", ")));
   sketch.edit(colourLamp(sketch.draft, lamp, colour));
 }
 
 /**
- * Returns a message about a completed action on a part.
+ * Returns the message after an action on a part, such as `ROM 1 was added`.
  * @param {string} part
- * @param {string} what the participle of the action
+ * @param {string} participle such as `added`
  */
-function messageAbout(part, what) {
-  return `${capitalized(nameOfPart(part))} ${part === "keys" || part === "lamps" ? "were" : "was"} ${what}`;
+function completionMessage(part, participle) {
+  return `${capitalize(displayedPartName(part))} ${part === "keys" || part === "lamps" ? "were" : "was"} ${participle}`;
 }
 
 /**
  * Returns a text with an upper-case first letter.
- * @param {string} words
+ * @param {string} text
  */
-function capitalized(words) {
-  return words.charAt(0).toUpperCase() + words.slice(1);
+function capitalize(text) {
+  return text.charAt(0).toUpperCase() + text.slice(1);
 }
 
 /**
- * Performs an action; returns the name of the affected part and a message.
+ * Performs an action; returns the name of the affected part and the message.
  * @param {Sketch} sketch
- * @param {Act} act
+ * @param {DrawingAction} action
  * @returns {[string, string]}
  */
-function perform(sketch, act) {
+function perform(sketch, action) {
   const { board } = sketch;
-  switch (act.kind) {
+  switch (action.kind) {
     case "add": {
-      const part = addFromShelf(sketch, act);
-      const isDisplay = ["digit", "segments", "scanned"].includes(act.part);
-      const digits = act.digits || 1;
-      return [part, isDisplay ? say.displayAdded(counted(digits, "digit")) : messageAbout(part, "added")];
+      const part = addFromShelf(sketch, action);
+      const isDisplay = ["digit", "segments", "scanned"].includes(action.part);
+      const digits = action.digits || 1;
+      return [part, isDisplay ? say.displayAdded(counted(digits, "digit")) : completionMessage(part, "added")];
     }
     case "copy": {
-      const part = copyPart(sketch, act.part);
-      return [part, say.copyAdded(capitalized(nameOfPart(part)), nameOfPart(act.part))];
+      const part = copyPart(sketch, action.part);
+      return [part, say.copyAdded(capitalize(displayedPartName(part)), displayedPartName(action.part))];
     }
     case "wire":
-      wire(sketch, act.line, act.target);
-      return [act.target, say.lineWired(act.line, nameOfTarget(act.target))];
+      connectLine(sketch, action.line, action.target);
+      return [action.target, say.lineWired(action.line, targetName(action.target))];
     case "port":
-      setPort(sketch, act.line, act.as);
-      return [act.line, say.lineIs(act.line, act.as === "i" ? say.INPUT : say.outputReadsAs(act.as))];
+      setPort(sketch, action.line, action.as);
+      return [action.line, say.lineIs(action.line, action.as === "i" ? say.INPUT : say.outputReadsAs(action.as))];
     case "chips":
-      return [setChips(sketch, act.chain, act.chips), say.chainHas(act.chain, counted(act.chips, "chip"))];
+      return [setChips(sketch, action.chain, action.chips), say.chainHas(action.chain, counted(action.chips, "chip"))];
     case "rows":
-      if (board.matrix && act.rows < board.matrix.rows) deletePart(sketch, `row ${act.rows}`);
-      else setRows(sketch, act.rows);
-      return ["keys", say.keysHave(counted(act.rows, "row"))];
+      if (board.matrix && action.rows < board.matrix.rows) deletePart(sketch, `row ${action.rows}`);
+      else setRows(sketch, action.rows);
+      return ["keys", say.keysHave(counted(action.rows, "row"))];
     case "column": return [addColumn(sketch), say.MORE_COLUMNS];
     case "delete": {
-      const words = deletePart(sketch, act.part);
-      return ["", `${messageAbout(act.part, "deleted")}${words && say.andWithIt(words)}`];
+      const words = deletePart(sketch, action.part);
+      return ["", `${completionMessage(action.part, "deleted")}${words && say.andWithIt(words)}`];
     }
     case "name":
-      renamePart(sketch, act.part, act.name);
-      return [act.part, say.named(capitalized(nameOfPart(act.part)), act.name.trim())];
+      renamePart(sketch, action.part, action.name);
+      return [action.part, say.named(capitalize(displayedPartName(action.part)), action.name.trim())];
     case "colour":
-      setColour(sketch, act.lamp, act.colour);
-      return [`lamp ${act.lamp}`, say.lampIs(act.lamp, act.colour || say.USUAL_RED)];
+      setColour(sketch, action.lamp, action.colour);
+      return [`lamp ${action.lamp}`, say.lampIs(action.lamp, action.colour || say.USUAL_RED)];
   }
 }
 
 /**
  * Returns the message for a front-panel error that an action caused; "" if there is none.
- * @param {string} before the text before the action
- * @param {string} after the text after the action
+ * @param {string} textBefore the text before the action
+ * @param {string} textAfter the text after the action
  */
-function newFault(before, after) {
-  const old = new Face(before).faults.map(({ words }) => words.replace(/\d+/g, ""));
-  const { faults } = new Face(after);
-  if (faults.length <= old.length) return "";
-  const [found] = faults.filter(({ words }) => !old.includes(words.replace(/\d+/g, "")));
-  return found ? `${capitalized(found.words)}.` : say.FACE_UNREADABLE;
+function newPanelError(textBefore, textAfter) {
+  const oldMessages = new Face(textBefore).faults.map(({ words }) => words.replace(/\d+/g, ""));
+  const { faults } = new Face(textAfter);
+  if (faults.length <= oldMessages.length) return "";
+  const [newError] = faults.filter(({ words }) => !oldMessages.includes(words.replace(/\d+/g, "")));
+  return newError ? `${capitalize(newError.words)}.` : say.FACE_UNREADABLE;
 }
 
 /**
  * Returns the result of an action on a board text.
  * @param {string} text
- * @param {Act} act
+ * @param {DrawingAction} action
  * @returns {Result}
  */
-export function actOn(text, act) {
-  const nothing = { edits: [], text, part: "", words: "", goneChains: [] };
+export function applyAction(text, action) {
+  const unchanged = { edits: [], text, part: "", words: "", deletedChains: [] };
   const sketch = new Sketch(text);
-  if (!sketch.draft.isToml || !sketch.draft.boardAnswers) return { ...nothing, refusal: say.TEXT_HAS_ERRORS };
+  if (!sketch.draft.isToml || !sketch.draft.boardAnswers) return { ...unchanged, refusal: say.TEXT_HAS_ERRORS };
   try {
-    const [part, words] = perform(sketch, act);
-    const fault = newFault(text, sketch.text);
-    if (fault) return { ...nothing, refusal: fault };
-    const alsoAdded = sketch.added.length > 0 ? say.withAlso(say.listOf(sketch.added)) : "";
-    return { edits: sketch.edits, text: sketch.text, part, words: `${words}${alsoAdded}.`, goneChains: sketch.goneChains, refusal: "" };
+    const [part, message] = perform(sketch, action);
+    const fault = newPanelError(text, sketch.text);
+    if (fault) return { ...unchanged, refusal: fault };
+    const alsoAdded = sketch.addedParts.length > 0 ? say.withAlso(say.listOf(sketch.addedParts)) : "";
+    const { edits, deletedChains } = sketch;
+    return { edits, text: sketch.text, part, words: `${message}${alsoAdded}.`, deletedChains, refusal: "" };
   } catch (fault) {
-    if (!(fault instanceof ActRefusal)) throw fault;
-    return { ...nothing, refusal: fault.message };
+    if (!(fault instanceof ImpossibleAction)) throw fault;
+    return { ...unchanged, refusal: fault.message };
   }
 }
 
 /**
- * Returns the message if a part from the shelf cannot be added; "" if it can be added.
+ * Returns the reason why a part from the shelf cannot be added; "" if it can be added.
  * @param {string} text
- * @param {Shelved} part
+ * @param {ShelfPart} part
  */
-export function addRefusal(text, part) {
-  return actOn(text, { kind: "add", part }).refusal;
+export function reasonNotToAdd(text, part) {
+  return applyAction(text, { kind: "add", part }).refusal;
 }
 
 /**
@@ -317,5 +318,5 @@ export function addRefusal(text, part) {
  * @param {string[]} answers the answer to `board` after the bench has wired the text
  */
 export function matchesBench(text, answers) {
-  return new Sketch(text).draft.isAsBench(answers);
+  return new Sketch(text).draft.matchesAnswers(answers);
 }

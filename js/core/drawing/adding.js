@@ -1,14 +1,14 @@
-// Adds parts to a board at free lines. If there are too few free lines, also adds chips with free lines.
+// Adds parts to a board and connects them to free signal lines. If there are too few free lines, also adds chips with free lines.
 
-import { counted, upTo } from "../bench/numbers.js";
+import { counted, indices } from "../bench/numbers.js";
 import { Face } from "../board/face.js";
-import { linesOfPrinter } from "../board/face_board.js";
+import { printerLines } from "../board/face_board.js";
 import { limit } from "../board/face_words.js";
-import { BITS_PER_CHIP, MAX_COLUMNS, MAX_PARTS, RANGES } from "../bench/board_form.js";
+import { BITS_PER_CHIP, MAX_COLUMNS, MAX_PARTS, VALUE_RANGES } from "../bench/board_form.js";
 import { addGroup, colourLamp, setLineText } from "./face_edits.js";
-import { BUZZER, bitOf, freeLines, wiringOf } from "./board_lines.js";
-import { addPart, appendElement, setValue, written } from "./part_edits.js";
-import { ActRefusal } from "./sketch.js";
+import { BUZZER, parseChainBit, freeLines, inputLines } from "./board_lines.js";
+import { addPart, appendElement, setValue, formatToml } from "./part_edits.js";
+import { ImpossibleAction } from "./sketch.js";
 import * as say from "../../words/drawing.js";
 
 /**
@@ -17,17 +17,17 @@ import * as say from "../../words/drawing.js";
  */
 
 /** The port masks of a ROM with four outputs, and of a ROM with four inputs. */
-export const OUTPUTS = "0000";
-export const INPUTS = "iiii";
+export const OUTPUT_MASK = "0000";
+export const INPUT_MASK = "iiii";
 const LINES_PER_DIGIT = { digit: 4, segments: 7 };
 
 /**
  * Returns the lowest unused number; undefined if all numbers are used.
- * @param {number[]} used the used numbers
+ * @param {number[]} usedNumbers
  * @param {number} count the numbers are 0 to `count` - 1
  */
-function freeNumber(used, count) {
-  return upTo(count).find((number) => !used.includes(number));
+function freeNumber(usedNumbers, count) {
+  return indices(count).find((number) => !usedNumbers.includes(number));
 }
 
 /**
@@ -37,7 +37,7 @@ function freeNumber(used, count) {
  */
 export function addRom(sketch, port) {
   const chip = freeNumber(sketch.board.roms.map((rom) => Number(rom.chip)), MAX_PARTS.rom);
-  if (chip === undefined) throw new ActRefusal(say.maxRoms(MAX_PARTS.rom));
+  if (chip === undefined) throw new ImpossibleAction(say.maxRoms(MAX_PARTS.rom));
   sketch.edit(addPart(sketch.draft, "rom", { chip, port }));
   return `rom ${chip}`;
 }
@@ -48,14 +48,14 @@ export function addRom(sketch, port) {
  */
 export function addRam(sketch) {
   const { banks } = sketch.board;
-  const { to: most } = RANGES["ram.chips"];
-  const open = banks.find(({ chips }) => chips < most);
-  if (open) {
-    sketch.edit([setValue(sketch.draft, sketch.draft.partByNumber("ram", open.bank), "chips", open.chips + 1)]);
-    return `ram ${open.bank}.${open.chips}`;
+  const { to: maxChips } = VALUE_RANGES["ram.chips"];
+  const openBank = banks.find(({ chips }) => chips < maxChips);
+  if (openBank) {
+    sketch.edit([setValue(sketch.draft, sketch.draft.partByNumber("ram", openBank.bank), "chips", openBank.chips + 1)]);
+    return `ram ${openBank.bank}.${openBank.chips}`;
   }
   const bank = freeNumber(banks.map((each) => each.bank), MAX_PARTS.ram);
-  if (bank === undefined) throw new ActRefusal(say.maxRams(MAX_PARTS.ram, most));
+  if (bank === undefined) throw new ImpossibleAction(say.maxRams(MAX_PARTS.ram, maxChips));
   sketch.edit(addPart(sketch.draft, "ram", { bank, chips: 1 }));
   return `ram ${bank}.0`;
 }
@@ -67,15 +67,15 @@ export function addRam(sketch) {
  */
 function addRequired(sketch, add) {
   const part = add();
-  sketch.added.push(nameOfPart(part));
+  sketch.addedParts.push(displayedPartName(part));
   return part;
 }
 
 /**
- * Returns the part name for messages: `ROM 0`, `RAM 0.1`, `chain 0`, `lamp 3` or `the keys`.
+ * Returns the name of a part for messages: `ROM 0`, `RAM 0.1`, `chain 0`, `lamp 3` or `the keys`.
  * @param {string} part
  */
-export function nameOfPart(part) {
+export function displayedPartName(part) {
   if (part === "test") return say.AT_TEST;
   if (part === "title") return say.THE_BOARD;
   if (part === "keys" || part === "lamps") return say.thePart(part);
@@ -87,18 +87,18 @@ export function nameOfPart(part) {
  * Adds a ROM for the program if the board has none.
  * @param {Sketch} sketch
  */
-export function needRom(sketch) {
-  if (sketch.board.roms.length === 0) addRequired(sketch, () => addRom(sketch, OUTPUTS));
+export function ensureRom(sketch) {
+  if (sketch.board.roms.length === 0) addRequired(sketch, () => addRom(sketch, OUTPUT_MASK));
 }
 
 /**
- * Returns free lines; first adds parts until there are enough.
+ * Adds parts until there are enough free lines; returns the first `count` free lines.
  * @param {Sketch} sketch
  * @param {number} count the number of lines
  * @param {(board: Board) => string[]} find returns the suitable free lines
  * @param {() => string} add adds a part with suitable lines
  */
-function needLines(sketch, count, find, add) {
+function ensureLines(sketch, count, find, add) {
   while (find(sketch.board).length < count) addRequired(sketch, add);
   return find(sketch.board).slice(0, count);
 }
@@ -123,9 +123,9 @@ function freeInputs(board) {
  * Returns the free lines for lamps: first RAM port lines, then ROM port lines, then chain bits.
  * @param {Board} board
  */
-function freeForLamps(board) {
-  const free = freeLines(board).filter(({ isInput }) => !isInput);
-  return ["ram", "rom", "bit"].flatMap((wanted) => free.filter(({ kind }) => kind === wanted)).map(({ name }) => name);
+function freeLampLines(board) {
+  const outputLines = freeLines(board).filter(({ isInput }) => !isInput);
+  return ["ram", "rom", "bit"].flatMap((wantedKind) => outputLines.filter(({ kind }) => kind === wantedKind)).map(({ name }) => name);
 }
 
 /**
@@ -135,8 +135,8 @@ function freeForLamps(board) {
  */
 export function addChain(sketch, chips = 1) {
   const at = sketch.board.chains.length;
-  if (at >= MAX_PARTS.chain) throw new ActRefusal(say.maxChains(MAX_PARTS.chain));
-  const [clock, data] = needLines(sketch, 2, freeOutputs, () => addRom(sketch, OUTPUTS));
+  if (at >= MAX_PARTS.chain) throw new ImpossibleAction(say.maxChains(MAX_PARTS.chain));
+  const [clock, data] = ensureLines(sketch, 2, freeOutputs, () => addRom(sketch, OUTPUT_MASK));
   sketch.edit(addPart(sketch.draft, "chain", { clock, data, chips }));
   return `chain ${at}`;
 }
@@ -147,10 +147,10 @@ export function addChain(sketch, chips = 1) {
  * @param {number} count
  */
 function freeBits(board, count) {
-  const free = new Set(freeLines(board).map(({ name }) => name));
+  const freeNames = new Set(freeLines(board).map(({ name }) => name));
   for (const [chain, { chips }] of board.chains.entries()) {
-    const begins = upTo(Math.max(0, BITS_PER_CHIP * chips - count + 1));
-    const first = begins.find((bit) => upTo(count).every((more) => free.has(`chain${chain}.${bit + more}`)));
+    const starts = indices(Math.max(0, BITS_PER_CHIP * chips - count + 1));
+    const first = starts.find((bit) => indices(count).every((index) => freeNames.has(`chain${chain}.${bit + index}`)));
     if (first !== undefined) return { chain, first };
   }
   return null;
@@ -161,7 +161,7 @@ function freeBits(board, count) {
  * @param {Sketch} sketch
  * @param {number} count
  */
-function needBits(sketch, count) {
+function ensureBits(sketch, count) {
   if (!freeBits(sketch.board, count)) addRequired(sketch, () => addChain(sketch, Math.ceil(count / BITS_PER_CHIP)));
   return /** @type {{ chain: number, first: number }} */ (freeBits(sketch.board, count));
 }
@@ -171,10 +171,10 @@ function needBits(sketch, count) {
  * @param {Sketch} sketch
  */
 export function addKeys(sketch) {
-  if (sketch.board.matrix) throw new ActRefusal(say.ONE_MATRIX);
-  needRom(sketch);
-  const { chain, first } = needBits(sketch, 1);
-  if (freeInputs(sketch.board).length === 0) addRequired(sketch, () => addRom(sketch, INPUTS));
+  if (sketch.board.matrix) throw new ImpossibleAction(say.ONE_MATRIX);
+  ensureRom(sketch);
+  const { chain, first } = ensureBits(sketch, 1);
+  if (freeInputs(sketch.board).length === 0) addRequired(sketch, () => addRom(sketch, INPUT_MASK));
   const columns = freeInputs(sketch.board).slice(0, 4);
   sketch.edit(addPart(sketch.draft, "keys", { chain, first, rows: 1, columns }));
   return "keys";
@@ -187,12 +187,12 @@ export function addKeys(sketch) {
  */
 export function setRows(sketch, rows) {
   const { matrix, chains } = sketch.board;
-  if (!matrix) throw new ActRefusal(say.NO_KEYS);
-  const { from, to } = RANGES["keys.rows"];
-  if (rows > to) throw new ActRefusal(say.maxRows(to));
-  if (rows < from) throw new ActRefusal(say.MIN_ROWS);
+  if (!matrix) throw new ImpossibleAction(say.NO_KEYS);
+  const { from, to } = VALUE_RANGES["keys.rows"];
+  if (rows > to) throw new ImpossibleAction(say.maxRows(to));
+  if (rows < from) throw new ImpossibleAction(say.MIN_ROWS);
   if (matrix.first + rows > BITS_PER_CHIP * chains[matrix.chain].chips) {
-    throw new ActRefusal(say.noBitForRow(matrix.chain));
+    throw new ImpossibleAction(say.noBitForRow(matrix.chain));
   }
   sketch.edit([setValue(sketch.draft, sketch.draft.entry("keys", 0), "rows", rows)]);
   return "keys";
@@ -204,21 +204,21 @@ export function setRows(sketch, rows) {
  */
 export function addColumn(sketch) {
   const { matrix } = sketch.board;
-  if (!matrix) throw new ActRefusal(say.NO_KEYS);
-  if (matrix.columns.length >= MAX_COLUMNS) throw new ActRefusal(say.maxColumns(MAX_COLUMNS));
-  const [line] = needLines(sketch, 1, freeInputs, () => addRom(sketch, INPUTS));
+  if (!matrix) throw new ImpossibleAction(say.NO_KEYS);
+  if (matrix.columns.length >= MAX_COLUMNS) throw new ImpossibleAction(say.maxColumns(MAX_COLUMNS));
+  const [line] = ensureLines(sketch, 1, freeInputs, () => addRom(sketch, INPUT_MASK));
   const { draft } = sketch;
-  sketch.edit(appendElement(draft, draft.keyOf(draft.entry("keys", 0), "columns").value, written(line)));
+  sketch.edit(appendElement(draft, draft.requireKey(draft.entry("keys", 0), "columns").value, formatToml(line)));
   return "keys";
 }
 
 /**
- * Throws `ActRefusal` if `count` more lamps exceed the maximum.
+ * Throws `ImpossibleAction` if `count` more lamps exceed the maximum.
  * @param {Sketch} sketch
  * @param {number} count
  */
-function needRoom({ board }, count) {
-  if (board.lamps.length + count > MAX_PARTS.lamp) throw new ActRefusal(say.maxLamps(MAX_PARTS.lamp, board.lamps.length));
+function checkLampCount({ board }, count) {
+  if (board.lamps.length + count > MAX_PARTS.lamp) throw new ImpossibleAction(say.maxLamps(MAX_PARTS.lamp, board.lamps.length));
 }
 
 /**
@@ -226,7 +226,7 @@ function needRoom({ board }, count) {
  * @param {Sketch} sketch
  * @param {string[]} lines
  */
-function putLamps(sketch, lines) {
+function addLamps(sketch, lines) {
   for (const line of lines) sketch.edit(addPart(sketch.draft, "lamp", { line }));
 }
 
@@ -237,13 +237,13 @@ function putLamps(sketch, lines) {
  * @param {string} [colour] "" for the default colour
  */
 export function addLamp(sketch, line = "", colour = "") {
-  needRoom(sketch, 1);
-  needRom(sketch);
+  checkLampCount(sketch, 1);
+  ensureRom(sketch);
   const at = sketch.board.lamps.length;
   const hasRam = sketch.board.banks.length > 0;
   // The first lamp of a board without RAM gets a RAM chip, so that later lamps can be at the same port.
   if (!line && !hasRam && at === 0) addRequired(sketch, () => addRam(sketch));
-  putLamps(sketch, [line || needLines(sketch, 1, freeForLamps, () => addRam(sketch))[0]]);
+  addLamps(sketch, [line || ensureLines(sketch, 1, freeLampLines, () => addRam(sketch))[0]]);
   if (colour) sketch.edit(colourLamp(sketch.draft, at, colour));
   return `lamp ${at}`;
 }
@@ -254,9 +254,9 @@ export function addLamp(sketch, line = "", colour = "") {
  * @param {string} [line] "" for the next free port line
  */
 export function addBuzzer(sketch, line = "") {
-  if (new Face(sketch.text).buzzer) throw new ActRefusal(say.ONE_BUZZER);
-  needRom(sketch);
-  const output = line || needLines(sketch, 1, freeOutputs, () => addRam(sketch))[0];
+  if (new Face(sketch.text).buzzer) throw new ImpossibleAction(say.ONE_BUZZER);
+  ensureRom(sketch);
+  const output = line || ensureLines(sketch, 1, freeOutputs, () => addRam(sketch))[0];
   sketch.edit(setLineText(sketch.draft, "buzzer", output, "buzzer"));
   return BUZZER;
 }
@@ -268,16 +268,16 @@ export function addBuzzer(sketch, line = "") {
  * @param {number} digits
  */
 export function addDisplay(sketch, kind, digits) {
-  if (!Number.isInteger(digits) || digits < 1) throw new ActRefusal(say.MIN_DIGITS);
-  needRoom(sketch, digits * LINES_PER_DIGIT[kind]);
-  needRom(sketch);
+  if (!Number.isInteger(digits) || digits < 1) throw new ImpossibleAction(say.MIN_DIGITS);
+  checkLampCount(sketch, digits * LINES_PER_DIGIT[kind]);
+  ensureRom(sketch);
   const at = sketch.board.lamps.length;
-  if (kind === "digit") for (let digit = 0; digit < digits; digit++) putLamps(sketch, portOfDigit(sketch));
-  else putLamps(sketch, bitsOfSegments(sketch, digits * LINES_PER_DIGIT.segments));
+  if (kind === "digit") for (let digit = 0; digit < digits; digit++) addLamps(sketch, takeDigitPort(sketch));
+  else addLamps(sketch, takeSegmentBits(sketch, digits * LINES_PER_DIGIT.segments));
   // (The next literal is a comment in the board text, in the syntax of tools/lib/face.txt.)
   // eslint-disable-next-line no-restricted-syntax
-  const words = `${counted(digits, "digit")}${kind === "segments" ? " of 7 segments" : ""}`;
-  sketch.edit(addGroup(sketch.draft, "display", at, words));
+  const display = `${counted(digits, "digit")}${kind === "segments" ? " of 7 segments" : ""}`;
+  sketch.edit(addGroup(sketch.draft, "display", at, display));
   return `lamp ${at}`;
 }
 
@@ -286,20 +286,20 @@ export function addDisplay(sketch, kind, digits) {
  * @param {Sketch} sketch
  * @param {number} digits
  */
-export function addScanned(sketch, digits) {
-  const most = limit("scanned");
-  if (!Number.isInteger(digits) || digits < 1 || digits > most) throw new ActRefusal(say.maxMultiplexed(most));
+export function addMultiplexedDisplay(sketch, digits) {
+  const maxDigits = limit("scanned");
+  if (!Number.isInteger(digits) || digits < 1 || digits > maxDigits) throw new ImpossibleAction(say.maxMultiplexed(maxDigits));
   const count = LINES_PER_DIGIT.segments + digits;
-  needRoom(sketch, count);
-  needRom(sketch);
+  checkLampCount(sketch, count);
+  ensureRom(sketch);
   const at = sketch.board.lamps.length;
   /** @type {(board: Board) => string[]} */
-  const find = (board) => freeForLamps(board).filter((line) => line.startsWith("ram"));
-  putLamps(sketch, needLines(sketch, count, find, () => addRam(sketch)));
+  const find = (board) => freeLampLines(board).filter((line) => line.startsWith("ram"));
+  addLamps(sketch, ensureLines(sketch, count, find, () => addRam(sketch)));
   // (The next literal is a comment in the board text, in the syntax of tools/lib/face.txt.)
   // eslint-disable-next-line no-restricted-syntax
-  const words = `${counted(digits, "digit")} of 7 segments scanned by ${at + LINES_PER_DIGIT.segments}`;
-  sketch.edit(addGroup(sketch.draft, "display", at, words));
+  const display = `${counted(digits, "digit")} of 7 segments scanned by ${at + LINES_PER_DIGIT.segments}`;
+  sketch.edit(addGroup(sketch.draft, "display", at, display));
   return `lamp ${at}`;
 }
 
@@ -307,12 +307,12 @@ export function addScanned(sketch, digits) {
  * Returns the lines of a free RAM port, line 3 first; adds a RAM chip if necessary.
  * @param {Sketch} sketch
  */
-function portOfDigit(sketch) {
-  const free = new Set(freeOutputs(sketch.board));
+function takeDigitPort(sketch) {
+  const freeNames = new Set(freeOutputs(sketch.board));
   for (const { bank, chips } of sketch.board.banks) {
-    for (const chip of upTo(chips)) {
+    for (const chip of indices(chips)) {
       const lines = [3, 2, 1, 0].map((line) => `ram${bank}.${chip}.${line}`);
-      if (lines.every((line) => free.has(line))) return lines;
+      if (lines.every((line) => freeNames.has(line))) return lines;
     }
   }
   const added = addRequired(sketch, () => addRam(sketch)).replace(" ", "");
@@ -324,21 +324,21 @@ function portOfDigit(sketch) {
  * @param {Sketch} sketch
  * @param {number} count
  */
-function bitsOfSegments(sketch, count) {
-  const { chain, first } = needBits(sketch, count);
-  return upTo(count).map((bit) => `chain${chain}.${first + bit}`);
+function takeSegmentBits(sketch, count) {
+  const { chain, first } = ensureBits(sketch, count);
+  return indices(count).map((bit) => `chain${chain}.${first + bit}`);
 }
 
 /**
- * Throws `ActRefusal` if an action removes an output line of the buzzer or the printer.
+ * Throws `ImpossibleAction` if an action removes an output line of the buzzer or the printer.
  * @param {Sketch} sketch
  * @param {(line: string) => boolean} isLost returns true if a line is no longer an output after the action
  */
 export function requireOutputs({ text }, isLost) {
   const { buzzer, printer } = new Face(text);
-  if (buzzer && isLost(buzzer.place)) throw new ActRefusal(say.buzzerIsAt(buzzer.place));
-  const line = printer && linesOfPrinter(printer).find(isLost);
-  if (line) throw new ActRefusal(say.printerIsAt(line));
+  if (buzzer && isLost(buzzer.place)) throw new ImpossibleAction(say.buzzerIsAt(buzzer.place));
+  const line = printer && printerLines(printer).find(isLost);
+  if (line) throw new ImpossibleAction(say.printerIsAt(line));
 }
 
 /**
@@ -348,14 +348,14 @@ export function requireOutputs({ text }, isLost) {
  * @param {number} chips
  */
 export function setChips(sketch, chain, chips) {
-  const { from, to } = RANGES["chain.chips"];
-  if (chips > to) throw new ActRefusal(say.maxChips(to));
-  if (chips < from) throw new ActRefusal(say.MIN_CHIPS);
+  const { from, to } = VALUE_RANGES["chain.chips"];
+  if (chips > to) throw new ImpossibleAction(say.maxChips(to));
+  if (chips < from) throw new ImpossibleAction(say.MIN_CHIPS);
   /** @type {(line: string) => boolean} */
-  const isBeyond = (line) => line.startsWith(`chain${chain}.`) && bitOf(line).bit >= BITS_PER_CHIP * chips;
+  const isBeyond = (line) => line.startsWith(`chain${chain}.`) && parseChainBit(line).bit >= BITS_PER_CHIP * chips;
   requireOutputs(sketch, isBeyond);
-  const beyond = [...wiringOf(sketch.board).values()].find(isBeyond);
-  if (beyond) throw new ActRefusal(say.inUse(beyond));
+  const lostLine = [...inputLines(sketch.board).values()].find(isBeyond);
+  if (lostLine) throw new ImpossibleAction(say.inUse(lostLine));
   sketch.edit([setValue(sketch.draft, sketch.draft.entry("chain", chain), "chips", chips)]);
   return `chain ${chain}`;
 }

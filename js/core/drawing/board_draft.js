@@ -1,9 +1,9 @@
-// Parses the board text in the editor: its parts, their positions in the text, and the board that it describes. Only the bench decides
-// whether a text is valid. The page compares the bench's answer to `board` with `boardAnswers`. The page edits the text only if both are
+// Parses the board text in the editor: its parts, their positions in the text, and the board that the text describes. Only the bench
+// decides whether a text is valid. The page compares the bench's answer to `board` with `boardAnswers`, and edits the text only if both are
 // equal.
 
 import { readBoard } from "../bench/answers.js";
-import { KEYS, KINDS } from "../bench/board_form.js";
+import { PART_KEYS, PART_KINDS } from "../bench/board_form.js";
 import { readBoardText } from "../text/board_reader.js";
 
 /**
@@ -16,12 +16,12 @@ import { readBoardText } from "../text/board_reader.js";
  */
 
 /**
- * Returns a value as the bench spells it.
+ * Formats a value as the bench writes it.
  * @param {Value} value
  * @returns {string}
  */
-function writtenValue({ inner }) {
-  if (Array.isArray(inner)) return `[${inner.map(writtenValue).join(", ")}]`;
+function formatValue({ inner }) {
+  if (Array.isArray(inner)) return `[${inner.map(formatValue).join(", ")}]`;
   return JSON.stringify(typeof inner === "object" ? null : inner);
 }
 
@@ -31,11 +31,11 @@ export class BoardDraft {
   constructor(text) {
     this.text = text;
     this.lines = text.split("\n");
-    /** The offsets of the lines in the text. */
-    this.starts = [0];
-    for (const line of this.lines) this.starts.push(this.starts[this.starts.length - 1] + line.length + 1);
+    /** The offset at which each line starts, and the offset after the last line. */
+    this.lineOffsets = [0];
+    for (const line of this.lines) this.lineOffsets.push(this.lineOffsets[this.lineOffsets.length - 1] + line.length + 1);
     const { entries, keys, faults } = readBoardText(text);
-    /** The keys outside tables. Their values can be arrays of parts. */
+    /** The TOML keys outside tables. Their values can be arrays of parts. */
     this.keys = keys;
     this.entries = entries;
     this.isToml = faults.length === 0;
@@ -45,27 +45,27 @@ export class BoardDraft {
    * Returns the parts of a kind, in text order.
    * @param {Kind} kind
    */
-  of(kind) {
+  partsOfKind(kind) {
     return this.entries.filter(({ table }) => table === (kind === "keys" ? "[keys]" : kind));
   }
 
   /**
-   * Returns a part by its index among the parts of its kind.
+   * Returns a part by its index among the parts of its kind. Throws if there is no such part.
    * @param {Kind} kind
-   * @param {number} at
+   * @param {number} index
    */
-  entry(kind, at) {
-    const found = this.of(kind)[at];
-    if (!found) throw new Error(`the text has no ${kind} ${at}`);
+  entry(kind, index) {
+    const found = this.partsOfKind(kind)[index];
+    if (!found) throw new Error(`the text has no ${kind} ${index}`);
     return found;
   }
 
   /**
-   * Returns a key of a part by name.
+   * Returns a TOML key of a part by name. Throws if the part lacks the key.
    * @param {Entry} entry
    * @param {string} name
    */
-  keyOf({ keys }, name) {
+  requireKey({ keys }, name) {
     const found = keys.find((key) => key.name === name);
     if (!found) throw new Error(`a part lacks ${name}`);
     return found;
@@ -77,8 +77,8 @@ export class BoardDraft {
    * @param {number} number
    */
   partByNumber(kind, number) {
-    const key = KEYS[kind][0];
-    return this.entry(kind, this.of(kind).findIndex((entry) => this.keyOf(entry, key).value.inner === number));
+    const key = PART_KEYS[kind][0];
+    return this.entry(kind, this.partsOfKind(kind).findIndex((entry) => this.requireKey(entry, key).value.inner === number));
   }
 
   /**
@@ -87,22 +87,22 @@ export class BoardDraft {
    * @param {number} column the column from 0
    */
   offset(line, column) {
-    return this.starts[line - 1] + column;
+    return this.lineOffsets[line - 1] + column;
   }
 
   /**
-   * Returns the offset at which a value, key or part starts.
+   * Returns the offset of the first character of a value, key or part.
    * @param {Value | Key | Entry} from
    */
-  startOf({ line, from }) {
+  startOffset({ line, from }) {
     return this.offset(line, from);
   }
 
   /**
-   * Returns the offset at which a value ends.
+   * Returns the offset after the last character of a value.
    * @param {{ end?: End, line: number, to: number }} value
    */
-  endOf({ end, line, to }) {
+  endOffset({ end, line, to }) {
     return end ? this.offset(end.line, end.to) : this.offset(line, to);
   }
 
@@ -118,17 +118,17 @@ export class BoardDraft {
   get boardAnswers() {
     /** @type {string[]} */
     const lines = ["board"];
-    for (const kind of KINDS) {
-      const number = kind === "rom" || kind === "ram" ? KEYS[kind][0] : "";
+    for (const kind of PART_KINDS) {
+      const number = kind === "rom" || kind === "ram" ? PART_KEYS[kind][0] : "";
       /** @type {(entry: Entry) => number} */
       const rank = (entry) => Number((entry.keys.find(({ name }) => name === number) || { value: { inner: 0 } }).value.inner);
-      const entries = number ? [...this.of(kind)].sort((one, other) => rank(one) - rank(other)) : this.of(kind);
+      const entries = number ? [...this.partsOfKind(kind)].sort((one, other) => rank(one) - rank(other)) : this.partsOfKind(kind);
       for (const { keys } of entries) {
         lines.push(kind === "keys" ? "[keys]" : `[[${kind}]]`);
-        for (const key of KEYS[kind]) {
+        for (const key of PART_KEYS[kind]) {
           const found = keys.find(({ name }) => name === key);
           if (!found) return null;
-          lines.push(`${key} = ${writtenValue(found.value)}`);
+          lines.push(`${key} = ${formatValue(found.value)}`);
         }
       }
     }
@@ -143,10 +143,10 @@ export class BoardDraft {
   }
 
   /**
-   * Returns whether the page and the bench read the same board from the text.
+   * Returns whether the text describes the board that the bench reports.
    * @param {string[]} answers the answer to `board` after the bench has wired the text
    */
-  isAsBench(answers) {
+  matchesAnswers(answers) {
     return this.isToml && this.boardAnswers !== null && this.boardAnswers.join("\n") === answers.join("\n");
   }
 }

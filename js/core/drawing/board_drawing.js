@@ -1,29 +1,29 @@
-// The state of the board editor, without the DOM: the selection, an unfinished wire, and the actions. Before the board text is edited, the
-// bench checks the result of the action. The drawing shows the bench's answer.
+// The state of the board editor, without the DOM: the selection, an unfinished wire, and the actions. Before an action edits the board
+// text, the bench checks the resulting text. The drawing shows the bench's answer to `board`.
 
-import { readBoard, refusalOf } from "../bench/answers.js";
+import { readBoard, parseRefusal } from "../bench/answers.js";
 import { boardLines } from "../bench/board_form.js";
 import { counted } from "../bench/numbers.js";
 import { Face } from "../board/face.js";
 import { sentText } from "../text/text_fault.js";
-import { SHELF, actOn, addRefusal, matchesBench } from "./acts.js";
-import { nameOfTarget, sourcesOf, targetsOf, wiringOf, withBuzzer } from "./board_lines.js";
-import { fieldsOf } from "./fields.js";
+import { SHELF_PARTS, applyAction, reasonNotToAdd, matchesBench } from "./acts.js";
+import { targetName, possibleSources, possibleTargets, inputLines, boardWithBuzzer } from "./board_lines.js";
+import { selectionForm } from "./fields.js";
 import { MovedParts } from "./moved_parts.js";
 import * as say from "../../words/drawing.js";
 
 /**
  * @typedef {import("./board_lines.js").Board} Board
- * @typedef {import("./acts.js").Act} Act
- * @typedef {import("./acts.js").Shelved} Shelved
+ * @typedef {import("./acts.js").DrawingAction} DrawingAction
+ * @typedef {import("./acts.js").ShelfPart} ShelfPart
  * @typedef {import("./text_edits.js").TextEdit} TextEdit
  *
- * The state for the view. `board` and `face`: the board of the text and its front panel. `isWired`: true if the session has the same board.
- * `fault`: the message if the board cannot be drawn, or "". `shelf`: the parts on the shelf; each has a message if it cannot be added now,
- * or "". `chosen` and `fields`: the selection and its fields. `begun`: the start pin of an unfinished wire, or "". `ends`: the possible end
- * pins of the wire. `said`: the last message.
- * @typedef {{ board: Board, face: Face, isWired: boolean, fault: string, shelf: Map<Shelved, string>, chosen: string,
- *   fields: import("./fields.js").Fields, begun: string, ends: Set<string>, said: string }} Shown
+ * The state for the view. `board` and `face`: the board that the text describes, and its front panel. `isWired`: true if the session has
+ * the same board. `fault`: the message if the board cannot be drawn, or "". `shelf`: the parts on the shelf; each has a message if it
+ * cannot be added now, or "". `chosen` and `fields`: the selection and its fields. `begun`: the start pin of an unfinished wire, or "".
+ * `ends`: the possible end pins of the wire. `lastMessage`: the last message.
+ * @typedef {{ board: Board, face: Face, isWired: boolean, fault: string, shelf: Map<ShelfPart, string>, chosen: string,
+ *   fields: import("./fields.js").SelectionForm, begun: string, ends: Set<string>, lastMessage: string }} DrawingState
  */
 
 /**
@@ -34,66 +34,66 @@ import * as say from "../../words/drawing.js";
  * @property {(edits: TextEdit[]) => void} edit Edits the text. One undo reverts all these edits.
  * @property {() => boolean} undo Undoes the last step; returns false if there is none.
  * @property {() => boolean} redo Repeats the last undone step; returns false if there is none.
- * @property {(number: number) => string} wordsOfRefusal Returns the message of a refusal.
+ * @property {(number: number) => string} describeRefusal Returns the message of a refusal.
  */
 
 /** The board editor. */
 export class Drawing {
   /**
    * @param {DrawingCalls} calls
-   * @param {(shown: Shown) => void} show
+   * @param {(shown: DrawingState) => void} show
    */
   constructor(calls, show) {
     this.calls = calls;
     this.show = show;
     /** The bench's answers to `board`: for the session (joined into one text), and for the text in the editor. */
-    this.wired = "";
+    this.wiredAnswers = "";
     this.answers = ["board"];
     /** @type {Board} */
     this.board = readBoard(this.answers);
     this.face = new Face("");
     this.fault = "";
-    /** @type {Map<Shelved, string>} */
+    /** @type {Map<ShelfPart, string>} */
     this.shelf = new Map();
     /** The last text read; null before the first reading. */
     this.text = /** @type {string | null} */ (null);
     this.chosen = "";
     this.begun = "";
-    this.said = "";
+    this.lastMessage = "";
     /** The positions of dragged parts. */
     this.movedParts = new MovedParts();
-    /** @type {Promise<void>} resolves when all earlier actions are done */
-    this.turn = Promise.resolve();
+    /** @type {Promise<void>} resolves when the last action is done; actions run one after the other */
+    this.lastAction = Promise.resolve();
   }
 
   /**
    * Sets the board of the session.
    * @param {string[]} answers the answer to `board`
    */
-  takeWired(answers) {
-    this.wired = answers.join("\n");
+  setSessionBoard(answers) {
+    this.wiredAnswers = answers.join("\n");
   }
 
-  /** Forgets the text, the selection and the message of the last session. */
+  /** Clears the text, the selection and the message when another session is shown. */
   forget() {
     this.text = null;
     this.chosen = "";
     this.begun = "";
-    this.said = "";
+    this.lastMessage = "";
   }
 
   /**
    * Runs an action after all earlier actions.
-   * @param {() => Promise<void>} act
+   * @param {() => Promise<void>} action
    */
-  inTurn(act) {
-    const result = this.turn.then(act);
-    this.turn = result.catch(() => {});
+  inTurn(action) {
+    const result = this.lastAction.then(action);
+    this.lastAction = result.catch(() => {});
     return result;
   }
 
   /** After all earlier actions, reads the text if it has changed, and shows the board. */
-  look() {
+  refresh() {
     return this.inTurn(() => this.readText());
   }
 
@@ -119,11 +119,11 @@ export class Drawing {
     this.text = text;
     this.answers = answers;
     this.face = new Face(text);
-    this.board = withBuzzer(readBoard(answers), this.face);
+    this.board = boardWithBuzzer(readBoard(answers), this.face);
     this.fault = fault;
     this.begun = "";
-    if (fault === "") this.shelf = new Map(SHELF.map((part) => [part, addRefusal(text, part)]));
-    if (!this.isThere(this.chosen)) this.chosen = "";
+    if (fault === "") this.shelf = new Map(SHELF_PARTS.map((part) => [part, reasonNotToAdd(text, part)]));
+    if (!this.isOnBoard(this.chosen)) this.chosen = "";
   }
 
   /**
@@ -132,8 +132,8 @@ export class Drawing {
    */
   async ask(text) {
     const [first, ...answers] = await this.calls.ask(`wire\n${sentText(text, "#")}.\nboard\n`);
-    const refusal = refusalOf(first);
-    const message = refusal ? say.benchRefuses(this.calls.wordsOfRefusal(refusal.number)) : "";
+    const refusal = parseRefusal(first);
+    const message = refusal ? say.benchRefuses(this.calls.describeRefusal(refusal.number)) : "";
     return { refused: message, answers };
   }
 
@@ -141,7 +141,7 @@ export class Drawing {
    * Returns whether a part or a pin is on the board.
    * @param {string} name
    */
-  isThere(name) {
+  isOnBoard(name) {
     const { board, face } = this;
     const [kind, number] = name.split(" ");
     if (kind === "keys") return board.matrix !== null;
@@ -151,30 +151,31 @@ export class Drawing {
     if (kind === "rom") return board.roms.some(({ chip }) => String(chip) === number);
     if (kind === "chain") return Number(number) < board.chains.length;
     if (kind === "ram") return boardLines(board).some((line) => line.name.startsWith(`ram${number}.`));
-    return wiringOf(board).has(name) || boardLines(board).some((line) => line.name === name);
+    return inputLines(board).has(name) || boardLines(board).some((line) => line.name === name);
   }
 
   /** The pins at which the unfinished wire can end. */
   get ends() {
     const { board, begun } = this;
     if (begun === "" || this.fault) return new Set(/** @type {string[]} */ ([]));
-    const now = wiringOf(board).get(begun);
-    return new Set(now === undefined ? targetsOf(board, begun) : sourcesOf(board, begun).filter((line) => line !== now));
+    const currentLine = inputLines(board).get(begun);
+    if (currentLine === undefined) return new Set(possibleTargets(board, begun));
+    return new Set(possibleSources(board, begun).filter((line) => line !== currentLine));
   }
 
-  /** Passes the state to the view. */
+  /** Passes the current state to the view. */
   reportChange() {
-    const { board, face, fault, shelf, chosen, begun, ends, said } = this;
-    const isWired = this.answers.join("\n") === this.wired;
-    this.show({ board, face, isWired, fault, shelf, chosen, fields: fieldsOf(board, face, chosen), begun, ends, said });
+    const { board, face, fault, shelf, chosen, begun, ends, lastMessage } = this;
+    const isWired = this.answers.join("\n") === this.wiredAnswers;
+    this.show({ board, face, isWired, fault, shelf, chosen, fields: selectionForm(board, face, chosen), begun, ends, lastMessage });
   }
 
   /**
    * Shows a message.
-   * @param {string} words
+   * @param {string} message
    */
-  say(words) {
-    this.said = words;
+  say(message) {
+    this.lastMessage = message;
     this.reportChange();
   }
 
@@ -185,12 +186,12 @@ export class Drawing {
    */
   pressed(name) {
     if (this.ends.has(name)) return this.endWire(name);
-    const isAgain = this.begun === name;
+    const isSamePin = this.begun === name;
     this.chosen = name;
-    this.begun = isAgain ? "" : name;
+    this.begun = isSamePin ? "" : name;
     if (this.ends.size === 0) this.begun = "";
     const count = this.ends.size;
-    this.say(this.begun ? say.wireBegins(nameOfPin(name), counted(count, "pin")) : "");
+    this.say(this.begun ? say.wireBegins(pinName(name), counted(count, "pin")) : "");
     return Promise.resolve();
   }
 
@@ -200,12 +201,12 @@ export class Drawing {
    */
   endWire(name) {
     const { begun, board } = this;
-    const [line, target] = wiringOf(board).has(begun) ? [name, begun] : [begun, name];
+    const [line, target] = inputLines(board).has(begun) ? [name, begun] : [begun, name];
     return this.act({ kind: "wire", line, target });
   }
 
   /** Drops the unfinished wire. Without an unfinished wire, clears the selection. */
-  leave() {
+  cancelWire() {
     const message = this.begun ? say.NO_WIRE : "";
     if (!this.begun) this.chosen = "";
     this.begun = "";
@@ -214,7 +215,7 @@ export class Drawing {
 
   /**
    * Performs an action after all earlier actions.
-   * @param {Act} act
+   * @param {DrawingAction} act
    */
   act(act) {
     return this.inTurn(() => this.perform(act));
@@ -222,34 +223,34 @@ export class Drawing {
 
   /**
    * Performs an action if the bench accepts the result.
-   * @param {Act} act
+   * @param {DrawingAction} action
    * @returns {Promise<void>}
    */
-  async perform(act) {
+  async perform(action) {
     const text = this.calls.text();
-    const result = actOn(text, act);
+    const result = applyAction(text, action);
     if (result.refusal) return this.say(result.refusal);
     if (result.edits.length === 0) return this.say(say.NO_CHANGE);
     const { refused, answers } = await this.ask(result.text);
     if (refused || !matchesBench(result.text, answers)) return this.say(say.notDone(refused || say.CANNOT_READ));
     // If the user edited the text during the check, start again.
-    if (this.calls.text() !== text) return this.perform(act);
+    if (this.calls.text() !== text) return this.perform(action);
     this.calls.edit(result.edits);
-    this.movedParts.note(text, result.text, result.goneChains);
+    this.movedParts.note(text, result.text, result.deletedChains);
     this.take(result.text, answers, "");
-    this.chosen = this.isThere(result.part) ? result.part : "";
+    this.chosen = this.isOnBoard(result.part) ? result.part : "";
     return this.say(result.words);
   }
 
   /**
    * Undoes or redoes the last edit of the text.
-   * @param {"undo" | "redo"} which
+   * @param {"undo" | "redo"} operation
    */
-  undoOrRedo(which) {
+  undoOrRedo(operation) {
     return this.inTurn(async () => {
-      const isDone = this.calls[which]();
-      this.said = which === "undo" ? say.UNDONE : say.REDONE;
-      if (!isDone) this.said = which === "undo" ? say.NOTHING_TO_UNDO : say.NOTHING_TO_REDO;
+      const isDone = this.calls[operation]();
+      this.lastMessage = operation === "undo" ? say.UNDONE : say.REDONE;
+      if (!isDone) this.lastMessage = operation === "undo" ? say.NOTHING_TO_UNDO : say.NOTHING_TO_REDO;
       await this.readText();
     });
   }
@@ -259,6 +260,6 @@ export class Drawing {
  * Returns the name of a pin for messages.
  * @param {string} name
  */
-function nameOfPin(name) {
-  return name.includes(" ") ? nameOfTarget(name) : say.lineOfBoard(name);
+function pinName(name) {
+  return name.includes(" ") ? targetName(name) : say.lineOfBoard(name);
 }

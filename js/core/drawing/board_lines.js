@@ -1,14 +1,14 @@
-// The signal lines of a board, the inputs that use them, and the allowed wires between lines and inputs. The bench decides what is allowed;
-// a unit test compares each pair of a line and an input with the bench. A buzzer exists only on the front panel; it uses a line in the same
-// way as a lamp.
+// Defines the signal lines of a board, the inputs that use them, and the allowed wires between lines and inputs. The bench decides which
+// wires are allowed; a unit test compares each pair of a line and an input with the bench. A buzzer exists only on the front panel; it uses
+// a line like a lamp.
 
 import { BITS_PER_CHIP, boardLines } from "../bench/board_form.js";
-import { upTo } from "../bench/numbers.js";
-import { buzzerOf } from "../board/face_board.js";
+import { indices } from "../bench/numbers.js";
+import { findBuzzer } from "../board/face_board.js";
 import * as say from "../../words/drawing.js";
 
 /**
- * @typedef {import("../bench/answers.js").Board & { buzzer?: string }} Board a board with the line of its buzzer, "" for none
+ * @typedef {import("../bench/answers.js").Board & { buzzer?: string }} Board a board, with the signal line of its buzzer ("" for none)
  * @typedef {import("../bench/board_form.js").BoardLine} BoardLine
  *
  * An input that uses a signal line: `clock 0` or `data 0` of a chain, `row 1` or `column 2` of the keys, `lamp 3`, or `buzzer 0`.
@@ -18,32 +18,32 @@ import * as say from "../../words/drawing.js";
 export const BUZZER = "buzzer 0";
 
 /**
- * Adds the buzzer of the front panel to a board.
+ * Returns a board with the signal line of its buzzer from the front panel.
  * @param {import("../bench/answers.js").Board} board
  * @param {import("../board/face.js").Face} face
  * @returns {Board}
  */
-export function withBuzzer(board, face) {
-  const buzzer = buzzerOf(board, face);
+export function boardWithBuzzer(board, face) {
+  const buzzer = findBuzzer(board, face);
   return { ...board, buzzer: buzzer ? buzzer.place : "" };
 }
 
 /**
- * Returns all inputs with their lines.
+ * Returns the signal line of each input.
  * @param {Board} board
  * @returns {Map<Target, string>}
  */
-export function wiringOf({ chains, matrix, lamps, buzzer }) {
+export function inputLines({ chains, matrix, lamps, buzzer }) {
   /** @type {Map<Target, string>} */
-  const wired = new Map();
-  chains.forEach(({ clock, data }, at) => wired.set(`clock ${at}`, clock).set(`data ${at}`, data));
+  const lines = new Map();
+  chains.forEach(({ clock, data }, at) => lines.set(`clock ${at}`, clock).set(`data ${at}`, data));
   if (matrix) {
-    for (const row of upTo(matrix.rows)) wired.set(`row ${row}`, `chain${matrix.chain}.${matrix.first + row}`);
-    matrix.columns.forEach((line, at) => wired.set(`column ${at}`, line));
+    for (const row of indices(matrix.rows)) lines.set(`row ${row}`, `chain${matrix.chain}.${matrix.first + row}`);
+    matrix.columns.forEach((line, at) => lines.set(`column ${at}`, line));
   }
-  lamps.forEach((line, at) => wired.set(`lamp ${at}`, line));
-  if (buzzer) wired.set(BUZZER, buzzer);
-  return wired;
+  lamps.forEach((line, at) => lines.set(`lamp ${at}`, line));
+  if (buzzer) lines.set(BUZZER, buzzer);
+  return lines;
 }
 
 /**
@@ -57,10 +57,10 @@ export function splitTarget(target) {
 }
 
 /**
- * Returns the input name for messages.
+ * Returns the name of an input for messages.
  * @param {Target} target
  */
-export function nameOfTarget(target) {
+export function targetName(target) {
   const [kind, number] = splitTarget(target);
   if (kind === "lamp") return target;
   if (target === BUZZER) return say.THE_BUZZER;
@@ -68,10 +68,10 @@ export function nameOfTarget(target) {
 }
 
 /**
- * Returns the chain and the bit number of a line, such as `chain0.5`.
+ * Parses the name of a chain bit, such as `chain0.5`. Returns the number of the chain and of the bit.
  * @param {string} line
  */
-export function bitOf(line) {
+export function parseChainBit(line) {
   const [chain, bit] = line.replace("chain", "").split(".").map(Number);
   return { chain, bit };
 }
@@ -83,12 +83,12 @@ export function bitOf(line) {
  * @param {Target} target
  */
 export function canWire({ chains, matrix }, { name, kind, isInput }, target) {
-  const [what, number] = splitTarget(target);
-  if (what === "column") return isInput;
-  if (what === "lamp" || target === BUZZER) return !isInput;
-  if (what !== "row") return kind !== "bit" && !isInput;
+  const [targetKind, number] = splitTarget(target);
+  if (targetKind === "column") return isInput;
+  if (targetKind === "lamp" || target === BUZZER) return !isInput;
+  if (targetKind !== "row") return kind !== "bit" && !isInput;
   if (kind !== "bit" || !matrix) return false;
-  const { chain, bit } = bitOf(name);
+  const { chain, bit } = parseChainBit(name);
   const first = bit - number;
   return first >= 0 && first + matrix.rows <= BITS_PER_CHIP * chains[chain].chips;
 }
@@ -99,10 +99,11 @@ export function canWire({ chains, matrix }, { name, kind, isInput }, target) {
  * @param {string} name the name of the line
  * @returns {Target[]}
  */
-export function targetsOf(board, name) {
+export function possibleTargets(board, name) {
   const line = boardLines(board).find((each) => each.name === name);
   if (!line) return [];
-  return [...wiringOf(board)].filter(([target, now]) => now !== name && canWire(board, line, target)).map(([target]) => target);
+  const targets = [...inputLines(board)].filter(([target, currentLine]) => currentLine !== name && canWire(board, line, target));
+  return targets.map(([target]) => target);
 }
 
 /**
@@ -110,7 +111,7 @@ export function targetsOf(board, name) {
  * @param {Board} board
  * @param {Target} target
  */
-export function sourcesOf(board, target) {
+export function possibleSources(board, target) {
   return boardLines(board).filter((line) => canWire(board, line, target)).map(({ name }) => name);
 }
 
@@ -119,6 +120,6 @@ export function sourcesOf(board, target) {
  * @param {Board} board
  */
 export function freeLines(board) {
-  const used = new Set(wiringOf(board).values());
+  const used = new Set(inputLines(board).values());
   return boardLines(board).filter(({ name }) => !used.has(name));
 }

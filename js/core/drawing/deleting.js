@@ -1,14 +1,13 @@
-// Deletes parts from a board. Parts that depend on them are also deleted, such as the lamps of a deleted chain. All other parts keep their
-// wires.
+// Deletes parts of a board, and the parts that depend on them, such as the lamps of a deleted chain. All other parts keep their wires.
 
 import { counted } from "../bench/numbers.js";
 import { Face } from "../board/face.js";
-import { isScanned, lampsOfGroup } from "../board/face_board.js";
+import { isScanned, groupLamps } from "../board/face_board.js";
 import { removeColumns, removeRows, renamePorts, renumberLamps, setLineText } from "./face_edits.js";
 import { BUZZER, splitTarget } from "./board_lines.js";
-import { nameOfPart, setRows } from "./adding.js";
+import { displayedPartName, setRows } from "./adding.js";
 import { removeElement, removePart, replaceValue, setValue } from "./part_edits.js";
-import { ActRefusal } from "./sketch.js";
+import { ImpossibleAction } from "./sketch.js";
 import * as say from "../../words/drawing.js";
 
 /**
@@ -17,17 +16,18 @@ import * as say from "../../words/drawing.js";
  * @typedef {import("../text/board_reader.js").Value} Value
  *
  * The parts to delete: ROMs by number, RAM chips as `bank.chip`, chains, columns and lamps.
- * @typedef {{ roms: Set<number>, rams: Set<string>, chains: Set<number>, keys: boolean, columns: Set<number>, lamps: Set<number> }} Gone
+ * @typedef {{ roms: Set<number>, rams: Set<string>, chains: Set<number>, keys: boolean, columns: Set<number>,
+ *   lamps: Set<number> }} DeletedParts
  */
 
-/** @returns {Gone} no parts */
-function noParts() {
+/** @returns {DeletedParts} empty sets: no parts to delete */
+function makeEmptyDeletion() {
   return { roms: new Set(), rams: new Set(), chains: new Set(), keys: false, columns: new Set(), lamps: new Set() };
 }
 
 /**
- * Returns whether a line belongs to a deleted part.
- * @param {Gone} gone
+ * Returns whether a signal line belongs to a part to delete.
+ * @param {DeletedParts} deletedParts
  * @param {string} line
  */
 function isLineDeleted({ roms, rams, chains }, line) {
@@ -37,12 +37,12 @@ function isLineDeleted({ roms, rams, chains }, line) {
 }
 
 /**
- * Returns the lamps of the group that contains a lamp. A lamp without a group is returned alone.
+ * Returns the lamps of the group that contains a lamp. For a lamp without a group, returns only that lamp.
  * @param {Face} face
  * @param {number} lamp
  */
-export function groupLampsOf(face, lamp) {
-  const all = face.groups.map(lampsOfGroup).find((lamps) => lamps.includes(lamp));
+export function lampsInSameGroup(face, lamp) {
+  const all = face.groups.map(groupLamps).find((lamps) => lamps.includes(lamp));
   return all || [lamp];
 }
 
@@ -57,10 +57,10 @@ export function displayAt(face, lamp) {
 }
 
 /**
- * Extends the parts to delete by the parts that depend on them.
+ * Adds the parts that depend on the parts to delete.
  * @param {Board} board
  * @param {Face} face
- * @param {Gone} deletedParts
+ * @param {DeletedParts} deletedParts
  */
 function addDependents(board, face, deletedParts) {
   board.chains.forEach(({ clock, data }, at) => {
@@ -74,23 +74,23 @@ function addDependents(board, face, deletedParts) {
   board.lamps.forEach((line, at) => isLineDeleted(deletedParts, line) && deletedParts.lamps.add(at));
   // The whole group of a deleted lamp is deleted. (The loop also visits the lamps that it adds.)
   for (const at of deletedParts.lamps) {
-    const groups = face.groups.map(lampsOfGroup).filter((lamps) => lamps.includes(at));
+    const groups = face.groups.map(groupLamps).filter((lamps) => lamps.includes(at));
     for (const lamp of groups.flat()) if (lamp < board.lamps.length) deletedParts.lamps.add(lamp);
   }
 }
 
 /**
- * Removes the parts to delete from the text.
+ * Removes the parts to delete from the board text.
  * @param {Sketch} sketch
- * @param {Gone} deletedParts
+ * @param {DeletedParts} deletedParts
  */
 function removeAll(sketch, deletedParts) {
   const { matrix } = sketch.board;
   if (deletedParts.lamps.size > 0) removeLamps(sketch, deletedParts.lamps);
   if (deletedParts.keys && matrix) removeKeys(sketch);
   else if (deletedParts.columns.size > 0) removeKeyColumns(sketch, deletedParts.columns);
-  for (const chain of descending(deletedParts.chains)) removeChain(sketch, chain);
-  sketch.goneChains.push(...deletedParts.chains);
+  for (const chain of sortDescending(deletedParts.chains)) removeChain(sketch, chain);
+  sketch.deletedChains.push(...deletedParts.chains);
   for (const rom of deletedParts.roms) removeRom(sketch, rom);
   for (const ram of deletedParts.rams) removeRam(sketch, ram);
 }
@@ -99,7 +99,7 @@ function removeAll(sketch, deletedParts) {
  * Returns numbers in descending order: removals in this order do not renumber the parts that follow.
  * @param {Set<number>} numbers
  */
-function descending(numbers) {
+function sortDescending(numbers) {
   return [...numbers].sort((one, other) => other - one);
 }
 
@@ -110,7 +110,7 @@ function descending(numbers) {
  */
 function removeLamps(sketch, lamps) {
   sketch.edit(renumberLamps(sketch.draft, lamps));
-  for (const lamp of descending(lamps)) sketch.edit(removePart(sketch.draft, "lamp", lamp));
+  for (const lamp of sortDescending(lamps)) sketch.edit(removePart(sketch.draft, "lamp", lamp));
 }
 
 /**
@@ -129,9 +129,9 @@ function removeKeys(sketch) {
  */
 function removeKeyColumns(sketch, columns) {
   sketch.edit(removeColumns(sketch.draft, columns));
-  for (const column of descending(columns)) {
+  for (const column of sortDescending(columns)) {
     const { draft } = sketch;
-    sketch.edit(removeElement(draft, draft.keyOf(draft.entry("keys", 0), "columns").value, column));
+    sketch.edit(removeElement(draft, draft.requireKey(draft.entry("keys", 0), "columns").value, column));
   }
 }
 
@@ -144,9 +144,10 @@ function removeChain(sketch, chain) {
   /** @type {(line: string) => string} */
   const rename = (line) => line.replace(/^chain(\d+)/, (_, number) => `chain${Number(number) - (Number(number) > chain ? 1 : 0)}`);
   const { draft } = sketch;
-  const values = draft.of("lamp").map((entry) => draft.keyOf(entry, "line").value);
+  const values = draft.partsOfKind("lamp").map((entry) => draft.requireKey(entry, "line").value);
   const bits = values.filter(({ inner }) => rename(String(inner)) !== inner);
-  const numbers = draft.of("keys").map((entry) => draft.keyOf(entry, "chain").value).filter(({ inner }) => Number(inner) > chain);
+  const numbers = draft.partsOfKind("keys").map((entry) => draft.requireKey(entry, "chain").value)
+    .filter(({ inner }) => Number(inner) > chain);
   sketch.edit([
     ...bits.map((value) => replaceValue(draft, value, rename(String(value.inner)))),
     ...numbers.map((value) => replaceValue(draft, value, Number(value.inner) - 1)),
@@ -163,7 +164,7 @@ function removeChain(sketch, chain) {
 function removeRom(sketch, rom) {
   sketch.edit(renamePorts(sketch.draft, (port) => (port === `rom${rom}` ? "" : port)));
   const { draft } = sketch;
-  sketch.edit(removePart(draft, "rom", draft.of("rom").indexOf(draft.partByNumber("rom", rom))));
+  sketch.edit(removePart(draft, "rom", draft.partsOfKind("rom").indexOf(draft.partByNumber("rom", rom))));
 }
 
 /**
@@ -176,16 +177,16 @@ function removeRam(sketch, ram) {
   sketch.edit(renamePorts(sketch.draft, (port) => (port === `ram${ram}` ? "" : port)));
   const { draft } = sketch;
   const entry = draft.partByNumber("ram", bank);
-  sketch.edit(chip > 0 ? [setValue(draft, entry, "chips", chip)] : removePart(draft, "ram", draft.of("ram").indexOf(entry)));
+  sketch.edit(chip > 0 ? [setValue(draft, entry, "chips", chip)] : removePart(draft, "ram", draft.partsOfKind("ram").indexOf(entry)));
 }
 
 /**
- * Adds a part to the parts to delete; throws `ActRefusal` if the part cannot be deleted alone.
+ * Adds a part to the parts to delete; throws `ImpossibleAction` if the part cannot be deleted alone.
  * @param {Board} board
- * @param {Gone} deletedParts
+ * @param {DeletedParts} deletedParts
  * @param {string} part
  */
-function addDeleted(board, deletedParts, part) {
+function markDeleted(board, deletedParts, part) {
   const [kind, number] = splitTarget(part);
   if (kind === "rom") deletedParts.roms.add(number);
   else if (kind === "chain") deletedParts.chains.add(number);
@@ -193,8 +194,8 @@ function addDeleted(board, deletedParts, part) {
   else if (kind === "column") deletedParts.columns.add(number);
   else if (kind === "keys") deletedParts.keys = true;
   else if (kind === "lamps") board.lamps.forEach((_, at) => deletedParts.lamps.add(at));
-  else if (kind === "ram") addDeletedRam(board, deletedParts, part.slice(4));
-  else throw new ActRefusal(deletionRefusal(part));
+  else if (kind === "ram") markRamDeleted(board, deletedParts, part.slice(4));
+  else throw new ImpossibleAction(deletionRefusal(part));
 }
 
 /**
@@ -208,15 +209,15 @@ function deletionRefusal(part) {
 }
 
 /**
- * Adds a RAM chip to the parts to delete; throws `ActRefusal` if it is not the last chip of its bank.
+ * Adds a RAM chip to the parts to delete; throws `ImpossibleAction` if it is not the last chip of its bank.
  * @param {Board} board
- * @param {Gone} deletedParts
+ * @param {DeletedParts} deletedParts
  * @param {string} ram `bank.chip`
  */
-function addDeletedRam({ banks }, deletedParts, ram) {
+function markRamDeleted({ banks }, deletedParts, ram) {
   const [bank, chip] = ram.split(".").map(Number);
   const { chips } = banks.find((each) => each.bank === bank) || { chips: 0 };
-  if (chip !== chips - 1) throw new ActRefusal(say.deleteChipFirst(bank, chips - 1));
+  if (chip !== chips - 1) throw new ImpossibleAction(say.deleteChipFirst(bank, chips - 1));
   deletedParts.rams.add(ram);
 }
 
@@ -237,24 +238,24 @@ export function deletePart(sketch, part) {
     return "";
   }
   if (part.startsWith("row ")) return deleteRow(sketch, Number(part.slice(4)));
-  const deletedParts = noParts();
-  addDeleted(board, deletedParts, part);
+  const deletedParts = makeEmptyDeletion();
+  markDeleted(board, deletedParts, part);
   // Chains depend on ROMs and RAM chips. Keys and lamps depend on chains. Two passes are therefore enough.
   const face = new Face(sketch.text);
-  for (let times = 0; times < 2; times++) addDependents(board, face, deletedParts);
-  const words = dependentsText(board, deletedParts, part);
+  for (let pass = 0; pass < 2; pass++) addDependents(board, face, deletedParts);
+  const description = describeDependents(board, deletedParts, part);
   removeAll(sketch, deletedParts);
-  return words;
+  return description;
 }
 
 /**
- * Deletes the last key row; throws `ActRefusal` for any other row. Returns "" because no other part is deleted.
+ * Deletes the last key row; throws `ImpossibleAction` for any other row. Returns "" because no other part is deleted.
  * @param {Sketch} sketch
  * @param {number} row
  */
 function deleteRow(sketch, row) {
   const { matrix } = sketch.board;
-  if (!matrix || row !== matrix.rows - 1) throw new ActRefusal(say.DELETE_LAST_ROW);
+  if (!matrix || row !== matrix.rows - 1) throw new ImpossibleAction(say.DELETE_LAST_ROW);
   setRows(sketch, row);
   sketch.edit(removeRows(sketch.draft, row));
   return "";
@@ -263,16 +264,16 @@ function deleteRow(sketch, row) {
 /**
  * Describes the parts that are deleted together with a part.
  * @param {Board} board
- * @param {Gone} deletedParts
+ * @param {DeletedParts} deletedParts
  * @param {string} part
  */
-function dependentsText({ buzzer }, deletedParts, part) {
+function describeDependents({ buzzer }, deletedParts, part) {
   const { chains, keys, columns, lamps } = deletedParts;
   const others = [...chains].map((chain) => `chain ${chain}`).filter((name) => name !== part);
-  const further = part === "lamps" || (part.startsWith("lamp ") && lamps.size === 1) ? 0 : lamps.size;
-  if (keys && part !== "keys") others.push(nameOfPart("keys"));
+  const otherLamps = part === "lamps" || (part.startsWith("lamp ") && lamps.size === 1) ? 0 : lamps.size;
+  if (keys && part !== "keys") others.push(displayedPartName("keys"));
   else if (!keys && columns.size > 0 && !part.startsWith("column")) others.push(say.ofKeys(counted(columns.size, "column")));
-  if (further > 0) others.push(part.startsWith("lamp ") ? say.allLampsOf(further) : counted(further, "lamp"));
+  if (otherLamps > 0) others.push(part.startsWith("lamp ") ? say.allLampsOf(otherLamps) : counted(otherLamps, "lamp"));
   if (buzzer && isLineDeleted(deletedParts, buzzer)) others.push(say.THE_BUZZER);
   return say.listOf(others);
 }

@@ -7,7 +7,7 @@ import { Face } from "../board/face.js";
  * Returns the line range of each part. A comment defines a buzzer, or a button or switch at the TEST pin.
  * @param {string} text
  */
-export function linesOfParts(text) {
+export function drawnPartLines(text) {
   const lines = partLines(text);
   const { test, buzzer } = new Face(text);
   if (test) lines.set("test", { from: test.line, to: test.line });

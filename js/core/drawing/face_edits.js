@@ -1,6 +1,6 @@
-// Edits the front panel in a board text: changes names and colours, and updates the front panel after lamps, keys or chains are deleted.
+// Edits the front panel in a board text: sets names and colours, and removes and renumbers entries after lamps, keys or chains are deleted.
 
-import { COLOURS, KINDS } from "../board/face_words.js";
+import { COLOURS, LINE_KINDS } from "../board/face_words.js";
 import { addFaceLine, faceLines, headNumber, removeFaceLine, removeWords, setWord } from "./face_lines.js";
 
 /**
@@ -14,18 +14,18 @@ export { COLOURS };
 const ROW_KINDS = ["row", "grid"];
 /** The kinds of lines that start with a lamp number. */
 const LAMP_KINDS = new Set(
-  [...KINDS].filter(([name, { head }]) => head.startsWith("N") && !ROW_KINDS.includes(name)).map(([name]) => name),
+  [...LINE_KINDS].filter(([name, { head }]) => head.startsWith("N") && !ROW_KINDS.includes(name)).map(([name]) => name),
 );
 /** The kinds of lines that start with a port or a port line. */
 const PORT_KINDS = ["port", "buzzer", "printer"];
-/** The list entry of a part without a name or colour. */
+/** The list entry for a lamp or key without a name or colour. */
 const NO_WORD = "_";
 
 /**
  * Converts a name to one word, with underscores instead of blanks.
  * @param {string} name
  */
-export function wordOf(name) {
+export function toWord(name) {
   return name.trim().replace(/[ \t]+/g, "_");
 }
 
@@ -38,7 +38,7 @@ export function wordOf(name) {
  * @param {string} text "" for none
  * @returns {TextEdit[]}
  */
-function setInList(draft, kind, lamp, text) {
+function setListWord(draft, kind, lamp, text) {
   const lists = faceLines(draft).filter((line) => line.kind === kind && line.first && !line.last);
   const list = lists.find((line) => headNumber(line) <= lamp && lamp < headNumber(line) + line.words.length);
   if (list) {
@@ -47,8 +47,8 @@ function setInList(draft, kind, lamp, text) {
     return setWord(list.words[lamp - headNumber(list)], text || NO_WORD);
   }
   if (text === "") return [];
-  const before = lists.find((line) => headNumber(line) + line.words.length === lamp);
-  if (before) return [{ from: before.end, to: before.end, insert: ` ${text}` }];
+  const precedingList = lists.find((line) => headNumber(line) + line.words.length === lamp);
+  if (precedingList) return [{ from: precedingList.end, to: precedingList.end, insert: ` ${text}` }];
   return addFaceLine(draft, kind, `# ${kind} ${lamp}: ${text}`);
 }
 
@@ -59,13 +59,13 @@ function setInList(draft, kind, lamp, text) {
  * @param {string} name "" for none
  */
 export function nameLamp(draft, lamp, name) {
-  const word = wordOf(name);
+  const word = toWord(name);
   const lines = faceLines(draft);
   const list = lines.find((line) => line.kind === "lamp" && headNumber(line) <= lamp && lamp < headNumber(line) + line.words.length);
-  const old = list && list.words[lamp - headNumber(list)].text;
-  const onGrid = lines.filter(({ kind }) => kind === "grid").flatMap(({ words }) => words)
-    .filter(({ text }) => text === old && text !== NO_WORD);
-  return [...setInList(draft, "lamp", lamp, word), ...onGrid.flatMap((each) => setWord(each, word || String(lamp)))];
+  const oldName = list && list.words[lamp - headNumber(list)].text;
+  const gridWords = lines.filter(({ kind }) => kind === "grid").flatMap(({ words }) => words)
+    .filter(({ text }) => text === oldName && text !== NO_WORD);
+  return [...setListWord(draft, "lamp", lamp, word), ...gridWords.flatMap((each) => setWord(each, word || String(lamp)))];
 }
 
 /**
@@ -78,14 +78,14 @@ export function nameLamp(draft, lamp, name) {
 export function colourLamp(draft, lamp, colour) {
   const range = faceLines(draft).find((line) => line.kind === "colour" && line.last && headNumber(line) <= lamp
     && lamp <= Number(line.last.text));
-  if (!range || !range.first || !range.last) return setInList(draft, "colour", lamp, colour);
+  if (!range || !range.first || !range.last) return setListWord(draft, "colour", lamp, colour);
   const first = headNumber(range);
-  const [old = { text: NO_WORD }] = range.words;
+  const [oldColour = { text: NO_WORD }] = range.words;
   const count = Number(range.last.text) - first + 1;
-  const words = Array.from({ length: count }, (_, at) => (first + at === lamp ? colour || NO_WORD : old.text));
-  const areAlike = words.every((word) => word === words[0]);
-  if (areAlike) return words[0] === NO_WORD ? [removeFaceLine(draft, range)] : setWord(range.words[0], words[0]);
-  return [{ from: range.first.to, to: range.end, insert: `: ${words.join(" ")}` }];
+  const colours = Array.from({ length: count }, (_, at) => (first + at === lamp ? colour || NO_WORD : oldColour.text));
+  const isUniform = colours.every((word) => word === colours[0]);
+  if (isUniform) return colours[0] === NO_WORD ? [removeFaceLine(draft, range)] : setWord(range.words[0], colours[0]);
+  return [{ from: range.first.to, to: range.end, insert: `: ${colours.join(" ")}` }];
 }
 
 /**
@@ -96,12 +96,12 @@ export function colourLamp(draft, lamp, colour) {
  * @returns {TextEdit[]}
  */
 export function nameKey(draft, { row, column }, name) {
-  const word = wordOf(name) || NO_WORD;
+  const word = toWord(name) || NO_WORD;
   const line = faceLines(draft).find((each) => each.kind === "row" && headNumber(each) === row);
   const count = line ? line.words.length : 0;
   if (line && column < count) return setWord(line.words[column], word);
-  const before = Array.from({ length: column - count }, (_, at) => `${row}.${count + at}`);
-  const words = [...before, word].join(" ");
+  const missingNames = Array.from({ length: column - count }, (_, at) => `${row}.${count + at}`);
+  const words = [...missingNames, word].join(" ");
   return line ? [{ from: line.end, to: line.end, insert: ` ${words}` }] : addFaceLine(draft, "row", `# row ${row}: ${words}`);
 }
 
@@ -137,26 +137,26 @@ export function moveBuzzer(draft, line) {
  * @param {BoardDraft} draft
  * @param {string} kind
  * @param {number} first the number of the first lamp
- * @param {string} words the text after the colon
+ * @param {string} text the text after the colon
  */
-export function addGroup(draft, kind, first, words) {
-  return addFaceLine(draft, kind, `# ${kind} ${first}: ${words}`);
+export function addGroup(draft, kind, first, text) {
+  return addFaceLine(draft, kind, `# ${kind} ${first}: ${text}`);
 }
 
 /**
  * Renumbers the lamps after a deletion.
  * @param {BoardDraft} draft
- * @param {Set<number>} deleted the deleted lamps
+ * @param {Set<number>} deletedLamps
  * @returns {TextEdit[]}
  */
-export function renumberLamps(draft, deleted) {
+export function renumberLamps(draft, deletedLamps) {
   /** @type {(lamp: number) => number} */
-  const numberOf = (lamp) => lamp - [...deleted].filter((each) => each < lamp).length;
+  const newNumber = (lamp) => lamp - [...deletedLamps].filter((each) => each < lamp).length;
   return faceLines(draft).flatMap((line) => {
-    if (line.kind === "grid") return renumberGrid(draft, line, deleted, numberOf);
+    if (line.kind === "grid") return renumberGrid(draft, line, deletedLamps, newNumber);
     if (!LAMP_KINDS.has(line.kind) || !line.first || Number.isNaN(headNumber(line))) return [];
-    if (line.last) return renumberRange(draft, line, deleted, numberOf);
-    return renumberList(draft, line, deleted, numberOf);
+    if (line.last) return renumberRange(draft, line, deletedLamps, newNumber);
+    return renumberList(draft, line, deletedLamps, newNumber);
   });
 }
 
@@ -164,56 +164,58 @@ export function renumberLamps(draft, deleted) {
  * Renumbers the lamps in a list of names or colours, or in a group.
  * @param {BoardDraft} draft
  * @param {FaceLine} line
- * @param {Set<number>} deleted the deleted lamps
- * @param {(lamp: number) => number} numberOf returns the new number of a lamp
+ * @param {Set<number>} deletedLamps
+ * @param {(lamp: number) => number} newNumber returns the new number of a lamp
  * @returns {TextEdit[]}
  */
-function renumberList(draft, line, deleted, numberOf) {
+function renumberList(draft, line, deletedLamps, newNumber) {
   const first = headNumber(line);
   const isGroup = line.kind !== "lamp" && line.kind !== "colour";
-  const remaining = isGroup ? [...(deleted.has(first) ? [] : [first])]
-    : line.words.map((_, at) => first + at).filter((lamp) => !deleted.has(lamp));
-  if (remaining.length === 0) return [removeFaceLine(draft, line)];
-  const head = setWord(/** @type {import("./face_lines.js").FaceWord} */ (line.first), String(numberOf(remaining[0])));
-  if (!isGroup) return [...head, ...removeWords(line, (at) => deleted.has(first + at))];
-  // The number in `scanned by N` is also a lamp number.
-  const by = line.words[line.words.findIndex(({ text }) => text === "scanned") + 2];
-  return line.words.some(({ text }) => text === "scanned") && by ? [...head, ...setWord(by, String(numberOf(Number(by.text))))] : head;
+  const remainingLamps = isGroup ? [...(deletedLamps.has(first) ? [] : [first])]
+    : line.words.map((_, at) => first + at).filter((lamp) => !deletedLamps.has(lamp));
+  if (remainingLamps.length === 0) return [removeFaceLine(draft, line)];
+  const head = setWord(/** @type {import("./face_lines.js").FaceWord} */ (line.first), String(newNumber(remainingLamps[0])));
+  if (!isGroup) return [...head, ...removeWords(line, (at) => deletedLamps.has(first + at))];
+  // In `scanned by N`, N is also a lamp number.
+  const scanWord = line.words[line.words.findIndex(({ text }) => text === "scanned") + 2];
+  const isMultiplexed = line.words.some(({ text }) => text === "scanned");
+  return isMultiplexed && scanWord ? [...head, ...setWord(scanWord, String(newNumber(Number(scanWord.text))))] : head;
 }
 
 /**
  * Renumbers the lamps in a colour range.
  * @param {BoardDraft} draft
  * @param {FaceLine} line
- * @param {Set<number>} deleted the deleted lamps
- * @param {(lamp: number) => number} numberOf returns the new number of a lamp
+ * @param {Set<number>} deletedLamps
+ * @param {(lamp: number) => number} newNumber returns the new number of a lamp
  * @returns {TextEdit[]}
  */
-function renumberRange(draft, line, deleted, numberOf) {
+function renumberRange(draft, line, deletedLamps, newNumber) {
   const { first, last } = line;
   if (!first || !last) return [];
   const lamps = Array.from({ length: Math.max(0, Number(last.text) - headNumber(line) + 1) }, (_, at) => headNumber(line) + at);
-  const remaining = lamps.filter((lamp) => !deleted.has(lamp));
-  if (remaining.length === 0) return [removeFaceLine(draft, line)];
-  return [...setWord(first, String(numberOf(remaining[0]))), ...setWord(last, String(numberOf(remaining[remaining.length - 1])))];
+  const remainingLamps = lamps.filter((lamp) => !deletedLamps.has(lamp));
+  if (remainingLamps.length === 0) return [removeFaceLine(draft, line)];
+  const lastRemaining = remainingLamps[remainingLamps.length - 1];
+  return [...setWord(first, String(newNumber(remainingLamps[0]))), ...setWord(last, String(newNumber(lastRemaining)))];
 }
 
 /**
  * Renumbers the lamps in a grid row.
  * @param {BoardDraft} draft
  * @param {FaceLine} line
- * @param {Set<number>} deleted the deleted lamps
- * @param {(lamp: number) => number} numberOf returns the new number of a lamp
+ * @param {Set<number>} deletedLamps
+ * @param {(lamp: number) => number} newNumber returns the new number of a lamp
  * @returns {TextEdit[]}
  */
-function renumberGrid(draft, line, deleted, numberOf) {
+function renumberGrid(draft, line, deletedLamps, newNumber) {
   const names = new Map(faceLines(draft).filter(({ kind, first, last }) => kind === "lamp" && first && !last)
     .flatMap((list) => list.words.map(({ text }, at) => /** @type {[string, number]} */ ([text, headNumber(list) + at]))));
   const texts = line.words.map(({ text }) => {
     const named = names.get(text);
-    if (named !== undefined) return deleted.has(named) ? NO_WORD : text;
+    if (named !== undefined) return deletedLamps.has(named) ? NO_WORD : text;
     if (!/^\d+$/.test(text)) return text;
-    return deleted.has(Number(text)) ? NO_WORD : String(numberOf(Number(text)));
+    return deletedLamps.has(Number(text)) ? NO_WORD : String(newNumber(Number(text)));
   });
   if (texts.every((text) => text === NO_WORD)) return [removeFaceLine(draft, line)];
   return line.words.flatMap((word, at) => setWord(word, texts[at]));
@@ -222,15 +224,15 @@ function renumberGrid(draft, line, deleted, numberOf) {
 /**
  * Renames ports and chains in the front panel after a deletion.
  * @param {BoardDraft} draft
- * @param {(port: string) => string} newPortOf returns the new name of a port, "" for a deleted port
+ * @param {(port: string) => string} newPortName returns the new name of a port, "" for a deleted port
  * @returns {TextEdit[]}
  */
-export function renamePorts(draft, newPortOf) {
+export function renamePorts(draft, newPortName) {
   return faceLines(draft).flatMap((line) => {
     if (!line.first || !PORT_KINDS.includes(line.kind)) return [];
-    // A printer line has two: the strobe line, and the code port.
+    // A printer line names two ports: that of the strobe line, and the code port.
     const words = [line.first, ...(line.kind === "printer" ? line.words.slice(0, 1) : [])];
-    const renamed = words.map(({ text }, at) => renamedPort(text, line.kind !== "port" && at === 0, newPortOf));
+    const renamed = words.map(({ text }, at) => renamePort(text, line.kind !== "port" && at === 0, newPortName));
     if (renamed.includes("")) return [removeFaceLine(draft, line)];
     return words.flatMap((word, at) => setWord(word, renamed[at]));
   });
@@ -240,31 +242,31 @@ export function renamePorts(draft, newPortOf) {
  * Returns the new name of a port or port line; "" if it was deleted.
  * @param {string} text the name
  * @param {boolean} isLine true for a port line
- * @param {(port: string) => string} newPortOf
+ * @param {(port: string) => string} newPortName
  */
-function renamedPort(text, isLine, newPortOf) {
+function renamePort(text, isLine, newPortName) {
   const end = isLine ? text.lastIndexOf(".") : text.length;
-  const port = newPortOf(text.slice(0, end).toLowerCase());
+  const port = newPortName(text.slice(0, end).toLowerCase());
   return port && port + text.slice(end);
 }
 
 /**
  * Removes the names of deleted key rows.
  * @param {BoardDraft} draft
- * @param {number} remaining the number of remaining rows
+ * @param {number} rowCount the number of remaining rows
  */
-export function removeRows(draft, remaining) {
-  return faceLines(draft).filter((line) => line.kind === "row" && headNumber(line) >= remaining).map((line) => removeFaceLine(draft, line));
+export function removeRows(draft, rowCount) {
+  return faceLines(draft).filter((line) => line.kind === "row" && headNumber(line) >= rowCount).map((line) => removeFaceLine(draft, line));
 }
 
 /**
  * Removes the names of deleted key columns.
  * @param {BoardDraft} draft
- * @param {Set<number>} deleted the deleted columns
+ * @param {Set<number>} deletedColumns
  */
-export function removeColumns(draft, deleted) {
+export function removeColumns(draft, deletedColumns) {
   return faceLines(draft).filter(({ kind }) => kind === "row").flatMap((line) => {
-    const isEmpty = line.words.length > 0 && line.words.every((_, at) => deleted.has(at));
-    return isEmpty ? [removeFaceLine(draft, line)] : removeWords(line, (at) => deleted.has(at));
+    const isEmpty = line.words.length > 0 && line.words.every((_, at) => deletedColumns.has(at));
+    return isEmpty ? [removeFaceLine(draft, line)] : removeWords(line, (at) => deletedColumns.has(at));
   });
 }

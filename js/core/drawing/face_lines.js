@@ -1,12 +1,12 @@
 // Finds front-panel lines and the offsets of their words in a board text, and edits such lines.
 
-import { headOf } from "../board/face_words.js";
+import { parseFaceLine } from "../board/face_words.js";
 import { removeLines } from "./part_edits.js";
 
 /**
  * @typedef {import("./board_draft.js").BoardDraft} BoardDraft
  * @typedef {import("./text_edits.js").TextEdit} TextEdit
- * @typedef {{ text: string, from: number, to: number }} FaceWord
+ * @typedef {{ text: string, from: number, to: number }} FaceWord a word, and the offsets of its start and its end
  *
  * A front-panel line. `line`: the line number in the text. `kind`: the first word. `first` and `last`: the words before the colon, `N` or
  * `N to N`, null for none. `words`: the words after the colon. `end`: the offset at which the line ends. All offsets count from the start
@@ -15,7 +15,7 @@ import { removeLines } from "./part_edits.js";
  */
 
 /** Matches the comment sign and the first word of a line. */
-const HEAD = /^[ \t]*#[ \t]*[A-Za-z]+[ \t]*/;
+const LINE_HEAD = /^[ \t]*#[ \t]*[A-Za-z]+[ \t]*/;
 
 /**
  * Returns the words of a text with their offsets.
@@ -23,7 +23,7 @@ const HEAD = /^[ \t]*#[ \t]*[A-Za-z]+[ \t]*/;
  * @param {number} from the offset at which the text starts
  * @returns {FaceWord[]}
  */
-function wordsFrom(text, from) {
+function splitWithOffsets(text, from) {
   return [...text.matchAll(/[^ \t\r]+/g)].map((found) => {
     const at = from + (found.index || 0);
     return { text: found[0], from: at, to: at + found[0].length };
@@ -37,14 +37,14 @@ function wordsFrom(text, from) {
  */
 export function faceLines(draft) {
   return draft.lines.flatMap((text, at) => {
-    const head = headOf(text.replace(/\r$/, ""));
+    const head = parseFaceLine(text.replace(/\r$/, ""));
     if (!head) return [];
-    const begin = draft.starts[at];
-    const [before] = HEAD.exec(text) || [""];
-    const colon = text.indexOf(":", before.length);
-    const [first = null, , last = null] = wordsFrom(text.slice(before.length, colon), begin + before.length);
-    const words = wordsFrom(text.slice(colon + 1), begin + colon + 1);
-    return [{ line: at + 1, kind: head.name, first, last, words, end: begin + text.trimEnd().length }];
+    const lineStart = draft.lineOffsets[at];
+    const [prefix] = LINE_HEAD.exec(text) || [""];
+    const colon = text.indexOf(":", prefix.length);
+    const [first = null, , last = null] = splitWithOffsets(text.slice(prefix.length, colon), lineStart + prefix.length);
+    const words = splitWithOffsets(text.slice(colon + 1), lineStart + colon + 1);
+    return [{ line: at + 1, kind: head.name, first, last, words, end: lineStart + text.trimEnd().length }];
   });
 }
 
@@ -69,7 +69,7 @@ export function addFaceLine(draft, kind, text) {
   const last = lines.filter((line) => line.kind === kind).pop() || lines.pop();
   if (last) return [{ from: last.end, to: last.end, insert: `\n${text}` }];
   const first = draft.lines.findIndex((line) => !line.startsWith("#"));
-  const at = first < 0 ? draft.text.length : draft.starts[first];
+  const at = first < 0 ? draft.text.length : draft.lineOffsets[first];
   const gap = first === 0 && draft.text.trim() !== "" && draft.lines[0].trim() !== "" ? "\n" : "";
   return [{ from: at, to: at, insert: `${first < 0 ? "\n" : ""}${text}\n${gap}` }];
 }
@@ -103,10 +103,10 @@ export function removeWords({ words, first, last }, isDeleted) {
   const head = last || first;
   return words.flatMap(({ from, to }, at) => {
     if (!isDeleted(at)) return [];
-    const before = words[at - 1] ? words[at - 1].to : from;
+    const previousEnd = words[at - 1] ? words[at - 1].to : from;
     // For the first words, the blanks after them are deleted instead, so that the blank after the colon stays.
     const next = words[at + 1];
     if (at === 0 || words.slice(0, at).every((_, each) => isDeleted(each))) return [{ from, to: next ? next.from : to, insert: "" }];
-    return head ? [{ from: before, to, insert: "" }] : [];
+    return head ? [{ from: previousEnd, to, insert: "" }] : [];
   });
 }

@@ -1,36 +1,37 @@
-// The form fields for the selected part or pin, such as its name, colour, wires, and number of chips. Each field returns the action for a
-// new value.
+// Creates the form for the selected part or pin, with fields such as its name, colour, wires, and number of chips. Each field has a
+// function that returns the action for a new value.
 
-import { upTo } from "../bench/numbers.js";
+import { indices } from "../bench/numbers.js";
 import { COLOURS } from "../board/face_words.js";
-import { RANGES, boardLines } from "../bench/board_form.js";
-import { displayAt, groupLampsOf } from "./deleting.js";
-import { BUZZER, nameOfTarget, sourcesOf, splitTarget, wiringOf } from "./board_lines.js";
+import { VALUE_RANGES, boardLines } from "../bench/board_form.js";
+import { displayAt, lampsInSameGroup } from "./deleting.js";
+import { BUZZER, targetName, possibleSources, splitTarget, inputLines } from "./board_lines.js";
 import * as say from "../../words/drawing.js";
 
 /**
  * @typedef {import("./board_lines.js").Board} Board
  * @typedef {import("../board/face.js").Face} Face
- * @typedef {import("./acts.js").Act} Act
+ * @typedef {import("./acts.js").DrawingAction} DrawingAction
  *
  * A field: its label, its value, its options with titles (null for free text), and a function that returns the action for a new value.
- * @typedef {{ label: string, value: string, options: { value: string, words: string }[] | null, act: (value: string) => Act }} Field
+ * @typedef {{ label: string, value: string, options: { value: string, words: string }[] | null,
+ *   act: (value: string) => DrawingAction }} Field
  *
  * A button: its label and its action.
- * @typedef {{ word: string, act: Act }} Button
+ * @typedef {{ word: string, act: DrawingAction }} Button
  *
  * The form for the selection: its title, the name of the part in the board text ("" for none), its fields and its buttons.
- * @typedef {{ title: string, part: string, fields: Field[], buttons: Button[] }} Fields
+ * @typedef {{ title: string, part: string, fields: Field[], buttons: Button[] }} SelectionForm
  */
 
 /**
  * Creates a field with free text.
  * @param {string} label
  * @param {string} value
- * @param {(value: string) => Act} act
+ * @param {(value: string) => DrawingAction} act
  * @returns {Field}
  */
-function text(label, value, act) {
+function textField(label, value, act) {
   return { label, value: value.replace(/_/g, " "), options: null, act };
 }
 
@@ -39,7 +40,7 @@ function text(label, value, act) {
  * @param {string} label
  * @param {string} value
  * @param {string[] | { value: string, words: string }[]} options
- * @param {(value: string) => Act} act
+ * @param {(value: string) => DrawingAction} act
  * @returns {Field}
  */
 function choiceField(label, value, options, act) {
@@ -47,11 +48,11 @@ function choiceField(label, value, options, act) {
 }
 
 /**
- * Returns the numbers of a range as text.
+ * Returns the numbers of a range, formatted as text.
  * @param {{ from: number, to: number }} range
  */
-function numbers({ from, to }) {
-  return upTo(to + 1).slice(from).map(String);
+function rangeNumbers({ from, to }) {
+  return indices(to + 1).slice(from).map(String);
 }
 
 /**
@@ -60,9 +61,9 @@ function numbers({ from, to }) {
  * @param {string} target
  * @param {string} [label]
  */
-function lineField(board, target, label = nameOfTarget(target)) {
-  const now = wiringOf(board).get(target) || "";
-  return choiceField(say.lineOf(label), now, sourcesOf(board, target), (line) => ({ kind: "wire", line, target }));
+function lineField(board, target, label = targetName(target)) {
+  const currentLine = inputLines(board).get(target) || "";
+  return choiceField(say.lineOf(label), currentLine, possibleSources(board, target), (line) => ({ kind: "wire", line, target }));
 }
 
 /**
@@ -72,7 +73,7 @@ function lineField(board, target, label = nameOfTarget(target)) {
  */
 function portField(face, part) {
   const faceText = face.ports.get(part.replace(" ", ""));
-  return text(say.WHAT_IS_THERE, faceText ? faceText.text : "", (name) => ({ kind: "name", part, name }));
+  return textField(say.WHAT_IS_THERE, faceText ? faceText.text : "", (name) => ({ kind: "name", part, name }));
 }
 
 /**
@@ -97,13 +98,13 @@ const deleteButton = (part, word = say.DELETE) => ({ word, act: { kind: "delete"
  * @param {Board} board
  * @param {Face} face
  * @param {string} part
- * @returns {Fields}
+ * @returns {SelectionForm}
  */
 function romFields(board, face, part) {
   const chip = splitTarget(part)[1];
   const rom = board.roms.find((each) => Number(each.chip) === chip);
   const port = rom ? rom.port : "0000";
-  const lines = upTo(4).map((at) => directionField(`rom${chip}.${at}`, port));
+  const lines = indices(4).map((at) => directionField(`rom${chip}.${at}`, port));
   const fields = [portField(face, part), ...lines];
   return { title: say.romWithPort(chip), part, fields, buttons: [copyButton(part), deleteButton(part)] };
 }
@@ -113,11 +114,11 @@ function romFields(board, face, part) {
  * @param {Board} board
  * @param {Face} face
  * @param {string} part
- * @returns {Fields}
+ * @returns {SelectionForm}
  */
 function chainFields(board, face, part) {
   const at = splitTarget(part)[1];
-  const chips = choiceField("chips", String(board.chains[at].chips), numbers(RANGES["chain.chips"]), (value) => (
+  const chips = choiceField("chips", String(board.chains[at].chips), rangeNumbers(VALUE_RANGES["chain.chips"]), (value) => (
     { kind: "chips", chain: at, chips: Number(value) }));
   const lines = [lineField(board, `clock ${at}`, "clock"), lineField(board, `data ${at}`, "data")];
   const fields = [portField(face, part), ...lines, chips];
@@ -128,18 +129,20 @@ function chainFields(board, face, part) {
  * Returns the form for the keys.
  * @param {Board} board
  * @param {Face} face
- * @returns {Fields}
+ * @returns {SelectionForm}
  */
 function keysFields(board, face) {
-  const rows = choiceField("rows", String(board.rows), numbers(RANGES["keys.rows"]), (value) => ({ kind: "rows", rows: Number(value) }));
-  const columns = upTo(board.columns).map((at) => lineField(board, `column ${at}`, `column ${at}`));
-  const names = upTo(board.rows).flatMap((row) => upTo(board.columns).map((column) => {
+  const rows = choiceField("rows", String(board.rows), rangeNumbers(VALUE_RANGES["keys.rows"]), (value) => (
+    { kind: "rows", rows: Number(value) }));
+  const columns = indices(board.columns).map((at) => lineField(board, `column ${at}`, `column ${at}`));
+  const names = indices(board.rows).flatMap((row) => indices(board.columns).map((column) => {
     const faceText = face.keys.get(`${row} ${column}`);
-    return text(`key ${row}.${column}`, faceText ? faceText.text : "", (name) => ({ kind: "name", part: `key ${row} ${column}`, name }));
+    return textField(`key ${row}.${column}`, faceText ? faceText.text : "", (name) => (
+      { kind: "name", part: `key ${row} ${column}`, name }));
   }));
-  const more = { word: say.ANOTHER_COLUMN, act: /** @type {Act} */ ({ kind: "column" }) };
+  const columnButton = { word: say.ANOTHER_COLUMN, act: /** @type {DrawingAction} */ ({ kind: "column" }) };
   const fields = [rows, lineField(board, "row 0", "row 0"), ...columns, ...names];
-  return { title: say.KEYS, part: "keys", fields, buttons: [more, deleteButton("keys")] };
+  return { title: say.KEYS, part: "keys", fields, buttons: [columnButton, deleteButton("keys")] };
 }
 
 /**
@@ -147,21 +150,21 @@ function keysFields(board, face) {
  * @param {Board} board
  * @param {Face} face
  * @param {number} lamp
- * @returns {Fields}
+ * @returns {SelectionForm}
  */
 function lampFields(board, face, lamp) {
   const part = `lamp ${lamp}`;
-  const all = groupLampsOf(face, lamp);
-  const isOne = all.length === 1;
+  const groupLamps = lampsInSameGroup(face, lamp);
+  const isSingle = groupLamps.length === 1;
   // All lamps of a group have the colour of its first lamp.
-  const [name, colour] = [face.lamps.get(lamp), face.colours.get(all[0])];
+  const [name, colour] = [face.lamps.get(lamp), face.colours.get(groupLamps[0])];
   const fields = [
-    text("name", name ? name.text : "", (value) => ({ kind: "name", part, name: value })),
-    choiceField("colour", colour ? colour.text : "red", [...COLOURS], (value) => ({ kind: "colour", lamp: all[0], colour: value })),
+    textField("name", name ? name.text : "", (value) => ({ kind: "name", part, name: value })),
+    choiceField("colour", colour ? colour.text : "red", [...COLOURS], (value) => ({ kind: "colour", lamp: groupLamps[0], colour: value })),
     lineField(board, part, "lamp"),
   ];
-  const copies = displayAt(face, all[0]) ? [{ ...copyButton(`lamp ${all[0]}`), word: say.COPY_DISPLAY }] : [];
-  const buttons = isOne ? [copyButton(part), deleteButton(part)] : [...copies, deleteButton(part, say.deleteLamps(all.length))];
+  const copies = displayAt(face, groupLamps[0]) ? [{ ...copyButton(`lamp ${groupLamps[0]}`), word: say.COPY_DISPLAY }] : [];
+  const buttons = isSingle ? [copyButton(part), deleteButton(part)] : [...copies, deleteButton(part, say.deleteLamps(groupLamps.length))];
   return { title: say.lampTitle(lamp), part, fields, buttons };
 }
 
@@ -169,10 +172,10 @@ function lampFields(board, face, lamp) {
  * Returns the form for the buzzer.
  * @param {Board} board
  * @param {Face} face
- * @returns {Fields}
+ * @returns {SelectionForm}
  */
 function buzzerFields(board, { buzzer }) {
-  const name = text("name", buzzer ? buzzer.name : "", (value) => ({ kind: "name", part: "buzzer", name: value }));
+  const name = textField("name", buzzer ? buzzer.name : "", (value) => ({ kind: "name", part: "buzzer", name: value }));
   const fields = [name, lineField(board, BUZZER, "buzzer")];
   return { title: say.THE_BUZZER_TITLE, part: "buzzer", fields, buttons: [deleteButton("buzzer")] };
 }
@@ -181,7 +184,7 @@ function buzzerFields(board, { buzzer }) {
  * Returns the form for a RAM chip.
  * @param {Face} face
  * @param {string} part
- * @returns {Fields}
+ * @returns {SelectionForm}
  */
 function ramFields(face, part) {
   const title = say.ramWithPort(part.slice(4));
@@ -192,7 +195,7 @@ function ramFields(face, part) {
  * Returns the form for a port line or a chain bit.
  * @param {Board} board
  * @param {string} name
- * @returns {Fields}
+ * @returns {SelectionForm}
  */
 function lineFields(board, name) {
   const line = boardLines(board).find((each) => each.name === name);
@@ -210,12 +213,12 @@ function lineFields(board, name) {
  * Returns the form for an input of a chain or the keys.
  * @param {Board} board
  * @param {string} target
- * @returns {Fields}
+ * @returns {SelectionForm}
  */
 function targetFields(board, target) {
   const [kind, number] = splitTarget(target);
   const canDelete = kind === "column" || (kind === "row" && number === board.rows - 1 && number > 0);
-  const name = nameOfTarget(target);
+  const name = targetName(target);
   const title = name.charAt(0).toUpperCase() + name.slice(1);
   const part = kind === "row" || kind === "column" ? "keys" : `chain ${number}`;
   return { title, part, fields: [lineField(board, target, say.IT_IS)], buttons: canDelete ? [deleteButton(target)] : [] };
@@ -225,24 +228,24 @@ function targetFields(board, target) {
  * Returns the form for the selection. If nothing is selected, returns the form for the whole board.
  * @param {Board} board
  * @param {Face} face
- * @param {string} chosen the selected part or pin
- * @returns {Fields}
+ * @param {string} selection the selected part or pin
+ * @returns {SelectionForm}
  */
-export function fieldsOf(board, face, chosen) {
-  const [kind, number] = splitTarget(chosen);
-  if (kind === "rom") return romFields(board, face, chosen);
-  if (kind === "chain") return chainFields(board, face, chosen);
+export function selectionForm(board, face, selection) {
+  const [kind, number] = splitTarget(selection);
+  if (kind === "rom") return romFields(board, face, selection);
+  if (kind === "chain") return chainFields(board, face, selection);
   if (kind === "keys") return keysFields(board, face);
   if (kind === "lamp") return lampFields(board, face, number);
-  if (kind === "ram") return ramFields(face, chosen);
+  if (kind === "ram") return ramFields(face, selection);
   if (kind === "buzzer" && board.buzzer) return buzzerFields(board, face);
   if (kind === "lamps") return { title: say.ALL_LAMPS, part: "lamp 0", fields: [], buttons: [deleteButton("lamps", say.DELETE_ALL_LAMPS)] };
   if (kind === "test" && face.test) {
-    const name = text("name", face.test.name, (value) => ({ kind: "name", part: "test", name: value }));
+    const name = textField("name", face.test.name, (value) => ({ kind: "name", part: "test", name: value }));
     return { title: say.atTest(face.test.kind), part: "test", fields: [name], buttons: [deleteButton("test")] };
   }
-  if (wiringOf(board).has(chosen)) return targetFields(board, chosen);
-  if (chosen.includes(".")) return lineFields(board, chosen);
-  const title = text("title", face.title, (name) => ({ kind: "name", part: "title", name }));
+  if (inputLines(board).has(selection)) return targetFields(board, selection);
+  if (selection.includes(".")) return lineFields(board, selection);
+  const title = textField("title", face.title, (name) => ({ kind: "name", part: "title", name }));
   return { title: say.BOARD_TITLE, part: "", fields: [title], buttons: [] };
 }

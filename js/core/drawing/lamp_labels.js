@@ -1,7 +1,7 @@
-// The labels of lamps in the drawing: the lamp name, or for an unnamed display lamp, its digit and segment.
+// Creates the labels of lamps in the drawing. The label is the name of the lamp; for an unnamed lamp of a display, its digit and segment.
 
-import { isScanned, lampNames, lampsOfGroup } from "../board/face_board.js";
-import { upTo } from "../bench/numbers.js";
+import { isScanned, lampNames, groupLamps } from "../board/face_board.js";
+import { indices } from "../bench/numbers.js";
 import * as say from "../../words/drawing.js";
 
 /** @typedef {import("../board/face.js").Face} Face */
@@ -20,8 +20,8 @@ export function lampLabels(face, count) {
   const labels = lampNames(face, count);
   for (const group of face.groups) {
     if (group.kind !== "display") continue;
-    const groupLabels = labelsOf(group);
-    lampsOfGroup(group).forEach((lamp, at) => {
+    const groupLabels = displayLabels(group);
+    groupLamps(group).forEach((lamp, at) => {
       if (lamp < count) labels[lamp] = labels[lamp] || groupLabels[at];
     });
   }
@@ -32,9 +32,9 @@ export function lampLabels(face, count) {
  * Returns the labels of the lamps in a display.
  * @param {import("../board/face.js").Group} group
  */
-function labelsOf(group) {
+function displayLabels(group) {
   const { rows, columns } = group;
   const lamps = [...(columns < SEGMENT_LABELS.length ? BCD_LABELS : SEGMENT_LABELS), POINT_LABEL].slice(0, columns);
-  if (isScanned(group)) return [...lamps.map((lamp) => say.allDigits(lamp)), ...upTo(rows).map((digit) => `digit ${digit}`)];
-  return upTo(rows).flatMap((digit) => lamps.map((lamp) => `digit ${digit}: ${lamp}`));
+  if (isScanned(group)) return [...lamps.map((lamp) => say.allDigits(lamp)), ...indices(rows).map((digit) => `digit ${digit}`)];
+  return indices(rows).flatMap((digit) => lamps.map((lamp) => `digit ${digit}: ${lamp}`));
 }

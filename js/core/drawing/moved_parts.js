@@ -2,19 +2,19 @@
 // to the new numbers. Undo restores the positions together with the text.
 
 /**
- * @typedef {import("../board/wiring.js").Moved} Moved
+ * @typedef {import("../board/wiring.js").Positions} Positions
  * @typedef {import("../board/wiring.js").Point} Point
  *
- * A text edit that deletes chains: the text before and after the edit, the former numbers of the chains, and their positions.
- * @typedef {{ before: string, after: string, gone: number[], points: Moved }} Deletion
+ * A text edit that deletes chains: the text before and after the edit, the numbers of the chains before the edit, and their positions.
+ * @typedef {{ before: string, after: string, chains: number[], points: Positions }} Deletion
  */
 
-const CHAIN = /^chain (\d+)$/;
+const CHAIN_NAME = /^chain (\d+)$/;
 
 /** The positions of dragged parts. */
 export class MovedParts {
   constructor() {
-    /** @type {Moved} */
+    /** @type {Positions} */
     this.moved = new Map();
     /** @type {Deletion[]} */
     this.deletions = [];
@@ -23,7 +23,7 @@ export class MovedParts {
   }
 
   /**
-   * Switches to the positions of another session.
+   * Replaces all positions by those of another session.
    * @param {[string, Point][]} points
    */
   begin(points) {
@@ -34,22 +34,24 @@ export class MovedParts {
 
   /**
    * Records a text edit that deletes chains.
-   * @param {string} before the text before the edit
-   * @param {string} after the text after the edit
+   * @param {string} textBefore the text before the edit
+   * @param {string} textAfter the text after the edit
    * @param {number[]} numbers the numbers of the deleted chains
    */
-  note(before, after, numbers) {
-    if (numbers.length > 0) this.deletions.push({ before, after, gone: [...numbers].sort((one, other) => one - other), points: new Map() });
+  note(textBefore, textAfter, numbers) {
+    if (numbers.length === 0) return;
+    const chains = [...numbers].sort((one, other) => one - other);
+    this.deletions.push({ before: textBefore, after: textAfter, chains, points: new Map() });
   }
 
   /**
    * Updates the positions after a text change that deletes or restores chains.
-   * @param {string | null} from
-   * @param {string} to
+   * @param {string | null} textBefore
+   * @param {string} textAfter
    */
-  follow(from, to) {
-    const done = this.deletions.find(({ before, after }) => before === from && after === to);
-    const undone = this.deletions.find(({ before, after }) => before === to && after === from);
+  follow(textBefore, textAfter) {
+    const done = this.deletions.find(({ before, after }) => before === textBefore && after === textAfter);
+    const undone = this.deletions.find(({ before, after }) => before === textAfter && after === textBefore);
     if (done) this.removeChains(done);
     else if (undone) this.restoreChains(undone);
   }
@@ -65,10 +67,10 @@ export class MovedParts {
    * Removes the positions of deleted chains, and renumbers the other chains.
    * @param {Deletion} deletion
    */
-  removeChains({ gone, points }) {
+  removeChains({ chains, points }) {
     for (const [number, point] of this.takeChains()) {
-      if (gone.includes(number)) points.set(`chain ${number}`, point);
-      else this.moved.set(`chain ${number - gone.filter((each) => each < number).length}`, point);
+      if (chains.includes(number)) points.set(`chain ${number}`, point);
+      else this.moved.set(`chain ${number - chains.filter((each) => each < number).length}`, point);
     }
   }
 
@@ -76,20 +78,20 @@ export class MovedParts {
    * Restores the positions of deleted chains, and renumbers the other chains.
    * @param {Deletion} deletion
    */
-  restoreChains({ gone, points }) {
-    for (const [now, point] of this.takeChains()) {
-      const number = gone.reduce((sum, each) => (each <= sum ? sum + 1 : sum), now);
+  restoreChains({ chains, points }) {
+    for (const [currentNumber, point] of this.takeChains()) {
+      const number = chains.reduce((sum, each) => (each <= sum ? sum + 1 : sum), currentNumber);
       this.moved.set(`chain ${number}`, point);
     }
     for (const [part, point] of points) this.moved.set(part, point);
   }
 
-  /** Removes the positions of all chains, and returns them by chain number. */
+  /** Removes the positions of all chains. Returns them as pairs of the chain number and the position. */
   takeChains() {
     /** @type {[number, Point][]} */
     const chains = [];
     for (const [part, point] of this.moved) {
-      const found = CHAIN.exec(part);
+      const found = CHAIN_NAME.exec(part);
       if (found) chains.push([Number(found[1]), point]);
     }
     for (const [number] of chains) this.moved.delete(`chain ${number}`);

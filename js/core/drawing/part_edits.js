@@ -1,7 +1,7 @@
 // Adds parts to a board text, removes them, and changes their values. Comments stay. New parts follow the style of the existing parts.
 
 import { tomlWords } from "../text/toml_words.js";
-import { KEYS } from "../bench/board_form.js";
+import { PART_KEYS } from "../bench/board_form.js";
 
 /**
  * @typedef {import("./board_draft.js").BoardDraft} BoardDraft
@@ -13,17 +13,17 @@ import { KEYS } from "../bench/board_form.js";
  * @typedef {Record<string, string | number | string[]>} PartValues the values of a part, by key
  */
 
-/** The maximum length of an array line after an element is added. A longer array continues on the next line. */
+/** The maximum length of an array line after an element is added, in characters. A longer array continues on the next line. */
 const MAX_LINE_LENGTH = 100;
 const INDENT = "    ";
 
 /**
- * Returns a value in TOML.
+ * Formats a value as TOML.
  * @param {string | number | string[]} value
  * @returns {string}
  */
-export function written(value) {
-  return Array.isArray(value) ? `[${value.map(written).join(", ")}]` : JSON.stringify(value);
+export function formatToml(value) {
+  return Array.isArray(value) ? `[${value.map(formatToml).join(", ")}]` : JSON.stringify(value);
 }
 
 /**
@@ -31,8 +31,8 @@ export function written(value) {
  * @param {Kind} kind
  * @param {PartValues} values
  */
-function linesOf(kind, values) {
-  return KEYS[kind].map((key) => `${key} = ${written(values[key])}`);
+function valueLines(kind, values) {
+  return PART_KEYS[kind].map((key) => `${key} = ${formatToml(values[key])}`);
 }
 
 /**
@@ -44,12 +44,12 @@ function isBlank(line) {
 }
 
 /**
- * Returns whether the tables in the text are written without blank lines between them.
+ * Returns whether there are no blank lines between the tables in the text.
  * @param {BoardDraft} draft
  */
 function isCompact({ entries, lines }) {
-  const further = entries.filter(({ end }) => !end).slice(1);
-  return further.length > 0 && further.every(({ line }) => !isBlank(lines[line - 2]));
+  const laterTables = entries.filter(({ end }) => !end).slice(1);
+  return laterTables.length > 0 && laterTables.every(({ line }) => !isBlank(lines[line - 2]));
 }
 
 /**
@@ -61,11 +61,11 @@ function isCompact({ entries, lines }) {
  */
 export function addPart(draft, kind, values) {
   const array = draft.keys.find(({ name, value }) => name === kind && Array.isArray(value.inner));
-  if (array) return appendElement(draft, array.value, `{ ${linesOf(kind, values).join(", ")} }`);
-  const block = [kind === "keys" ? "[keys]" : `[[${kind}]]`, ...linesOf(kind, values)].join("\n");
+  if (array) return appendElement(draft, array.value, `{ ${valueLines(kind, values).join(", ")} }`);
+  const block = [kind === "keys" ? "[keys]" : `[[${kind}]]`, ...valueLines(kind, values)].join("\n");
   const gap = isCompact(draft) ? "\n" : "\n\n";
-  const last = draft.of(kind).pop();
-  if (!last) return [atEnd(draft, gap, block)];
+  const last = draft.partsOfKind(kind).pop();
+  if (!last) return [appendTable(draft, gap, block)];
   const line = draft.lastLine(last);
   const at = draft.offset(line, draft.lines[line - 1].length);
   return [{ from: at, to: at, insert: gap + block }];
@@ -78,7 +78,7 @@ export function addPart(draft, kind, values) {
  * @param {string} block the lines of the table
  * @returns {TextEdit}
  */
-function atEnd({ text, lines }, gap, block) {
+function appendTable({ text, lines }, gap, block) {
   const at = text.length;
   if (text.trim() === "") return { from: 0, to: at, insert: `${block}\n` };
   if (!text.endsWith("\n")) return { from: at, to: at, insert: `${gap}${block}\n` };
@@ -87,18 +87,18 @@ function atEnd({ text, lines }, gap, block) {
 }
 
 /**
- * Returns the TOML tokens before and after a range, with their offsets; null for none. Line ends do not count as tokens.
+ * Returns the TOML tokens before and after a range, with their offsets; null if there is none. Line ends do not count as tokens.
  * @param {BoardDraft} draft
  * @param {number} from
  * @param {number} to
  */
 function tokensAround(draft, from, to) {
-  const words = tomlWords(draft.lines).filter(({ kind }) => kind !== "end");
+  const tokens = tomlWords(draft.lines).filter(({ kind }) => kind !== "end");
   /** @type {(word: TomlWord | undefined) => { text: string, from: number, to: number } | null} */
   const withOffsets = (word) => (word
     ? { text: word.text, from: draft.offset(word.line, word.from), to: draft.offset(word.line, word.to) } : null);
-  const next = words.find((word) => draft.offset(word.line, word.from) >= to);
-  const before = words.filter((word) => draft.offset(word.line, word.to) <= from).pop();
+  const next = tokens.find((word) => draft.offset(word.line, word.from) >= to);
+  const before = tokens.filter((word) => draft.offset(word.line, word.to) <= from).pop();
   return { before: withOffsets(before), next: withOffsets(next) };
 }
 
@@ -113,17 +113,17 @@ function tokensAround(draft, from, to) {
 export function appendElement(draft, array, element) {
   const inner = /** @type {Value[]} */ (array.inner);
   const last = inner[inner.length - 1];
-  if (!last) return [{ from: draft.startOf(array) + 1, to: draft.startOf(array) + 1, insert: element }];
-  const at = draft.endOf(last);
+  if (!last) return [{ from: draft.startOffset(array) + 1, to: draft.startOffset(array) + 1, insert: element }];
+  const at = draft.endOffset(last);
   const line = draft.lines[last.end.line - 1];
-  const before = inner[inner.length - 2];
-  const hasOwnLine = before ? before.end.line < last.line : last.line > array.line;
+  const previousElement = inner[inner.length - 2];
+  const hasOwnLine = previousElement ? previousElement.end.line < last.line : last.line > array.line;
   const isShort = line.length + element.length + 2 <= MAX_LINE_LENGTH;
   if (!hasOwnLine && isShort) return [{ from: at, to: at, insert: `, ${element}` }];
   const { next } = tokensAround(draft, at, at);
   const hasComma = next !== null && next.text === ",";
   const indent = last.line > array.line ? (/^[ \t]*/.exec(line) || [""])[0] : INDENT;
-  // The rest of the array follows the new element.
+  // The new line goes before the remaining text of the array.
   const end = next && next.text === "]" && array.end.line === last.end.line ? at : draft.offset(last.end.line, line.length);
   const comma = { from: at, to: at, insert: "," };
   return [{ from: end, to: end, insert: `\n${indent}${element}${hasComma ? "," : ""}` }, ...(hasComma ? [] : [comma])];
@@ -136,14 +136,14 @@ export function appendElement(draft, array, element) {
  * @param {number} last
  * @returns {TextEdit}
  */
-export function removeLines({ lines, starts, text }, first, last) {
+export function removeLines({ lines, lineOffsets, text }, first, last) {
   const isBlankBefore = first === 1 || isBlank(lines[first - 2]);
   const next = lines[last];
   const isLast = next === undefined || (last === lines.length - 1 && next === "");
-  const begin = isLast && first > 1 && isBlankBefore ? first - 1 : first;
-  if (next === undefined) return { from: Math.max(0, starts[begin - 1] - 1), to: text.length, insert: "" };
-  const end = !isLast && isBlankBefore && isBlank(next) ? last + 1 : last;
-  return { from: starts[begin - 1], to: starts[end], insert: "" };
+  const firstDeleted = isLast && first > 1 && isBlankBefore ? first - 1 : first;
+  if (next === undefined) return { from: Math.max(0, lineOffsets[firstDeleted - 1] - 1), to: text.length, insert: "" };
+  const endDeleted = !isLast && isBlankBefore && isBlank(next) ? last + 1 : last;
+  return { from: lineOffsets[firstDeleted - 1], to: lineOffsets[endDeleted], insert: "" };
 }
 
 /**
@@ -166,12 +166,12 @@ function removeRange({ text }, from, to) {
  * Deletes an array element and its comma.
  * @param {BoardDraft} draft
  * @param {Value} array
- * @param {number} at
+ * @param {number} index
  * @returns {TextEdit[]}
  */
-export function removeElement(draft, array, at) {
-  const element = /** @type {Value[]} */ (array.inner)[at];
-  const [from, to] = [draft.startOf(element), draft.endOf(element)];
+export function removeElement(draft, array, index) {
+  const element = /** @type {Value[]} */ (array.inner)[index];
+  const [from, to] = [draft.startOffset(element), draft.endOffset(element)];
   const { before, next } = tokensAround(draft, from, to);
   if (next && next.text === ",") return [removeRange(draft, from, next.to)];
   if (!before || before.text !== ",") return [{ from, to, insert: "" }];
@@ -183,16 +183,16 @@ export function removeElement(draft, array, at) {
  * Deletes a part.
  * @param {BoardDraft} draft
  * @param {Kind} kind
- * @param {number} at the index among the parts of its kind
+ * @param {number} index the index among the parts of its kind
  * @returns {TextEdit[]}
  */
-export function removePart(draft, kind, at) {
-  const entry = draft.entry(kind, at);
+export function removePart(draft, kind, index) {
+  const entry = draft.entry(kind, index);
   if (!entry.end) return [removeLines(draft, entry.line, draft.lastLine(entry))];
   const key = draft.keys.find(({ name }) => name === kind);
   if (!key) throw new Error(`the text has no ${kind}`);
   if (kind === "keys") return [removeLines(draft, key.line, key.value.end.line)];
-  return removeElement(draft, key.value, at);
+  return removeElement(draft, key.value, index);
 }
 
 /**
@@ -204,16 +204,16 @@ export function removePart(draft, kind, at) {
  * @returns {TextEdit}
  */
 export function setValue(draft, entry, name, value) {
-  return replaceValue(draft, draft.keyOf(entry, name).value, value);
+  return replaceValue(draft, draft.requireKey(entry, name).value, value);
 }
 
 /**
  * Replaces a value in the text.
  * @param {BoardDraft} draft
- * @param {Value} old
+ * @param {Value} oldValue
  * @param {string | number} value
  * @returns {TextEdit}
  */
-export function replaceValue(draft, old, value) {
-  return { from: draft.startOf(old), to: draft.endOf(old), insert: written(value) };
+export function replaceValue(draft, oldValue, value) {
+  return { from: draft.startOffset(oldValue), to: draft.endOffset(oldValue), insert: formatToml(value) };
 }

@@ -1,14 +1,14 @@
 // Generates the source of a routine that scans the key matrix on the session's board.
 
-import { upTo } from "../bench/numbers.js";
+import { indices } from "../bench/numbers.js";
 import * as say from "../../words/key_scan.js";
 
 /**
  * @typedef {import("../bench/answers.js").Board} Board
  * @typedef {import("../bench/answers.js").Matrix} Matrix
  *
- * The port of a signal line. `bank`: the bank that DCL selects, -1 for a ROM. `source`: the SRC byte that selects the port. `write`: the
- * instruction that writes to the port. `title`: the name of the port. `bit`: the bit value of the line.
+ * The port of a signal line. `bank`: the RAM bank that DCL must select, -1 for a ROM. `source`: the SRC byte that selects the port.
+ * `write`: the instruction that writes to the port. `title`: the name of the port. `bit`: the value of the line's bit: 1, 2, 4 or 8.
  * @typedef {{ bank: number, source: number, write: string, title: string, bit: number }} Port
  *
  * A source line: its label ("" for none), its instruction with operands, and its comment.
@@ -17,7 +17,7 @@ import * as say from "../../words/key_scan.js";
 
 const LABEL_WIDTH = 12;
 const COMMENT_COLUMN = 32;
-/** The number of register values, which is also the maximum number of rounds in an ISZ loop. */
+/** The number of values of a register. An ISZ loop has at most this number of rounds. */
 const REGISTER_VALUES = 16;
 
 /**
@@ -25,7 +25,7 @@ const REGISTER_VALUES = 16;
  * @param {string} line such as `rom0.2` or `ram1.3.0`
  * @returns {Port}
  */
-function portOf(line) {
+function portForLine(line) {
   const numbers = line.slice(3).split(".").map(Number);
   const bit = 2 ** numbers[numbers.length - 1];
   if (line.startsWith("rom")) return { bank: -1, source: numbers[0] * 16, write: "WRR", title: say.romPort(numbers[0]), bit };
@@ -33,9 +33,9 @@ function portOf(line) {
 }
 
 /** @type {(one: Port, other: Port) => boolean} returns whether two ports are the same */
-const isSame = (one, other) => one.title === other.title;
+const isSamePort = (one, other) => one.title === other.title;
 
-/** @param {number} byte the byte; returns it as a hexadecimal numeral */
+/** @type {(byte: number) => string} formats a byte as a hexadecimal numeral */
 const hexByte = (byte) => `0x${byte.toString(16).toUpperCase().padStart(2, "0")}`;
 
 /**
@@ -45,30 +45,30 @@ const hexByte = (byte) => `0x${byte.toString(16).toUpperCase().padStart(2, "0")}
  */
 function selectionLines({ bank, source, title }) {
   /** @type {Line[]} */
-  const designated = bank < 0 ? [] : [["", ["LDM", String(bank)]], ["", ["DCL"]]];
-  return [...designated, ["", ["FIM", "P0,", hexByte(source)], title], ["", ["SRC", "P0"]]];
+  const bankLines = bank < 0 ? [] : [["", ["LDM", String(bank)]], ["", ["DCL"]]];
+  return [...bankLines, ["", ["FIM", "P0,", hexByte(source)], title], ["", ["SRC", "P0"]]];
 }
 
 /**
  * Formats a source line.
  * @param {Line} line
  */
-function textOf([label, instruction, comment = ""]) {
+function formatLine([label, instruction, comment = ""]) {
   const code = `${(label && `${label}:`).padEnd(LABEL_WIDTH)}${instruction.join(" ")}`;
   return comment === "" ? code : `${code.padEnd(COMMENT_COLUMN)}; ${comment}`;
 }
 
-/** The labels of the routine. They must not occur in the text. */
+/** Creates the labels of the routine, with a prefix that does not occur in the source. */
 class Labels {
   /** @param {string} text */
   constructor(text) {
-    const number = upTo(1000).find((each) => !text.includes(`keys${each || ""}_`)) || 0;
-    this.begin = `keys${number || ""}`;
+    const number = indices(1000).find((each) => !text.includes(`keys${each || ""}_`)) || 0;
+    this.prefix = `keys${number || ""}`;
   }
 
   /** @param {string} ending */
-  of(ending) {
-    return `${this.begin}_${ending}`;
+  labelFor(ending) {
+    return `${this.prefix}_${ending}`;
   }
 }
 
@@ -81,15 +81,15 @@ class Labels {
 function shiftToFirstRow(first, labels) {
   if (first === 0) return [];
   const rounds = Math.ceil(first / REGISTER_VALUES);
-  const [turn, shift] = [labels.of("first"), labels.of("shift")];
+  const [loopLabel, shift] = [labels.labelFor("first"), labels.labelFor("shift")];
   /** @type {Line[]} */
   const counters = [
     ["", ["LDM", String((REGISTER_VALUES - (first % REGISTER_VALUES)) % REGISTER_VALUES)]], ["", ["XCH", "R8"], say.movesTo(first)],
   ];
   if (rounds > 1) counters.push(["", ["LDM", String(REGISTER_VALUES - rounds)]], ["", ["XCH", "R9"]]);
   /** @type {Line[]} */
-  const loop = [[turn, ["LDM", "0"]], ["", ["JMS", shift]], ["", ["ISZ", "R8,", turn]]];
-  return [...counters, ...loop, .../** @type {Line[]} */ (rounds > 1 ? [["", ["ISZ", "R9,", turn]]] : [])];
+  const loop = [[loopLabel, ["LDM", "0"]], ["", ["JMS", shift]], ["", ["ISZ", "R8,", loopLabel]]];
+  return [...counters, ...loop, .../** @type {Line[]} */ (rounds > 1 ? [["", ["ISZ", "R9,", loopLabel]]] : [])];
 }
 
 /**
@@ -99,17 +99,17 @@ function shiftToFirstRow(first, labels) {
  * @returns {Line[]}
  */
 function readColumns(columns, labels) {
-  const ports = columns.map(portOf);
-  const chips = ports.filter((port, at) => ports.findIndex((each) => isSame(each, port)) === at);
+  const ports = columns.map(portForLine);
+  const chips = ports.filter((port, at) => ports.findIndex((each) => isSamePort(each, port)) === at);
   return chips.flatMap((chip) => {
     /** @type {Line[]} */
     const lines = [...selectionLines(chip), ["", ["RDR"]]];
     let bit = 1 / 2;
-    const chipColumns = ports.map((port, column) => ({ ...port, column })).filter((port) => isSame(port, chip));
-    for (const { bit: wanted, column } of chipColumns.sort((one, other) => one.bit - other.bit)) {
-      if (wanted === bit) continue;
-      for (; bit < wanted; bit *= 2) lines.push(["", ["RAR"]]);
-      lines.push(["", ["JCN", "2,", labels.of(String(column))], say.columnInCarry(column)]);
+    const chipColumns = ports.map((port, column) => ({ ...port, column })).filter((port) => isSamePort(port, chip));
+    for (const { bit: columnBit, column } of chipColumns.sort((one, other) => one.bit - other.bit)) {
+      if (columnBit === bit) continue;
+      for (; bit < columnBit; bit *= 2) lines.push(["", ["RAR"]]);
+      lines.push(["", ["JCN", "2,", labels.labelFor(String(column))], say.columnInCarry(column)]);
     }
     return lines;
   });
@@ -123,15 +123,15 @@ function readColumns(columns, labels) {
  * @returns {Line[]}
  */
 function shiftLines(clock, data, labels) {
-  const isOne = isSame(clock, data);
+  const isOnePort = isSamePort(clock, data);
   /** @type {Line[]} */
-  const other = isOne ? [] : [...selectionLines(clock), ["", ["LDM", "0"]], ["", [clock.write]]];
+  const clockLowLines = isOnePort ? [] : [...selectionLines(clock), ["", ["LDM", "0"]], ["", [clock.write]]];
   /** @type {Line[]} */
-  const both = isOne ? [["", ["CLC"]], ["", ["ADD", "R6"]]] : [];
+  const addDataBit = isOnePort ? [["", ["CLC"]], ["", ["ADD", "R6"]]] : [];
   return [
-    [labels.of("shift"), ["XCH", "R6"], say.BIT_ENTERS], ...selectionLines(data), ["", ["LD", "R6"]],
-    ["", [data.write], isOne ? say.CLOCK_LOW : say.DATA], ...other,
-    ["", ["LDM", String(clock.bit)]], ...both, ["", [clock.write], say.CLOCK_RISES], ["", ["BBL", "0"]],
+    [labels.labelFor("shift"), ["XCH", "R6"], say.BIT_ENTERS], ...selectionLines(data), ["", ["LD", "R6"]],
+    ["", [data.write], isOnePort ? say.CLOCK_LOW : say.DATA], ...clockLowLines,
+    ["", ["LDM", String(clock.bit)]], ...addDataBit, ["", [clock.write], say.CLOCK_RISES], ["", ["BBL", "0"]],
   ];
 }
 
@@ -143,12 +143,12 @@ function shiftLines(clock, data, labels) {
  * @param {Labels} labels
  */
 function headerLines({ chain, first, rows, columns }, clock, data, labels) {
-  const read = [...new Set(columns.map((line) => portOf(line).title))];
-  const written = [...new Set([data.title, clock.title])];
+  const readPorts = [...new Set(columns.map((line) => portForLine(line).title))];
+  const writtenPorts = [...new Set([data.title, clock.title])];
   const banks = [...new Set([data.bank, clock.bank])].filter((bank) => bank >= 0);
   return [
-    say.scansKeys(rows, first, chain, read), say.callIt(labels.of("scan")),
-    say.usesThese(first > REGISTER_VALUES ? "R9" : first > 0 ? "R8" : "R7"), say.writesPorts(written), ...banks.map(say.designates),
+    say.scansKeys(rows, first, chain, readPorts), say.callIt(labels.labelFor("scan")),
+    say.usesThese(first > REGISTER_VALUES ? "R9" : first > 0 ? "R8" : "R7"), say.writesPorts(writtenPorts), ...banks.map(say.designates),
   ].map((words) => `; ${words}`);
 }
 
@@ -158,14 +158,14 @@ function headerLines({ chain, first, rows, columns }, clock, data, labels) {
  * @param {Board} board
  * @param {string} text the source that will contain the routine
  */
-export function keyScanOf({ matrix, chains }, text) {
+export function keyScanSource({ matrix, chains }, text) {
   if (!matrix) return "";
   const { rows, first, columns } = matrix;
-  const [clock, data] = [portOf(chains[matrix.chain].clock), portOf(chains[matrix.chain].data)];
+  const [clock, data] = [portForLine(chains[matrix.chain].clock), portForLine(chains[matrix.chain].data)];
   const labels = new Labels(text);
-  const [scan, row, shift, out] = ["scan", "row", "shift", "out"].map((ending) => labels.of(ending));
+  const [scan, row, shift, out] = ["scan", "row", "shift", "out"].map((ending) => labels.labelFor(ending));
   /** @type {Line[]} */
-  const start = /^\s*[^\s;]/m.test(text) ? [] : [["start", ["JMS", scan], say.WAITS], ["", ["JUN", "start"]]];
+  const callingProgram = /^\s*[^\s;]/m.test(text) ? [] : [["start", ["JMS", scan], say.WAITS], ["", ["JUN", "start"]]];
   /** @type {Line[]} */
   const lines = [
     [scan, ["LDM", "0"]], ["", ["XCH", "R4"], say.FIRST_ROW],
@@ -174,12 +174,13 @@ export function keyScanOf({ matrix, chains }, text) {
     ...readColumns(columns, labels).map((line, at) => /** @type {Line} */ (at === 0 ? [row, line[1], line[2]] : line)),
     ["", ["LDM", "0"]], ["", ["JMS", shift], say.NEXT_ROW], ["", ["INC", "R4"]], ["", ["ISZ", "R7,", row]], ["", ["BBL", "0"], say.NO_KEY],
     ...columns.flatMap((_, column) => /** @type {Line[]} */ ([
-      [labels.of(String(column)), ["LDM", String(column)], say.columnIsDown(column)], ["", ["JUN", labels.of("down")]]])),
-    [labels.of("down"), ["XCH", "R5"]], [out, ["LDM", "0"]], ["", ["JMS", shift], say.LEAVES_ROWS], ["", ["ISZ", "R7,", out]],
+      [labels.labelFor(String(column)), ["LDM", String(column)], say.columnIsDown(column)], ["", ["JUN", labels.labelFor("down")]]])),
+    [labels.labelFor("down"), ["XCH", "R5"]], [out, ["LDM", "0"]], ["", ["JMS", shift], say.LEAVES_ROWS], ["", ["ISZ", "R7,", out]],
     ["", ["BBL", "1"], say.KEY_IS_DOWN], ...shiftLines(clock, data, labels),
   ];
-  const head = headerLines(matrix, clock, data, labels);
-  return [...start.map(textOf), ...(start.length > 0 ? [""] : []), ...head, ...lines.map(textOf), ""].join("\n");
+  const headerComments = headerLines(matrix, clock, data, labels);
+  const blankLine = callingProgram.length > 0 ? [""] : [];
+  return [...callingProgram.map(formatLine), ...blankLine, ...headerComments, ...lines.map(formatLine), ""].join("\n");
 }
 
 /**
@@ -191,7 +192,7 @@ export function keyScanOf({ matrix, chains }, text) {
  * @returns {{ edit: import("./text_edits.js").TextEdit, first: number, isEnd: boolean }} `first`: the number of the first routine
  *   line; `isEnd`: true if no text follows the routine
  */
-export function placeOfRoutine(text, line, code) {
+export function routineInsertion(text, line, code) {
   const lines = text.split("\n");
   const before = lines.slice(0, line > 0 ? line : lines.length).join("\n");
   const head = before.trimEnd();

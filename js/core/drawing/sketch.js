@@ -1,16 +1,16 @@
-// The board text during an action: the edits so far, and the board that the edited text describes.
+// The board text during an action: the edits that the action has made, and the board that the edited text describes.
 
 import { Face } from "../board/face.js";
 import { BoardDraft } from "./board_draft.js";
-import { withBuzzer } from "./board_lines.js";
-import { edited, toSuccessive } from "./text_edits.js";
+import { boardWithBuzzer } from "./board_lines.js";
+import { edited, makeSuccessive } from "./text_edits.js";
 
 /**
  * @typedef {import("./text_edits.js").TextEdit} TextEdit
  */
 
 /** The error for an impossible action. The message gives the reason and, if possible, a remedy. */
-export class ActRefusal extends Error {}
+export class ImpossibleAction extends Error {}
 
 /** The board text during an action. */
 export class Sketch {
@@ -19,10 +19,10 @@ export class Sketch {
     this.draft = new BoardDraft(text);
     /** @type {TextEdit[]} */
     this.edits = [];
-    /** @type {string[]} the names of parts that other parts need and that the action also added */
-    this.added = [];
+    /** @type {string[]} the names of the parts that the action also added because the new part needs them */
+    this.addedParts = [];
     /** @type {number[]} the deleted chains, by their original numbers */
-    this.goneChains = [];
+    this.deletedChains = [];
   }
 
   /**
@@ -30,7 +30,7 @@ export class Sketch {
    * @param {TextEdit[]} edits
    */
   edit(edits) {
-    const successive = toSuccessive(edits);
+    const successive = makeSuccessive(edits);
     this.edits.push(...successive);
     this.draft = new BoardDraft(edited(this.draft.text, successive));
   }
@@ -40,6 +40,6 @@ export class Sketch {
   }
 
   get board() {
-    return withBuzzer(this.draft.board, new Face(this.text));
+    return boardWithBuzzer(this.draft.board, new Face(this.text));
   }
 }

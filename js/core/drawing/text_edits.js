@@ -1,5 +1,5 @@
-// Text edits. Each edit replaces a range of characters. A list of edits is applied in order: each edit applies to the text that the earlier
-// edits produced.
+// Applies and inverts text edits. An edit replaces a range of characters. The edits of a list are applied in order: each edit applies to
+// the text that the earlier edits produced.
 
 /**
  * An edit: `insert` replaces the characters from offset `from` up to offset `to`.
@@ -12,7 +12,7 @@
  * @param {TextEdit[]} edits
  */
 export function edited(text, edits) {
-  return edits.reduce((now, { from, to, insert }) => now.slice(0, from) + insert + now.slice(to), text);
+  return edits.reduce((currentText, { from, to, insert }) => currentText.slice(0, from) + insert + currentText.slice(to), text);
 }
 
 /**
@@ -22,15 +22,15 @@ export function edited(text, edits) {
  * @returns {TextEdit[]}
  */
 export function inverseEdits(text, edits) {
-  let now = text;
+  let currentText = text;
   /** @type {TextEdit[]} */
-  const back = [];
+  const inverse = [];
   for (const edit of edits) {
     const { from, to, insert } = edit;
-    back.unshift({ from, to: from + insert.length, insert: now.slice(from, to) });
-    now = edited(now, [edit]);
+    inverse.unshift({ from, to: from + insert.length, insert: currentText.slice(from, to) });
+    currentText = edited(currentText, [edit]);
   }
-  return back;
+  return inverse;
 }
 
 /**
@@ -39,7 +39,7 @@ export function inverseEdits(text, edits) {
  * @param {TextEdit[]} edits
  * @returns {TextEdit[]}
  */
-export function toSuccessive(edits) {
+export function makeSuccessive(edits) {
   let end = Infinity;
   return [...edits].sort((one, other) => other.from - one.from || other.to - one.to).map(({ from, to, insert }) => {
     const edit = { from, to: Math.max(from, Math.min(to, end)), insert };

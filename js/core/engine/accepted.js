@@ -1,4 +1,4 @@
-// The commands that the bench has accepted, with their cycles. The session counts its cycles with them, and replays its past from them.
+// Finds the commands that the bench has accepted, and their cycles. From these commands a session counts its cycles and replays its past.
 
 import { readRun } from "../bench/answers.js";
 
@@ -6,17 +6,17 @@ import { readRun } from "../bench/answers.js";
  * @typedef {import("../bench/inputs.js").Input} Input
  *
  * An accepted command: its text, the number of cycles it ran, and whether it reset the machine.
- * @typedef {{ line: string, cycles: number, resets: boolean }} Accepted
+ * @typedef {{ line: string, cycles: number, resets: boolean }} AcceptedCommand
  */
 
 /** @type {Record<string, true>} the kinds of commands that reset the machine */
-const RESETS = { reset: true, wire: true };
+const RESET_COMMANDS = { reset: true, wire: true };
 
 /**
- * Returns the lines that send a command again.
+ * Returns the lines that send a command again: the command, and the text that follows it.
  * @param {Input} input
  */
-function sentLines({ line, text, kind }) {
+function commandText({ line, text, kind }) {
   return kind === "wire" || kind === "asm" ? [line, ...text, "."].join("\n") : line;
 }
 
@@ -24,34 +24,34 @@ function sentLines({ line, text, kind }) {
  * Returns the accepted commands among inputs.
  * @param {Input[]} inputs
  * @param {string[][]} answers the answer lines of each input
- * @returns {Accepted[]}
+ * @returns {AcceptedCommand[]}
  */
-export function acceptedOf(inputs, answers) {
-  /** @type {Accepted[]} */
-  const accepted = [];
+export function findAcceptedCommands(inputs, answers) {
+  /** @type {AcceptedCommand[]} */
+  const commands = [];
   inputs.forEach((input, at) => {
     const [answer = ""] = answers[at];
     if (!answer.startsWith("ok ")) return;
     const run = readRun(answer);
-    accepted.push({ line: sentLines(input), cycles: run ? run.cycles : 0, resets: RESETS[input.kind] === true });
+    commands.push({ line: commandText(input), cycles: run ? run.cycles : 0, resets: RESET_COMMANDS[input.kind] === true });
   });
-  return accepted;
+  return commands;
 }
 
 /** Counts all cycles of the session, and the cycles up to the last reset. */
 export class CycleCount {
   /**
-   * @param {number} total
-   * @param {number} reset
+   * @param {number} totalCycles
+   * @param {number} resetCycles
    */
-  constructor(total = 0, reset = 0) {
-    this.total = total;
-    this.reset = reset;
+  constructor(totalCycles = 0, resetCycles = 0) {
+    this.total = totalCycles;
+    this.reset = resetCycles;
   }
 
-  /** @param {Accepted[]} accepted */
-  add(accepted) {
-    for (const { cycles, resets } of accepted) {
+  /** @param {AcceptedCommand[]} commands */
+  add(commands) {
+    for (const { cycles, resets } of commands) {
       this.total += cycles;
       if (resets) this.reset = this.total;
     }

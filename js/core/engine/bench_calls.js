@@ -27,11 +27,11 @@ import { OpenBench } from "./open_bench.js";
  */
 
 export class BenchCalls {
-  /** @param {import("./open_bench.js").GoesOn} goesOn */
-  constructor(goesOn) {
-    this.bench = new OpenBench(goesOn);
+  /** @param {import("./open_bench.js").ShouldContinue} shouldContinue */
+  constructor(shouldContinue) {
+    this.bench = new OpenBench(shouldContinue);
     const { bench } = this;
-    const parts = [
+    const requestGroups = [
       new FileRequests(bench),
       new TrialRequests(bench),
       new ProofRequests(bench),
@@ -43,15 +43,15 @@ export class BenchCalls {
       new TimeRequests(bench),
       new OutputRequests(bench),
     ];
-    for (const part of parts) Object.assign(this, requestsOf(part));
+    for (const group of requestGroups) Object.assign(this, boundMethods(group));
   }
 }
 
 /**
- * Returns the methods of a part as functions bound to the part.
- * @param {object} part
+ * Returns the methods of a group of requests as functions that are bound to the group.
+ * @param {object} group
  */
-function requestsOf(part) {
-  const names = Object.getOwnPropertyNames(Object.getPrototypeOf(part)).filter((name) => name !== "constructor");
-  return Object.fromEntries(names.map((name) => [name, /** @type {any} */ (part)[name].bind(part)]));
+function boundMethods(group) {
+  const names = Object.getOwnPropertyNames(Object.getPrototypeOf(group)).filter((name) => name !== "constructor");
+  return Object.fromEntries(names.map((name) => [name, /** @type {any} */ (group)[name].bind(group)]));
 }

@@ -2,13 +2,13 @@
 
 import { readBoard } from "../bench/answers.js";
 import { Face } from "../board/face.js";
-import { namesOfWatched } from "../debug/watched.js";
+import { collectWatchNames } from "../debug/watched.js";
 import { SourceMap } from "../machine/source_map.js";
 
 /**
  * @typedef {import("./open_bench.js").OpenBench} OpenBench
- * @typedef {import("../bench/protocol.js").BrokenLines} BrokenLines
- * @typedef {import("../debug/soft_breakpoints.js").Placed} Placed
+ * @typedef {import("../bench/protocol.js").BreakpointReply} BreakpointReply
+ * @typedef {import("../debug/soft_breakpoints.js").LocatedBreakpoint} LocatedBreakpoint
  * @typedef {import("../debug/common_mistakes.js").Kind} Kind
  */
 
@@ -19,17 +19,17 @@ export class BreakpointRequests {
   }
 
   /**
-   * Sets the breakpoints. Breakpoints that always stop are set in the bench itself by a served line.
-   * @param {Placed[]} placed
+   * Sets the breakpoints. Serves a line for each breakpoint that always stops, so that the bench itself stops there.
+   * @param {LocatedBreakpoint[]} breakpoints
    * @param {{ board: string, program: string, watched?: string[] }} texts the texts whose names conditions can use
-   * @returns {Promise<BrokenLines>}
+   * @returns {Promise<BreakpointReply>}
    */
-  async setBreakpoints(placed, texts) {
+  async setBreakpoints(breakpoints, texts) {
     const { session } = this.bench;
     const { map } = this.bench.checkProgram(texts.program);
     const names = { face: new Face(texts.board), board: readBoard(session.statusQueries.board), map: new SourceMap(map, texts.program),
-      watched: namesOfWatched(texts.watched) };
-    const { lines, faults } = this.bench.debugger.setBreakpoints(placed, names);
+      watched: collectWatchNames(texts.watched) };
+    const { lines, faults } = this.bench.debugger.setBreakpoints(breakpoints, names);
     return { ...(lines ? await this.bench.serve(lines) : this.bench.nothingServed()), faults };
   }
 
@@ -39,6 +39,6 @@ export class BreakpointRequests {
    */
   stopAtFaults(kinds) {
     this.bench.stopKinds = kinds;
-    if (this.bench.opened) this.bench.opened.usual.stops = new Set(kinds);
+    if (this.bench.currentDebugger) this.bench.currentDebugger.usual.stops = new Set(kinds);
   }
 }

@@ -1,26 +1,26 @@
-// Measures the duty cycle of each lamp, the patterns of each digit, and the times of their changes while time runs. The measurement comes
-// from the answers to a `trace` before each run.
+// Measures the duty cycle of each lamp, the patterns of each digit, and the times of their changes while time runs. Reads them from the
+// answers to a `trace` before each run.
 
-import { patternsAt, NOT_LIT, isLit } from "../board/digit_patterns.js";
+import { digitPatterns, UNLIT_PATTERN, isLit } from "../board/digit_patterns.js";
 import { fittingGroups, isScanned } from "../board/face_board.js";
-import { Answers, readTraced } from "./tracing.js";
+import { Answers, parseTraceLine } from "./tracing.js";
 
 /**
  * @typedef {import("../board/face.js").Face} Face
  * @typedef {import("../board/face.js").Group} Group
  *
- * The changes within an interval: the cycles before the first change, the longest time between two changes, and the time since the last
- * change. Null if nothing changed.
- * @typedef {{ first: number, longest: number, rest: number } | null} Moved
+ * The changes within an interval, in cycles: the time before the first change, the longest time between two changes, and the time since the
+ * last change (`rest`). Null if nothing changed.
+ * @typedef {{ first: number, longest: number, rest: number } | null} ChangeSummary
  *
  * The contents of a display. `patterns` are those at the end of the interval. If they changed, `shown` lists the patterns of each digit
  * with their durations in cycles.
- * @typedef {{ patterns: number[], moved: Moved, shown: [number, number][][] }} ShownDisplay
+ * @typedef {{ patterns: number[], moved: ChangeSummary, shown: [number, number][][] }} ShownDisplay
  *
  * The light during an interval. `face`: the page's number of the front panel. `marks`: the lamps that are on at the end. `lamps`: the
  * number of cycles for which each lamp was on. `moved`: the changes of each lamp. `scanned`: for each multiplexed group except displays,
  * the cycles of its lamps, row by row.
- * @typedef {{ face: number, cycles: number, marks: string, lamps: number[], moved: Moved[], displays: ShownDisplay[],
+ * @typedef {{ face: number, cycles: number, marks: string, lamps: number[], moved: ChangeSummary[], displays: ShownDisplay[],
  *   scanned: number[][] }} LitShares
  */
 
@@ -30,41 +30,41 @@ export const MAX_MEASURED_CYCLES = 20000;
 /**
  * Returns whether any of `count` lamps has changed.
  * @param {string} marks
- * @param {string} before the marks before the change
+ * @param {string} marksBefore the marks before the change
  * @param {number} first the number of the first lamp
  * @param {number} count
  */
-function lampsDiffer(marks, before, first, count) {
-  for (let at = first; at < first + count; at++) if (marks.charCodeAt(at) !== before.charCodeAt(at)) return true;
+function lampsDiffer(marks, marksBefore, first, count) {
+  for (let at = first; at < first + count; at++) if (marks.charCodeAt(at) !== marksBefore.charCodeAt(at)) return true;
   return false;
 }
 
 /** Records when changes happen. */
 class ChangeTimes {
   constructor() {
-    this.first = -1;
-    this.last = 0;
-    this.longest = 0;
+    this.firstChange = -1;
+    this.lastChange = 0;
+    this.longestRest = 0;
   }
 
-  /** @param {number} at the cycles before the change */
-  add(at) {
-    if (this.first < 0) this.first = at;
-    else this.longest = Math.max(this.longest, at - this.last);
-    this.last = at;
+  /** @param {number} cycles the cycles before the change */
+  add(cycles) {
+    if (this.firstChange < 0) this.firstChange = cycles;
+    else this.longestRest = Math.max(this.longestRest, cycles - this.lastChange);
+    this.lastChange = cycles;
   }
 
   /**
    * Returns the changes of the current interval, and starts a new interval.
    * @param {number} cycles the length of the interval
-   * @returns {Moved}
+   * @returns {ChangeSummary}
    */
   take(cycles) {
-    if (this.first < 0) return null;
-    const { first, longest, last } = this;
-    this.first = -1;
-    this.longest = 0;
-    return { first, longest, rest: cycles - last };
+    if (this.firstChange < 0) return null;
+    const changes = { first: this.firstChange, longest: this.longestRest, rest: cycles - this.lastChange };
+    this.firstChange = -1;
+    this.longestRest = 0;
+    return changes;
   }
 }
 
@@ -74,41 +74,41 @@ class PatternTimes {
   constructor(group) {
     this.group = group;
     this.changeTimes = new ChangeTimes();
-    /** @type {number[]} the current patterns; `since` is the time in cycles at which they started */
+    /** @type {number[]} the current patterns; `patternStart` is the time in cycles at which they started */
     this.patterns = [];
-    this.since = 0;
+    this.patternStart = 0;
     /** @type {Map<number, number>[]} the cycles by pattern, one map per digit */
-    this.shown = Array.from({ length: group.rows }, () => new Map());
+    this.patternCycles = Array.from({ length: group.rows }, () => new Map());
   }
 
   /** @param {string} marks the lamp marks at the start */
   begin(marks) {
-    this.patterns = patternsAt(this.group, marks);
+    this.patterns = digitPatterns(this.group, marks);
   }
 
   /**
    * Records a lamp change if it changes this display.
    * @param {string} marks
-   * @param {string} before the marks before the change
-   * @param {number} at the cycles before the change
+   * @param {string} marksBefore the marks before the change
+   * @param {number} cycles the cycles before the change
    */
-  change(marks, before, at) {
+  change(marks, marksBefore, cycles) {
     const { first, rows, columns, by } = this.group;
-    const hasChanged = by < 0 ? lampsDiffer(marks, before, first, rows * columns)
-      : lampsDiffer(marks, before, first, columns) || lampsDiffer(marks, before, by, rows);
+    const hasChanged = by < 0 ? lampsDiffer(marks, marksBefore, first, rows * columns)
+      : lampsDiffer(marks, marksBefore, first, columns) || lampsDiffer(marks, marksBefore, by, rows);
     if (!hasChanged) return;
-    this.addUpTo(at);
-    this.changeTimes.add(at);
-    this.patterns = patternsAt(this.group, marks);
+    this.addUpTo(cycles);
+    this.changeTimes.add(cycles);
+    this.patterns = digitPatterns(this.group, marks);
   }
 
-  /** @param {number} at the current time in cycles */
-  addUpTo(at) {
-    const cycles = at - this.since;
-    this.since = at;
+  /** @param {number} now the current time in cycles */
+  addUpTo(now) {
+    const cycles = now - this.patternStart;
+    this.patternStart = now;
     if (cycles === 0) return;
     this.patterns.forEach((pattern, index) => {
-      if (pattern !== NOT_LIT) this.shown[index].set(pattern, (this.shown[index].get(pattern) || 0) + cycles);
+      if (pattern !== UNLIT_PATTERN) this.patternCycles[index].set(pattern, (this.patternCycles[index].get(pattern) || 0) + cycles);
     });
   }
 
@@ -119,13 +119,13 @@ class PatternTimes {
    */
   take(cycles) {
     const { patterns } = this;
-    const moved = this.changeTimes.take(cycles);
-    if (moved) this.addUpTo(cycles);
-    this.since = 0;
-    if (!moved) return { patterns, moved, shown: [] };
-    const shown = this.shown.map((times) => [...times]);
-    for (const times of this.shown) times.clear();
-    return { patterns, moved, shown };
+    const changes = this.changeTimes.take(cycles);
+    if (changes) this.addUpTo(cycles);
+    this.patternStart = 0;
+    if (!changes) return { patterns, moved: changes, shown: [] };
+    const shown = this.patternCycles.map((times) => [...times]);
+    for (const times of this.patternCycles) times.clear();
+    return { patterns, moved: changes, shown };
   }
 }
 
@@ -134,22 +134,22 @@ class ScannedLampTimes {
   /** @param {Group} group */
   constructor(group) {
     this.group = group;
-    this.since = 0;
-    this.lit = new Array(group.rows * group.columns).fill(0);
+    this.lastCountCycles = 0;
+    this.litCycles = new Array(group.rows * group.columns).fill(0);
   }
 
   /**
    * @param {string} marks the lamp marks until now
-   * @param {number} at the current time in cycles
+   * @param {number} now the current time in cycles
    */
-  addUpTo(marks, at) {
-    const cycles = at - this.since;
-    this.since = at;
+  addUpTo(marks, now) {
+    const cycles = now - this.lastCountCycles;
+    this.lastCountCycles = now;
     if (cycles === 0) return;
     const { first, rows, columns, by } = this.group;
     for (let row = 0; row < rows; row++) {
       if (!isLit(marks, by + row)) continue;
-      for (let column = 0; column < columns; column++) if (isLit(marks, first + column)) this.lit[row * columns + column] += cycles;
+      for (let column = 0; column < columns; column++) if (isLit(marks, first + column)) this.litCycles[row * columns + column] += cycles;
     }
   }
 
@@ -160,10 +160,10 @@ class ScannedLampTimes {
    */
   take(marks, cycles) {
     this.addUpTo(marks, cycles);
-    const lit = this.lit.slice();
-    this.lit.fill(0);
-    this.since = 0;
-    return lit;
+    const litCycles = this.litCycles.slice();
+    this.litCycles.fill(0);
+    this.lastCountCycles = 0;
+    return litCycles;
   }
 }
 
@@ -181,13 +181,13 @@ export class BrightnessMeter {
     this.cycles = 0;
     /** The current lamp marks; "" before the first report. */
     this.marks = "";
-    /** @type {number[]} the cycles for which each lamp was on, up to `since` */
-    this.lit = new Array(count).fill(0);
-    this.since = new Array(count).fill(0);
-    this.changeTimes = this.lit.map(() => new ChangeTimes());
+    /** @type {number[]} the cycles for which each lamp was on, up to `lastCountCycles` */
+    this.litCycles = new Array(count).fill(0);
+    this.lastCountCycles = new Array(count).fill(0);
+    this.changeTimes = this.litCycles.map(() => new ChangeTimes());
   }
 
-  // --- as an asker ---
+  // --- The queries before each run ---
 
   get count() {
     return 1;
@@ -209,30 +209,30 @@ export class BrightnessMeter {
    */
   take(answerLists) {
     for (const answers of answerLists) if (answers.length > 0) this.add(answers);
-    const { number: face, cycles, marks, lit, since, changeTimes } = this;
-    for (let at = 0; at < lit.length; at++) {
-      if (isLit(marks, at)) lit[at] += cycles - since[at];
-      since[at] = 0;
+    const { number: face, cycles, marks, litCycles, lastCountCycles, changeTimes } = this;
+    for (let at = 0; at < litCycles.length; at++) {
+      if (isLit(marks, at)) litCycles[at] += cycles - lastCountCycles[at];
+      lastCountCycles[at] = 0;
     }
     const litShares = {
-      face, cycles, marks, lamps: lit.slice(), moved: changeTimes.map((each) => each.take(cycles)),
+      face, cycles, marks, lamps: litCycles.slice(), moved: changeTimes.map((each) => each.take(cycles)),
       displays: this.displays.map((each) => each.take(cycles)), scanned: this.scanned.map((each) => each.take(marks, cycles)),
     };
-    lit.fill(0);
+    litCycles.fill(0);
     this.cycles = 0;
     return litShares;
   }
 
-  /** @param {string[]} answers the answer to one query. An instruction takes effect after its first cycle. */
+  /** @param {string[]} answers the lines of the answer to one query; an instruction takes effect after its first cycle */
   add(answers) {
     const { row, lines, cycles } = new Answers(answers).takeTrace();
     const startCycles = this.cycles;
     this.change(row.slice(1), startCycles);
     for (const line of lines) {
-      const traced = readTraced(line);
+      const traced = parseTraceLine(line);
       this.change(traced.row.slice(1), startCycles + traced.cycles + 1);
     }
-    // A query of no cycles counts as one cycle, so that the current lamps are on for at least one cycle.
+    // A trace of no cycles counts as one cycle, so that the lamps that are on are counted for at least one cycle.
     this.cycles = startCycles + Math.max(1, cycles);
   }
 
@@ -241,20 +241,20 @@ export class BrightnessMeter {
    * @param {number} cycles the cycles before the change
    */
   change(marks, cycles) {
-    const { marks: before, lit, since, changeTimes } = this;
-    if (marks === before) return;
+    const { marks: marksBefore, litCycles, lastCountCycles, changeTimes } = this;
+    if (marks === marksBefore) return;
     this.marks = marks;
-    if (before === "") {
+    if (marksBefore === "") {
       for (const display of this.displays) display.begin(marks);
       return;
     }
-    for (let at = 0; at < lit.length; at++) {
-      if (marks.charCodeAt(at) === before.charCodeAt(at)) continue;
-      if (isLit(before, at)) lit[at] += cycles - since[at];
-      since[at] = cycles;
+    for (let at = 0; at < litCycles.length; at++) {
+      if (marks.charCodeAt(at) === marksBefore.charCodeAt(at)) continue;
+      if (isLit(marksBefore, at)) litCycles[at] += cycles - lastCountCycles[at];
+      lastCountCycles[at] = cycles;
       changeTimes[at].add(cycles);
     }
-    for (const display of this.displays) display.change(marks, before, cycles);
-    for (const group of this.scanned) group.addUpTo(before, cycles);
+    for (const display of this.displays) display.change(marks, marksBefore, cycles);
+    for (const group of this.scanned) group.addUpTo(marksBefore, cycles);
   }
 }

@@ -1,6 +1,6 @@
-// Tries texts on an empty session. Returns the resulting board and the refusals of the texts.
+// Loads texts into an empty session. Returns the resulting board, and the texts that the bench rejects.
 
-import { faultsOfLines, sentText } from "../text/text_fault.js";
+import { findLineFaults, sentText } from "../text/text_fault.js";
 import { wordsOfLine } from "../../words/stops.js";
 
 /**
@@ -8,32 +8,32 @@ import { wordsOfLine } from "../../words/stops.js";
  * @typedef {{ boardText: string, programText: string }} Texts
  *
  * A rejected text: the command that sent it, and the answer.
- * @typedef {{ word: "wire" | "asm", answer: string }} Refused
+ * @typedef {{ word: "wire" | "asm", answer: string }} RejectedText
  *
  * The session file with the accepted texts, the answer to `board`, and the rejected texts.
- * @typedef {{ file: Uint8Array, board: string[], refused: Refused[] }} Tried
+ * @typedef {{ file: Uint8Array, board: string[], refused: RejectedText[] }} DryRunResult
  */
 
 /**
  * Loads texts into a new session.
  * @param {Engine} engine
  * @param {Texts} texts
- * @returns {Tried}
+ * @returns {DryRunResult}
  */
 export function dryRun(engine, { boardText, programText }) {
   const file = engine.begin();
-  /** @type {Refused[]} */
+  /** @type {RejectedText[]} */
   const refused = [];
   /** @type {(word: "wire" | "asm", text: string, mark: "#" | ";") => void} */
-  const tryOne = (word, text, mark) => {
+  const tryText = (word, text, mark) => {
     if (text === "") return;
-    // A line of only a dot would end the text; the bench would execute the following lines as commands.
-    const [fault] = faultsOfLines(text, mark);
+    // A line that consists of a dot would end the text. The bench would execute the lines after the dot as commands.
+    const [fault] = findLineFaults(text, mark);
     const lines = `${word}\n${sentText(text, mark)}.\n`;
     const answer = fault ? `${wordsOfLine(fault.line)}: ${fault.words}` : engine.serve(file, lines, file).answers[0];
     if (!/^ok /.test(answer)) refused.push({ word, answer });
   };
-  tryOne("wire", boardText, "#");
-  tryOne("asm", programText, ";");
+  tryText("wire", boardText, "#");
+  tryText("asm", programText, ";");
   return { file, board: engine.ask(file, "board\n").answers, refused };
 }

@@ -1,23 +1,23 @@
-// The proved WebAssembly module and its calls. A call takes the bytes of a session file and lines, and returns answers and new bytes. The
-// module stores no session: the caller owns the file bytes.
+// Calls the proved WebAssembly module. A call receives lines and the bytes of a session file; it returns answers and the new bytes of the
+// file. The module does not store a session between calls.
 
-import { BenchRefusal, BenchTrap, NO_MEMORY } from "../bench/faults.js";
+import { BenchRefusal, BenchTrap, OUT_OF_MEMORY } from "../bench/faults.js";
 
 /**
  * The result of served lines: the shell's status, the first answer `session N`, and the other answers.
- * @typedef {{ status: number, opened: string, answers: string[] }} Served
+ * @typedef {{ status: number, opened: string, answers: string[] }} ServedAnswers
  *
- * A buffer in the memory of the module.
+ * A buffer in the memory of the module. `room` is its size in bytes.
  * @typedef {{ offset: bigint, room: number }} ModuleBuffer
  *
  * @typedef {"bench_serve_and_settle" | "bench_ask"} ServingCall
  * @typedef {(file: bigint, fileSize: bigint, input: bigint, inputSize: bigint, answers: bigint, room: bigint, report: bigint) => number}
- *   Serving
+ *   ServeFunction
  *
  * The exports of the module.
  * @typedef {{ memory: WebAssembly.Memory, bench_file_size: () => bigint, bench_buffer: (count: bigint) => bigint, bench_buffer_back:
- * (offset: bigint) => void, bench_begin: (file: bigint, size: bigint) => number, bench_serve_and_settle: Serving, bench_ask: Serving,
- * bench_prove: (question: bigint, size: bigint, answers: bigint, room: bigint, report: bigint) => number }} Calls
+ * (offset: bigint) => void, bench_begin: (file: bigint, size: bigint) => number, bench_serve_and_settle: ServeFunction, bench_ask:
+ * ServeFunction, bench_prove: (question: bigint, size: bigint, answers: bigint, room: bigint, report: bigint) => number }} ModuleExports
  */
 
 /** The initial size of the input and answer buffers, in bytes. */
@@ -30,7 +30,7 @@ const COUNT_OFFSET = 8;
 class Instance {
   /** @param {WebAssembly.Module} module */
   constructor(module) {
-    this.calls = callsOf(module);
+    this.calls = startInstance(module);
     /** The size of a session file in bytes. */
     this.size = Number(this.calls.bench_file_size());
     this.bytes = new Uint8Array(this.calls.memory.buffer);
@@ -48,7 +48,7 @@ class Instance {
    */
   allocate(room) {
     const offset = this.calls.bench_buffer(BigInt(room));
-    if (offset === BigInt(0)) throw new BenchRefusal(NO_MEMORY);
+    if (offset === BigInt(0)) throw new BenchRefusal(OUT_OF_MEMORY);
     return { offset, room };
   }
 
@@ -107,13 +107,13 @@ class Instance {
 /**
  * Starts an instance of the module; returns its exports. Throws a BenchRefusal if there is too little memory.
  * @param {WebAssembly.Module} module
- * @returns {Calls}
+ * @returns {ModuleExports}
  */
-function callsOf(module) {
+function startInstance(module) {
   try {
-    return /** @type {Calls} */ (/** @type {unknown} */ (new WebAssembly.Instance(module, {}).exports));
+    return /** @type {ModuleExports} */ (/** @type {unknown} */ (new WebAssembly.Instance(module, {}).exports));
   } catch (fault) {
-    throw fault instanceof RangeError ? new BenchRefusal(NO_MEMORY) : fault;
+    throw fault instanceof RangeError ? new BenchRefusal(OUT_OF_MEMORY) : fault;
   }
 }
 
@@ -129,52 +129,52 @@ export class Engine {
     this.encoder = new TextEncoder();
     this.decoder = new TextDecoder();
     /** @type {Instance | null} null if a restart failed for lack of memory; the next call then tries again */
-    this.started = new Instance(module);
+    this.currentInstance = new Instance(module);
     /** The size of a session file in bytes. */
-    this.size = this.started.size;
+    this.size = this.currentInstance.size;
   }
 
   get instance() {
-    if (!this.started) this.started = new Instance(this.module);
-    return this.started;
+    if (!this.currentInstance) this.currentInstance = new Instance(this.module);
+    return this.currentInstance;
   }
 
   /**
    * Calls the module; returns whether the call succeeded. After a trap, the memory of the instance is unreliable, so a new instance
    * replaces it.
-   * @param {(calls: Calls) => number} act
+   * @param {(calls: ModuleExports) => number} callModule
    */
-  call(act) {
+  call(callModule) {
     try {
-      return act(this.instance.calls) !== 0;
+      return callModule(this.instance.calls) !== 0;
     } catch (fault) {
-      this.started = null;
-      this.started = new Instance(this.module);
+      this.currentInstance = null;
+      this.currentInstance = new Instance(this.module);
       throw new BenchTrap(fault instanceof Error ? fault.message : String(fault));
     }
   }
 
   /**
    * Returns the file of a new session.
-   * @param {Uint8Array} [into] the array to write the file to
+   * @param {Uint8Array} [target] the array to write the file to
    */
-  begin(into = new Uint8Array(this.size)) {
+  begin(target = new Uint8Array(this.size)) {
     const { instance } = this;
-    if (!this.call((calls) => calls.bench_begin(instance.file.offset, BigInt(this.size)))) throw new BenchRefusal(NO_MEMORY);
-    into.set(instance.view(instance.file, this.size));
-    return into;
+    if (!this.call((calls) => calls.bench_begin(instance.file.offset, BigInt(this.size)))) throw new BenchRefusal(OUT_OF_MEMORY);
+    target.set(instance.view(instance.file, this.size));
+    return target;
   }
 
   /**
    * Serves lines on the session in a file. The new file has a snapshot instead of a log.
    * @param {Uint8Array} file
    * @param {string} lines
-   * @param {Uint8Array} into the array for the new file; can be `file`
-   * @returns {Served}
+   * @param {Uint8Array} target the array for the new file; can be `file`
+   * @returns {ServedAnswers}
    */
-  serve(file, lines, into) {
+  serve(file, lines, target) {
     const served = this.callForAnswers("bench_serve_and_settle", file, lines);
-    into.set(this.instance.view(this.instance.file, file.length));
+    target.set(this.instance.view(this.instance.file, file.length));
     return served;
   }
 
@@ -182,7 +182,7 @@ export class Engine {
    * Returns the answers that `serve` would return. The session does not change.
    * @param {Uint8Array} file
    * @param {string} lines
-   * @returns {Served}
+   * @returns {ServedAnswers}
    */
   ask(file, lines) {
     return this.callForAnswers("bench_ask", file, lines);
@@ -214,7 +214,7 @@ export class Engine {
     return { isDone, ...instance.readReport() };
   }
 
-  /** Does nothing because calls are equally fast for every state. */
+  /** Does nothing: `keep` is part of the interface of hosts, but this host is equally fast for every state. */
   keep() {
     // A state consists only of its bytes.
   }
@@ -240,7 +240,7 @@ export class Engine {
    * @param {ServingCall} name
    * @param {Uint8Array} file
    * @param {string} lines
-   * @returns {Served}
+   * @returns {ServedAnswers}
    */
   callForAnswers(name, file, lines) {
     const { instance } = this;

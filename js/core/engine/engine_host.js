@@ -6,15 +6,15 @@
  * a host have the same length.
  * @typedef {Uint8Array} State
  *
- * @typedef {import("./engine.js").Served} Served
+ * @typedef {import("./engine.js").ServedAnswers} ServedAnswers
  *
  * @typedef {object} EngineHost
  * @property {number} size the length of a state in bytes
  * @property {(into?: State) => State} begin returns the state of a new session
- * @property {(state: State, lines: string, into: State) => Served} serve serves lines on a state, and writes the next state into `into`,
- *   which can be the same array
- * @property {(state: State, lines: string) => Served} ask returns the answers of `serve`; the state does not change
- * @property {(state: State) => void} keep tells the host that many runs will start from this state, so that the host can optimise
+ * @property {(state: State, lines: string, into: State) => ServedAnswers} serve serves lines on a state, and writes the next state into
+ *   `into`, which can be the same array
+ * @property {(state: State, lines: string) => ServedAnswers} ask returns the answers of `serve`; the state does not change
+ * @property {(state: State) => void} keep informs the host that many runs will start from this state, so that the host can optimise
  * @property {(state: State) => Uint8Array} bytesOf returns the bytes of the session file
  * @property {(bytes: Uint8Array) => State} stateOf returns the state in a session file; if the bytes are not a session, the next call that
  *   serves lines on it rejects them

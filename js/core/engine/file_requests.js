@@ -2,8 +2,8 @@
 
 import { readErrors, readWiring } from "../bench/text_judgement.js";
 import { Engine } from "./engine.js";
-import { linesOfExample } from "./examples.js";
-import { textsOfFile } from "./texts_of_file.js";
+import { exampleLines } from "./examples.js";
+import { recoverTexts } from "./texts_of_file.js";
 import { dryRun } from "./dry_run.js";
 
 /**
@@ -44,7 +44,7 @@ export class FileRequests {
    */
   make(example) {
     const file = this.bench.engine.begin();
-    this.bench.engine.serve(file, linesOfExample(example), file);
+    this.bench.engine.serve(file, exampleLines(example), file);
     return file;
   }
 
@@ -53,7 +53,7 @@ export class FileRequests {
    * @param {Uint8Array} file
    */
   texts(file) {
-    return textsOfFile(this.bench.engine, file, this.bench.examples);
+    return recoverTexts(this.bench.engine, file, this.bench.examples);
   }
 
   /**
@@ -66,19 +66,19 @@ export class FileRequests {
 
   /**
    * Returns the error in a board text, or null if there is none.
-   * @param {string} sent
+   * @param {string} boardText
    */
-  wiring(sent) {
+  wiring(boardText) {
     const { engine } = this.bench;
-    return readWiring(engine.ask(engine.begin(), `wiring\n${sent}.\n`).answers[0]);
+    return readWiring(engine.ask(engine.begin(), `wiring\n${boardText}.\n`).answers[0]);
   }
 
   /**
    * Returns the errors in the lines of a program.
-   * @param {string} sent
+   * @param {string} programText
    */
-  errors(sent) {
+  errors(programText) {
     const { engine } = this.bench;
-    return readErrors(engine.ask(engine.begin(), `errors\n${sent}.\n`).answers);
+    return readErrors(engine.ask(engine.begin(), `errors\n${programText}.\n`).answers);
   }
 }

@@ -1,7 +1,7 @@
-// Full speed in the worker: runs one batch of cycles after another, and decides when to report.
+// Runs time at full speed in the worker: one batch of cycles after another. Decides when to report to the page.
 
 import { RunLog } from "../bench/run_log.js";
-import { NO_TALLY, addTallies } from "../debug/debugger.js";
+import { NO_TALLY, joinTallies } from "../debug/debugger.js";
 
 /**
  * @typedef {import("../debug/debugger.js").DebugFrame} DebugFrame
@@ -29,10 +29,10 @@ export class FullSpeed {
   constructor() {
     this.isOn = false;
     this.isHidden = false;
-    this.size = MIN_BATCH;
+    this.batchCycles = MIN_BATCH;
     this.lastReport = 0;
-    this.ran = new RunLog();
-    this.unreported = emptyFrame();
+    this.runLog = new RunLog();
+    this.pendingReport = emptyFrame();
   }
 
   /** @param {boolean} isHidden true if the page is hidden; it then gets fewer reports */
@@ -49,27 +49,28 @@ export class FullSpeed {
   /** @param {Machine} machine runs one batch */
   batch(machine) {
     const start = performance.now();
-    const frame = machine.advance(this.size);
+    const frame = machine.advance(this.batchCycles);
     const time = performance.now() - start;
-    this.ran.add(frame.ran);
-    const { cycles, changesKeys, tally } = this.unreported;
+    this.runLog.add(frame.ran);
+    const { cycles, changesKeys, tally } = this.pendingReport;
     const { end, stop, snapshot } = frame;
-    this.unreported = {
-      cycles: cycles + frame.cycles, end, stop, snapshot, tally: addTallies(tally, frame.tally),
+    this.pendingReport = {
+      cycles: cycles + frame.cycles, end, stop, snapshot, tally: joinTallies(tally, frame.tally),
       changesKeys: changesKeys || frame.changesKeys,
       litShares: null,
       heard: null,
       warmed: null,
     };
     if (stop) this.isOn = false;
-    const wanted = this.size * Math.min(2, Math.max(0.5, BATCH_TIME / Math.max(1, time)));
-    this.size = Math.round(Math.min(MAX_BATCH, Math.max(MIN_BATCH, wanted)));
+    const wanted = this.batchCycles * Math.min(2, Math.max(0.5, BATCH_TIME / Math.max(1, time)));
+    this.batchCycles = Math.round(Math.min(MAX_BATCH, Math.max(MIN_BATCH, wanted)));
   }
 
   /** @param {boolean} isPageReady true if the page is ready for another report */
   isReportDue(isPageReady) {
     if (!this.isOn) return true;
-    return isPageReady && (!this.isHidden || this.unreported.changesKeys || performance.now() - this.lastReport >= HIDDEN_REPORT_INTERVAL);
+    if (!isPageReady) return false;
+    return !this.isHidden || this.pendingReport.changesKeys || performance.now() - this.lastReport >= HIDDEN_REPORT_INTERVAL;
   }
 
   /**
@@ -78,8 +79,8 @@ export class FullSpeed {
    */
   take() {
     this.lastReport = performance.now();
-    const { unreported } = this;
-    this.unreported = emptyFrame();
-    return { ...unreported, ran: this.ran.take() };
+    const { pendingReport } = this;
+    this.pendingReport = emptyFrame();
+    return { ...pendingReport, ran: this.runLog.take() };
   }
 }

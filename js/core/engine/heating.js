@@ -1,35 +1,35 @@
-// Reports the RAM nibbles that change while time runs, from the answers to a `trace` before each run. It watches one chip at a time, so
-// that the work per frame does not grow with the number of chips.
+// Reports the RAM nibbles that change while time runs. Reads the changes from the answers to a `trace` before each run. Watches one chip at
+// a time, so that the work per frame does not grow with the number of chips.
 
-import { ChangeCounter, GROUPS_OF_CHIP, nibbleGroups } from "./heat.js";
-import { Answers, readTraced } from "./tracing.js";
+import { ChangeCounter, GROUPS_PER_CHIP, nibbleGroups } from "./heat.js";
+import { Answers, parseTraceLine } from "./tracing.js";
 
 /**
  * @typedef {import("../bench/answers.js").Board} Board
  * @typedef {import("./heat.js").Heat} Heat
  *
- * The changes in one of the `chips` RAM chips on the board.
- * @typedef {Heat & { chips: number }} PassedHeat
+ * The changes in one RAM chip. `chips` is the number of RAM chips on the board.
+ * @typedef {Heat & { chips: number }} ChipHeat
  */
 
-export class Heating {
+export class HeatMeter {
   /** @param {Board} board */
   constructor(board) {
     const groups = nibbleGroups(board);
-    this.chips = groups.length / GROUPS_OF_CHIP;
+    this.chips = groups.length / GROUPS_PER_CHIP;
     this.allGroups = groups;
     /** The index of the chip that is currently watched. */
     this.chip = 0;
   }
 
   get groups() {
-    return this.allGroups.slice(this.chip * GROUPS_OF_CHIP, (this.chip + 1) * GROUPS_OF_CHIP);
+    return this.allGroups.slice(this.chip * GROUPS_PER_CHIP, (this.chip + 1) * GROUPS_PER_CHIP);
   }
 
-  // --- as an asker ---
+  // --- The queries before each run ---
 
   get count() {
-    return GROUPS_OF_CHIP;
+    return GROUPS_PER_CHIP;
   }
 
   get seesChanges() {
@@ -44,7 +44,7 @@ export class Heating {
   /**
    * Returns the changes of the watched chip, from the answers to the queries before runs. The next call watches the next chip.
    * @param {string[][]} answerLists one list per line
-   * @returns {PassedHeat}
+   * @returns {ChipHeat}
    */
   take(answerLists) {
     const counter = new ChangeCounter(this.groups);
@@ -54,20 +54,20 @@ export class Heating {
   }
 
   /**
-   * @param {ChangeCounter} counting
+   * @param {ChangeCounter} counter
    * @param {Answers} answers the answers to the queries before one run
    */
-  add(counting, answers) {
-    const startCycles = counting.cycles;
-    for (let group = 0; group < GROUPS_OF_CHIP; group++) {
+  add(counter, answers) {
+    const startCycles = counter.cycles;
+    for (let group = 0; group < GROUPS_PER_CHIP; group++) {
       const { row, lines, cycles } = answers.takeTrace();
-      let before = row;
+      let previousRow = row;
       for (const line of lines) {
-        const traced = readTraced(line);
-        counting.add({ group, before, after: traced.row, cycles: traced.cycles, address: traced.address, line: "" }, startCycles);
-        before = traced.row;
+        const { row: after, cycles: cyclesBefore, address } = parseTraceLine(line);
+        counter.add({ group, before: previousRow, after, cycles: cyclesBefore, address, line: "" }, startCycles);
+        previousRow = after;
       }
-      counting.cycles = startCycles + cycles;
+      counter.cycles = startCycles + cycles;
     }
   }
 }

@@ -1,11 +1,11 @@
-// Key changes that wait for their time. A program polls the keys only from time to time. Therefore each key stays down, and then up, long
-// enough for the program to notice even a short press.
+// Queues key changes. A program polls the keys only from time to time. Therefore each key stays down, and then up, long enough for the
+// program to notice even a short press.
 
-import { isSameKey, lineOfKey } from "../board/key_place.js";
+import { isSameKey, keyLine } from "../board/key_place.js";
 import { KEY_DOWN_CYCLES, KEY_UP_CYCLES } from "../time/mcs4_time.js";
 
 /** The maximum length of one run line, in cycles. */
-export const LONGEST_RUN = 100000;
+export const MAX_RUN_CYCLES = 100000;
 
 /**
  * Returns the run lines for any number of cycles.
@@ -13,7 +13,7 @@ export const LONGEST_RUN = 100000;
  */
 export function runLines(cycles) {
   let lines = "";
-  for (let left = cycles; left > 0; left -= LONGEST_RUN) lines += `run ${Math.min(left, LONGEST_RUN)}\n`;
+  for (let left = cycles; left > 0; left -= MAX_RUN_CYCLES) lines += `run ${Math.min(left, MAX_RUN_CYCLES)}\n`;
   return lines;
 }
 
@@ -37,8 +37,8 @@ export class KeyQueue {
   constructor() {
     /** @type {Change[]} */
     this.changes = [];
-    /** The number of cycles that must pass before the next change. */
-    this.wait = 0;
+    /** The number of cycles that must pass before the next key change. */
+    this.remainingWait = 0;
   }
 
   /** @param {Key} key */
@@ -61,7 +61,7 @@ export class KeyQueue {
 
   clear() {
     this.changes = [];
-    this.wait = 0;
+    this.remainingWait = 0;
   }
 
   /**
@@ -71,38 +71,38 @@ export class KeyQueue {
    */
   plan(cycles) {
     /** @type {PlannedLine[]} */
-    const planned = [];
-    let { wait } = this;
-    let left = cycles;
-    let next = 0;
-    while (left > 0) {
-      const change = this.changes[next];
-      if (change && wait === 0) {
-        planned.push({ line: lineOfKey(change.word, change.key), change });
-        wait = cyclesAfter(change);
-        next += 1;
+    const plannedLines = [];
+    let { remainingWait } = this;
+    let remaining = cycles;
+    let nextChange = 0;
+    while (remaining > 0) {
+      const change = this.changes[nextChange];
+      if (change && remainingWait === 0) {
+        plannedLines.push({ line: keyLine(change.word, change.key), change });
+        remainingWait = cyclesAfter(change);
+        nextChange += 1;
       }
-      const most = this.changes[next] ? Math.min(wait, LONGEST_RUN) : LONGEST_RUN;
-      const run = Math.min(left, most);
-      planned.push({ line: `run ${run}`, change: null });
-      left -= run;
-      wait = Math.max(0, wait - run);
+      const maxRun = this.changes[nextChange] ? Math.min(remainingWait, MAX_RUN_CYCLES) : MAX_RUN_CYCLES;
+      const run = Math.min(remaining, maxRun);
+      plannedLines.push({ line: `run ${run}`, change: null });
+      remaining -= run;
+      remainingWait = Math.max(0, remainingWait - run);
     }
-    return planned;
+    return plannedLines;
   }
 
   /**
    * Updates the queue after lines have run. The last run can have ended early.
-   * @param {PlannedLine[]} planned
+   * @param {PlannedLine[]} plannedLines
    * @param {(at: number) => number} cyclesOf returns the number of cycles that the line at an index ran
    */
-  done(planned, cyclesOf) {
-    planned.forEach(({ change }, at) => {
+  done(plannedLines, cyclesOf) {
+    plannedLines.forEach(({ change }, at) => {
       if (change) {
         this.changes = this.changes.filter((each) => each !== change);
-        this.wait = cyclesAfter(change);
+        this.remainingWait = cyclesAfter(change);
       } else {
-        this.wait = Math.max(0, this.wait - cyclesOf(at));
+        this.remainingWait = Math.max(0, this.remainingWait - cyclesOf(at));
       }
     });
   }

@@ -1,23 +1,23 @@
-// The state that all requests share: the module, and the open session with its debugger.
+// Contains the state that all requests share: the module, and the open session with its debugger.
 
 import { readBoard } from "../bench/answers.js";
 import { Face } from "../board/face.js";
-import { NO_TALLY, addTallies } from "../debug/debugger.js";
-import { namesOfWatched } from "../debug/watched.js";
+import { NO_TALLY, joinTallies } from "../debug/debugger.js";
+import { collectWatchNames } from "../debug/watched.js";
 import { SourceMap } from "../machine/source_map.js";
 import { sentText } from "../text/text_fault.js";
 import { recordedProgram } from "../waves/wave_program.js";
 import { FullSpeed } from "./full_speed.js";
-import { differenceOf, readProgram } from "./program_check.js";
+import { findDifference, readProgram } from "./program_check.js";
 
 /**
  * @typedef {import("./examples.js").Example} Example
- * @typedef {import("./program_check.js").Checked} Checked
+ * @typedef {import("./program_check.js").ProgramCheck} ProgramCheck
  * @typedef {import("./program_check.js").Program} Program
  * @typedef {import("../bench/protocol.js").Frame} Frame
  * @typedef {import("../debug/common_mistakes.js").Kind} Kind
- * @typedef {import("../bench/protocol.js").ServedLines} ServedLines
- * @typedef {import("../bench/protocol.js").Shown} Shown
+ * @typedef {import("../bench/protocol.js").LinesReply} LinesReply
+ * @typedef {import("../bench/protocol.js").PageState} PageState
  * @typedef {import("../debug/debugger.js").Debugger} Debugger
  * @typedef {import("./engine.js").Engine} Engine
  *
@@ -25,21 +25,21 @@ import { differenceOf, readProgram } from "./program_check.js";
  * the watch expressions.
  * @typedef {{ board: string, program: string, values?: string[], watched?: string[] }} WaveTexts
  *
- * A callback of long work. It receives the progress and resolves to true if the work continues.
- * @typedef {(done: number, total: number) => Promise<boolean>} GoesOn
+ * A callback during long work. It receives the progress, and resolves to true if the work must continue.
+ * @typedef {(done: number, total: number) => Promise<boolean>} ShouldContinue
  */
 
 export class OpenBench {
-  /** @param {GoesOn} goesOn */
-  constructor(goesOn) {
-    this.goesOn = goesOn;
+  /** @param {ShouldContinue} shouldContinue */
+  constructor(shouldContinue) {
+    this.shouldContinue = shouldContinue;
     /** @type {ArrayBuffer[]} the buffers in which files are sent to the page; the page returns them */
     this.spareBuffers = [];
     this.fullSpeed = new FullSpeed();
     /** @type {Engine | null} */
     this.loaded = null;
     /** @type {Debugger | null} the debugger of the open session */
-    this.opened = null;
+    this.currentDebugger = null;
     /** @type {Example[]} */
     this.examples = [];
     /** @type {Kind[]} */
@@ -54,8 +54,8 @@ export class OpenBench {
   }
 
   get debugger() {
-    if (!this.opened) throw new Error("no session is open");
-    return this.opened;
+    if (!this.currentDebugger) throw new Error("no session is open");
+    return this.currentDebugger;
   }
 
   get session() {
@@ -66,7 +66,7 @@ export class OpenBench {
    * Returns the current state of the session for the page, with the session file in a transferable buffer.
    * @param {string[]} snapshot
    * @param {boolean} showsBoard
-   * @returns {Shown}
+   * @returns {PageState}
    */
   shown(snapshot, showsBoard) {
     const { file, statusQueries, count, timeline, printing, queue } = this.session;
@@ -92,16 +92,16 @@ export class OpenBench {
   /**
    * Serves lines, either all or none.
    * @param {string} lines
-   * @returns {Promise<ServedLines>}
+   * @returns {Promise<LinesReply>}
    */
   serve(lines) {
-    return this.served(() => this.session.serve(lines, (done) => this.goesOn(done, lines.length)));
+    return this.served(() => this.session.serve(lines, (done) => this.shouldContinue(done, lines.length)));
   }
 
   /**
-   * Serves lines with a callback; resolves to the result and the state for the page.
+   * Calls a function that serves lines; resolves to its result and the state for the page.
    * @param {() => Promise<import("./worker_session.js").ResultAndSnapshot>} serve
-   * @returns {Promise<ServedLines>}
+   * @returns {Promise<LinesReply>}
    */
   async served(serve) {
     const { reset } = this.session.count;
@@ -114,7 +114,7 @@ export class OpenBench {
 
   /**
    * Returns the state for the page without serving lines.
-   * @returns {ServedLines}
+   * @returns {LinesReply}
    */
   nothingServed() {
     return { entries: [], first: "", status: 0, touchesRom: false, wires: false, ...this.shown(this.session.takeSnapshot(), false) };
@@ -123,13 +123,13 @@ export class OpenBench {
   /**
    * Returns the `map` answer for a program, and the first difference between the program and ROM.
    * @param {string} text the text as sent to the bench
-   * @returns {Checked}
+   * @returns {ProgramCheck}
    */
   checkProgram(text) {
     if (!this.program || this.program.text !== text) this.program = readProgram(this.engine, text);
     const { map, refusal } = this.program;
     const { file, statusQueries } = this.session;
-    const difference = differenceOf(this.engine, file, statusQueries.board, this.program);
+    const difference = findDifference(this.engine, file, statusQueries.board, this.program);
     const isInRom = refusal === null && difference === null && map.length > 0;
     this.debugger.usual.map = isInRom ? new SourceMap(map, text) : null;
     return { map, refusal, difference };
@@ -143,7 +143,7 @@ export class OpenBench {
     const sent = sentText(program, ";");
     const { map } = this.checkProgram(sent);
     return { face: new Face(board), board: readBoard(this.session.statusQueries.board), map: new SourceMap(map, sent),
-      watched: namesOfWatched(watched) };
+      watched: collectWatchNames(watched) };
   }
 
   /**
@@ -160,13 +160,13 @@ export class OpenBench {
    */
   takeUnreported() {
     const { tally, ...result } = this.fullSpeed.take();
-    const late = { ...NO_TALLY, usual: this.debugger.takeLate() };
-    return { ...result, tally: addTallies(late, tally), ...this.shown(this.session.takeSnapshot(), false) };
+    const lateTally = { ...NO_TALLY, usual: this.debugger.takeLateMistakes() };
+    return { ...result, tally: joinTallies(lateTally, tally), ...this.shown(this.session.takeSnapshot(), false) };
   }
 
-  /** Runs the debugger work that was postponed until after the report. */
-  lookBack() {
-    if (this.opened) this.opened.lookBack();
+  /** Does the work of the debugger that was postponed until after the report to the page. */
+  checkLastLines() {
+    if (this.currentDebugger) this.currentDebugger.checkLastLines();
   }
 
   /**

@@ -2,10 +2,10 @@
 
 import { readBoard } from "../bench/answers.js";
 import { Face } from "../board/face.js";
-import { Heating } from "./heating.js";
-import { Printing } from "./printing.js";
+import { HeatMeter } from "./heating.js";
+import { PrinterCodes } from "./printing.js";
 import { BrightnessMeter } from "./brightness_meter.js";
-import { Sounding } from "./sounding.js";
+import { BuzzerMeter } from "./sounding.js";
 
 /**
  * @typedef {import("./open_bench.js").OpenBench} OpenBench
@@ -23,7 +23,7 @@ export class OutputRequests {
    * @param {number} number the page's number of the front panel; repeated in the reports
    */
   watchLamps(boardText, number) {
-    if (!this.bench.opened) return;
+    if (!this.bench.currentDebugger) return;
     const { lamps } = readBoard(this.bench.session.statusQueries.board);
     this.bench.session.brightnessMeter = lamps.length > 0 ? new BrightnessMeter(new Face(boardText), lamps.length, number) : null;
   }
@@ -33,9 +33,9 @@ export class OutputRequests {
    * @param {boolean} isOn
    */
   watchRam(isOn) {
-    if (!this.bench.opened) return;
+    if (!this.bench.currentDebugger) return;
     const board = readBoard(this.bench.session.statusQueries.board);
-    this.bench.session.heating = isOn && board.banks.length > 0 ? new Heating(board) : null;
+    this.bench.session.heatMeter = isOn && board.banks.length > 0 ? new HeatMeter(board) : null;
   }
 
   /**
@@ -43,7 +43,7 @@ export class OutputRequests {
    * @param {string} line the signal line; "" ends the reports
    */
   listenTo(line) {
-    if (this.bench.opened) this.bench.session.sounding = line === "" ? null : new Sounding(line);
+    if (this.bench.currentDebugger) this.bench.session.buzzerMeter = line === "" ? null : new BuzzerMeter(line);
   }
 
   /**
@@ -51,10 +51,10 @@ export class OutputRequests {
    * @param {{ strobe: string, port: string } | null} printer null ends the reports
    */
   printOn(printer) {
-    if (!this.bench.opened) return;
+    if (!this.bench.currentDebugger) return;
     const { printing } = this.bench.session;
     if (!printer) this.bench.session.printing = null;
-    else if (!printing || !printing.isOf(printer)) this.bench.session.printing = new Printing({ ...printer, codes: [] });
+    else if (!printing || !printing.isSamePrinter(printer)) this.bench.session.printing = new PrinterCodes({ ...printer, codes: [] });
   }
 
   /** Clears the printout. */

@@ -1,6 +1,6 @@
-// Finds the changes in a part of the past. A copy of the session replays the units, and the bench forecasts the changes of each unit.
+// Finds the changes of values in some units of the past. A copy of the session replays the units, and the bench forecasts the changes.
 
-import { Answers, readTraced } from "./tracing.js";
+import { Answers, parseTraceLine } from "./tracing.js";
 
 /**
  * @typedef {import("./engine_host.js").EngineHost} Engine
@@ -13,14 +13,14 @@ import { Answers, readTraced } from "./tracing.js";
  */
 
 /**
- * Returns the traces of each unit by group, followed by the traces after all units.
+ * Returns for each unit one trace per group, followed by the traces of the state after all units.
  * @param {Engine} engine
  * @param {Uint8Array} file the session file; changed to the state after the units
  * @param {Unit[]} units
  * @param {string[][]} groups
  * @returns {Trace[][]}
  */
-function tracesOf(engine, file, units, groups) {
+function traceUnits(engine, file, units, groups) {
   /** @type {(cycles: number) => string} */
   const ask = (cycles) => groups.map((places) => `trace ${cycles} ${places.join(" ")}\n`).join("");
   const lines = units.map(({ line, cycles }) => `${ask(Math.max(1, cycles))}${line}\n`).join("");
@@ -38,21 +38,26 @@ function tracesOf(engine, file, units, groups) {
  * @param {Uint8Array} file
  * @param {Unit[]} units
  * @param {string[][]} groups the places to watch, in groups that fit into one `trace`
- * @param {(change: PastChange) => void} see called for each change: first for all changes of the first group in order, then for the next
+ * @param {(change: PastChange) => void} report called for each change: first for all changes of the first group in order, then for the next
  *   group
  */
-export function changesIn(engine, file, units, groups, see) {
-  const traces = tracesOf(engine, file, units, groups);
+export function reportChanges(engine, file, units, groups, report) {
+  const traces = traceUnits(engine, file, units, groups);
   groups.forEach((_, group) => {
-    let before = traces[0][group].row;
+    let previousRow = traces[0][group].row;
     /** @type {(after: string, where: Omit<PastChange, "group" | "before" | "after">) => void} */
-    const take = (after, where) => {
-      if (after !== before) see({ group, before, after, ...where });
-      before = after;
+    const reportIfChanged = (after, details) => {
+      if (after !== previousRow) report({ group, before: previousRow, after, ...details });
+      previousRow = after;
     };
     units.forEach((unit, at) => {
-      if (unit.cycles === 0) take(traces[at + 1][group].row, { unit, cycles: 0, address: -1, line: unit.line.split("\n")[0] });
-      else for (const { row, cycles, address } of traces[at][group].lines.map(readTraced)) take(row, { unit, cycles, address, line: "" });
+      if (unit.cycles === 0) {
+        reportIfChanged(traces[at + 1][group].row, { unit, cycles: 0, address: -1, line: unit.line.split("\n")[0] });
+        return;
+      }
+      for (const { row, cycles, address } of traces[at][group].lines.map(parseTraceLine)) {
+        reportIfChanged(row, { unit, cycles, address, line: "" });
+      }
     });
   });
 }

@@ -1,15 +1,17 @@
-// Divides long work into pieces, so that it can report progress and be cancelled.
+// Divides long work into pieces. Between two pieces the work can report its progress and be cancelled.
 
 /** The target duration of a piece, in milliseconds. */
 const PIECE_TIME = 40;
-/** The length of the first piece of a search cycle by cycle, in cycles. */
-export const FIRST_CYCLES = 1000;
-/** The maximum number of cycles and units in a piece of a search. */
-export const SEARCHED_CYCLES = 400000;
-export const SEARCHED_UNITS = 500;
-/** The maximum number of cycles and units in a piece of a recording. */
-export const RECORDED_CYCLES = 50000;
-export const RECORDED_UNITS = 50;
+/** The length of the first piece, in cycles, of work that examines each cycle. */
+export const FIRST_PIECE_CYCLES = 1000;
+/** The maximum number of cycles in a piece of a search. */
+export const SEARCH_PIECE_CYCLES = 400000;
+/** The maximum number of units in a piece of a search. */
+export const SEARCH_PIECE_UNITS = 500;
+/** The maximum number of cycles in a piece of a recording. */
+export const RECORDING_PIECE_CYCLES = 50000;
+/** The maximum number of units in a piece of a recording. */
+export const RECORDING_PIECE_UNITS = 50;
 
 export class PieceSize {
   /**

@@ -1,23 +1,23 @@
-// Collects the codes that a program sends to the printer, from the answers to a `trace` before each run. Each code is stored with its
-// cycle. The printout therefore depends only on the session, and a move back in time removes the later codes.
+// Collects the codes that a program sends to the printer. Reads them from the answers to a `trace` before each run. Each code is stored
+// with its cycle. Therefore the printout depends only on the session, and a move back in time removes the later codes.
 
-import { linesWithQueries, splitAnswers, repeatedLine } from "./asking.js";
-import { RECORDED_CYCLES, RECORDED_UNITS } from "./pieces.js";
-import { Answers, readTraced, valuesOf } from "./tracing.js";
+import { linesWithQueries, splitAnswers, replayLine } from "./asking.js";
+import { RECORDING_PIECE_CYCLES, RECORDING_PIECE_UNITS } from "./pieces.js";
+import { Answers, parseTraceLine, rowValues } from "./tracing.js";
 
 /**
- * @typedef {import("./accepted.js").Accepted} Accepted
+ * @typedef {import("./accepted.js").AcceptedCommand} AcceptedCommand
  * @typedef {import("./engine_host.js").EngineHost} Engine
  *
  * The strobe line and code port of a printer, and the received codes as pairs of the cycle count and the code.
- * @typedef {{ strobe: string, port: string, codes: [number, number][] }} Printed
+ * @typedef {{ strobe: string, port: string, codes: [number, number][] }} PrintoutData
  */
 
 /** The maximum number of stored codes: several hundred printed lines. */
 const MAX_CODES = 4000;
 
-export class Printing {
-  /** @param {Printed} printed */
+export class PrinterCodes {
+  /** @param {PrintoutData} data */
   constructor({ strobe, port, codes }) {
     this.strobe = strobe;
     this.port = port;
@@ -27,11 +27,11 @@ export class Printing {
   }
 
   copy() {
-    return new Printing(this);
+    return new PrinterCodes(this);
   }
 
   /** @param {{ strobe: string, port: string }} printer */
-  isOf({ strobe, port }) {
+  isSamePrinter({ strobe, port }) {
     return this.strobe === strobe && this.port === port;
   }
 
@@ -43,7 +43,7 @@ export class Printing {
   /**
    * Returns the printout if it has changed since the previous report, otherwise null.
    * @param {number} total the current cycle count
-   * @returns {Printed | null}
+   * @returns {PrintoutData | null}
    */
   takeNews(total) {
     const count = this.countAt(total);
@@ -53,14 +53,14 @@ export class Printing {
     return { strobe: this.strobe, port: this.port, codes: this.codes.slice(0, count) };
   }
 
-  /** @param {number} total the cycle count; later codes do not count */
-  countAt(total) {
+  /** @param {number} cycles the cycle count; later codes do not count */
+  countAt(cycles) {
     let count = this.codes.length;
-    while (count > 0 && this.codes[count - 1][0] > total) count -= 1;
+    while (count > 0 && this.codes[count - 1][0] > cycles) count -= 1;
     return count;
   }
 
-  // --- as an asker ---
+  // --- The queries before each run ---
 
   get count() {
     return 1;
@@ -82,41 +82,41 @@ export class Printing {
    */
   take(answerLists, total) {
     this.codes.length = this.countAt(total);
-    let before = total;
+    let cyclesBefore = total;
     for (const answers of answerLists) {
       if (answers.length === 0) continue;
       const { row, lines, cycles } = new Answers(answers).takeTrace();
-      let [level] = valuesOf(row);
+      let [level] = rowValues(row);
       for (const line of lines) {
-        const traced = readTraced(line);
-        const [strobe, code] = valuesOf(traced.row);
-        if (level === "0" && strobe === "1") this.codes.push([before + traced.cycles + 1, parseInt(code, 16)]);
+        const traced = parseTraceLine(line);
+        const [strobe, code] = rowValues(traced.row);
+        if (level === "0" && strobe === "1") this.codes.push([cyclesBefore + traced.cycles + 1, parseInt(code, 16)]);
         level = strobe;
       }
-      before += cycles;
+      cyclesBefore += cycles;
     }
     this.codes.splice(0, this.codes.length - MAX_CODES);
   }
 
   /**
-   * Reads the codes of served lines. For this, the lines run again on a copy.
+   * Reads the codes that served lines sent to the printer. For this, a copy of the session serves the lines again.
    * @param {Engine} engine
    * @param {Uint8Array} file the session file before the lines; changed
-   * @param {Accepted[]} accepted
+   * @param {AcceptedCommand[]} commands
    * @param {number} total the cycle count before the lines
    */
-  follow(engine, file, accepted, total) {
-    let before = total;
-    for (let at = 0; at < accepted.length;) {
+  follow(engine, file, commands, total) {
+    let cyclesBefore = total;
+    for (let at = 0; at < commands.length;) {
       const startIndex = at;
-      const end = Math.min(accepted.length, startIndex + RECORDED_UNITS);
+      const end = Math.min(commands.length, startIndex + RECORDING_PIECE_UNITS);
       let cycles = 0;
-      for (; at < end && cycles < RECORDED_CYCLES; at++) cycles += accepted[at].cycles;
-      const planned = accepted.slice(startIndex, at).map(repeatedLine);
-      const { answers } = engine.serve(file, linesWithQueries(planned, [this]), file);
-      const { askerAnswers: [answerLists] } = splitAnswers(planned, [this], answers);
-      this.take(answerLists, before);
-      before += cycles;
+      for (; at < end && cycles < RECORDING_PIECE_CYCLES; at++) cycles += commands[at].cycles;
+      const plannedLines = commands.slice(startIndex, at).map(replayLine);
+      const { answers } = engine.serve(file, linesWithQueries(plannedLines, [this]), file);
+      const { sourceAnswers: [answerLists] } = splitAnswers(plannedLines, [this], answers);
+      this.take(answerLists, cyclesBefore);
+      cyclesBefore += cycles;
     }
   }
 }

@@ -1,9 +1,9 @@
-// Compares a program text with ROM. A separate session with all ROMs assembles the text; then the bytes are compared.
+// Compares a program text with ROM: a separate session with all ROMs assembles the text, and this module compares the bytes.
 
-import { readBoard, readMap, refusalOf } from "../bench/answers.js";
+import { readBoard, readMap, parseRefusal } from "../bench/answers.js";
 import { matchAnswers, readInputs } from "../bench/inputs.js";
-import { upTo } from "../bench/numbers.js";
-import { ADDRESSES, NO_BYTE, PAGES, PAGE_BYTES, bytesOf, listQueries } from "../bench/rom_bytes.js";
+import { indices } from "../bench/numbers.js";
+import { ADDRESS_COUNT, NO_BYTE, PAGE_NUMBERS, PAGE_BYTES, parseRomBytes, listQueries } from "../bench/rom_bytes.js";
 import { LONGEST_TEXT, TEXT_TOO_LONG } from "../text/text_fault.js";
 
 /**
@@ -15,11 +15,11 @@ import { LONGEST_TEXT, TEXT_TOO_LONG } from "../text/text_fault.js";
  *
  * The first address at which ROM differs from the program; `hasRom` is false if the board has no ROM at that address.
  * @typedef {{ address: number, hasRom: boolean }} Difference
- * @typedef {{ map: string[], refusal: Refusal | null, difference: Difference | null }} Checked
+ * @typedef {{ map: string[], refusal: Refusal | null, difference: Difference | null }} ProgramCheck
  */
 
-/** The lines that wire a board with all ROMs. */
-export const ALL_ROMS = `wire\n${PAGES.map((chip) => `[[rom]]\nchip = ${chip}\nport = "0000"\n`).join("")}.\n`;
+/** The lines that wire a board with all 16 ROMs. */
+export const ALL_ROMS = `wire\n${PAGE_NUMBERS.map((chip) => `[[rom]]\nchip = ${chip}\nport = "0000"\n`).join("")}.\n`;
 
 /**
  * Returns the reason why a text cannot be sent to the bench, or null. Either the text is too long, or one of its lines is only a dot and
@@ -27,7 +27,7 @@ export const ALL_ROMS = `wire\n${PAGES.map((chip) => `[[rom]]\nchip = ${chip}\np
  * @param {string} text
  * @returns {Refusal | null}
  */
-export function faultOfText(text) {
+export function textRefusal(text) {
   if (text.length > LONGEST_TEXT) return { number: TEXT_TOO_LONG, line: 0 };
   const dot = text.split("\n").findIndex((line) => line === "." || line === ".\r");
   return dot < 0 ? null : { number: 0, line: dot + 1 };
@@ -40,23 +40,23 @@ export function faultOfText(text) {
  * @returns {Program}
  */
 export function readProgram(engine, text) {
-  const fault = faultOfText(text);
-  if (fault) return { text, map: [], refusal: fault, bytes: bytesOf([]) };
-  const endedText = text === "" || text.endsWith("\n") ? text : `${text}\n`;
-  const lines = `${ALL_ROMS}asm\n${endedText}.\nmap\n${endedText}.\n${listQueries(PAGES)}`;
+  const fault = textRefusal(text);
+  if (fault) return { text, map: [], refusal: fault, bytes: parseRomBytes([]) };
+  const textWithLineEnd = text === "" || text.endsWith("\n") ? text : `${text}\n`;
+  const lines = `${ALL_ROMS}asm\n${textWithLineEnd}.\nmap\n${textWithLineEnd}.\n${listQueries(PAGE_NUMBERS)}`;
   const [, loaded, map, ...lists] = matchAnswers(readInputs(lines), engine.ask(engine.begin(), lines).answers);
-  const refusal = refusalOf(loaded[0]) || refusalOf(map[0]);
-  const bytes = bytesOf(refusal ? [] : lists.flat());
+  const refusal = parseRefusal(loaded[0]) || parseRefusal(map[0]);
+  const bytes = parseRomBytes(refusal ? [] : lists.flat());
   const isFilled = filledAddresses(map);
   return { text, map: refusal ? [] : map, refusal, bytes: bytes.map((byte, address) => (isFilled[address] ? byte : NO_BYTE)) };
 }
 
 /**
- * Returns 1 for each address at which a program has a byte; uses the answers to `map`.
+ * Returns an array with 1 for each address at which a program has a byte, otherwise 0.
  * @param {string[]} map
  */
 function filledAddresses(map) {
-  const isFilled = new Uint8Array(ADDRESSES);
+  const isFilled = new Uint8Array(ADDRESS_COUNT);
   for (const { address, size } of readMap(map).lines) isFilled.fill(1, address, address + size);
   return isFilled;
 }
@@ -68,9 +68,9 @@ function filledAddresses(map) {
  * @param {Program} program
  * @returns {import("../text/assembling.js").Leftovers}
  */
-export function leftoversOf(engine, file, program) {
-  const bytes = bytesOf(engine.ask(file, listQueries(PAGES)).answers);
-  const left = upTo(ADDRESSES).filter((address) => program.bytes[address] === NO_BYTE && bytes[address] > 0);
+export function findLeftovers(engine, file, program) {
+  const bytes = parseRomBytes(engine.ask(file, listQueries(PAGE_NUMBERS)).answers);
+  const left = indices(ADDRESS_COUNT).filter((address) => program.bytes[address] === NO_BYTE && bytes[address] > 0);
   return { size: program.bytes.filter((byte) => byte !== NO_BYTE).length, left };
 }
 
@@ -82,11 +82,12 @@ export function leftoversOf(engine, file, program) {
  * @param {Program} program
  * @returns {Difference | null}
  */
-export function differenceOf(engine, file, board, program) {
-  const pages = PAGES.filter((page) => program.bytes.subarray(page * PAGE_BYTES, (page + 1) * PAGE_BYTES).some((byte) => byte !== NO_BYTE));
+export function findDifference(engine, file, board, program) {
+  const bytesInPage = (/** @type {number} */ page) => program.bytes.subarray(page * PAGE_BYTES, (page + 1) * PAGE_BYTES);
+  const pages = PAGE_NUMBERS.filter((page) => bytesInPage(page).some((byte) => byte !== NO_BYTE));
   if (pages.length === 0) return null;
   const roms = new Set(readBoard(board).roms.map(({ chip }) => chip));
-  const bytes = bytesOf(engine.ask(file, listQueries(pages)).answers);
+  const bytes = parseRomBytes(engine.ask(file, listQueries(pages)).answers);
   const hasRom = (/** @type {number} */ address) => roms.has(Math.floor(address / PAGE_BYTES));
   const address = program.bytes.findIndex((byte, at) => byte !== NO_BYTE && (byte !== bytes[at] || !hasRom(at)));
   return address < 0 ? null : { address, hasRom: hasRom(address) };

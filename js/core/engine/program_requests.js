@@ -1,7 +1,7 @@
 // Requests about the program in ROM and its source.
 
-import { leftoversOf, readProgram } from "./program_check.js";
-import { sourceOfRom } from "./texts_of_file.js";
+import { findLeftovers, readProgram } from "./program_check.js";
+import { disassembleRom } from "./texts_of_file.js";
 
 /**
  * @typedef {import("./open_bench.js").OpenBench} OpenBench
@@ -27,11 +27,11 @@ export class ProgramRequests {
    */
   leftovers(text) {
     if (!this.bench.program || this.bench.program.text !== text) this.bench.program = readProgram(this.bench.engine, text);
-    return leftoversOf(this.bench.engine, this.bench.session.file, this.bench.program);
+    return findLeftovers(this.bench.engine, this.bench.session.file, this.bench.program);
   }
 
   /** Returns a source text that assembles to the bytes in ROM. */
   source() {
-    return sourceOfRom(this.bench.engine, this.bench.session.file);
+    return disassembleRom(this.bench.engine, this.bench.session.file);
   }
 }

@@ -1,6 +1,6 @@
 // Requests that prove properties with the prover in the module.
 
-import { beginProving, judgedLine } from "../prove/bounded_proof.js";
+import { beginProving, createJudgedLine } from "../prove/bounded_proof.js";
 
 /**
  * @typedef {import("./open_bench.js").OpenBench} OpenBench
@@ -10,23 +10,23 @@ export class ProofRequests {
   /** @param {OpenBench} bench */
   constructor(bench) {
     this.bench = bench;
-    /** @type {import("../prove/judging.js").Judging | null} the judgement in progress */
+    /** @type {import("../prove/judging.js").PropertyJudge | null} the judgement in progress */
     this.proving = null;
   }
 
   /**
    * Starts to prove properties. Returns the errors in the texts, and the number of properties to judge.
    * @param {import("../explore/exploring.js").ExploredTexts} texts
-   * @param {number} most the maximum number of states per prover question
+   * @param {number} maxStates the maximum number of states per prover question
    */
-  prove(texts, most) {
+  prove(texts, maxStates) {
     const { bench } = this;
-    const { proving, faults } = beginProving(bench.engine, texts, most, {
+    const { proving, faults } = beginProving(bench.engine, texts, maxStates, {
       seen: async (states) => {
-        await bench.goesOn(states, most);
+        await bench.shouldContinue(states, maxStates);
       },
       yieldToMessages: async () => {
-        await bench.goesOn(0, most);
+        await bench.shouldContinue(0, maxStates);
       },
     });
     this.proving = proving;
@@ -37,6 +37,6 @@ export class ProofRequests {
   async proveNext() {
     if (!this.proving) throw new Error("nothing is proved");
     const judged = await this.proving.next();
-    return judged && judgedLine(judged);
+    return judged && createJudgedLine(judged);
   }
 }

@@ -2,12 +2,12 @@
 
 import { readTrigger } from "../waves/trigger.js";
 import { LiveRecorder } from "./live_recorder.js";
-import { recordAfter, recordBefore } from "./wave_recorder.js";
+import { recordNextCycles, recordLastCycles } from "./wave_recorder.js";
 
 /**
  * @typedef {import("./open_bench.js").OpenBench} OpenBench
- * @typedef {import("./live_recorder.js").LiveWanted} LiveWanted
- * @typedef {import("./wave_recorder.js").Recorded} Recorded
+ * @typedef {import("./live_recorder.js").LiveSetup} LiveSetup
+ * @typedef {import("./wave_recorder.js").Recording} Recording
  * @typedef {import("./open_bench.js").WaveTexts} WaveTexts
  */
 
@@ -25,27 +25,27 @@ export class RecordingRequests {
    */
   record(cycles, isBefore, texts) {
     const { engine, session } = this.bench;
-    const known = this.bench.recordingTexts(texts);
+    const recordedTexts = this.bench.recordingTexts(texts);
     /** @type {(done: number) => Promise<boolean>} */
-    const goesOn = (done) => this.bench.goesOn(done, cycles);
-    if (isBefore) return recordBefore(engine, session.timeline, cycles, known, goesOn);
-    return recordAfter(engine, session.file, cycles, known, goesOn);
+    const shouldContinue = (done) => this.bench.shouldContinue(done, cycles);
+    if (isBefore) return recordLastCycles(engine, session.timeline, cycles, recordedTexts, shouldContinue);
+    return recordNextCycles(engine, session.file, cycles, recordedTexts, shouldContinue);
   }
 
   /**
-   * Starts a recording that continues until it is ended. Later parts arrive in `waves` of the shown states. If the trigger has an error,
-   * nothing is recorded and `fault` is the message.
+   * Starts a recording that continues until `endRecording`. `waves` in the state for the page contains the later parts. If the trigger has
+   * an error, nothing is recorded and `fault` is the message.
    * @param {WaveTexts} texts
-   * @param {{ trigger: string } & LiveWanted} wanted
-   * @returns {{ recorded: Recorded | null, fault: string }}
+   * @param {{ trigger: string } & LiveSetup} options
+   * @returns {{ recorded: Recording | null, fault: string }}
    */
-  recordLive(texts, wanted) {
+  recordLive(texts, options) {
     const { engine, session } = this.bench;
     const recorder = new LiveRecorder(engine, session.file, this.bench.recordingTexts(texts));
     const names = this.bench.namesOf(texts);
-    const { trigger, fault } = readTrigger(wanted.trigger, recorder.lines, names);
+    const { trigger, fault } = readTrigger(options.trigger, recorder.lines, names);
     if (fault) return { recorded: null, fault };
-    recorder.waitFor(trigger, wanted);
+    recorder.waitFor(trigger, options);
     session.recorder = recorder;
     return { recorded: recorder.recorded(session.file), fault: "" };
   }

@@ -1,4 +1,5 @@
-// The board as perceived in the next 30 ms with the keys unchanged: the lamp brightness, and the text of the displays.
+// Forecasts how a board is perceived in the next 30 ms if the keys do not change: the brightness of its lamps, and the text of its
+// displays.
 
 import { Brightness } from "../board/brightness.js";
 import { DisplayText } from "../board/display_text.js";
@@ -10,8 +11,8 @@ import { BrightnessMeter } from "./brightness_meter.js";
  * @typedef {import("../board/face.js").Face} Face
  */
 
-/** The query for the lamps of the next 30 ms. */
-export const SEEN_QUERY = `trace ${EYE_CYCLES} lamps\n`;
+/** The query that forecasts the lamps of the next 30 ms. */
+export const LAMPS_FORECAST_QUERY = `trace ${EYE_CYCLES} lamps\n`;
 
 /**
  * Returns whether a front panel has a multiplexed display. Such a display never shows the whole number at one instant.
@@ -22,18 +23,18 @@ export function hasScannedDisplay(face) {
 }
 
 /**
- * Returns the lamp brightness in the time of the query, without earlier light.
+ * Returns the brightness of the lamps in the 30 ms of the query, without the light before them.
  * @param {Face} face
  * @param {number} count the number of lamps on the board
- * @param {string[]} answers the answer to SEEN_QUERY
+ * @param {string[]} answers the answer to LAMPS_FORECAST_QUERY
  */
-export function seenBrightness(face, count, answers) {
+export function forecastBrightness(face, count, answers) {
   const brightness = new Brightness(face, count);
   brightness.add(new BrightnessMeter(face, count, 0).take([answers]), Infinity);
   return brightness;
 }
 
-export class SeenText {
+export class PerceivedText {
   /**
    * @param {Face} face
    * @param {number} count the number of lamps on the board
@@ -45,13 +46,13 @@ export class SeenText {
     this.text = new DisplayText(displays, [...face.lamps].map(([at, { text }]) => ({ at, text })));
   }
 
-  /** @param {string[]} answers the answer to SEEN_QUERY */
+  /** @param {string[]} answers the answer to LAMPS_FORECAST_QUERY */
   read(answers) {
-    return this.ofBrightness(seenBrightness(this.face, this.count, answers));
+    return this.readBrightness(forecastBrightness(this.face, this.count, answers));
   }
 
   /** @param {Brightness} brightness */
-  ofBrightness(brightness) {
+  readBrightness(brightness) {
     return this.text.words(brightness.patterns, (lamp) => brightness.isOn[lamp]);
   }
 }

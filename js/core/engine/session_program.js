@@ -1,8 +1,9 @@
-// The source text of a session's program. Its names and lines are valid if the text assembles to the bytes in ROM.
+// Assembles the source text of a session's program, and compares the bytes with ROM. If they are equal, the names and lines of the text
+// describe the program in ROM.
 
 import { hex } from "../bench/numbers.js";
 import { SourceMap } from "../machine/source_map.js";
-import { faultsOfText } from "../testing/prepared.js";
+import { findTextErrors } from "../testing/prepared.js";
 import { sentText } from "../text/text_fault.js";
 import { readProgram } from "./program_check.js";
 
@@ -38,12 +39,12 @@ function firstDifference(codes, bytes, map) {
  */
 export function readSource(engine, text) {
   const rejected = (/** @type {TextFault[]} */ faults) => ({ faults, map: new SourceMap([], ""), bytes: new Int16Array() });
-  const textFaults = faultsOfText("program", text);
+  const textFaults = findTextErrors("program", text);
   if (textFaults.length > 0) return rejected(textFaults);
-  const sent = sentText(text, ";");
-  const { map, refusal, bytes } = readProgram(engine, sent);
+  const sentSource = sentText(text, ";");
+  const { map, refusal, bytes } = readProgram(engine, sentSource);
   if (refusal) return rejected([{ text: "program", ...refusal, words: "" }]);
-  return { faults: [], map: new SourceMap(map, sent), bytes };
+  return { faults: [], map: new SourceMap(map, sentSource), bytes };
 }
 
 /**

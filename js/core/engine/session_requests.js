@@ -3,13 +3,13 @@
 import { BenchRefusal } from "../bench/faults.js";
 import { NO_TALLY, Debugger } from "../debug/debugger.js";
 import { CycleCount } from "./accepted.js";
-import { Printing } from "./printing.js";
+import { PrinterCodes } from "./printing.js";
 import { WorkerSession } from "./worker_session.js";
 
 /**
  * @typedef {import("./open_bench.js").OpenBench} OpenBench
- * @typedef {import("../bench/protocol.js").ServedLines} ServedLines
- * @typedef {import("../bench/protocol.js").TypedLines} TypedLines
+ * @typedef {import("../bench/protocol.js").LinesReply} LinesReply
+ * @typedef {import("../bench/protocol.js").TypedReply} TypedReply
  */
 
 export class SessionRequests {
@@ -21,16 +21,16 @@ export class SessionRequests {
   /**
    * Opens a session, which replaces the current one.
    * @param {Uint8Array} file
-   * @param {number} [total] the cycle count
-   * @param {number} [reset] the cycle count at the last reset
-   * @param {import("./printing.js").Printed | null} [printed] the printout
+   * @param {number} [totalCycles] the cycle count
+   * @param {number} [resetCycles] the cycle count at the last reset
+   * @param {import("./printing.js").PrintoutData | null} [printout]
    */
-  open(file, total = 0, reset = 0, printed = null) {
-    const session = new WorkerSession(this.bench.engine, file, new CycleCount(total, reset));
-    session.printing = printed && new Printing(printed);
+  open(file, totalCycles = 0, resetCycles = 0, printout = null) {
+    const session = new WorkerSession(this.bench.engine, file, new CycleCount(totalCycles, resetCycles));
+    session.printing = printout && new PrinterCodes(printout);
     const snapshot = session.takeSnapshot();
-    this.bench.opened = new Debugger(session);
-    this.bench.opened.usual.stops = new Set(this.bench.stopKinds);
+    this.bench.currentDebugger = new Debugger(session);
+    this.bench.currentDebugger.usual.stops = new Set(this.bench.stopKinds);
     this.bench.fullSpeed.stop();
     return this.bench.shown(snapshot, true);
   }
@@ -38,7 +38,7 @@ export class SessionRequests {
   /**
    * Restores the past that the page stored before it opened the session. Returns the number of used entries in the last segment; -1 if the
    * past does not belong to this session.
-   * @param {import("./timeline.js").Recalled[]} segments
+   * @param {import("./timeline.js").StoredSegment[]} segments
    */
   recall(segments) {
     try {
@@ -53,7 +53,7 @@ export class SessionRequests {
   /**
    * Serves lines, either all or none.
    * @param {string} lines
-   * @returns {Promise<ServedLines>}
+   * @returns {Promise<LinesReply>}
    */
   serve(lines) {
     return this.bench.serve(lines);
@@ -62,16 +62,16 @@ export class SessionRequests {
   /**
    * Serves typed lines, either all or none. A run in them ends at its first breakpoint.
    * @param {string} lines
-   * @returns {Promise<TypedLines>}
+   * @returns {Promise<TypedReply>}
    */
   async serveTyped(lines) {
-    const typed = { id: 0, why: "", change: "", cut: "", cycles: 0, tally: NO_TALLY };
+    const typedResult = { id: 0, why: "", change: "", cut: "", cycles: 0, tally: NO_TALLY };
     const result = await this.bench.served(async () => {
-      const served = await this.bench.debugger.serveTyped(lines, (done) => this.bench.goesOn(done, lines.length));
-      Object.assign(typed, served.typed);
+      const served = await this.bench.debugger.serveTyped(lines, (done) => this.bench.shouldContinue(done, lines.length));
+      Object.assign(typedResult, served.typed);
       return served.result;
     });
-    return { ...result, typed };
+    return { ...result, typed: typedResult };
   }
 
   /**

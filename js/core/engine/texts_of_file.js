@@ -2,10 +2,10 @@
 // are used. Otherwise the board text comes from the bench's answers, and the program is disassembled from ROM.
 
 import { readListing } from "../bench/answers.js";
-import { linesOfExample } from "./examples.js";
-import { BenchRefusal, NO_MEMORY } from "../bench/faults.js";
+import { exampleLines } from "./examples.js";
+import { BenchRefusal, OUT_OF_MEMORY } from "../bench/faults.js";
 import { LAST_ADDRESS, hex } from "../bench/numbers.js";
-import { MAX_LISTED, PAGES, listQueries } from "../bench/rom_bytes.js";
+import { MAX_LISTING_LINES, PAGE_NUMBERS, listQueries } from "../bench/rom_bytes.js";
 
 /**
  * @typedef {import("./examples.js").Example} Example
@@ -16,7 +16,7 @@ import { MAX_LISTED, PAGES, listQueries } from "../bench/rom_bytes.js";
 /** Empty tests and properties. */
 const NO_TESTS = { testText: "", propertiesText: "" };
 /** The queries that list all ROMs. */
-const LIST_ALL_ROMS = listQueries(PAGES);
+const LIST_ALL_ROMS = listQueries(PAGE_NUMBERS);
 
 /**
  * Returns source texts for a session file.
@@ -25,19 +25,19 @@ const LIST_ALL_ROMS = listQueries(PAGES);
  * @param {Example[]} examples
  * @returns {Texts}
  */
-export function textsOfFile(engine, file, examples) {
+export function recoverTexts(engine, file, examples) {
   const board = engine.ask(file, "board\n").answers.join("\n");
   const rom = engine.ask(file, LIST_ALL_ROMS).answers.join("\n");
   const exampleFile = new Uint8Array(file.length);
   for (const example of examples.filter((each) => each.board)) {
-    engine.serve(engine.begin(exampleFile), linesOfExample(example), exampleFile);
+    engine.serve(engine.begin(exampleFile), exampleLines(example), exampleFile);
     if (engine.ask(exampleFile, "board\n").answers.join("\n") !== board) continue;
     const isSame = engine.ask(exampleFile, LIST_ALL_ROMS).answers.join("\n") === rom;
     if (isSame) return textsOfExample(example);
-    return { boardText: example.board, programText: sourceOfRom(engine, file), ...NO_TESTS };
+    return { boardText: example.board, programText: disassembleRom(engine, file), ...NO_TESTS };
   }
   const lines = board.split("\n").slice(1);
-  return { boardText: lines.map((line) => `${line}\n`).join(""), programText: sourceOfRom(engine, file), ...NO_TESTS };
+  return { boardText: lines.map((line) => `${line}\n`).join(""), programText: disassembleRom(engine, file), ...NO_TESTS };
 }
 
 /**
@@ -62,10 +62,10 @@ function listAll(engine, file) {
   const lines = [];
   let address = 0;
   while (address <= LAST_ADDRESS) {
-    const listed = readListing(engine.ask(file, `list ${address} ${MAX_LISTED}\n`).answers);
-    if (listed.length === 0) throw new BenchRefusal(NO_MEMORY);
-    lines.push(...listed);
-    const last = listed[listed.length - 1];
+    const listingLines = readListing(engine.ask(file, `list ${address} ${MAX_LISTING_LINES}\n`).answers);
+    if (listingLines.length === 0) throw new BenchRefusal(OUT_OF_MEMORY);
+    lines.push(...listingLines);
+    const last = listingLines[listingLines.length - 1];
     address = last.address + (hasTwoBytes(last.line) ? 2 : 1);
   }
   return lines;
@@ -79,17 +79,17 @@ const MIN_EMPTY_NOPS = 4;
  * @param {Engine} engine
  * @param {Uint8Array} file
  */
-export function sourceOfRom(engine, file) {
+export function disassembleRom(engine, file) {
   const text = [];
   /** @type {string[]} */
-  let empty = [];
+  let emptyLines = [];
   for (const { address, line } of listAll(engine, file)) {
     if (line.slice(4, 6) === "00" && !hasTwoBytes(line)) {
-      empty.push("\tNOP");
+      emptyLines.push("\tNOP");
     } else {
-      if (empty.length < MIN_EMPTY_NOPS) text.push(...empty);
+      if (emptyLines.length < MIN_EMPTY_NOPS) text.push(...emptyLines);
       else text.push(`\tORG 0x${hex(address, 3)}`);
-      empty = [];
+      emptyLines = [];
       text.push(`\t${line.slice(10)}`);
     }
   }

@@ -1,14 +1,14 @@
-// The past of a session, for moves back in time: the session file at some moments, and the accepted commands after each of these moments.
-// To compute a past state, a copy of such a file runs the commands again. When the past becomes long, segments with stops are stored
-// longest. The past is in the memory of this worker. The page receives the additions (session/kept_past.js), and restores the past after a
-// reload.
+// Stores the past of a session, for moves back in time: the session file at some moments, and the accepted commands after each of these
+// moments. To compute a past state, a copy of such a file runs the commands again. When the past becomes too long, segments without stops
+// are removed first. The past is stored in the memory of this worker. The page receives the additions (session/kept_past.js), and restores
+// the past after a reload.
 
-import { Cancelled } from "../bench/faults.js";
-import { withoutSeq } from "../bench/state_line.js";
+import { CancelledError } from "../bench/faults.js";
+import { stripSeq } from "../bench/state_line.js";
 import { CycleCount } from "./accepted.js";
 
 /**
- * @typedef {import("./accepted.js").Accepted} Accepted
+ * @typedef {import("./accepted.js").AcceptedCommand} AcceptedCommand
  * @typedef {import("./engine_host.js").EngineHost} Engine
  *
  * A command. `isStop` is true if time was paused before the command.
@@ -30,19 +30,19 @@ import { CycleCount } from "./accepted.js";
  * @typedef {{ isNewPast: boolean, entries: Entry[] }} News
  *
  * A segment that the page restores: the file and the cycle counts at its start, and its entries.
- * @typedef {{ file: Uint8Array, total: number, reset: number, entries: Entry[] }} Recalled
+ * @typedef {{ file: Uint8Array, total: number, reset: number, entries: Entry[] }} StoredSegment
  *
  * A callback that receives the number of cycles searched, and resolves to true to continue.
- * @typedef {(done?: number) => Promise<boolean>} GoesOn
+ * @typedef {(done?: number) => Promise<boolean>} ShouldContinue
  */
 
-/** The limits of a segment: cycles, entries, and characters in the lines. Within these limits, a segment can be replayed quickly. */
+/** The limits of a segment, so that it can be replayed quickly: the numbers of cycles, of entries, and of characters in the lines. */
 const SEGMENT_CYCLES = 4000000;
 export const SEGMENT_ENTRIES = 4000;
 const SEGMENT_LETTERS = 200000;
 /** The maximum number of segments. Each segment contains a file of 164 KB. */
 const MAX_SEGMENTS = 48;
-/** The distance between marks in the last two segments, in cycles. A step back replays at most that many cycles. */
+/** The distance between marks in the last two segments, in cycles. It limits the number of cycles that a short move back replays. */
 const MARK_CYCLES = 250000;
 /** The maximum number of steps forward after moves back. */
 export const MAX_FORWARD = 64;
@@ -53,7 +53,7 @@ const MAX_LINE_LENGTH = 20000;
  * cycles.
  */
 const MAX_TRIES = 8;
-/** The limits of a piece that is replayed in one call. */
+/** The maximum number of cycles and of lines that one call replays. */
 const PIECE_CYCLES = 1000000;
 const PIECE_LINES = 500;
 
@@ -81,20 +81,20 @@ export class Timeline {
    * Restores the past before the first segment, as stored by the page. If the stored past is newer than the session, its later entries are
    * dropped. Returns the number of entries used from the last segment, or -1 if this past does not lead to the first segment.
    * @param {Engine} engine
-   * @param {Recalled[]} recalled consecutive segments
+   * @param {StoredSegment[]} stored consecutive segments
    */
-  recall(engine, recalled) {
+  recall(engine, stored) {
     const [first] = this.segments;
-    if (recalled.length === 0 || first.follows) return -1;
-    const { total, entries, file } = recalled[recalled.length - 1];
-    const wanted = stateOf(engine, first.file);
-    let cycles = total + sumOf(entries.map((entry) => entry.cycles));
+    if (stored.length === 0 || first.follows) return -1;
+    const { total, entries, file } = stored[stored.length - 1];
+    const expectedState = queryState(engine, first.file);
+    let cycles = total + addUp(entries.map((entry) => entry.cycles));
     for (let count = entries.length, tries = 0; count >= 0 && cycles >= first.count.total && tries < MAX_TRIES; count--) {
       if (cycles === first.count.total) {
         tries += 1;
         const end = file.slice();
         engine.serve(end, entries.slice(0, count).map(({ line }) => `${line}\n`).join(""), end);
-        if (stateOf(engine, end) === wanted) return this.prepend(recalled, count);
+        if (queryState(engine, end) === expectedState) return this.prepend(stored, count);
       }
       if (count > 0) cycles -= entries[count - 1].cycles;
     }
@@ -102,13 +102,13 @@ export class Timeline {
   }
 
   /**
-   * @param {Recalled[]} recalled
+   * @param {StoredSegment[]} stored
    * @param {number} count the number of entries to use from the last segment
    */
-  prepend(recalled, count) {
+  prepend(stored, count) {
     const [first, ...more] = this.segments;
-    const before = recalled.map((each, at) => segmentOf(
-      at === recalled.length - 1 ? { ...each, entries: each.entries.slice(0, count) } : each, at));
+    const before = stored.map((each, at) => restoreSegment(
+      at === stored.length - 1 ? { ...each, entries: each.entries.slice(0, count) } : each, at));
     this.segments = [...before, { ...first, follows: true }, ...more];
     return count;
   }
@@ -122,24 +122,24 @@ export class Timeline {
     return this.segments.reduce((sum, { cycles }) => sum + cycles, 0);
   }
 
-  /** Records that time is paused. */
+  /** Notes that time is paused, so that the next entry starts at a stop. */
   stop() {
     this.isStopped = true;
   }
 
   /**
    * Appends commands to the past. Stored objects are never changed.
-   * @param {Accepted[]} accepted
+   * @param {AcceptedCommand[]} commands
    * @param {Present} present the session after the commands
    */
-  record(accepted, present) {
-    if (accepted.length === 0) return;
+  record(commands, present) {
+    if (commands.length === 0) return;
     this.future = [];
     const { last } = this;
-    const isTooLong = accepted.length > SEGMENT_ENTRIES || accepted.some(({ line }) => line.length > MAX_LINE_LENGTH);
+    const isTooLong = commands.length > SEGMENT_ENTRIES || commands.some(({ line }) => line.length > MAX_LINE_LENGTH);
     if (isTooLong) this.news = { isNewPast: true, entries: [] };
     else {
-      for (const { line, cycles, resets } of accepted) {
+      for (const { line, cycles, resets } of commands) {
         const entry = { line, cycles, resets, isStop: this.isStopped };
         last.entries.push(entry);
         this.news.entries.push(entry);
@@ -149,7 +149,8 @@ export class Timeline {
       }
     }
     this.mark(present);
-    const isFull = last.cycles >= SEGMENT_CYCLES || last.entries.length >= SEGMENT_ENTRIES || last.letters >= SEGMENT_LETTERS;
+    const { cycles: segmentCycles, entries, letters } = last;
+    const isFull = segmentCycles >= SEGMENT_CYCLES || entries.length >= SEGMENT_ENTRIES || letters >= SEGMENT_LETTERS;
     if (isTooLong || isFull) {
       this.segments.push(segmentAt(present, !isTooLong));
       if (this.segments.length > 2) this.segments[this.segments.length - 3].marks = [];
@@ -195,15 +196,15 @@ export class Timeline {
   }
 
   /**
-   * Returns the moment `back` cycles before another moment. Commands without cycles at that moment are already done. Returns null if the
+   * Returns the moment `cycles` cycles before another moment. Commands without cycles at that moment are already done. Returns null if the
    * past is too short.
-   * @param {number} back 1 or more
+   * @param {number} cycles 1 or more
    * @param {Moment} [from]
    * @returns {Moment | null}
    */
-  before(back, from = this.end) {
-    let left = back - from.cycles;
-    if (left <= 0) return { ...from, cycles: -left };
+  before(cycles, from = this.end) {
+    let remaining = cycles - from.cycles;
+    if (remaining <= 0) return { ...from, cycles: -remaining };
     let { segment, entry } = from;
     for (;;) {
       if (entry === 0) {
@@ -213,8 +214,8 @@ export class Timeline {
         continue;
       }
       entry -= 1;
-      left -= this.segments[segment].entries[entry].cycles;
-      if (left <= 0 && this.segments[segment].entries[entry].cycles > 0) return { segment, entry, cycles: -left };
+      remaining -= this.segments[segment].entries[entry].cycles;
+      if (remaining <= 0 && this.segments[segment].entries[entry].cycles > 0) return { segment, entry, cycles: -remaining };
     }
   }
 
@@ -222,22 +223,22 @@ export class Timeline {
    * Resolves to the session at a moment. For this, a copy runs the commands again.
    * @param {Engine} engine
    * @param {Moment} moment
-   * @param {GoesOn} goesOn
+   * @param {ShouldContinue} shouldContinue
    * @returns {Promise<Present>}
    */
-  async at(engine, moment, goesOn) {
+  async at(engine, moment, shouldContinue) {
     const { file, count, entries, marks } = this.segments[moment.segment];
     const mark = [...marks].reverse().find(({ entry }) => entry <= moment.entry) || { entry: 0, file, count };
-    const done = [...entries.slice(mark.entry, moment.entry), ...partOf(entries[moment.entry], moment.cycles)];
-    const found = { file: mark.file.slice(), count: mark.count.copy() };
-    for (let from = 0; from < done.length;) {
-      if (from > 0 && !(await goesOn())) throw new Cancelled();
-      const piece = pieceOf(done, from);
+    const replayed = [...entries.slice(mark.entry, moment.entry), ...firstCycles(entries[moment.entry], moment.cycles)];
+    const present = { file: mark.file.slice(), count: mark.count.copy() };
+    for (let from = 0; from < replayed.length;) {
+      if (from > 0 && !(await shouldContinue())) throw new CancelledError();
+      const piece = nextPiece(replayed, from);
       from += piece.length;
-      engine.serve(found.file, piece.map(({ line }) => `${line}\n`).join(""), found.file);
+      engine.serve(present.file, piece.map(({ line }) => `${line}\n`).join(""), present.file);
     }
-    found.count.add(done);
-    return found;
+    present.count.add(replayed);
+    return present;
   }
 
   /**
@@ -249,11 +250,11 @@ export class Timeline {
     const { segments } = this;
     this.future.push({ segments, ...present });
     if (this.future.length > MAX_FORWARD) this.future.shift();
-    const whole = segments[moment.segment];
-    const entries = [...whole.entries.slice(0, moment.entry), ...partOf(whole.entries[moment.entry], moment.cycles)];
+    const oldSegment = segments[moment.segment];
+    const entries = [...oldSegment.entries.slice(0, moment.entry), ...firstCycles(oldSegment.entries[moment.entry], moment.cycles)];
     const cycles = entries.reduce((sum, entry) => sum + entry.cycles, 0);
-    const marks = whole.marks.filter(({ entry }) => entry <= moment.entry);
-    this.segments = [...segments.slice(0, moment.segment), { ...whole, entries, cycles, marks }];
+    const marks = oldSegment.marks.filter(({ entry }) => entry <= moment.entry);
+    this.segments = [...segments.slice(0, moment.segment), { ...oldSegment, entries, cycles, marks }];
     this.news = { isNewPast: true, entries: [] };
     this.isStopped = true;
   }
@@ -263,27 +264,27 @@ export class Timeline {
    * @returns {Present | null}
    */
   goForward() {
-    const next = this.future.pop();
-    if (!next) return null;
-    this.segments = next.segments;
+    const target = this.future.pop();
+    if (!target) return null;
+    this.segments = target.segments;
     this.news = { isNewPast: true, entries: [] };
     this.isStopped = true;
-    return next;
+    return target;
   }
 }
 
 /**
- * @param {Recalled} recalled
- * @param {number} at the index of the segment
+ * @param {StoredSegment} stored
+ * @param {number} index the index of the segment
  * @returns {Segment}
  */
-function segmentOf({ file, total, reset, entries }, at) {
-  const [cycles, letters] = [entries.map((entry) => entry.cycles), entries.map(({ line }) => line.length)].map(sumOf);
-  return { ...segmentAt({ file, count: new CycleCount(total, reset) }, at > 0), entries, cycles, letters };
+function restoreSegment({ file, total, reset, entries }, index) {
+  const [cycles, letters] = [entries.map((entry) => entry.cycles), entries.map(({ line }) => line.length)].map(addUp);
+  return { ...segmentAt({ file, count: new CycleCount(total, reset) }, index > 0), entries, cycles, letters };
 }
 
 /** @param {number[]} numbers */
-function sumOf(numbers) {
+function addUp(numbers) {
   return numbers.reduce((sum, number) => sum + number, 0);
 }
 
@@ -292,8 +293,8 @@ function sumOf(numbers) {
  * @param {Engine} engine
  * @param {Uint8Array} file
  */
-function stateOf(engine, file) {
-  return withoutSeq(engine.ask(file, "state\n").answers[0]);
+function queryState(engine, file) {
+  return stripSeq(engine.ask(file, "state\n").answers[0]);
 }
 
 /**
@@ -301,7 +302,7 @@ function stateOf(engine, file) {
  * @param {Entry[]} entries
  * @param {number} from an index
  */
-function pieceOf(entries, from) {
+function nextPiece(entries, from) {
   let cycles = 0;
   let to = from;
   while (to < entries.length && to - from < PIECE_LINES && cycles < PIECE_CYCLES) {
@@ -326,6 +327,6 @@ function segmentAt({ file, count }, follows) {
  * @param {number} cycles
  * @returns {Entry[]}
  */
-function partOf(entry, cycles) {
+function firstCycles(entry, cycles) {
   return entry && cycles > 0 ? [{ line: `run ${cycles}`, cycles, resets: false, isStop: entry.isStop }] : [];
 }

@@ -1,20 +1,20 @@
-// Reads the bench's forecasts of runs: the answers to `trace` and `count` in a list of consecutive answers.
+// Parses the bench's forecasts of runs: the answers to `trace` and `count` in a list of consecutive answers.
 
 import { readRun } from "../bench/answers.js";
 
 /**
  * A traced instruction: the cycles before it, its address, and the row of watched values after it. Each value in a row is preceded by a
  * blank.
- * @typedef {{ cycles: number, address: number, row: string }} Traced
+ * @typedef {{ cycles: number, address: number, row: string }} TracedInstruction
  *
  * The counts of an instruction: how often it started, and how often it jumped (-1 if it cannot jump).
- * @typedef {{ address: number, begun: number, jumped: number }} Counted
+ * @typedef {{ address: number, begun: number, jumped: number }} InstructionCount
  *
  * A trace: the row before the run, the instruction lines, and the cycles of the run.
  * @typedef {{ row: string, lines: string[], cycles: number }} Trace
  *
  * The result of a run: its cycles, and the reason for its end ("end" if nothing stopped it).
- * @typedef {{ cycles: number, end: string }} Ran
+ * @typedef {{ cycles: number, end: string }} RunResult
  */
 
 const ANSWER_HEAD = /^(?:trace|count) ran (\d+) \w+ lines (\d+)(.*)$/;
@@ -22,9 +22,9 @@ const ANSWER_HEAD = /^(?:trace|count) ran (\d+) \w+ lines (\d+)(.*)$/;
 /**
  * Parses a trace line, such as `5 00A 1 0`.
  * @param {string} line
- * @returns {Traced}
+ * @returns {TracedInstruction}
  */
-export function readTraced(line) {
+export function parseTraceLine(line) {
   const blank = line.indexOf(" ");
   return { cycles: Number(line.slice(0, blank)), address: parseInt(line.slice(blank + 1, blank + 4), 16), row: line.slice(blank + 4) };
 }
@@ -32,9 +32,9 @@ export function readTraced(line) {
 /**
  * Parses a count line: `00A 12`, or `00A 12 3` for an instruction that can jump.
  * @param {string} line
- * @returns {Counted}
+ * @returns {InstructionCount}
  */
-function readCounted(line) {
+function readCountLine(line) {
   const blank = line.indexOf(" ", 4);
   const begun = Number(blank < 0 ? line.slice(4) : line.slice(4, blank));
   return { address: parseInt(line.slice(0, 3), 16), begun, jumped: blank < 0 ? -1 : Number(line.slice(blank + 1)) };
@@ -44,7 +44,7 @@ function readCounted(line) {
  * Returns the values in a row.
  * @param {string} row
  */
-export function valuesOf(row) {
+export function rowValues(row) {
   return row.slice(1).split(" ");
 }
 
@@ -86,12 +86,12 @@ export class Answers {
 
   /** Consumes and parses the next answer to `count`: the instructions that start in a run. */
   takeCounts() {
-    return this.takeTrace().lines.map(readCounted);
+    return this.takeTrace().lines.map(readCountLine);
   }
 
   /**
    * Consumes and parses the next answer to a run. For a refusal, `end` is the answer.
-   * @returns {Ran}
+   * @returns {RunResult}
    */
   takeRun() {
     const answer = this.take();

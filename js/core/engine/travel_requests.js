@@ -1,13 +1,13 @@
-// Requests that move the session to a goal, back and forward, and that search its past.
+// Requests that run the session to a goal, move it back or forward in time, and search its past.
 
 import { readBoard } from "../bench/answers.js";
-import { nearOf } from "../debug/debugger.js";
-import { heatOf } from "./heat.js";
+import { nearDistance } from "../debug/debugger.js";
+import { measureHeat } from "./heat.js";
 
 /**
  * @typedef {import("./open_bench.js").OpenBench} OpenBench
- * @typedef {import("../bench/protocol.js").ReachedLines} ReachedLines
- * @typedef {import("../debug/debugger.js").WentBack} WentBack
+ * @typedef {import("../bench/protocol.js").GoalReply} GoalReply
+ * @typedef {import("../debug/debugger.js").BackResult} BackResult
  * @typedef {import("./going_back.js").BackGoal} BackGoal
  * @typedef {import("../bench/protocol.js").TravelResult} TravelResult
  * @typedef {import("../debug/goals.js").Goal} Goal
@@ -28,14 +28,14 @@ export class TravelRequests {
   }
 
   /**
-   * Moves to a goal or an earlier stop. If neither is within `most` cycles, the session does not change, and running time continues towards
-   * the goal.
+   * Moves to a goal or an earlier stop. If neither is within `maxCycles` cycles, the session does not change, and running time continues
+   * towards the goal.
    * @param {Goal} goal
-   * @param {number} [most]
-   * @returns {Promise<ReachedLines>}
+   * @param {number} [maxCycles]
+   * @returns {Promise<GoalReply>}
    */
-  async goOn(goal, most = nearOf(goal)) {
-    const { found, result, tally } = await this.bench.debugger.goOn(goal, most, (done) => this.bench.goesOn(done, most));
+  async goOn(goal, maxCycles = nearDistance(goal)) {
+    const { found, result, tally } = await this.bench.debugger.goOn(goal, maxCycles, (done) => this.bench.shouldContinue(done, maxCycles));
     if (!result) return { ...this.bench.nothingServed(), found, tally };
     const { snapshot, ...served } = result;
     return { ...served, ...this.bench.shown(snapshot, false), found, tally };
@@ -54,7 +54,7 @@ export class TravelRequests {
   async goBack(goal) {
     const totalCycles = this.bench.session.timeline.cycles;
     let done = 0;
-    const outcome = await this.bench.debugger.goBack(goal, (more = 0) => this.bench.goesOn(done += more, totalCycles));
+    const outcome = await this.bench.debugger.goBack(goal, (more = 0) => this.bench.shouldContinue(done += more, totalCycles));
     return travelResult(this.bench, "back", outcome);
   }
 
@@ -71,9 +71,9 @@ export class TravelRequests {
    * @param {string} place
    */
   async lastChange(place) {
-    const all = this.bench.session.timeline.cycles;
+    const totalCycles = this.bench.session.timeline.cycles;
     let done = 0;
-    return this.bench.debugger.lastChange(place, (more = 0) => this.bench.goesOn(done += more, all));
+    return this.bench.debugger.lastChange(place, (more = 0) => this.bench.shouldContinue(done += more, totalCycles));
   }
 
   /**
@@ -84,7 +84,7 @@ export class TravelRequests {
     const { engine, session } = this.bench;
     const board = readBoard(session.statusQueries.board);
     let done = 0;
-    return heatOf(engine, session.timeline, board, cycles, (more = 0) => this.bench.goesOn(done += more, cycles));
+    return measureHeat(engine, session.timeline, board, cycles, (more = 0) => this.bench.shouldContinue(done += more, cycles));
   }
 }
 
@@ -92,7 +92,7 @@ export class TravelRequests {
  * Returns the result of a move in time, with the new present for the page.
  * @param {OpenBench} bench
  * @param {string} word the name of the move in the log
- * @param {WentBack} outcome
+ * @param {BackResult} outcome
  * @returns {TravelResult}
  */
 function travelResult(bench, word, outcome) {

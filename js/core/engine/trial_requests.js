@@ -1,8 +1,8 @@
 // Requests that run tests and search for counterexamples, in separate sessions.
 
-import { Exploring, readExplored, readToExplore } from "../explore/exploring.js";
+import { SlicedSearch, parseSearchTexts, prepareSearch } from "../explore/exploring.js";
 import { sampleTest } from "../testing/sample_test.js";
-import { readTested, runTests } from "../testing/test_suite.js";
+import { parseTestedTexts, runTests } from "../testing/test_suite.js";
 
 /**
  * @typedef {import("./open_bench.js").OpenBench} OpenBench
@@ -12,7 +12,7 @@ export class TrialRequests {
   /** @param {OpenBench} bench */
   constructor(bench) {
     this.bench = bench;
-    /** @type {Exploring | null} the search in progress */
+    /** @type {SlicedSearch | null} the search in progress */
     this.exploring = null;
   }
 
@@ -21,7 +21,7 @@ export class TrialRequests {
    * @param {import("../testing/test_suite.js").TestedTexts} texts
    */
   testFaults(texts) {
-    return readTested(this.bench.engine, texts).faults;
+    return parseTestedTexts(this.bench.engine, texts).faults;
   }
 
   /**
@@ -37,7 +37,7 @@ export class TrialRequests {
    * @param {import("../testing/test_suite.js").TestedTexts} texts
    */
   runTests(texts) {
-    return runTests(this.bench.engine, texts, (done, total) => this.bench.goesOn(done, total));
+    return runTests(this.bench.engine, texts, (done, total) => this.bench.shouldContinue(done, total));
   }
 
   /**
@@ -45,18 +45,18 @@ export class TrialRequests {
    * @param {import("../explore/exploring.js").ExploredTexts} texts
    */
   propertyFaults(texts) {
-    return readExplored(this.bench.engine, texts).faults;
+    return parseSearchTexts(this.bench.engine, texts).faults;
   }
 
   /**
    * Starts a search for counterexamples. Resolves to the errors in the texts.
    * @param {import("../explore/exploring.js").ExploredTexts} texts
-   * @param {import("../explore/exploring.js").Asked} options
+   * @param {import("../explore/exploring.js").RunOptions} options
    */
   async explore(texts, options) {
-    const { readable, faults } = await readToExplore(this.bench.engine, texts);
-    this.exploring = readable && new Exploring(this.bench.engine, texts, readable, options, async () => {
-      await this.bench.goesOn(0, 1);
+    const { searchSetup, faults } = await prepareSearch(this.bench.engine, texts);
+    this.exploring = searchSetup && new SlicedSearch(this.bench.engine, texts, searchSetup, options, async () => {
+      await this.bench.shouldContinue(0, 1);
     });
     return faults;
   }
@@ -67,6 +67,6 @@ export class TrialRequests {
    */
   exploreOn(milliseconds) {
     if (!this.exploring) throw new Error("nothing is looked for");
-    return this.exploring.goOn(milliseconds);
+    return this.exploring.runFor(milliseconds);
   }
 }

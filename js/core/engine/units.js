@@ -1,4 +1,4 @@
-// Divides the past into units: the commands between two moments, and the runs between these commands. A caller can replay the units.
+// Divides the past into units that a caller can replay. A unit is a command, or a run between two commands.
 
 /**
  * @typedef {import("./timeline.js").Moment} Moment
@@ -20,11 +20,11 @@ export function unitsBetween(timeline, from, to) {
   const units = [];
   for (let entry = from.entry; entry < entries.length && entry <= to.entry; entry++) {
     const { line, cycles } = entries[entry];
-    const first = entry === from.entry ? from.cycles : 0;
+    const start = entry === from.entry ? from.cycles : 0;
     const end = entry === to.entry ? to.cycles : cycles;
-    const moment = { ...from, entry, cycles: first };
+    const moment = { ...from, entry, cycles: start };
     if (cycles === 0 && entry < to.entry) units.push({ line, cycles, moment });
-    else if (end > first) units.push({ line: end - first === cycles ? line : `run ${end - first}`, cycles: end - first, moment });
+    else if (end > start) units.push({ line: end - start === cycles ? line : `run ${end - start}`, cycles: end - start, moment });
   }
   return units;
 }
@@ -48,7 +48,7 @@ export function splitUnits(units, maxCycles) {
 }
 
 /** @param {Unit[]} units */
-export function cyclesOf(units) {
+export function sumCycles(units) {
   return units.reduce((sum, { cycles }) => sum + cycles, 0);
 }
 
@@ -58,7 +58,7 @@ export function cyclesOf(units) {
  * @param {number} maxCycles
  * @param {number} maxUnits
  */
-export function* piecesOf(units, maxCycles, maxUnits) {
+export function* splitIntoPieces(units, maxCycles, maxUnits) {
   let from = 0;
   let cycles = 0;
   for (let at = 0; at < units.length; at++) {

@@ -1,16 +1,16 @@
-// Records the signal lines of a board over time, in the worker. It runs a copy of a session, and asks the bench for a forecast before each
-// run.
+// Records the signal lines of a board for the next or the last cycles of a session, in the worker. For this, it runs a copy of the session,
+// and asks the bench for a forecast before each run.
 
 import { readBoard } from "../bench/answers.js";
-import { Cancelled } from "../bench/faults.js";
+import { CancelledError } from "../bench/faults.js";
 import { joinLines } from "../bench/inputs.js";
-import { linesOfBoard } from "../waves/wave_lines.js";
-import { LONGEST_RUN } from "./key_queue.js";
-import { FIRST_CYCLES, PieceSize, RECORDED_CYCLES, RECORDED_UNITS } from "./pieces.js";
+import { createBoardLines } from "../waves/wave_lines.js";
+import { MAX_RUN_CYCLES } from "./key_queue.js";
+import { FIRST_PIECE_CYCLES, PieceSize, RECORDING_PIECE_CYCLES, RECORDING_PIECE_UNITS } from "./pieces.js";
 import { Answers } from "./tracing.js";
-import { piecesOf, unitsBetween } from "./units.js";
-import { WaveTaking } from "./wave_taking.js";
-import { withoutStops } from "./without_stops.js";
+import { splitIntoPieces, unitsBetween } from "./units.js";
+import { WaveBuilder } from "./wave_taking.js";
+import { copyWithoutStops } from "./without_stops.js";
 
 /**
  * @typedef {import("./engine_host.js").EngineHost} Engine
@@ -30,17 +30,17 @@ import { withoutStops } from "./without_stops.js";
  * - `moments`, `counters`: the start of each instruction and the end, and the program counters at these moments;
  * - `isOwed`: true if the first of these moments is the second cycle of an instruction;
  * - `listing`: the listing lines at new program counters.
- * @typedef {import("./wave_taking.js").Taken & { listing: [number, string][] }} RecordedPart
+ * @typedef {import("./wave_taking.js").WavePart & { listing: [number, string][] }} RecordedPart
  *
  * A complete recording with its signal lines. `program` is null if the text is not the program in ROM.
- * @typedef {RecordedPart & { lines: WaveLine[], program: RecordedProgram | null }} Recorded
+ * @typedef {RecordedPart & { lines: WaveLine[], program: RecordedProgram | null }} Recording
  *
  * The texts for a recording: the board text for names, the program in ROM, and the names of registers and RAM nibbles to record in addition
  * to the board lines.
  * @typedef {{ board: string, program: RecordedProgram | null, values: string[] }} Texts
  *
  * A callback that receives the number of completed cycles, and resolves to true to continue.
- * @typedef {(done: number) => Promise<boolean>} GoesOn
+ * @typedef {(done: number) => Promise<boolean>} ShouldContinue
  */
 
 class WaveRecorder {
@@ -54,8 +54,8 @@ class WaveRecorder {
     this.file = file;
     this.program = texts.program;
     const board = readBoard(engine.ask(file, "board\n").answers);
-    this.taking = new WaveTaking(linesOfBoard(board, texts.board, texts.program !== null, texts.values));
-    this.taking.begin(new Answers(engine.ask(file, `state\n${this.taking.queries(1)}`).answers));
+    this.builder = new WaveBuilder(createBoardLines(board, texts.board, texts.program !== null, texts.values));
+    this.builder.begin(new Answers(engine.ask(file, `state\n${this.builder.queries(1)}`).answers));
   }
 
   /**
@@ -63,25 +63,25 @@ class WaveRecorder {
    * @param {Pick<Unit, "line" | "cycles">[]} units
    */
   record(units) {
-    const { engine, file, taking } = this;
-    const lines = units.map(({ line, cycles }) => (cycles > 0 ? `${taking.queries(cycles)}${line}\n` : `${line}\nstate\n`)).join("");
+    const { engine, file, builder } = this;
+    const lines = units.map(({ line, cycles }) => (cycles > 0 ? `${builder.queries(cycles)}${line}\n` : `${line}\nstate\n`)).join("");
     const answers = new Answers(engine.serve(file, lines, file).answers);
     for (const { cycles } of units) {
       if (cycles > 0) {
-        taking.takeRun(answers);
+        builder.takeRun(answers);
       } else {
         answers.take();
-        taking.takeState(answers.take());
+        builder.takeState(answers.take());
       }
     }
   }
 
-  /** @returns {Recorded} */
+  /** @returns {Recording} */
   recorded() {
-    const { engine, file, taking, program } = this;
-    taking.takeState(engine.ask(file, "state\n").answers[0]);
-    const part = taking.take();
-    return { ...part, lines: taking.lines, listing: listedAt(engine, file, new Set(part.counters)), program };
+    const { engine, file, builder, program } = this;
+    builder.takeState(engine.ask(file, "state\n").answers[0]);
+    const part = builder.take();
+    return { ...part, lines: builder.lines, listing: listingLinesAt(engine, file, new Set(part.counters)), program };
   }
 }
 
@@ -92,7 +92,7 @@ class WaveRecorder {
  * @param {Iterable<number>} addresses
  * @returns {[number, string][]}
  */
-export function listedAt(engine, file, addresses) {
+export function listingLinesAt(engine, file, addresses) {
   const addressList = [...addresses];
   if (addressList.length === 0) return [];
   const { answers } = engine.ask(file, joinLines(addressList.map((address) => `list ${address} 1`)));
@@ -105,32 +105,32 @@ export function listedAt(engine, file, addresses) {
  * @param {Uint8Array} file
  * @param {number} cycles
  * @param {Texts} texts
- * @param {GoesOn} goesOn
+ * @param {ShouldContinue} shouldContinue
  */
-export async function recordAfter(engine, file, cycles, texts, goesOn) {
-  const recorder = new WaveRecorder(engine, withoutStops(engine, file), texts);
-  const { taking } = recorder;
-  const piece = new PieceSize(FIRST_CYCLES, FIRST_CYCLES, LONGEST_RUN);
-  while (taking.elapsed < cycles && !taking.isStuck) {
-    const next = Math.min(piece.size, cycles - taking.elapsed);
+export async function recordNextCycles(engine, file, cycles, texts, shouldContinue) {
+  const recorder = new WaveRecorder(engine, copyWithoutStops(engine, file), texts);
+  const { builder } = recorder;
+  const piece = new PieceSize(FIRST_PIECE_CYCLES, FIRST_PIECE_CYCLES, MAX_RUN_CYCLES);
+  while (builder.elapsed < cycles && !builder.isStuck) {
+    const next = Math.min(piece.size, cycles - builder.elapsed);
     piece.measure(() => recorder.record([{ line: `run ${next}`, cycles: next }]));
-    if (taking.elapsed < cycles && !(await goesOn(taking.elapsed))) throw new Cancelled();
+    if (builder.elapsed < cycles && !(await shouldContinue(builder.elapsed))) throw new CancelledError();
   }
   return recorder.recorded();
 }
 
 /**
- * Returns the start of a recording of the past: the moment `cycles` cycles ago, or the start of the past. If the board changed after that
- * moment, the recording starts after the change.
+ * Returns the moment at which a recording of the past starts: `cycles` cycles ago, or at the start of the past. If the board changed later,
+ * the recording starts after that change.
  * @param {Timeline} timeline
  * @param {number} cycles
  * @returns {Moment}
  */
-function beginningBefore(timeline, cycles) {
+function findRecordingStart(timeline, cycles) {
   let segment = timeline.segments.length - 1;
-  const wanted = timeline.before(cycles);
-  while (timeline.segments[segment].follows && (!wanted || segment > wanted.segment)) segment -= 1;
-  let moment = wanted || { segment, entry: 0, cycles: 0 };
+  const requestedStart = timeline.before(cycles);
+  while (timeline.segments[segment].follows && (!requestedStart || segment > requestedStart.segment)) segment -= 1;
+  let moment = requestedStart || { segment, entry: 0, cycles: 0 };
   for (segment = moment.segment; segment < timeline.segments.length; segment++) {
     timeline.segments[segment].entries.forEach(({ line }, entry) => {
       const isLater = segment > moment.segment || entry >= moment.entry;
@@ -160,15 +160,15 @@ function unitsFrom(timeline, from) {
  * @param {Timeline} timeline
  * @param {number} cycles
  * @param {Texts} texts
- * @param {GoesOn} goesOn
+ * @param {ShouldContinue} shouldContinue
  */
-export async function recordBefore(engine, timeline, cycles, texts, goesOn) {
-  const from = beginningBefore(timeline, cycles);
-  const { file } = await timeline.at(engine, from, () => goesOn(0));
+export async function recordLastCycles(engine, timeline, cycles, texts, shouldContinue) {
+  const from = findRecordingStart(timeline, cycles);
+  const { file } = await timeline.at(engine, from, () => shouldContinue(0));
   const recorder = new WaveRecorder(engine, file, texts);
-  for (const units of piecesOf(unitsFrom(timeline, from), RECORDED_CYCLES, RECORDED_UNITS)) {
+  for (const units of splitIntoPieces(unitsFrom(timeline, from), RECORDING_PIECE_CYCLES, RECORDING_PIECE_UNITS)) {
     recorder.record(units);
-    if (!(await goesOn(recorder.taking.elapsed))) throw new Cancelled();
+    if (!(await shouldContinue(recorder.builder.elapsed))) throw new CancelledError();
   }
   return { ...recorder.recorded(), isStuck: false };
 }

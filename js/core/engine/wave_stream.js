@@ -3,7 +3,7 @@
 
 import { Waves } from "../waves/wave_recording.js";
 import { Answers } from "./tracing.js";
-import { WaveTaking } from "./wave_taking.js";
+import { WaveBuilder } from "./wave_taking.js";
 
 /**
  * @typedef {import("./engine_host.js").EngineHost} EngineHost
@@ -13,27 +13,27 @@ import { WaveTaking } from "./wave_taking.js";
  */
 
 /** The length of a piece in cycles. */
-const PIECE = 20000;
+const PIECE_CYCLES = 20000;
 
 /**
  * Returns whether a signal line depends on the program counter.
  * @param {WaveLine} line
  */
-const followsCounter = ({ kind }) => kind === "pc" || kind === "label";
+const dependsOnCounter = ({ kind }) => kind === "pc" || kind === "label";
 
 /**
  * Returns the chosen lines of a board, and the member lines of chosen ports.
  * @param {WaveLine[]} lines the signal lines of the board
- * @param {number[]} chosen the indices of the chosen lines
+ * @param {number[]} chosenLines the indices of the chosen lines
  * @returns {{ lines: WaveLine[], chosen: number[] }} `chosen` are the new indices of the chosen lines
  */
-export function neededLines(lines, chosen) {
-  const needed = [...new Set(chosen.flatMap((line) => [line, ...lines[line].members]))];
-  const numbers = new Map(needed.map((line, at) => [line, at]));
-  const renumbered = (/** @type {number} */ line) => numbers.get(line) ?? -1;
+export function neededLines(lines, chosenLines) {
+  const neededIndices = [...new Set(chosenLines.flatMap((line) => [line, ...lines[line].members]))];
+  const numbers = new Map(neededIndices.map((line, at) => [line, at]));
+  const newIndex = (/** @type {number} */ line) => numbers.get(line) ?? -1;
   return {
-    lines: needed.map((line) => ({ ...lines[line], members: lines[line].members.map(renumbered) })),
-    chosen: chosen.map(renumbered),
+    lines: neededIndices.map((line) => ({ ...lines[line], members: lines[line].members.map(newIndex) })),
+    chosen: chosenLines.map(newIndex),
   };
 }
 
@@ -41,21 +41,21 @@ export function neededLines(lines, chosen) {
  * Records the next cycles of a state without breakpoints and watches. Yields the recording at its start and after each piece.
  * @param {EngineHost} engine
  * @param {State} state the state; changed to the state at the end of the recording
- * @param {{ lines: WaveLine[], program: RecordedProgram | null, cycles: number }} wanted
+ * @param {{ lines: WaveLine[], program: RecordedProgram | null, cycles: number }} recording
  * @param {() => Promise<any>} yieldToMessages called between pieces
  */
 export async function* recordPieces(engine, state, { lines, program, cycles }, yieldToMessages) {
-  const taking = new WaveTaking(lines, lines.some(followsCounter));
-  taking.begin(new Answers(engine.ask(state, `state\n${taking.queries(1)}`).answers));
-  const waves = new Waves({ ...taking.take(), lines, listing: [], program });
+  const builder = new WaveBuilder(lines, lines.some(dependsOnCounter));
+  builder.begin(new Answers(engine.ask(state, `state\n${builder.queries(1)}`).answers));
+  const waves = new Waves({ ...builder.take(), lines, listing: [], program });
   yield waves;
-  while (taking.elapsed < cycles && !taking.isStuck) {
-    const next = Math.min(PIECE, cycles - taking.elapsed);
-    const answers = new Answers(engine.serve(state, `${taking.queries(next)}run ${next}\nstate\n`, state).answers);
-    taking.takeRun(answers);
-    taking.takeState(answers.take());
+  while (builder.elapsed < cycles && !builder.isStuck) {
+    const next = Math.min(PIECE_CYCLES, cycles - builder.elapsed);
+    const answers = new Answers(engine.serve(state, `${builder.queries(next)}run ${next}\nstate\n`, state).answers);
+    builder.takeRun(answers);
+    builder.takeState(answers.take());
     waves.beginAt(waves.cycles);
-    waves.append({ ...taking.take(), listing: [] });
+    waves.append({ ...builder.take(), listing: [] });
     yield waves;
     await yieldToMessages();
   }

@@ -1,10 +1,10 @@
 // Builds a recording from the bench's answers: the moments at which signal lines change, and at which instructions start.
 
-import { MOST_PLACES } from "../bench/inputs.js";
-import { valueIn } from "../bench/state_line.js";
+import { MAX_PLACES } from "../bench/inputs.js";
+import { stateValue } from "../bench/state_line.js";
 import { NumberQueue } from "../waves/growing.js";
 import { Track, emptyTrack } from "../waves/track.js";
-import { readTraced, valuesOf } from "./tracing.js";
+import { parseTraceLine, rowValues } from "./tracing.js";
 
 /**
  * @typedef {import("./tracing.js").Answers} Answers
@@ -18,26 +18,26 @@ import { readTraced, valuesOf } from "./tracing.js";
  * @typedef {{ place: string, readers: Reader[], from: number, to: number }} Field
  *
  * The places of one query, and the last row of their values.
- * @typedef {{ fields: Field[], row: string }} Group
+ * @typedef {{ fields: Field[], row: string }} QueryGroup
  *
  * The part of a recording since the last call of `take`.
  * @typedef {{ from: number, cycles: number, isStuck: boolean, isOwed: boolean, tracks: TrackData[], moments: Uint32Array,
- *   counters: Uint16Array }} Taken
+ *   counters: Uint16Array }} WavePart
  */
 
-/** Character codes. */
-const BLANK = 32;
-const ZERO = 48;
-const NINE = 57;
+/** The codes of the characters blank, 0 and 9. */
+const BLANK_CODE = 32;
+const ZERO_CODE = 48;
+const NINE_CODE = 57;
 
 /**
  * Returns the value of an upper-case hexadecimal digit.
  * @param {string} line
- * @param {number} at
+ * @param {number} index
  */
-function digitAt(line, at) {
-  const letter = line.charCodeAt(at);
-  return letter <= NINE ? letter - ZERO : letter - 55;
+function digitAt(line, index) {
+  const letter = line.charCodeAt(index);
+  return letter <= NINE_CODE ? letter - ZERO_CODE : letter - 55;
 }
 
 /**
@@ -45,7 +45,7 @@ function digitAt(line, at) {
  * k is line k. A chain reports its bits.
  * @param {string} line `rom0.3`, `ram0.1.3`, `chain0.5`
  */
-function placeOfLevel(line) {
+function levelPlace(line) {
   const dot = line.lastIndexOf(".");
   const [place, bit] = [line.slice(0, dot), Number(line.slice(dot + 1))];
   /** @type {(answer: string) => number} */
@@ -56,14 +56,14 @@ function placeOfLevel(line) {
 /**
  * Returns the places of lines without duplicates, and the functions that read the lines from the places.
  * @param {WaveLine[]} lines
- * @param {"level" | "value"} wanted the kind of lines
+ * @param {"level" | "value"} kind the kind of lines
  */
-function placesOf(lines, wanted) {
+function fieldsForKind(lines, kind) {
   /** @type {Map<string, Reader[]>} */
   const places = new Map();
   lines.forEach((line, member) => {
-    if (line.kind !== wanted) return;
-    for (const { place, read } of wanted === "level" ? [placeOfLevel(line.places[0])] : placesOfValue(line.places)) {
+    if (line.kind !== kind) return;
+    for (const { place, read } of kind === "level" ? [levelPlace(line.places[0])] : valuePlaces(line.places)) {
       places.set(place, [...(places.get(place) || []), { member, read }]);
     }
   });
@@ -74,7 +74,7 @@ function placesOf(lines, wanted) {
  * Returns one place per digit of a value. The function that reads a digit returns the value that consists of all digits read so far.
  * @param {string[]} places most significant digit first
  */
-function placesOfValue(places) {
+function valuePlaces(places) {
   const digits = places.map(() => "0");
   return places.map((place, at) => ({
     place,
@@ -89,23 +89,23 @@ function placesOfValue(places) {
  * Returns the places of lines in groups, one group per query. Ports and values are in separate groups because values change far more often.
  * @param {WaveLine[]} lines
  */
-function groupsOf(lines) {
-  /** @type {Group[]} */
+function makeGroups(lines) {
+  /** @type {QueryGroup[]} */
   const groups = [];
-  for (const places of [placesOf(lines, "level"), placesOf(lines, "value")]) {
-    for (let at = 0; at < places.length; at += MOST_PLACES) groups.push({ fields: places.slice(at, at + MOST_PLACES), row: "" });
+  for (const places of [fieldsForKind(lines, "level"), fieldsForKind(lines, "value")]) {
+    for (let at = 0; at < places.length; at += MAX_PLACES) groups.push({ fields: places.slice(at, at + MAX_PLACES), row: "" });
   }
   return groups;
 }
 
 /**
  * Sets the position of each place in the rows of a group. The length of each value is constant.
- * @param {Group} group
+ * @param {QueryGroup} group
  * @param {string} row
  */
 function setPositions({ fields }, row) {
   let from = 1;
-  valuesOf(row).forEach((value, at) => {
+  rowValues(row).forEach((value, at) => {
     fields[at].from = from;
     fields[at].to = from + value.length;
     from += value.length + 1;
@@ -119,13 +119,13 @@ function setPositions({ fields }, row) {
  * @param {number} from
  * @param {number} to
  */
-function isSame(left, right, from, to) {
+function isSameRange(left, right, from, to) {
   for (let at = from; at < to; at++) if (left.charCodeAt(at) !== right.charCodeAt(at)) return false;
   return true;
 }
 
 /** Builds a recording from the answers to its queries, to runs and to `state`. */
-export class WaveTaking {
+export class WaveBuilder {
   /**
    * @param {WaveLine[]} lines
    * @param {boolean} [hasCounter] true to record the start of each instruction
@@ -138,7 +138,7 @@ export class WaveTaking {
     this.isStuck = false;
     this.isOwed = false;
     this.hasBegun = false;
-    this.groups = groupsOf(lines);
+    this.groups = makeGroups(lines);
     this.tracks = lines.map(({ width }) => new Track(emptyTrack(width)));
     this.moments = new NumberQueue(new Uint32Array(0));
     this.counters = new NumberQueue(new Uint16Array(0));
@@ -161,7 +161,7 @@ export class WaveTaking {
    */
   begin(answers) {
     const state = answers.take();
-    this.isOwed = valueIn(state, "owed") === "1";
+    this.isOwed = stateValue(state, "owed") === "1";
     this.takeState(state);
     if (this.hasCounter) answers.takeTrace();
     for (const group of this.groups) this.takeRow(group, answers.takeTrace().row, 0);
@@ -174,9 +174,9 @@ export class WaveTaking {
    */
   takeRun(answers) {
     this.takeForecast(answers);
-    const ran = answers.takeRun();
-    if (ran.cycles === 0 && ran.end !== "code") throw new Error(`the bench answered a recording by: ${ran.end}`);
-    this.takeEnd(ran);
+    const run = answers.takeRun();
+    if (run.cycles === 0 && run.end !== "code") throw new Error(`the bench answered a recording by: ${run.end}`);
+    this.takeEnd(run);
   }
 
   /** @param {Answers} answers the answers to the queries */
@@ -187,7 +187,7 @@ export class WaveTaking {
       // A command before the run can have changed the row.
       this.takeRow(group, trace.row, this.elapsed);
       for (const line of trace.lines) {
-        const { cycles, row } = readTraced(line);
+        const { cycles, row } = parseTraceLine(line);
         this.takeRow(group, row, this.elapsed + cycles + 1);
       }
     }
@@ -201,15 +201,15 @@ export class WaveTaking {
   takeBegun(line) {
     let cycles = 0;
     let at = 0;
-    for (let letter = line.charCodeAt(0); letter !== BLANK; letter = line.charCodeAt(at)) {
-      cycles = 10 * cycles + letter - ZERO;
+    for (let letter = line.charCodeAt(0); letter !== BLANK_CODE; letter = line.charCodeAt(at)) {
+      cycles = 10 * cycles + letter - ZERO_CODE;
       at += 1;
     }
     const address = 256 * digitAt(line, at + 1) + 16 * digitAt(line, at + 2) + digitAt(line, at + 3);
     this.takeInstruction(this.elapsed + cycles, address);
   }
 
-  /** @param {import("./tracing.js").Ran} ran */
+  /** @param {import("./tracing.js").RunResult} run */
   takeEnd({ cycles, end }) {
     this.elapsed += cycles;
     this.isStuck = end === "code";
@@ -220,15 +220,15 @@ export class WaveTaking {
    * @param {string} state
    */
   takeState(state) {
-    const keys = `,${valueIn(state, "keys")},`;
-    const test = Number(valueIn(state, "test"));
+    const keys = `,${stateValue(state, "keys")},`;
+    const test = Number(stateValue(state, "test"));
     this.lines.forEach(({ kind, places }, member) => {
       if (kind === "key") this.tracks[member].set(Number(keys.includes(`,${places[0]},`)), this.elapsed);
       if (kind === "test") this.tracks[member].set(test, this.elapsed);
     });
     // During the second cycle of an instruction, the counter already points to the next instruction.
-    if (valueIn(state, "owed") === "0" || !this.hasBegun) {
-      this.takeInstruction(this.elapsed, parseInt(valueIn(state, "pc"), 16));
+    if (stateValue(state, "owed") === "0" || !this.hasBegun) {
+      this.takeInstruction(this.elapsed, parseInt(stateValue(state, "pc"), 16));
     }
   }
 
@@ -248,7 +248,7 @@ export class WaveTaking {
 
   /**
    * Reads a row of values, and records the values that have changed.
-   * @param {Group} group
+   * @param {QueryGroup} group
    * @param {string} row the values of the places, each preceded by a blank
    * @param {number} moment
    */
@@ -256,7 +256,7 @@ export class WaveTaking {
     if (row === group.row) return;
     if (group.row === "") setPositions(group, row);
     for (const { readers, from, to } of group.fields) {
-      if (isSame(row, group.row, from, to)) continue;
+      if (isSameRange(row, group.row, from, to)) continue;
       const field = row.slice(from, to);
       for (const { member, read } of readers) this.tracks[member].set(read(field), moment);
     }
@@ -264,8 +264,8 @@ export class WaveTaking {
   }
 
   /**
-   * Returns the part of the recording since the previous call.
-   * @returns {Taken}
+   * Returns the part of the recording since the previous call of this method.
+   * @returns {WavePart}
    */
   take() {
     const { from, elapsed, isStuck, isOwed } = this;

@@ -1,6 +1,6 @@
 // Creates a copy of a state without breakpoints and watches, so that nothing stops its runs.
 
-import { readMarks } from "../bench/answers.js";
+import { readItems } from "../bench/answers.js";
 import { joinLines } from "../bench/inputs.js";
 
 /**
@@ -8,8 +8,8 @@ import { joinLines } from "../bench/inputs.js";
  * @param {string[]} answers the answers to `breaks` and `watches`
  */
 function linesWithoutStops([breaks, watches]) {
-  const unwatches = readMarks(watches).map((each) => each.split(".")).map(([bank, source]) => `unwatch ${bank} 0x${source}`);
-  return joinLines([...readMarks(breaks).map((address) => `unbreak 0x${address}`), ...unwatches]);
+  const unwatches = readItems(watches).map((each) => each.split(".")).map(([bank, source]) => `unwatch ${bank} 0x${source}`);
+  return joinLines([...readItems(breaks).map((address) => `unbreak 0x${address}`), ...unwatches]);
 }
 
 /**
@@ -17,7 +17,7 @@ function linesWithoutStops([breaks, watches]) {
  * @param {import("./engine_host.js").EngineHost} engine
  * @param {Uint8Array} file
  */
-export function withoutStops(engine, file) {
+export function copyWithoutStops(engine, file) {
   const copy = file.slice();
   engine.serve(copy, linesWithoutStops(engine.ask(copy, "breaks\nwatches\n").answers), copy);
   return copy;

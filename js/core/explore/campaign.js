@@ -1,16 +1,17 @@
 // Parses a properties text: the inputs, the definition of new states, and the properties. The manual describes its lines ("Looking for what
 // breaks it").
 
-import { LONGEST_RUN } from "../engine/key_queue.js";
+import { MAX_RUN_CYCLES } from "../engine/key_queue.js";
 import { hasScannedDisplay } from "../engine/seen_text.js";
-import { tracedConditionOf } from "../conditions/condition_language.js";
-import { durationOf, wholeDuration } from "../conditions/durations.js";
-import { placeOf } from "../conditions/places.js";
-import { Unreadable, fail } from "../conditions/scanner.js";
-import { TOOL_KEY_DOWN_CYCLES, TOOL_KEY_UP_CYCLES, cyclesOfMs } from "../time/mcs4_time.js";
-import { keysOf, namesOfInputs, pinOf } from "./explored_inputs.js";
+import { compileTracedCondition } from "../conditions/condition_language.js";
+import { parseDuration, parseWholeDuration } from "../conditions/durations.js";
+import { parsePlace } from "../conditions/places.js";
+import { ConditionError, fail } from "../conditions/scanner.js";
+import { TOOL_KEY_DOWN_CYCLES, TOOL_KEY_UP_CYCLES, cyclesFromMilliseconds } from "../time/mcs4_time.js";
+import { listKeyInputs, listInputNames, createTestInput } from "./explored_inputs.js";
 import {
-  GUARDED, afterPress, always, alwaysOn, at, every, guarded, model, never, neverFor, once, onlyAfter, reach, reachAt, within,
+  GUARDABLE_FORMS, afterPressProperty, alwaysProperty, atProperty, everyProperty, guardedProperty, modelProperty, neverForProperty,
+  neverProperty, oncePerPressProperty, onlyAfterProperty, reachAddressProperty, reachProperty, standardProperties, withinProperty,
 } from "./properties.js";
 import { NO_DISPLAY, boardLacks, inColumn, noLabel } from "../../words/conditions.js";
 import * as say from "../../words/explore.js";
@@ -23,39 +24,46 @@ import { noKey } from "../../words/testing.js";
  * @typedef {import("./subject.js").Subject} Subject
  * @typedef {{ line: number, column: number, words: string }} Fault `column` counts from 0; -1 if unknown
  *
- * @typedef {{ inputs: Input[], together: number, canReset: boolean, shortest: number, longest: number, held: number, apart: number, begin:
- * number, down: number, up: number, notes: string[], properties: Property[], command: string, from: From | null, before: string[], calls: {
- * least: number, most: number } }} Campaign `shortest` and `longest` are waits, `held` is the longest press, `apart` the shortest release,
- * `begin` is the time at which the judging of properties starts, `down` and `up` are the press and release times for a model, all in
- * cycles. `notes` are `trace` places. `before` are the test lines that lead to the start, and `calls` the range of the number of open calls
- * there
+ * A campaign: the contents of a properties text. Times are in cycles.
+ * - `maxKeysDown`: the maximum number of keys that are down at the same time; `canReset`: true if the search can cut the power;
+ * - `minWait`, `maxWait`: the range of waits between two changes;
+ * - `maxHoldTime`, `minReleaseTime`: the maximum time for which an input is down, and the minimum time for which it is up;
+ * - `begin`: the time at which the check of the properties starts;
+ * - `down`, `up`: the press and release times of the keys for a model, and `command`: the command of the model ("" for none);
+ * - `notes`: the `trace` places whose values distinguish states;
+ * - `before`: the test lines that lead to the start state, and `calls`: the range of the number of open calls in the start state.
+ * @typedef {{ inputs: Input[], maxKeysDown: number, canReset: boolean, minWait: number, maxWait: number, maxHoldTime: number,
+ *   minReleaseTime: number, begin: number, down: number, up: number, notes: string[], properties: Property[], command: string,
+ *   from: StartState | null, before: string[], calls: { least: number, most: number } }} Campaign
  *
- * A test state to start from, the file that saves it ("" for the tests next to the properties), and the line that names it.
- * @typedef {{ state: string, file: string, line: number }} From
+ * The start state of a search: its name, the test file that saves it ("" for the tests next to the properties), and the line with `from`.
+ * @typedef {{ state: string, file: string, line: number }} StartState
  */
 
 /**
  * Converts a column in a line with single blanks to the column in the original line.
- * @param {string} whole
+ * @param {string} originalLine
  * @param {number} column
  */
-function columnIn(whole, column) {
-  let place = whole.length - whole.trimStart().length;
-  for (let left = column; left > 0 && place < whole.length - 1; left--) {
+function columnInLine(originalLine, column) {
+  let place = originalLine.length - originalLine.trimStart().length;
+  for (let left = column; left > 0 && place < originalLine.length - 1; left--) {
     place += 1;
-    while (/\s/.test(whole[place]) && /\s/.test(whole[place - 1]) && place < whole.length - 1) place += 1;
+    while (/\s/.test(originalLine[place]) && /\s/.test(originalLine[place - 1]) && place < originalLine.length - 1) place += 1;
   }
   return place;
 }
 
+/** The maximum number of `note` places. */
 const MAX_NOTES = 16;
 /** The default maximum number of keys that are pressed at the same time. */
-const DEFAULT_TOGETHER = 2;
-/** The default waits (1 and 20 ms), and the default press and release times of a model's keys. */
-const DEFAULT_WAITS = { shortest: cyclesOfMs(1), longest: cyclesOfMs(20) };
+const DEFAULT_MAX_KEYS_DOWN = 2;
+/** The default waits, 1 and 20 ms, in cycles. */
+const DEFAULT_WAITS = { minWait: cyclesFromMilliseconds(1), maxWait: cyclesFromMilliseconds(20) };
+/** The default press and release times of the keys for a model, in cycles. */
 const DEFAULT_PACE = { down: TOOL_KEY_DOWN_CYCLES, up: TOOL_KEY_UP_CYCLES };
 
-class Reader {
+class PropertiesReader {
   /** @param {Subject} subject */
   constructor({ names, instructions }) {
     this.names = names;
@@ -66,51 +74,52 @@ class Reader {
     this.properties = [];
     /** @type {string[]} */
     this.notes = [];
-    this.together = DEFAULT_TOGETHER;
+    this.maxKeysDown = DEFAULT_MAX_KEYS_DOWN;
     this.canReset = false;
-    this.shortest = DEFAULT_WAITS.shortest;
-    this.longest = DEFAULT_WAITS.longest;
+    this.minWait = DEFAULT_WAITS.minWait;
+    this.maxWait = DEFAULT_WAITS.maxWait;
     this.down = DEFAULT_PACE.down;
     this.up = DEFAULT_PACE.up;
-    this.held = Infinity;
-    this.apart = 0;
+    this.maxHoldTime = Infinity;
+    this.minReleaseTime = 0;
     this.begin = 0;
     this.command = "";
     /** @type {{ state: string, file: string } | null} */
     this.from = null;
     /** The `while` condition of the current line; "" for none. */
-    this.during = "";
-    /** The current line, and the index from which to search for a condition in it. */
+    this.whileCondition = "";
     this.line = "";
-    this.looked = 0;
+    /** The index in the current line at which the search for the text of a condition starts. */
+    this.searchStart = 0;
   }
 
   /** @param {string} text */
-  condition(text) {
-    const { condition, fault, column } = tracedConditionOf(text, this.names);
-    return condition || fail(fault, Math.max(0, this.line.indexOf(text, this.looked)) + column);
+  parseCondition(text) {
+    const { condition, fault, column } = compileTracedCondition(text, this.names);
+    return condition || fail(fault, Math.max(0, this.line.indexOf(text, this.searchStart)) + column);
   }
 
   /**
-   * Returns a condition that violates a property, or reaches a goal, only while the `while` condition is true.
+   * Parses a condition that violates a property or reaches a goal. With a `while` condition, the result is true only if both conditions
+   * are true.
    * @param {string} text
    */
-  met(text) {
-    const condition = this.condition(text);
-    return this.during === "" ? condition : this.condition(`(${this.during}) and (${text})`);
+  parseViolation(text) {
+    const condition = this.parseCondition(text);
+    return this.whileCondition === "" ? condition : this.parseCondition(`(${this.whileCondition}) and (${text})`);
   }
 
   /**
-   * Returns a condition that is required only while the `while` condition is true.
+   * Parses a condition that must be true. With a `while` condition, the result is also true if the `while` condition is false.
    * @param {string} text
    */
-  due(text) {
-    const condition = this.condition(text);
-    return this.during === "" ? condition : this.condition(`not (${this.during}) or (${text})`);
+  parseRequirement(text) {
+    const condition = this.parseCondition(text);
+    return this.whileCondition === "" ? condition : this.parseCondition(`not (${this.whileCondition}) or (${text})`);
   }
 
   /** @param {string} word */
-  label(word) {
+  parseLabel(word) {
     const name = word.replace(/^@/, "");
     const found = this.names.map.names.get(name);
     return word.startsWith("@") && found && found.isLabel ? found.value
@@ -118,16 +127,16 @@ class Reader {
   }
 
   /** @param {string} name */
-  input(name) {
+  findInput(name) {
     const { face } = this.names;
-    const found = [...keysOf(face), pinOf(face)].find((each) => each.name === name && (each.isKey || face.test));
+    const found = [...listKeyInputs(face), createTestInput(face)].find((each) => each.name === name && (each.isKey || face.test));
     if (found) return found;
-    const inputNames = namesOfInputs(face);
+    const inputNames = listInputNames(face);
     return fail(noKey(name, inputNames.join(" ")));
   }
 
   /** @param {Input} input */
-  add(input) {
+  addInput(input) {
     if (!this.inputs.some(({ name }) => name === input.name)) this.inputs.push(input);
   }
 
@@ -135,8 +144,8 @@ class Reader {
    * @param {string} text
    * @param {string} form
    */
-  time(text, form) {
-    const cycles = wholeDuration(text.trim().split(/\s+/));
+  parseTime(text, form) {
+    const cycles = parseWholeDuration(text.trim().split(/\s+/));
     return cycles > 0 ? cycles : fail(form);
   }
 }
@@ -146,27 +155,27 @@ class Reader {
  * @param {string[]} words
  * @param {string} form
  */
-function twoTimes(words, form) {
-  const first = durationOf(words, 0);
+function parseTwoTimes(words, form) {
+  const first = parseDuration(words, 0);
   const rest = words.slice(first.words).filter((word, index) => index > 0 || word !== "to");
-  const second = wholeDuration(rest);
+  const second = parseWholeDuration(rest);
   if (first.cycles === 0 || second === 0) fail(form);
   return [first.cycles, second];
 }
 
 
 /**
- * The readers of lines for inputs and timing, by first word.
- * @type {Record<string, (reader: Reader, words: string[]) => void>}
+ * The parsers of lines for inputs and timing, by first word.
+ * @type {Record<string, (reader: PropertiesReader, words: string[]) => void>}
  */
 const SETTINGS = {
   press: (reader, words) => {
     if (words.length === 0) fail(say.PRESS_FORM);
-    for (const word of words) reader.add(reader.input(word));
+    for (const word of words) reader.addInput(reader.findInput(word));
   },
   test: (reader, words) => {
     if (words.length > 0) fail(say.TEST_FORM);
-    reader.add(pinOf(reader.names.face));
+    reader.addInput(createTestInput(reader.names.face));
   },
   reset: (reader, words) => {
     if (words.length > 0) fail(say.RESET_FORM);
@@ -174,22 +183,22 @@ const SETTINGS = {
   },
   together: (reader, words) => {
     if (words.length !== 1 || !/^[1-9]\d?$/.test(words[0])) fail(say.TOGETHER_FORM);
-    reader.together = Number(words[0]);
+    reader.maxKeysDown = Number(words[0]);
   },
   wait: (reader, words) => {
-    [reader.shortest, reader.longest] = twoTimes(words, say.WAIT_FORM);
+    [reader.minWait, reader.maxWait] = parseTwoTimes(words, say.WAIT_FORM);
     // A wait must fit into one run.
-    if (reader.longest > LONGEST_RUN || reader.shortest > reader.longest) fail(say.WAIT_FORM);
+    if (reader.maxWait > MAX_RUN_CYCLES || reader.minWait > reader.maxWait) fail(say.WAIT_FORM);
   },
   held: (reader, words) => {
     const form = say.HELD_FORM;
     if (words[0] !== "at" || words[1] !== "most") fail(form);
-    reader.held = reader.time(words.slice(2).join(" "), form);
+    reader.maxHoldTime = reader.parseTime(words.slice(2).join(" "), form);
   },
   apart: (reader, words) => {
     const form = say.APART_FORM;
     if (words[0] !== "at" || words[1] !== "least") fail(form);
-    reader.apart = reader.time(words.slice(2).join(" "), form);
+    reader.minReleaseTime = reader.parseTime(words.slice(2).join(" "), form);
   },
   from: (reader, words) => {
     const [state, of, ...file] = words;
@@ -202,15 +211,15 @@ const SETTINGS = {
   begin: (reader, words) => {
     const form = say.BEGIN_FORM;
     if (words[0] !== "after") fail(form);
-    reader.begin = reader.time(words.slice(1).join(" "), form);
+    reader.begin = reader.parseTime(words.slice(1).join(" "), form);
   },
   pace: (reader, words) => {
     const form = say.PACE_FORM;
-    [reader.down, reader.up] = twoTimes(words, form);
+    [reader.down, reader.up] = parseTwoTimes(words, form);
   },
   note: (reader, words) => {
     if (words.length === 0) fail(say.NOTE_FORM);
-    for (const word of words) reader.notes.push(...placesOfNote(reader, word));
+    for (const word of words) reader.notes.push(...parseNotePlaces(reader, word));
     if (reader.notes.length > MAX_NOTES) fail(say.mostNoted(MAX_NOTES));
   },
 };
@@ -222,14 +231,14 @@ const SETTINGS = {
 export const isSetting = (line) => Object.prototype.hasOwnProperty.call(SETTINGS, line.split(/\s/)[0]);
 
 /**
- * Returns the `trace` places for a word.
- * @param {Reader} reader
+ * Returns the `trace` places for a word of a `note` line; fails if `trace` does not report the word.
+ * @param {PropertiesReader} reader
  * @param {string} word
  * @returns {string[]}
  */
-function placesOfNote({ names }, word) {
+function parseNotePlaces({ names }, word) {
   if (word.toLowerCase() === "pc") fail(say.NOT_PC);
-  const place = placeOf(word);
+  const place = parsePlace(word);
   const places = place ? place.probesOn(names.board) : [];
   if (places.length > 0) return places;
   return fail(place ? boardLacks(place.name) : say.noTrace(word));
@@ -239,20 +248,21 @@ function placesOfNote({ names }, word) {
 const FOR_DURATION = /^(.*) for (\S+(?: \S+)?)$/;
 
 /**
- * The readers of property lines, by first word.
- * @type {Record<string, (reader: Reader, rest: string, text: string) => Property>}
+ * The parsers of property lines, by first word.
+ * @type {Record<string, (reader: PropertiesReader, rest: string, text: string) => Property>}
  */
 const PROPERTIES = {
   never: (reader, rest, text) => {
     const [, condition, time] = FOR_DURATION.exec(rest) || ["", rest, ""];
     if (condition === "") fail(say.NEVER_FORM);
-    return time ? neverFor(text, reader.met(condition), reader.time(time, say.FOR_FORM)) : never(text, reader.met(condition));
+    return time ? neverForProperty(text, reader.parseViolation(condition), reader.parseTime(time, say.FOR_FORM))
+      : neverProperty(text, reader.parseViolation(condition));
   },
-  always: (reader, rest, text) => always(text, reader.due(rest)),
+  always: (reader, rest, text) => alwaysProperty(text, reader.parseRequirement(rest)),
   at: (reader, rest, text) => {
     const [word, ...words] = rest.split(" ");
     if (words.length === 0) fail(say.AT_FORM);
-    return at(text, reader.due(words.join(" ")), reader.label(word));
+    return atProperty(text, reader.parseRequirement(words.join(" ")), reader.parseLabel(word));
   },
   after: (reader, rest, text) => {
     const form = say.AFTER_FORM;
@@ -260,23 +270,24 @@ const PROPERTIES = {
     if (!found) fail(form);
     const [, key, requirement] = /** @type {RegExpExecArray} */ (found);
     const words = requirement.split(" ");
-    const { cycles, words: count } = durationOf(words, 0);
+    const { cycles, words: count } = parseDuration(words, 0);
     if (cycles === 0 || words.length === count) fail(form);
-    return afterPress(text, reader.input(key).name, reader.condition(words.slice(count).join(" ")), cycles);
+    return afterPressProperty(text, reader.findInput(key).name, reader.parseCondition(words.slice(count).join(" ")), cycles);
   },
   every: (reader, rest, text) => {
     const form = say.EVERY_FORM;
     const words = rest.split(" ");
     if (words.length < 2) fail(form);
-    return every(text, reader.label(words[words.length - 1]), reader.time(words.slice(0, -1).join(" "), form));
+    return everyProperty(text, reader.parseLabel(words[words.length - 1]), reader.parseTime(words.slice(0, -1).join(" "), form));
   },
   reach: (reader, rest, text) => {
     const line = /^line (\d+)$/.exec(rest);
-    if (!line && !/^@\S+$/.test(rest)) return reach(text, reader.met(rest));
+    if (!line && !/^@\S+$/.test(rest)) return reachProperty(text, reader.parseViolation(rest));
     const instruction = line && reader.instructions.find((each) => each.line === Number(line[1]));
     if (line && !instruction) fail(say.noInstructionIn(line[1]));
-    const address = instruction ? instruction.address : reader.label(rest);
-    return reader.during === "" ? reachAt(text, address) : reach(text, reader.met(`pc = ${address}`));
+    const address = instruction ? instruction.address : reader.parseLabel(rest);
+    return reader.whileCondition === "" ? reachAddressProperty(text, address)
+      : reachProperty(text, reader.parseViolation(`pc = ${address}`));
   },
   model: (reader, rest, text) => {
     if (reader.command) fail(say.MODEL_TWICE);
@@ -288,102 +299,107 @@ const PROPERTIES = {
       fail(say.LIT_BY_TURNS);
     }
     reader.command = rest;
-    return model(text);
+    return modelProperty(text);
   },
 };
 
 /** Matches the start of a guarded line, such as `while lamp open on, never lamp alarm on`. */
-const GUARD = /^(while|once|after press)\b/;
+const GUARD_START = /^(while|once|after press)\b/;
 
 /**
  * Splits a line after its first guard, at a comma outside quoted texts. Returns null if the line has no guard.
  * @param {string} text
  */
-function cutGuard(text) {
-  if (!GUARD.test(text)) return null;
+function splitGuard(text) {
+  if (!GUARD_START.test(text)) return null;
   const [, guard, rest] = /^((?:"[^"]*"|[^"])*?),(?: (.*))?$/.exec(text) || [];
   if (text.startsWith("after") && !/^after press \S+( within \S+( \S+)?)?$/.test(guard || "")) return null;
   return guard === undefined ? fail(say.GUARD_FORM) : { guard, rest: rest || "" };
 }
 
 /**
- * @param {Reader} reader
+ * @param {PropertiesReader} reader
  * @param {string} text the guard: `once C`, `after press K`, `after press K within TIME`
  * @returns {Guard}
  */
-function guardOf(reader, text) {
+function parseGuard(reader, text) {
   const [, condition] = /^once (.+)$/.exec(text) || [];
-  if (condition !== undefined) return { kind: "once", key: "", limit: 0, condition: reader.condition(condition) };
+  if (condition !== undefined) return { kind: "once", key: "", limit: 0, condition: reader.parseCondition(condition) };
   const [, key, time] = /^after press (\S+)(?: within (.+))?$/.exec(text) || [];
   if (key === undefined) return fail(say.GUARD_FORM);
-  return { kind: "press", key: reader.input(key).name, limit: time === undefined ? 0 : reader.time(time, say.GUARD_FORM), condition: null };
+  const limit = time === undefined ? 0 : reader.parseTime(time, say.GUARD_FORM);
+  return { kind: "press", key: reader.findInput(key).name, limit, condition: null };
 }
 
 /**
  * Returns the property of a guarded line.
- * @param {Reader} reader
+ * @param {PropertiesReader} reader
  * @param {string} text
  * @param {{ guard: string, rest: string } | null} firstGuard
  * @returns {Property | null} null for a line without guards
  */
-function guardedLine(reader, text, firstGuard) {
+function parseGuardedLine(reader, text, firstGuard) {
   /** @type {Guard[]} */
   const guards = [];
-  let rest = "";
+  let unguardedText = "";
   let count = 0;
-  for (let next = firstGuard; next; next = cutGuard(rest)) {
-    reader.looked = text.length - (rest || text).length;
-    ({ rest } = next);
+  for (let next = firstGuard; next; next = splitGuard(unguardedText)) {
+    reader.searchStart = text.length - (unguardedText || text).length;
+    ({ rest: unguardedText } = next);
     count += 1;
     if (count > MAX_GUARDS) fail(say.mostGuards(MAX_GUARDS));
-    const [, during] = /^while (.+)$/.exec(next.guard) || [];
-    if (during === undefined) guards.push(guardOf(reader, next.guard));
-    else reader.during = `${reader.during && `${reader.during} and `}(${reader.condition(during).text})`;
+    const [, condition] = /^while (.+)$/.exec(next.guard) || [];
+    if (condition === undefined) guards.push(parseGuard(reader, next.guard));
+    else reader.whileCondition = `${reader.whileCondition && `${reader.whileCondition} and `}(${reader.parseCondition(condition).text})`;
   }
-  if (rest === "") return firstGuard ? fail(say.GUARD_FORM) : null;
-  reader.looked = text.length - rest.length;
-  const property = lineWithoutGuard(reader, rest);
-  if (!property || !GUARDED.has(property.form)) return fail(say.GUARD_FORM);
+  if (unguardedText === "") return firstGuard ? fail(say.GUARD_FORM) : null;
+  reader.searchStart = text.length - unguardedText.length;
+  const property = parseUnguardedLine(reader, unguardedText);
+  if (!property || !GUARDABLE_FORMS.has(property.form)) return fail(say.GUARD_FORM);
   // For a press, the `while` condition counts at the moment of the press.
-  if (property.form === "after press" && reader.during !== "") {
-    guards.push({ kind: "while", key: "", limit: 0, condition: reader.condition(reader.during) });
+  if (property.form === "after press" && reader.whileCondition !== "") {
+    guards.push({ kind: "while", key: "", limit: 0, condition: reader.parseCondition(reader.whileCondition) });
   }
-  return guards.length > 0 ? guarded(text, property, guards) : { ...property, text };
+  return guards.length > 0 ? guardedProperty(text, property, guards) : { ...property, text };
 }
 
+/** The maximum number of guards of a property. */
 const MAX_GUARDS = 4;
-const ONLY_AFTER = /^(.+) only after (.+)$/;
-const ONCE = /^(@\S+) at most once for each press$/;
-const WITHIN = /^(@\S+) to (@\S+) within (.+)$/;
+/** Matches `lamp open on only after press 1, press 2`: the condition and the presses. */
+const ONLY_AFTER_LINE = /^(.+) only after (.+)$/;
+/** Captures the label in `@count at most once for each press`. */
+const ONCE_PER_PRESS_LINE = /^(@\S+) at most once for each press$/;
+/** Matches `@start to @end within 5 ms`: the two labels and the time. */
+const WITHIN_LINE = /^(@\S+) to (@\S+) within (.+)$/;
 
 /**
- * @param {Reader} reader
+ * @param {PropertiesReader} reader
  * @param {string} text the text of the line
  * @returns {Property | null} null for a setting
  */
-function lineOf(reader, text) {
-  reader.during = "";
+function parseLine(reader, text) {
+  reader.whileCondition = "";
   reader.line = text;
-  reader.looked = 0;
-  return guardedLine(reader, text, cutGuard(text)) || lineWithoutGuard(reader, text);
+  reader.searchStart = 0;
+  return parseGuardedLine(reader, text, splitGuard(text)) || parseUnguardedLine(reader, text);
 }
 
 /**
- * @param {Reader} reader
+ * @param {PropertiesReader} reader
  * @param {string} text
  * @returns {Property | null} null for a setting
  */
-function lineWithoutGuard(reader, text) {
-  const after = ONLY_AFTER.exec(text);
-  if (after) {
-    const keys = after[2].split(/ *, */).map((each) => (/^press (\S+)$/.exec(each)
+function parseUnguardedLine(reader, text) {
+  const onlyAfterParts = ONLY_AFTER_LINE.exec(text);
+  if (onlyAfterParts) {
+    const keys = onlyAfterParts[2].split(/ *, */).map((each) => (/^press (\S+)$/.exec(each)
       || fail(say.ONLY_AFTER_FORM))[1]);
-    return onlyAfter(text, reader.condition(after[1]), keys.map((key) => reader.input(key).name));
+    return onlyAfterProperty(text, reader.parseCondition(onlyAfterParts[1]), keys.map((key) => reader.findInput(key).name));
   }
-  const label = ONCE.exec(text);
-  if (label) return once(text, reader.label(label[1]));
-  const [, start, target, time] = WITHIN.exec(text) || [];
-  if (start) return within(text, reader.label(start), reader.label(target), reader.time(time, say.WITHIN_FORM));
+  const onceParts = ONCE_PER_PRESS_LINE.exec(text);
+  if (onceParts) return oncePerPressProperty(text, reader.parseLabel(onceParts[1]));
+  const [, start, target, time] = WITHIN_LINE.exec(text) || [];
+  if (start) return withinProperty(text, reader.parseLabel(start), reader.parseLabel(target), reader.parseTime(time, say.WITHIN_FORM));
   const [kind, ...words] = text.split(" ");
   if (Object.prototype.hasOwnProperty.call(PROPERTIES, kind)) return PROPERTIES[kind](reader, words.join(" "), text);
   if (!Object.prototype.hasOwnProperty.call(SETTINGS, kind)) fail(say.noForm(kind.slice(0, 30), say.FORMS));
@@ -393,22 +409,23 @@ function lineWithoutGuard(reader, text) {
 
 /**
  * Returns whether the properties have no model, or have keys for the model.
- * @param {Reader} reader
+ * @param {PropertiesReader} reader
  */
 function hasKeysForModel({ command, inputs }) {
   return command === "" || inputs.some(({ isKey }) => isKey);
 }
 
 /**
- * If no line names an input, adds all inputs of the front panel. Adds the default note. Returns whether anything can change.
- * @param {Reader} reader
+ * Adds all inputs of the front panel if no line names an input, and the default note if there is no note. Returns whether the search can
+ * change an input or cut the power.
+ * @param {PropertiesReader} reader
  * @param {string} text
  */
 function addDefaults(reader, text) {
   const { face } = reader.names;
   if (!/^[ \t]*(press|test)\b/m.test(text)) {
-    for (const input of keysOf(face)) reader.add(input);
-    if (face.test) reader.add(pinOf(face));
+    for (const input of listKeyInputs(face)) reader.addInput(input);
+    if (face.test) reader.addInput(createTestInput(face));
   }
   if (reader.notes.length === 0) reader.notes.push("lamps");
   return reader.inputs.length > 0 || reader.canReset;
@@ -423,20 +440,20 @@ function addDefaults(reader, text) {
  * @returns {{ campaign: Campaign, faults: Fault[] }}
  */
 export function readCampaign(text, subject, needsInputs = true) {
-  const reader = new Reader(subject);
+  const reader = new PropertiesReader(subject);
   /** @type {Fault[]} */
   const faults = [];
   let fromLine = 0;
-  text.replace(/^\uFEFF/, "").split(/\r?\n/).forEach((whole, index) => {
-    const line = whole.trim().replace(/\s+/g, " ");
+  text.replace(/^\uFEFF/, "").split(/\r?\n/).forEach((originalLine, index) => {
+    const line = originalLine.trim().replace(/\s+/g, " ");
     if (line === "" || /^[#;]/.test(line)) return;
     try {
-      const property = lineOf(reader, line);
+      const property = parseLine(reader, line);
       if (reader.from && fromLine === 0) fromLine = index + 1;
       if (property) reader.properties.push({ ...property, line: index + 1 });
     } catch (fault) {
-      if (!(fault instanceof Unreadable)) throw fault;
-      const column = fault.column < 0 ? -1 : columnIn(whole, fault.column);
+      if (!(fault instanceof ConditionError)) throw fault;
+      const column = fault.column < 0 ? -1 : columnInLine(originalLine, fault.column);
       faults.push({ line: index + 1, column, words: column < 0 ? fault.message : inColumn(fault.message, column) });
     }
   });
@@ -448,9 +465,9 @@ export function readCampaign(text, subject, needsInputs = true) {
     const { line } = reader.properties.find(({ form }) => form === "model") || { line: 1 };
     faults.push({ line, column: -1, words: say.MODEL_NEEDS_KEYS });
   }
-  const { inputs, together, canReset, shortest, longest, held, apart, begin, down, up, notes, properties, command } = reader;
-  const campaign = { inputs, together, canReset, shortest, longest, held, apart, begin, down, up, notes, command,
+  const { inputs, maxKeysDown, canReset, minWait, maxWait, maxHoldTime, minReleaseTime, begin, down, up, notes, command } = reader;
+  const campaign = { inputs, maxKeysDown, canReset, minWait, maxWait, maxHoldTime, minReleaseTime, begin, down, up, notes, command,
     from: reader.from && { ...reader.from, line: fromLine }, before: [], calls: { least: 0, most: 0 },
-    properties: [...properties, ...alwaysOn()] };
+    properties: [...reader.properties, ...standardProperties()] };
   return { campaign, faults };
 }

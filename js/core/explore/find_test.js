@@ -3,80 +3,80 @@
 import { readCounter } from "../bench/answers.js";
 import { hex } from "../bench/numbers.js";
 import { runLines } from "../engine/key_queue.js";
-import { linesOf } from "./walks.js";
+import { walkLines } from "./walks.js";
 import * as say from "../../words/explore.js";
 
 /**
  * @typedef {import("./campaign.js").Campaign} Campaign
  * @typedef {import("./properties.js").Property} Property
- * @typedef {import("./search.js").Find} Find
+ * @typedef {import("./search.js").Violation} Violation
  * @typedef {import("./subject.js").Subject} Subject
  * @typedef {import("./walks.js").WalkStep} WalkStep
  */
 
 /**
- * Returns the lines that lead from the start state to a counterexample.
+ * Returns the bench lines that lead from the start state to a violation.
  * @param {Campaign} campaign
- * @param {Find} find
+ * @param {Violation} violation
  */
-export function linesOfFind(campaign, { steps, time }) {
-  const changed = steps.reduce((sum, { wait }) => sum + wait, campaign.begin);
-  return linesOf(campaign, steps) + runLines(time - changed);
+export function formatViolationLines(campaign, { steps, time }) {
+  const lastChangeTime = steps.reduce((sum, { wait }) => sum + wait, campaign.begin);
+  return walkLines(campaign, steps) + runLines(time - lastChangeTime);
 }
 
 /** Writes the test for a counterexample. */
-class Writer {
+class TestWriter {
   /**
    * @param {Subject} subject
    * @param {Uint8Array} file the session file of the start state
    * @param {Campaign} campaign
-   * @param {Find} find
+   * @param {Violation} violation
    */
-  constructor(subject, file, campaign, find) {
-    const { property, steps, time } = find;
+  constructor(subject, file, campaign, violation) {
+    const { property, steps, time } = violation;
     this.subject = subject;
     this.file = file;
     this.campaign = campaign;
-    /** The lines that lead to the violation of the property. */
-    this.linesThere = linesOfFind(campaign, find);
+    /** The bench lines that lead to the violation. */
+    this.violationLines = formatViolationLines(campaign, violation);
     this.property = campaign.properties[property];
     this.steps = steps;
     this.time = time;
     /** The time of the last change in cycles. */
-    this.changed = steps.reduce((sum, { wait }) => sum + wait, campaign.begin);
+    this.lastChangeTime = steps.reduce((sum, { wait }) => sum + wait, campaign.begin);
     /** @type {string[]} */
     this.lines = [`test ${this.property.text}`, ...campaign.before];
-    this.waited = campaign.begin;
+    this.pendingWait = campaign.begin;
   }
 
   /** Writes the pending wait. */
-  putWait() {
-    if (this.waited > 0) this.lines.push(`  run ${this.waited}`);
-    this.waited = 0;
+  writePendingWait() {
+    if (this.pendingWait > 0) this.lines.push(`  run ${this.pendingWait}`);
+    this.pendingWait = 0;
   }
 
-  putSteps() {
+  writeSteps() {
     for (const { wait, kind, input } of this.steps) {
-      this.waited += wait;
+      this.pendingWait += wait;
       if (kind === "none") continue;
-      this.putWait();
+      this.writePendingWait();
       const { downWords, upWords } = this.campaign.inputs[input] || { downWords: "reset", upWords: "" };
       this.lines.push(`  ${kind === "up" ? upWords : downWords}`);
     }
   }
 
   /**
-   * Writes the run from the last change to a time.
+   * Writes a run that ends at a time.
    * @param {number} time
    */
-  putRest(time) {
-    this.waited += time - this.changed;
-    this.putWait();
+  writeRunUntil(time) {
+    this.pendingWait += time - this.lastChangeTime;
+    this.writePendingWait();
   }
 
   /** The program counter at the violation. */
-  get counterNow() {
-    const { answers } = this.subject.engine.ask(this.file, `${this.linesThere}regs\n`);
+  get counterAtViolation() {
+    const { answers } = this.subject.engine.ask(this.file, `${this.violationLines}regs\n`);
     return parseInt(readCounter(answers[answers.length - 1]).counter, 16);
   }
 
@@ -84,15 +84,18 @@ class Writer {
    * Returns the text of the property's condition, or of its negation.
    * @param {boolean} holds
    */
-  words(holds) {
+  conditionText(holds) {
     const { condition, address } = this.property;
     if (condition) return holds ? condition.text : condition.negation;
-    return holds ? this.counter(address) : `not ${this.counter(address)}`;
+    return holds ? this.counterCondition(address) : `not ${this.counterCondition(address)}`;
   }
 
-  /** @param {string} words */
-  expect(words) {
-    this.putRest(this.time);
+  /**
+   * Writes an `expect` line for a condition at the time of the violation.
+   * @param {string} words
+   */
+  writeExpect(words) {
+    this.writeRunUntil(this.time);
     this.lines.push(`  expect ${words}`);
   }
 
@@ -100,7 +103,7 @@ class Writer {
    * Returns the condition for a program counter, with a label if the address has one.
    * @param {number} address
    */
-  counter(address) {
+  counterCondition(address) {
     const [label] = this.subject.names.map.labelsAt(address);
     return label ? `@${label}` : `pc 0x${hex(address, 3)}`;
   }
@@ -110,40 +113,40 @@ class Writer {
    * @param {string} words
    * @param {number} since
    */
-  until(words, since) {
-    const from = Math.max(since, this.changed);
-    this.putRest(from);
+  writeUntil(words, since) {
+    const from = Math.max(since, this.lastChangeTime);
+    this.writeRunUntil(from);
     this.lines.push(`  until ${words} within ${Math.max(1, this.time - from)}`);
   }
 }
 
 /**
  * The functions that write the last requirement of a test, by property form.
- * @type {Record<Property["form"], (writer: Writer) => void>}
+ * @type {Record<Property["form"], (writer: TestWriter) => void>}
  */
 const FINAL_LINES = {
-  never: (writer) => writer.expect(writer.words(false)),
-  always: (writer) => writer.expect(writer.words(true)),
-  at: (writer) => writer.expect(writer.words(true)),
-  "only after": (writer) => writer.expect(writer.words(false)),
-  "never for": (writer) => writer.until(writer.words(false), writer.time - writer.property.limit),
-  every: (writer) => writer.until(writer.counter(writer.property.address), writer.time - writer.property.limit),
-  within: (writer) => writer.until(writer.counter(writer.property.address), writer.time - writer.property.limit),
-  "after press": (writer) => writer.until(writer.words(true), writer.time - writer.property.limit),
-  once: (writer) => writer.expect(`not ${writer.counter(writer.property.address)}`),
-  reach: (writer) => writer.expect(writer.words(true)),
-  "reach at": (writer) => writer.expect(writer.counter(writer.property.address)),
+  never: (writer) => writer.writeExpect(writer.conditionText(false)),
+  always: (writer) => writer.writeExpect(writer.conditionText(true)),
+  at: (writer) => writer.writeExpect(writer.conditionText(true)),
+  "only after": (writer) => writer.writeExpect(writer.conditionText(false)),
+  "never for": (writer) => writer.writeUntil(writer.conditionText(false), writer.time - writer.property.limit),
+  every: (writer) => writer.writeUntil(writer.counterCondition(writer.property.address), writer.time - writer.property.limit),
+  within: (writer) => writer.writeUntil(writer.counterCondition(writer.property.address), writer.time - writer.property.limit),
+  "after press": (writer) => writer.writeUntil(writer.conditionText(true), writer.time - writer.property.limit),
+  once: (writer) => writer.writeExpect(`not ${writer.counterCondition(writer.property.address)}`),
+  reach: (writer) => writer.writeExpect(writer.conditionText(true)),
+  "reach at": (writer) => writer.writeExpect(writer.counterCondition(writer.property.address)),
   model: () => undefined,
   code: (writer) => {
-    writer.putRest(writer.time + 1);
+    writer.writeRunUntil(writer.time + 1);
   },
-  calls: (writer) => writer.expect(`not ${writer.counter(writer.counterNow)}`),
-  returns: (writer) => writer.expect(`not ${writer.counter(writer.counterNow)}`),
-  mistake: (writer) => writer.expect(`not ${writer.counter(writer.counterNow)}`),
+  calls: (writer) => writer.writeExpect(`not ${writer.counterCondition(writer.counterAtViolation)}`),
+  returns: (writer) => writer.writeExpect(`not ${writer.counterCondition(writer.counterAtViolation)}`),
+  mistake: (writer) => writer.writeExpect(`not ${writer.counterCondition(writer.counterAtViolation)}`),
 };
 
-/** @type {Partial<Record<Property["form"], string>>} */
-const NOTES = {
+/** @type {Partial<Record<Property["form"], string>>} the comments below the name of a test, by property form */
+const FORM_NOTES = {
   calls: say.FOURTH_CALL,
   returns: say.RETURN_WITHOUT_CALL,
   mistake: say.MISTAKE_CONFIRMED,
@@ -155,13 +158,13 @@ const NOTES = {
  * @param {Subject} subject
  * @param {Uint8Array} file
  * @param {Campaign} campaign
- * @param {Find} find
+ * @param {Violation} violation
  */
-export function testOf(subject, file, campaign, find) {
-  const { form } = campaign.properties[find.property];
-  const writer = new Writer(subject, file, campaign, find);
-  const note = NOTES[form];
-  writer.putSteps();
+export function formatTest(subject, file, campaign, violation) {
+  const { form } = campaign.properties[violation.property];
+  const writer = new TestWriter(subject, file, campaign, violation);
+  const note = FORM_NOTES[form];
+  writer.writeSteps();
   FINAL_LINES[form](writer);
   if (note) writer.lines.splice(1, 0, `  # ${note}`);
   return `${writer.lines.join("\n")}\n`;

@@ -1,25 +1,27 @@
 // Stores session files as differences: for each file, the 32-bit words that differ from those of the first file. Most words are the same.
 
-/** @typedef {{ indexes: Uint32Array, words: Uint32Array }} KeptFile */
+/** @typedef {{ indexes: Uint32Array, words: Uint32Array }} FileDelta */
 
-const WORD = 4;
+/** The size of a word in bytes. */
+const WORD_BYTES = 4;
 
-export class KeptFiles {
+export class DeltaFiles {
   /** @param {Uint8Array} first */
   constructor(first) {
-    this.first = wordsOf(first);
-    this.scratch = new Uint32Array(first.length / WORD);
+    this.first = viewWords(first);
+    this.scratch = new Uint32Array(first.length / WORD_BYTES);
     this.bytes = new Uint8Array(this.scratch.buffer);
     /** @type {number[]} */
     this.indexes = [];
   }
 
   /**
+   * Returns the words of a file that differ from the first file.
    * @param {Uint8Array} file
-   * @returns {KeptFile}
+   * @returns {FileDelta}
    */
   keep(file) {
-    const words = wordsOf(file);
+    const words = viewWords(file);
     const { first, indexes } = this;
     indexes.length = 0;
     for (let at = 0; at < first.length; at++) if (words[at] !== first[at]) indexes.push(at);
@@ -28,7 +30,7 @@ export class KeptFiles {
 
   /**
    * Returns the bytes of a stored file. The next call overwrites the array.
-   * @param {KeptFile} kept
+   * @param {FileDelta} delta
    */
   file({ indexes, words }) {
     const { scratch } = this;
@@ -40,8 +42,11 @@ export class KeptFiles {
   }
 }
 
-/** @param {Uint8Array} file */
-function wordsOf(file) {
-  if (file.byteOffset % WORD !== 0) return new Uint32Array(file.slice().buffer);
-  return new Uint32Array(file.buffer, file.byteOffset, file.length / WORD);
+/**
+ * Returns the bytes of a file as 32-bit words, without a copy if the bytes are aligned.
+ * @param {Uint8Array} file
+ */
+function viewWords(file) {
+  if (file.byteOffset % WORD_BYTES !== 0) return new Uint32Array(file.slice().buffer);
+  return new Uint32Array(file.buffer, file.byteOffset, file.length / WORD_BYTES);
 }

@@ -1,78 +1,80 @@
-// A model: an external command that computes the text that the display must show. It receives one line per key sequence: the key names,
-// separated by blanks. It prints one line per sequence: the display text after these keys; an empty line means no opinion. Each sequence
-// starts from the start state, with the key times of the properties.
+// A model: an external command that computes the expected display text. Its input has one line per key sequence: the key names, separated
+// by blanks. Its output has one line per sequence: the expected text after these keys. An empty line accepts any text. Each sequence
+// begins in the start state and uses the press and release times of the properties text.
 
-import { readMarks } from "../bench/answers.js";
+import { readItems } from "../bench/answers.js";
 import { DisplayText } from "../board/display_text.js";
-import { lineOf, upToRandom } from "./walks.js";
+import { changeLine, randomBelow } from "./walks.js";
 import { runLines } from "../engine/key_queue.js";
 
 /**
  * @typedef {import("./campaign.js").Campaign} Campaign
  * @typedef {import("./subject.js").Subject} Subject
  * @typedef {import("./walks.js").Random} Random
- * @typedef {import("./watching.js").Start} Start
+ * @typedef {import("./watching.js").WalkStart} WalkStart
  *
- * The text that the display must show after each key sequence, or the error of the command.
- * @typedef {{ shown: string[], fault: string }} Said
- * @typedef {(chains: string[]) => Said | Promise<Said>} Asked
+ * The output of the command: the expected text after each key sequence, or an error message.
+ * @typedef {{ shown: string[], fault: string }} ModelOutput
+ * @typedef {(chains: string[]) => ModelOutput | Promise<ModelOutput>} ModelCommand
  *
- * A key sequence after which the display differs.
- * @typedef {{ keys: number[], wanted: string, lit: string[], cycles: number }} Difference `lit` are the names of lamps that are on but must
- *   be off
+ * A key sequence after which the display differs from the expected text. `lampsOn` are the names of lamps that are on but must be off.
+ * @typedef {{ keys: number[], expectedText: string, lampsOn: string[], cycles: number }} Difference
  */
 
-const CHAIN_COUNT = 40;
-const MAX_CHAIN_LENGTH = 14;
+/** The number of key sequences per call of the command, and the maximum number of keys in a sequence. */
+const SEQUENCE_COUNT = 40;
+const MAX_SEQUENCE_LENGTH = 14;
 
 export class Model {
   /**
    * @param {Subject} subject
    * @param {Campaign} campaign
-   * @param {Start} start
-   * @param {Asked} modelCommand
+   * @param {WalkStart} start
+   * @param {ModelCommand} modelCommand
    * @param {Random} random
    */
   constructor(subject, campaign, start, modelCommand, random) {
     this.subject = subject;
     this.campaign = campaign;
     this.start = start;
-    this.asked = modelCommand;
+    this.modelCommand = modelCommand;
     this.random = random;
     /** The numbers of the inputs that are keys. */
     this.keys = campaign.inputs.flatMap(({ isKey }, at) => (isKey ? [at] : []));
-    this.chains = 0;
-    /** The error message of the command, or "". After an error, the command is not asked again. */
+    this.sequenceCount = 0;
+    /** The error message of the command, or "". After an error, the command is not called again. */
     this.fault = "";
   }
 
   /**
-   * Tries several key sequences.
+   * Compares the display with the model after random key sequences. Resolves to a minimised difference, or to null.
    * @returns {Promise<Difference | null>}
    */
-  async tryChains() {
-    const chains = [...Array(CHAIN_COUNT)].map(() => (
-      [...Array(1 + upToRandom(this.random, MAX_CHAIN_LENGTH))].map(() => this.keys[upToRandom(this.random, this.keys.length)])));
-    this.chains += chains.length;
-    const difference = await this.differenceIn(chains);
+  async trySequences() {
+    const keySequences = [...Array(SEQUENCE_COUNT)].map(() => (
+      [...Array(1 + randomBelow(this.random, MAX_SEQUENCE_LENGTH))].map(() => this.keys[randomBelow(this.random, this.keys.length)])));
+    this.sequenceCount += keySequences.length;
+    const difference = await this.findDifference(keySequences);
     return difference && this.shorten(difference);
   }
 
   /**
    * Returns the first key sequence after which the display differs.
-   * @param {number[][]} chains
+   * @param {number[][]} keySequences
    * @returns {Promise<Difference | null>}
    */
-  async differenceIn(chains) {
-    const names = chains.map((keys) => keys.map((at) => this.campaign.inputs[at].name).join(" "));
-    const { shown, fault } = await this.asked(names);
+  async findDifference(keySequences) {
+    const names = keySequences.map((keys) => keys.map((at) => this.campaign.inputs[at].name).join(" "));
+    const { shown: expectedTexts, fault } = await this.modelCommand(names);
     this.fault = fault;
-    for (const [at, keys] of chains.entries()) {
+    for (const [at, keys] of keySequences.entries()) {
       if (fault !== "") return null;
-      const wanted = shown[at].trim();
+      const expectedText = expectedTexts[at].trim();
       const cycles = keys.length * (this.campaign.down + this.campaign.up);
-      const { number, whole, lit } = this.shownAfter(keys);
-      if (wanted !== "" && whole !== wanted) return { keys, wanted, lit: number === wanted ? lit : [], cycles };
+      const { number, whole, lampsOn } = this.displayAfter(keys);
+      if (expectedText !== "" && whole !== expectedText) {
+        return { keys, expectedText, lampsOn: number === expectedText ? lampsOn : [], cycles };
+      }
     }
     return null;
   }
@@ -81,18 +83,18 @@ export class Model {
    * Returns the display after a key sequence: the number, the names of the other lamps that are on, and both joined as in mcs4 display.
    * @param {number[]} keys
    */
-  shownAfter(keys) {
+  displayAfter(keys) {
     const { down, up } = this.campaign;
     const { face } = this.subject.names;
     const lines = keys.map((input) => (
-      `${lineOf(this.campaign, { wait: 0, kind: "down", input })}${runLines(down)}`
-      + `${lineOf(this.campaign, { wait: 0, kind: "up", input })}${runLines(up)}`)).join("");
+      `${changeLine(this.campaign, { wait: 0, kind: "down", input })}${runLines(down)}`
+      + `${changeLine(this.campaign, { wait: 0, kind: "up", input })}${runLines(up)}`)).join("");
     const { answers } = this.subject.engine.ask(this.start.file, `${lines}lamps\n`);
-    const marks = readMarks(answers[answers.length - 1]).join("");
+    const marks = readItems(answers[answers.length - 1]).join("");
     const lamps = [...face.lamps].map(([at, { text }]) => ({ at, text }));
     const { number, names } = new DisplayText(face.groups.filter(({ kind }) => kind === "display"), lamps).read(marks);
-    const lit = lamps.filter(({ at, text }) => marks[at] === "*" && text !== "minus").map(({ text }) => text);
-    return { number, whole: names === "" ? number : `${number} ${names}`, lit };
+    const lampsOn = lamps.filter(({ at, text }) => marks[at] === "*" && text !== "minus").map(({ text }) => text);
+    return { number, whole: names === "" ? number : `${number} ${names}`, lampsOn };
   }
 
   /**
@@ -100,13 +102,13 @@ export class Model {
    * @param {Difference} difference
    */
   async shorten(difference) {
-    let shortest = difference;
+    let minimised = difference;
     for (;;) {
-      const { keys } = shortest;
-      const fewer = keys.map((_, at) => keys.filter((_key, index) => index !== at)).filter(({ length }) => length > 0);
-      const shorter = await this.differenceIn(fewer);
-      if (!shorter) return shortest;
-      shortest = shorter;
+      const { keys } = minimised;
+      const shorterSequences = keys.map((_, at) => keys.filter((_key, index) => index !== at)).filter(({ length }) => length > 0);
+      const shorter = await this.findDifference(shorterSequences);
+      if (!shorter) return minimised;
+      minimised = shorter;
     }
   }
 
@@ -115,11 +117,11 @@ export class Model {
    * @param {string} name
    * @param {Difference} difference
    */
-  test(name, { keys, wanted, lit }) {
+  formatTest(name, { keys, expectedText, lampsOn }) {
     const { down, up, begin, inputs, before } = this.campaign;
     const lines = [`test ${name}`, ...before, ...(begin > 0 ? [`  run ${begin}`] : []), `  pace ${down} ${up}`,
-      `  keys ${keys.map((at) => inputs[at].name).join(" ")}`, `  expect display ${wanted}`,
-      ...lit.map((lamp) => `  expect lamp ${lamp} off`)];
+      `  keys ${keys.map((at) => inputs[at].name).join(" ")}`, `  expect display ${expectedText}`,
+      ...lampsOn.map((lamp) => `  expect lamp ${lamp} off`)];
     return `${lines.join("\n")}\n`;
   }
 }

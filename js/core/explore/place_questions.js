@@ -1,22 +1,22 @@
-// Queries the `trace` places in properties and notes, at most 16 per query, and finds the positions of the values for each condition.
+// Queries the `trace` places in properties and notes, at most 16 per query, and evaluates conditions on the answers.
 
-import { MOST_PLACES } from "../bench/inputs.js";
-import { refusalOf } from "../bench/answers.js";
-import { Answers, readTraced, valuesOf } from "../engine/tracing.js";
+import { MAX_PLACES } from "../bench/inputs.js";
+import { parseRefusal } from "../bench/answers.js";
+import { Answers, parseTraceLine, rowValues } from "../engine/tracing.js";
 
 /** @typedef {import("./properties.js").Property} Property */
 
-export class Places {
+export class PlaceQueries {
   /** @param {string[]} names */
   constructor(names) {
     this.names = [...new Set(names)];
     /** The groups of places, one group per query. */
     this.groups = [];
-    for (let from = 0; from < this.names.length; from += MOST_PLACES) this.groups.push(this.names.slice(from, from + MOST_PLACES));
+    for (let from = 0; from < this.names.length; from += MAX_PLACES) this.groups.push(this.names.slice(from, from + MAX_PLACES));
   }
 
   /**
-   * Returns the queries about the next cycles.
+   * Returns the `trace` lines for the next cycles.
    * @param {number} cycles
    */
   lines(cycles) {
@@ -36,45 +36,45 @@ export class Places {
  * Returns all conditions of a property: its own condition and those of its guards.
  * @param {Property} property
  */
-export function conditionsOf({ condition, guards }) {
+export function listConditions({ condition, guards }) {
   return [condition, ...guards.map((guard) => guard.condition)];
 }
 
 /** @type {boolean[]} */
 const NONE = [];
 
-/** The conditions of a property, evaluated on the values of all places. */
+/** The conditions of a property, with the positions of their values among the values of all places. */
 export class Conditions {
   /**
    * @param {Property} property
    * @param {{ indexes: (places: string[]) => number[] }} places
    */
   constructor(property, places) {
-    const [own, ...guards] = conditionsOf(property).map((condition) => (
+    const [ownCondition, ...guards] = listConditions(property).map((condition) => (
       { condition, indexes: condition ? places.indexes(condition.places) : [] }));
-    this.own = own;
-    this.guards = guards;
+    this.ownCondition = ownCondition;
+    this.guardConditions = guards;
   }
 
   /** @param {string[]} values */
   holds(values) {
-    return holdsBy(this.own, values);
+    return evaluateCondition(this.ownCondition, values);
   }
 
   /**
-   * Returns whether the guard conditions are true.
+   * Returns for each guard whether its condition is true.
    * @param {string[]} values
    */
-  opens(values) {
-    return this.guards.length === 0 ? NONE : this.guards.map((guard) => holdsBy(guard, values));
+  areOpen(values) {
+    return this.guardConditions.length === 0 ? NONE : this.guardConditions.map((guard) => evaluateCondition(guard, values));
   }
 }
 
 /**
- * @param {{ condition: import("../conditions/condition_language.js").Condition | null, indexes: number[] }} asked
+ * @param {{ condition: import("../conditions/condition_language.js").Condition | null, indexes: number[] }} query
  * @param {string[]} values
  */
-function holdsBy({ condition, indexes }, values) {
+function evaluateCondition({ condition, indexes }, values) {
   return condition !== null && condition.holds(indexes.map((at) => values[at]));
 }
 
@@ -82,7 +82,7 @@ function holdsBy({ condition, indexes }, values) {
 export class PlaceValues extends Answers {
   /**
    * Returns the current values of all places; skips the lines of later changes.
-   * @param {Places} places
+   * @param {PlaceQueries} places
    */
   row(places) {
     let row = "";
@@ -93,33 +93,35 @@ export class PlaceValues extends Answers {
   /**
    * Returns the current values of all places, and the values after each instruction that changes them, with the cycles before the
    * instruction.
-   * @param {Places} places
+   * @param {PlaceQueries} places
    * @returns {{ values: string[], changes: Change[] }}
    */
   changes(places) {
     /** @type {string[]} */
     let values = [];
     /** @type {Change[][]} */
-    const all = [];
+    const changesByGroup = [];
     for (let group = 0; group < places.groups.length; group++) {
       const { row, lines } = this.takeTrace();
       const from = values.length;
-      all.push(lines.map((line) => changeOf(line, from)));
-      values = [...values, ...valuesOf(row)];
+      changesByGroup.push(lines.map((line) => parseChange(line, from)));
+      values = [...values, ...rowValues(row)];
     }
-    return { values, changes: all.length === 1 ? all[0] : all.flat().sort((one, other) => one.cycles - other.cycles) };
+    if (changesByGroup.length === 1) return { values, changes: changesByGroup[0] };
+    return { values, changes: changesByGroup.flat().sort((one, other) => one.cycles - other.cycles) };
   }
 
   /** Returns the answer to `count`; an empty list if the bench rejects the wait. */
   counts() {
-    if (!refusalOf(this.answers[this.at])) return this.takeCounts();
+    if (!parseRefusal(this.answers[this.at])) return this.takeCounts();
     this.skip(1);
     return [];
   }
 }
 
 /**
- * An instruction that changes values of a group. The values start at position `from`.
+ * An instruction that changes values in a group of places: its cycle, its address, and the new values. `from` is the position of the first
+ * value among the values of all places.
  * @typedef {{ cycles: number, address: number, from: number, values: string[] }} Change
  */
 
@@ -128,7 +130,7 @@ export class PlaceValues extends Answers {
  * @param {number} from
  * @returns {Change}
  */
-function changeOf(line, from) {
-  const { cycles, address, row } = readTraced(line);
-  return { cycles, address, from, values: valuesOf(row) };
+function parseChange(line, from) {
+  const { cycles, address, row } = parseTraceLine(line);
+  return { cycles, address, from, values: rowValues(row) };
 }

@@ -1,72 +1,76 @@
-// A proof before the search: a property that is proved for all inputs needs no search. For a share of the time, the prover is asked about
-// the properties that it can decide. The bound on the number of states doubles. The search continues with the remaining properties.
+// Asks the prover before the search, because a property that is proved for all inputs needs no search. The prover gets a share of the
+// search time. Each round asks about all properties that are still open, with twice the bound on the number of states.
 
 import { allMistakes } from "../prove/mistakes.js";
-import { askedOf, boundsUpTo, isAskedAlone, jointQuestion, mistakeQuestion, questionText, readAnswer } from "../prove/question.js";
+import {
+  createQuestion, boundsUpTo, jointQuestion, mistakeQuestion, needsSeparateQuestion, questionText, readAnswer,
+} from "../prove/question.js";
 
 /**
  * @typedef {import("./campaign.js").Campaign} Campaign
  * @typedef {import("./subject.js").Subject} Subject
  *
- * The numbers of the properties that hold after a positive answer, and the question for the prover.
- * @typedef {{ properties: number[], question: import("../prove/question.js").Question }} Asked
+ * A question for the prover, and the numbers of the properties that a positive answer proves.
+ * @typedef {{ properties: number[], question: import("../prove/question.js").Question }} PropertyQuestion
  */
 
-/** The bounds on the number of states: for the first question, and the maximum. */
+/** The bound on the number of states in the first round, and its maximum. */
 const FIRST_BOUND = 100;
 const MAX_BOUND = 999999999;
-/** The `pause` of a question. It keeps the first question short, even for a program that runs long without reading inputs. */
-const PAUSE = 100;
+/** The `pause` of a question, in cycles. A low number keeps the first question short if the program seldom reads inputs. */
+const PAUSE_CYCLES = 100;
 
-export class ProofFirst {
+export class InitialProof {
   /**
-   * @param {Subject} subject the subject; its host can lack a prover
+   * @param {Subject} subject the subject; without a prover in its engine, no question is asked
    * @param {Campaign} campaign
-   * @param {number} milliseconds the time limit in milliseconds, as far as the duration is predictable
+   * @param {number} milliseconds the time limit; a question starts only if it will probably end in time
    */
   constructor(subject, campaign, milliseconds) {
     this.subject = subject;
-    this.left = subject.engine.prove ? milliseconds : 0;
+    this.timeLeft = subject.engine.prove ? milliseconds : 0;
     /** The number of states in the proof of each property; 0 for unproved properties. */
     this.states = campaign.properties.map(() => 0);
-    const alone = this.left > 0 ? questionsOf(subject, campaign) : [];
-    const joint = alone.filter(({ properties: [at], question }) => !isAskedAlone(campaign.properties[at], question));
+    const separateQuestions = this.timeLeft > 0 ? createQuestions(subject, campaign) : [];
+    const combinableQuestions = separateQuestions.filter(({ properties: [at], question }) => (
+      !needsSeparateQuestion(campaign.properties[at], question)));
     /**
-     * @type {Asked[]} the remaining questions; the first one can combine others, which are asked separately if the combination does not
-     * hold
+     * The remaining questions. The first one can combine several others; these remain in the list in case the combination is not proved.
+     * @type {PropertyQuestion[]}
      */
-    this.questions = joint.length > 1 ? [joinQuestions(joint), ...alone] : alone;
+    this.questions = combinableQuestions.length > 1 ? [joinQuestions(combinableQuestions), ...separateQuestions] : separateQuestions;
     this.bounds = boundsUpTo(MAX_BOUND, FIRST_BOUND);
-    /** The number of questions asked with the current bound. */
-    this.asked = 0;
+    /** The number of questions with the current bound so far. */
+    this.askedCount = 0;
     /** The duration of the last question in milliseconds. */
-    this.last = 0;
+    this.lastDuration = 0;
   }
 
   /** True if there is time for another question. */
-  get continues() {
-    return this.questions.length > 0 && this.left > this.last;
+  get canContinue() {
+    return this.questions.length > 0 && this.timeLeft > this.lastDuration;
   }
 
-  /** Asks one question; returns the numbers of the properties that the answer proves. */
+  /** Asks the next question. Returns the numbers of the properties that the answer proves. */
   ask() {
-    const { properties, question } = this.questions[this.asked];
+    const { properties, question } = this.questions[this.askedCount];
     const startTime = performance.now();
-    const answer = this.answerTo(question);
-    this.last = performance.now() - startTime;
-    this.left -= this.last;
-    if (answer.kind !== "more") this.questions.splice(this.asked, 1);
-    else this.asked += 1;
-    if (answer.kind === "holds") this.close(properties, answer.states);
+    const answer = this.askProver(question);
+    this.lastDuration = performance.now() - startTime;
+    this.timeLeft -= this.lastDuration;
+    if (answer.kind !== "more") this.questions.splice(this.askedCount, 1);
+    else this.askedCount += 1;
+    if (answer.kind === "holds") this.closeProved(properties, answer.states);
     if (answer.kind === "full" || answer.kind === "lost") this.questions = [];
-    if (this.asked >= this.questions.length) this.raise();
+    if (this.askedCount >= this.questions.length) this.raiseBound();
     return answer.kind === "holds" ? properties : [];
   }
 
   /** @param {import("../prove/question.js").Question} question */
-  answerTo(question) {
+  askProver(question) {
     const { engine, texts } = this.subject;
-    const answer = engine.prove ? readAnswer(engine.prove(questionText(texts, question, { most: this.bounds[0], pause: PAUSE }))) : null;
+    const limits = { most: this.bounds[0], pause: PAUSE_CYCLES };
+    const answer = engine.prove ? readAnswer(engine.prove(questionText(texts, question, limits))) : null;
     return answer || { kind: /** @type {const} */ ("lost") };
   }
 
@@ -75,16 +79,16 @@ export class ProofFirst {
    * @param {number[]} properties
    * @param {number} states
    */
-  close(properties, states) {
+  closeProved(properties, states) {
     for (const at of properties) this.states[at] = states;
     this.questions = this.questions.filter((each) => each.properties.some((at) => this.states[at] === 0));
   }
 
   /** Doubles the bound, and with it the expected duration. */
-  raise() {
-    this.asked = 0;
+  raiseBound() {
+    this.askedCount = 0;
     this.bounds.shift();
-    this.last *= 2;
+    this.lastDuration *= 2;
     if (this.bounds.length === 0) this.questions = [];
   }
 }
@@ -93,21 +97,21 @@ export class ProofFirst {
  * Returns one question for each property that the prover can decide.
  * @param {Subject} subject
  * @param {Campaign} campaign
- * @returns {Asked[]}
+ * @returns {PropertyQuestion[]}
  */
-function questionsOf(subject, campaign) {
+function createQuestions(subject, campaign) {
   const words = new Map(allMistakes().map(({ property: { form }, word }) => [form, word]));
   return campaign.properties.flatMap((property, at) => {
     const mistake = words.get(property.form);
-    const question = mistake ? mistakeQuestion([mistake]) : askedOf(property, campaign, subject).question;
+    const question = mistake ? mistakeQuestion([mistake]) : createQuestion(property, campaign, subject).question;
     return question ? [{ properties: [at], question }] : [];
   });
 }
 
 /**
  * Combines several questions into one.
- * @param {Asked[]} questions
- * @returns {Asked}
+ * @param {PropertyQuestion[]} questions
+ * @returns {PropertyQuestion}
  */
 function joinQuestions(questions) {
   return {

@@ -1,6 +1,6 @@
-// Properties: the conditions that must hold whatever is pressed, and when. Each one receives the events of a walk, in the order of time,
-// and says when it is violated (a goal: when it is reached). Its memory of a walk is a list of numbers, so that a walk can continue from a
-// stored state.
+// Properties: requirements that a program must meet for all inputs, and goals that it must be able to reach. A property receives the events
+// of a walk in time order and returns the time at which it is violated, or at which its goal is reached. The property keeps its memory of
+// the walk in a list of numbers, so that a walk can continue from a stored state.
 
 import * as say from "../../words/explore.js";
 
@@ -8,67 +8,81 @@ import * as say from "../../words/explore.js";
  * @typedef {import("../conditions/condition_language.js").Condition} Condition
  * @typedef {import("./explored_inputs.js").Input} Input
  *
- * The events: `values` are the values of the condition's places, now; `label`: the counter reaches an address of the
- * property; `down`: an input goes down; `reset`; `end`: a wait is over; `call` and `return`: of a subroutine.
+ * The kinds of events:
+ * - `values`: the places of the property's conditions have new values;
+ * - `label`: the program counter reaches an address of the property;
+ * - `down`: an input goes down; `reset`: the power is cut; `end`: a wait ends;
+ * - `call`, `return`: a subroutine is called, or returns.
  * @typedef {"values" | "label" | "down" | "reset" | "end" | "call" | "return"} Event
- * @typedef {{ time: number, changed: number, address: number, holds: boolean, opens: boolean[], input: string, isDown: number }} Moment
- *   cycles from power-on, and those up to the change of the values, which is the end of the instruction's first cycle; the address that the
- *   counter reaches; whether the condition holds now, and those of the guards; the input that goes down; how many are down
  *
- * A guard says when a property is judged: from a press on, for `limit` cycles or, if that is 0, for ever; once a condition has held; while
- * a condition holds.
+ * The circumstances of an event. Times are in cycles since power-on.
+ * - `time`: the time of the event; `changed`: the end of the instruction's first cycle, at which the values have changed;
+ * - `address`: the address that the program counter reaches;
+ * - `holds`: true if the condition is true; `areOpen`: true for each guard condition that is true;
+ * - `input`: the input that goes down; `isDown`: the number of inputs that are down.
+ * @typedef {{ time: number, changed: number, address: number, holds: boolean, areOpen: boolean[], input: string,
+ *   isDown: number }} Moment
+ *
+ * A guard determines when a property is checked:
+ * - `press`: for `limit` cycles after a press of the key, or without a limit if `limit` is 0;
+ * - `once`: after the first moment at which the condition is true;
+ * - `while`: as long as the condition is true.
  * @typedef {{ kind: "press" | "once" | "while", key: string, limit: number, condition: Condition | null }} Guard
  *
- * `from` begins a memory; `see` returns the time at which the property is violated, -1 if it is not; `mark` is the part of its memory that
- * makes a state new; `address` is that of its label, -1 without one; `start` is the address from which the counter must reach it;
- * `form` is the text for a test.
+ * A property or a goal.
+ * - `form`: the form of its line; `text`, `line`: its text and line number; `address`: the address of its label, -1 for none;
+ * - `start`: for `within`, the address at which the time starts; `limit`: the time limit in cycles; `keys`: the keys in its text;
+ * - `from`: creates the initial memory; `update`: updates the memory for an event, and returns the time of the violation or -1;
+ * - `newStateKey`: formats the numbers in the memory that distinguish states;
+ * - `hasApplied`: returns false if nothing in the walk was relevant to the property.
  * @typedef {{ form: Form, text: string, line: number, condition: Condition | null, address: number, start: number, limit: number,
  *   isGoal: boolean, keys: string[], guards: Guard[], from: (time: number, isDown: number) => number[],
- *   see: (memory: number[], event: Event, moment: Moment) => number, mark: (memory: number[]) => string,
- *   applies: (memory: number[]) => boolean }} Property
+ *   update: (memory: number[], event: Event, moment: Moment) => number, newStateKey: (memory: number[]) => string,
+ *   hasApplied: (memory: number[]) => boolean }} Property
  * @typedef {"never" | "always" | "never for" | "at" | "only after" | "every" | "within" | "after press" | "once" | "reach" | "reach at"
  *   | "model" | "code" | "calls" | "returns" | "mistake"} Form
  */
 
-/** No time: not violated, not since any cycle; and no address. */
-const NOT = -1;
-/** The 4004 keeps three return addresses. */
-const DEEPEST = 3;
+/** The number for "no time" and for "no address". */
+const UNSET = -1;
+/** The maximum number of open calls: the 4004 stores three return addresses. */
+const MAX_OPEN_CALLS = 3;
 
-/** @type {Omit<Property, "form" | "text">} */
-const PLAIN = {
-  line: 0, condition: null, address: NOT, start: NOT, limit: 0, isGoal: false, keys: [], guards: [], from: () => [], see: () => NOT,
-  mark: () => "", applies: () => true,
+/** @type {Omit<Property, "form" | "text">} the default values of properties */
+const DEFAULT_PROPERTY = {
+  line: 0, condition: null, address: UNSET, start: UNSET, limit: 0, isGoal: false, keys: [], guards: [], from: () => [],
+  update: () => UNSET, newStateKey: () => "", hasApplied: () => true,
 };
 
 /**
- * Returns the condition of a property, or its address if the condition is a lone label. That holds whenever the counter reaches it.
+ * Returns a condition for a property. If the condition is only a label, returns its address instead: the condition is true whenever the
+ * program counter reaches the address.
  * @param {Condition} condition
  * @returns {Pick<Property, "condition" | "address">}
  */
-function lookedAt(condition) {
-  return condition.address >= 0 ? { condition: null, address: condition.address } : { condition, address: NOT };
+function conditionOrAddress(condition) {
+  return condition.address >= 0 ? { condition: null, address: condition.address } : { condition, address: UNSET };
 }
 
 /**
- * Returns whether a condition becomes true, or is reported as true once more.
+ * Returns whether an event reports that the condition is true.
  * @param {Event} event
  * @param {Moment} moment
  */
 const isReportedTrue = (event, { holds }) => event === "label" || (event === "values" && holds);
 
-/** @type {Property["see"]} */
-const brokenIfTrue = (_, event, moment) => (isReportedTrue(event, moment) ? moment.time : NOT);
-/** @type {Property["see"]} */
-const brokenIfFalse = (_, event, { time, holds }) => (event === "values" && !holds ? time : NOT);
+/** @type {Property["update"]} returns the time of the event if the condition is true */
+const violatedWhenTrue = (_, event, moment) => (isReportedTrue(event, moment) ? moment.time : UNSET);
+/** @type {Property["update"]} returns the time of the event if the condition is false */
+const violatedWhenFalse = (_, event, { time, holds }) => (event === "values" && !holds ? time : UNSET);
 
 /**
  * @param {string} text
  * @param {Condition} condition
  * @returns {Property}
  */
-export function never(text, condition) {
-  return { ...PLAIN, form: "never", text, ...lookedAt(condition), see: brokenIfTrue };
+export function neverProperty(text, condition) {
+  return { ...DEFAULT_PROPERTY, form: "never", text, ...conditionOrAddress(condition), update: violatedWhenTrue };
 }
 
 /**
@@ -76,167 +90,169 @@ export function never(text, condition) {
  * @param {Condition} condition
  * @returns {Property}
  */
-export function always(text, condition) {
-  return { ...PLAIN, form: "always", text, condition, see: brokenIfFalse };
+export function alwaysProperty(text, condition) {
+  return { ...DEFAULT_PROPERTY, form: "always", text, condition, update: violatedWhenFalse };
 }
 
 /**
- * Returns the property that a condition never holds for more than this many cycles without interruption. It remembers since when the
- * condition holds.
+ * Creates the property that a condition is never true for more than `limit` consecutive cycles. Memory: the time since which the
+ * condition has been true.
  * @param {string} text
  * @param {Condition} condition
  * @param {number} limit
  * @returns {Property}
  */
-export function neverFor(text, condition, limit) {
+export function neverForProperty(text, condition, limit) {
   return {
-    ...PLAIN, form: "never for", text, condition, limit, from: () => [NOT],
-    see: (memory, event, { time, changed, holds }) => {
+    ...DEFAULT_PROPERTY, form: "never for", text, condition, limit, from: () => [UNSET],
+    update: (memory, event, { time, changed, holds }) => {
       const [since] = memory;
-      const last = event === "values" && !holds ? changed - 1 : time;
-      if (event === "reset") memory[0] = NOT;
-      else if (since !== NOT && last - since >= limit) return since + limit;
-      else if (event === "values" && (since === NOT) === holds) memory[0] = holds ? changed : NOT;
-      return NOT;
+      const lastTrue = event === "values" && !holds ? changed - 1 : time;
+      if (event === "reset") memory[0] = UNSET;
+      else if (since !== UNSET && lastTrue - since >= limit) return since + limit;
+      else if (event === "values" && (since === UNSET) === holds) memory[0] = holds ? changed : UNSET;
+      return UNSET;
     },
   };
 }
 
 /**
- * Returns the property that a condition holds whenever the counter reaches a label. It remembers whether the counter was there.
+ * Creates the property that a condition is true whenever the program counter reaches a label. Memory: 1 if the label was reached.
  * @param {string} text
  * @param {Condition} condition
  * @param {number} address
  * @returns {Property}
  */
-export function at(text, condition, address) {
+export function atProperty(text, condition, address) {
   return {
-    ...PLAIN, form: "at", text, condition, address, from: () => [0], applies: ([came]) => came > 0,
-    see: (memory, event, { time, holds }) => {
-      if (event !== "label") return NOT;
+    ...DEFAULT_PROPERTY, form: "at", text, condition, address, from: () => [0], hasApplied: ([wasReached]) => wasReached > 0,
+    update: (memory, event, { time, holds }) => {
+      if (event !== "label") return UNSET;
       memory[0] = 1;
-      return holds ? NOT : time;
+      return holds ? UNSET : time;
     },
   };
 }
 
 /**
- * Returns the property that a condition becomes true only after these presses, in this order, since it held last. It remembers the number
- * of these presses so far, whether the condition holds, and whether it ever did.
+ * Creates the property that a condition becomes true only after certain key presses, in order, since it was last true. Memory: the number
+ * of these presses so far, 1 if the condition is true, and 1 if it was ever true.
  * @param {string} text
  * @param {Condition} condition
  * @param {string[]} keys
  * @returns {Property}
  */
-export function onlyAfter(text, condition, keys) {
+export function onlyAfterProperty(text, condition, keys) {
   return {
-    ...PLAIN, form: "only after", text, ...lookedAt(condition), keys, from: () => [0, 0, 0], applies: ([, , ever]) => ever > 0,
-    mark: ([came]) => `${came}`,
-    see: (memory, event, moment) => {
+    ...DEFAULT_PROPERTY, form: "only after", text, ...conditionOrAddress(condition), keys, from: () => [0, 0, 0],
+    hasApplied: ([, , wasTrue]) => wasTrue > 0,
+    newStateKey: ([pressCount]) => `${pressCount}`,
+    update: (memory, event, moment) => {
       if (event === "reset") memory.fill(0, 0, 2);
       else if (event === "down" && moment.input === keys[memory[0]]) memory[0] += 1;
       else if (isReportedTrue(event, moment)) {
         if (!memory[1] && memory[0] < keys.length) return moment.time;
         memory[1] = memory[2] = 1;
-        // The counter leaves a label at once.
+        // The program counter leaves a label at once.
         if (event === "label") memory.fill(0, 0, 2);
       } else if (event === "values" && memory[1]) memory.fill(0, 0, 2);
-      return NOT;
+      return UNSET;
     },
   };
 }
 
 /**
- * Returns the property that the counter reaches a label again and again, each time within this many cycles. It remembers when the counter
- * was there last.
+ * Creates the property that the program counter reaches a label repeatedly, each time within `limit` cycles. Memory: the time at which the
+ * label was last reached.
  * @param {string} text
  * @param {number} address
  * @param {number} limit
  * @returns {Property}
  */
-export function every(text, address, limit) {
+export function everyProperty(text, address, limit) {
   return {
-    ...PLAIN, form: "every", text, address, limit, from: (time) => [time],
-    see: (memory, event, { time }) => {
+    ...DEFAULT_PROPERTY, form: "every", text, address, limit, from: (time) => [time],
+    update: (memory, event, { time }) => {
       if (event !== "reset" && time - memory[0] > limit) return memory[0] + limit;
       if (event === "label" || event === "reset") [memory[0]] = [time];
-      return NOT;
+      return UNSET;
     },
   };
 }
 
 /**
- * Returns the property that the counter reaches one label within this many cycles whenever it was at another. It remembers since when the
- * counter is awaited, and whether it ever was.
+ * Creates the property that the program counter reaches the label at `address` within `limit` cycles after the label at `start`. Memory:
+ * the time at which the wait for the label started, and 1 if there ever was a wait.
  * @param {string} text
  * @param {number} start
  * @param {number} address
  * @param {number} limit
  * @returns {Property}
  */
-export function within(text, start, address, limit) {
+export function withinProperty(text, start, address, limit) {
   return {
-    ...PLAIN, form: "within", text, start, address, limit, from: () => [NOT, 0], applies: ([, ever]) => ever > 0,
-    see: (memory, event, { time, address: reached }) => {
+    ...DEFAULT_PROPERTY, form: "within", text, start, address, limit, from: () => [UNSET, 0],
+    hasApplied: ([, wasAwaited]) => wasAwaited > 0,
+    update: (memory, event, { time, address: reached }) => {
       const [since] = memory;
-      if (event === "reset") memory[0] = NOT;
-      else if (since !== NOT && time - since > limit) return since + limit;
-      if (event !== "label") return NOT;
-      if (reached === address) memory[0] = NOT;
+      if (event === "reset") memory[0] = UNSET;
+      else if (since !== UNSET && time - since > limit) return since + limit;
+      if (event !== "label") return UNSET;
+      if (reached === address) memory[0] = UNSET;
       if (reached === start) {
         memory[1] = 1;
-        if (memory[0] === NOT) [memory[0]] = [time];
+        if (memory[0] === UNSET) [memory[0]] = [time];
       }
-      return NOT;
+      return UNSET;
     },
   };
 }
 
 /**
- * Returns the addresses that a property waits for.
+ * Returns the addresses of the labels in a property.
  * @param {Property} property
  */
-export const addressesOf = ({ address, start }) => [address, start].filter((each) => each >= 0);
+export const listAddresses = ({ address, start }) => [address, start].filter((each) => each >= 0);
 
 /**
- * Returns the property that a condition holds within this many cycles after an input went down. It remembers since when the condition is
- * awaited, whether it ever was, and whether it holds.
+ * Creates the property that a condition becomes true within `limit` cycles after a key press. Memory: the time at which the wait for the
+ * condition started, 1 if there ever was a wait, and 1 if the condition is true.
  * @param {string} text
  * @param {string} key
  * @param {Condition} condition
  * @param {number} limit
  * @returns {Property}
  */
-export function afterPress(text, key, condition, limit) {
+export function afterPressProperty(text, key, condition, limit) {
   return {
-    ...PLAIN, form: "after press", text, ...lookedAt(condition), limit, keys: [key], from: () => [NOT, 0, 0],
-    applies: ([, ever]) => ever > 0,
-    see: (memory, event, moment) => {
+    ...DEFAULT_PROPERTY, form: "after press", text, ...conditionOrAddress(condition), limit, keys: [key], from: () => [UNSET, 0, 0],
+    hasApplied: ([, wasAwaited]) => wasAwaited > 0,
+    update: (memory, event, moment) => {
       const [since] = memory;
       const { time, holds, input } = moment;
       if (event === "values") memory[2] = holds ? 1 : 0;
-      if (event === "reset" || (since !== NOT && isReportedTrue(event, moment) && time <= since + limit)) memory[0] = NOT;
-      else if (since !== NOT && time > since + limit) return since + limit;
+      if (event === "reset" || (since !== UNSET && isReportedTrue(event, moment) && time <= since + limit)) memory[0] = UNSET;
+      else if (since !== UNSET && time > since + limit) return since + limit;
       if (event === "down" && input === key) {
         memory[1] = 1;
-        if (memory[0] === NOT && !memory[2]) [memory[0]] = [time];
+        if (memory[0] === UNSET && !memory[2]) [memory[0]] = [time];
       }
-      return NOT;
+      return UNSET;
     },
   };
 }
 
 /**
- * Returns the property that the counter reaches a label at most once for each press. It remembers the number of presses that are left, and
- * whether the counter was there.
+ * Creates the property that the program counter reaches a label at most once per press. Memory: the number of presses for which the label
+ * was not yet reached, and 1 if the label was ever reached.
  * @param {string} text
  * @param {number} address
  * @returns {Property}
  */
-export function once(text, address) {
+export function oncePerPressProperty(text, address) {
   return {
-    ...PLAIN, form: "once", text, address, from: (_, isDown) => [isDown, 0], applies: ([, came]) => came > 0,
-    see: (memory, event, { time, isDown }) => {
+    ...DEFAULT_PROPERTY, form: "once", text, address, from: (_, isDown) => [isDown, 0], hasApplied: ([, wasReached]) => wasReached > 0,
+    update: (memory, event, { time, isDown }) => {
       if (event === "reset") memory[0] = isDown;
       else if (event === "down") memory[0] += 1;
       else if (event === "label") {
@@ -244,118 +260,124 @@ export function once(text, address) {
         memory[0] -= 1;
         if (memory[0] < 0) return time;
       }
-      return NOT;
+      return UNSET;
     },
   };
 }
 
 /**
- * Returns the goal that a condition becomes true.
+ * Creates the goal that a condition becomes true.
  * @param {string} text
  * @param {Condition} condition
  * @returns {Property}
  */
-export function reach(text, condition) {
-  return { ...PLAIN, form: "reach", text, condition, isGoal: true, see: brokenIfTrue };
+export function reachProperty(text, condition) {
+  return { ...DEFAULT_PROPERTY, form: "reach", text, condition, isGoal: true, update: violatedWhenTrue };
 }
 
 /**
- * Returns the goal that the counter reaches an address.
+ * Creates the goal that the program counter reaches an address.
  * @param {string} text
  * @param {number} address
  * @returns {Property}
  */
-export function reachAt(text, address) {
-  return { ...PLAIN, form: "reach at", text, address, isGoal: true, see: (_, event, { time }) => (event === "label" ? time : NOT) };
+export function reachAddressProperty(text, address) {
+  return {
+    ...DEFAULT_PROPERTY, form: "reach at", text, address, isGoal: true,
+    update: (_, event, { time }) => (event === "label" ? time : UNSET),
+  };
 }
 
-/** Forms that can have a guard. */
-export const GUARDED = new Set(["never", "never for", "always", "at", "after press", "reach", "reach at"]);
+/** The property forms that can have a guard. */
+export const GUARDABLE_FORMS = new Set(["never", "never for", "always", "at", "after press", "reach", "reach at"]);
 
 /**
- * Returns the memory of a guard: since when it is open, or was open last; NOT if it is closed.
+ * Returns the memory of a guard after an event. For a `press` or `once` guard, this is the time at which the guard opened. For a `while`
+ * guard, it is the last time at which the guard was open. The memory of a closed guard is UNSET.
  * @param {Guard} guard
  * @param {number} since
  * @param {Event} event
  * @param {Moment} moment
- * @param {boolean} holds whether its condition does
+ * @param {boolean} holds true if the condition of the guard is true
  */
-function guardAfter({ kind, key }, since, event, { time, input }, holds) {
-  if (event === "reset") return NOT;
+function updateGuard({ kind, key }, since, event, { time, input }, holds) {
+  if (event === "reset") return UNSET;
   if (kind === "press") return event === "down" && input === key ? time : since;
   if (event !== "values" && event !== "label" && event !== "down") return since;
-  if (kind === "once") return since === NOT && holds ? time : since;
-  return holds ? time : NOT;
+  if (kind === "once") return since === UNSET && holds ? time : since;
+  return holds ? time : UNSET;
 }
 
 /**
- * Returns the last cycle at which a guard is open.
+ * Returns the last cycle at which a guard is open; Infinity without a limit.
  * @param {Guard} guard
- * @param {number} since
+ * @param {number} since the memory of the guard
  */
-function lastOf({ kind, limit }, since) {
-  if (since === NOT) return NOT;
+function lastOpenCycle({ kind, limit }, since) {
+  if (since === UNSET) return UNSET;
   return kind === "press" && limit > 0 ? since + limit : Infinity;
 }
 
 /**
- * Reports an event to a guarded property, in its own memory.
+ * Reports an event to a property with guards. Returns the time of the violation, or UNSET.
  * @param {Property} property
  * @param {number[]} memory
  * @param {Event} event
  * @param {Moment} moment
- * @param {boolean} isOpen
+ * @param {boolean} isOpen true if all guards are open
  */
-function seeGuarded({ form, see, keys }, memory, event, moment, isOpen) {
-  if (form === "never for") return see(memory, event, { ...moment, holds: moment.holds && isOpen });
-  // A press counts when it comes; its effect may come later.
-  if (form === "after press") return event === "down" && moment.input === keys[0] && !isOpen ? NOT : see(memory, event, moment);
-  return isOpen || event === "reset" ? see(memory, event, moment) : NOT;
+function notifyGuarded({ form, update, keys }, memory, event, moment, isOpen) {
+  if (form === "never for") return update(memory, event, { ...moment, holds: moment.holds && isOpen });
+  // The guards must be open at the press, but can be closed at its effect.
+  if (form === "after press") return event === "down" && moment.input === keys[0] && !isOpen ? UNSET : update(memory, event, moment);
+  return isOpen || event === "reset" ? update(memory, event, moment) : UNSET;
 }
 
 /**
- * Returns a property that is judged only while all guards are open. It remembers each guard, whether all were ever open, and the memory of
- * the property.
+ * Creates a property that is checked only while all guards are open. Memory: the memory of each guard, 1 if all guards were ever open, and
+ * the memory of the original property.
  * @param {string} text
  * @param {Property} property
  * @param {Guard[]} guards
  * @returns {Property}
  */
-export function guarded(text, property, guards) {
-  const own = guards.length + 1;
+export function guardedProperty(text, property, guards) {
+  const ownStart = guards.length + 1;
   return {
-    ...property, text, guards, from: (time, isDown) => [...guards.map(() => NOT), 0, ...property.from(time, isDown)],
-    mark: (memory) => guards.map((_, index) => (memory[index] === NOT ? "-" : "+")).join("") + property.mark(memory.slice(own)),
-    applies: (memory) => memory[own - 1] > 0 && property.applies(memory.slice(own)),
-    see: (memory, event, moment) => {
-      const inner = memory.slice(own);
-      const last = Math.min(...guards.map((guard, index) => lastOf(guard, memory[index])));
-      // A duration is over if the guard closed before this moment.
-      const hasClosed = property.form === "never for" && last < moment.time && last !== NOT;
-      let when = hasClosed ? property.see(inner, "values", { ...moment, time: last + 1, changed: last + 1, holds: false }) : NOT;
+    ...property, text, guards, from: (time, isDown) => [...guards.map(() => UNSET), 0, ...property.from(time, isDown)],
+    newStateKey: (memory) => (
+      guards.map((_, index) => (memory[index] === UNSET ? "-" : "+")).join("") + property.newStateKey(memory.slice(ownStart))),
+    hasApplied: (memory) => memory[ownStart - 1] > 0 && property.hasApplied(memory.slice(ownStart)),
+    update: (memory, event, moment) => {
+      const ownMemory = memory.slice(ownStart);
+      const lastOpen = Math.min(...guards.map((guard, index) => lastOpenCycle(guard, memory[index])));
+      // The closing of a guard also ends the time for which the condition has been true.
+      const hasClosed = property.form === "never for" && lastOpen < moment.time && lastOpen !== UNSET;
+      const closing = { ...moment, time: lastOpen + 1, changed: lastOpen + 1, holds: false };
+      let violationTime = hasClosed ? property.update(ownMemory, "values", closing) : UNSET;
       guards.forEach((guard, index) => {
-        memory[index] = guardAfter(guard, memory[index], event, moment, moment.opens[index] === true);
+        memory[index] = updateGuard(guard, memory[index], event, moment, moment.areOpen[index] === true);
       });
-      const isOpen = guards.every((guard, index) => memory[index] !== NOT && moment.time <= lastOf(guard, memory[index]));
-      if (isOpen) memory[own - 1] = 1;
-      if (when === NOT) when = seeGuarded(property, inner, event, moment, isOpen);
-      memory.splice(own, inner.length, ...inner);
-      return when;
+      const isOpen = guards.every((guard, index) => memory[index] !== UNSET && moment.time <= lastOpenCycle(guard, memory[index]));
+      if (isOpen) memory[ownStart - 1] = 1;
+      if (violationTime === UNSET) violationTime = notifyGuarded(property, ownMemory, event, moment, isOpen);
+      memory.splice(ownStart, ownMemory.length, ...ownMemory);
+      return violationTime;
     },
   };
 }
 
 /**
- * Returns the property of a command that says what the display must show. It receives no events.
+ * Creates the property that the display shows the text that an external command computes. The property receives no events.
  * @param {string} text
  * @returns {Property}
  */
-export function model(text) {
-  return { ...PLAIN, form: "model", text };
+export function modelProperty(text) {
+  return { ...DEFAULT_PROPERTY, form: "model", text };
 }
 
 /**
- * Counts the open calls in a memory of one number.
+ * Updates a memory that consists of the number of open calls.
  * @param {number[]} memory
  * @param {Event} event
  */
@@ -366,26 +388,26 @@ function countCalls(memory, event) {
 }
 
 /**
- * Returns the properties that no program should break.
+ * Creates the properties that every program is checked for.
  * @returns {Property[]}
  */
-export function alwaysOn() {
+export function standardProperties() {
   return [
-    { ...PLAIN, form: "code", text: say.NO_OTHER_CODE },
+    { ...DEFAULT_PROPERTY, form: "code", text: say.NO_OTHER_CODE },
     {
-      ...PLAIN, form: "calls", text: say.NO_FOURTH_CALL, from: () => [0],
-      see: (memory, event, { time }) => {
+      ...DEFAULT_PROPERTY, form: "calls", text: say.NO_FOURTH_CALL, from: () => [0],
+      update: (memory, event, { time }) => {
         countCalls(memory, event);
-        return memory[0] > DEEPEST ? time : NOT;
+        return memory[0] > MAX_OPEN_CALLS ? time : UNSET;
       },
     },
     {
-      ...PLAIN, form: "returns", text: say.NO_LONE_RETURN, from: () => [0],
-      see: (memory, event, { time }) => {
+      ...DEFAULT_PROPERTY, form: "returns", text: say.NO_LONE_RETURN, from: () => [0],
+      update: (memory, event, { time }) => {
         countCalls(memory, event);
-        // A fourth call is reported by itself; its return is another question.
-        memory[0] = Math.min(memory[0], DEEPEST);
-        return memory[0] < 0 ? time : NOT;
+        // The property `calls` reports a fourth call. Its return is not a return without a call.
+        memory[0] = Math.min(memory[0], MAX_OPEN_CALLS);
+        return memory[0] < 0 ? time : UNSET;
       },
     },
   ];

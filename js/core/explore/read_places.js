@@ -1,20 +1,21 @@
-// Reads the current values of places with the cheapest bench queries: `lamps`, `regs`, `state` and `ram` report most of the places that
-// `trace` reports, without a copy of the bench. The values are spelled exactly as in `trace`.
+// Reads the current values of `trace` places with the fastest queries: `lamps`, `regs`, `state` and `ram` report most of these places in
+// the same spelling. Unlike `trace`, these queries need no copy of the bench.
 
-import { numberOf } from "../bench/numbers.js";
-import { Places } from "./place_questions.js";
+import { parseNumber } from "../bench/numbers.js";
+import { PlaceQueries } from "./place_questions.js";
 
 /**
  * @typedef {import("../bench/answers.js").Board} Board
  * @typedef {import("./place_questions.js").PlaceValues} PlaceValues
  *
  * The position of a value: the query, the index of the answer line, the first character, and the number of characters. If the answer has
- * words of varying length, `after` is the word before the value. If `length` is 0, the value extends to the end of the line.
- * @typedef {{ question: string, line: number, after: string, from: number, length: number }} Spot
+ * words of varying length, `precedingWord` is the word before the value. If `length` is 0, the value extends to the end of the line.
+ * @typedef {{ query: string, line: number, precedingWord: string, start: number, length: number }} Spot
  */
 
 /** The positions of registers in `acc H cy B pc HHH owed B dcl D test B r HHHHHHHHHHHHHHHH ..`: first character and length. */
 const REGISTERS = new Map([["acc", [4, 1]], ["cy", [9, 1]], ["pc", [14, 3]], ["dcl", [29, 1]]]);
+/** The position of r0 in the same line. */
 const FIRST_REGISTER = 40;
 /** The number of `ram` lines per chip: one per register, and one for the port. */
 const CHIP_LINES = 5;
@@ -25,7 +26,7 @@ const CHIP_REGISTERS = 4;
  * @param {Board} board
  * @param {number} bank
  */
-function chipsOf({ banks }, bank) {
+function countChips({ banks }, bank) {
   return (banks.find((each) => each.bank === bank) || { chips: 0 }).chips;
 }
 
@@ -35,9 +36,9 @@ function chipsOf({ banks }, bank) {
  */
 function registerSpot(name) {
   const found = REGISTERS.get(name);
-  if (found) return { question: "regs", line: 0, after: "", from: found[0], length: found[1] };
+  if (found) return { query: "regs", line: 0, precedingWord: "", start: found[0], length: found[1] };
   const register = /^r(\d+)$/.exec(name);
-  return register && { question: "regs", line: 0, after: "", from: FIRST_REGISTER + Number(register[1]), length: 1 };
+  return register && { query: "regs", line: 0, precedingWord: "", start: FIRST_REGISTER + Number(register[1]), length: 1 };
 }
 
 /**
@@ -49,13 +50,13 @@ function registerSpot(name) {
 function memorySpot(name, board) {
   const [word, ...parts] = name.split(".");
   if (word !== "ram" && word !== "st") return null;
-  const [bank, at, third] = parts.map(numberOf);
+  const [bank, at, statusIndex] = parts.map(parseNumber);
   const register = word === "ram" ? at >> 4 : at;
-  if ((register >> 2) >= chipsOf(board, bank)) return null;
+  if ((register >> 2) >= countChips(board, bank)) return null;
   const line = 1 + (register >> 2) * CHIP_LINES + (register % CHIP_REGISTERS);
   // `0.0.1 HHHHHHHHHHHHHHHH HHHH`
-  const from = word === "ram" ? 6 + (at % 16) : 23 + third;
-  return { question: `ram ${bank}`, line, after: "", from, length: 1 };
+  const start = word === "ram" ? 6 + (at % 16) : 23 + statusIndex;
+  return { query: `ram ${bank}`, line, precedingWord: "", start, length: 1 };
 }
 
 /**
@@ -66,19 +67,19 @@ function memorySpot(name, board) {
  * @returns {Spot | null}
  */
 function portSpot(name, board) {
-  const found = /^ram(\d)\.(\d)$/.exec(name);
-  if (!found || Number(found[2]) >= chipsOf(board, Number(found[1]))) return null;
+  const match = /^ram(\d)\.(\d)$/.exec(name);
+  if (!match || Number(match[2]) >= countChips(board, Number(match[1]))) return null;
   // `rams 0.0.H,0.1.H,1.0.H`
-  const before = board.banks.filter(({ bank }) => bank < Number(found[1])).reduce((sum, { chips }) => sum + chips, 0);
-  return { question: "state", line: 0, after: " rams ", from: 6 * (before + Number(found[2])) + 4, length: 1 };
+  const before = board.banks.filter(({ bank }) => bank < Number(match[1])).reduce((sum, { chips }) => sum + chips, 0);
+  return { query: "state", line: 0, precedingWord: " rams ", start: 6 * (before + Number(match[2])) + 4, length: 1 };
 }
 
 /**
  * @param {string} name
  * @param {Board} board
  */
-function spotOf(name, board) {
-  if (name === "lamps") return { question: "lamps", line: 0, after: "", from: 6, length: 0 };
+function findSpot(name, board) {
+  if (name === "lamps") return { query: "lamps", line: 0, precedingWord: "", start: 6, length: 0 };
   return registerSpot(name) || memorySpot(name, board) || portSpot(name, board);
 }
 
@@ -89,21 +90,21 @@ export class Snapshots {
    */
   constructor(names, board) {
     const all = [...new Set(names)];
-    const spots = all.map((name) => spotOf(name, board));
+    const spots = all.map((name) => findSpot(name, board));
     /** The places that only `trace` reports. */
-    this.rest = new Places(all.filter((_, at) => !spots[at]));
+    this.rest = new PlaceQueries(all.filter((_, at) => !spots[at]));
     this.spots = spots.flatMap((spot) => spot || []);
     /** All places, in the order of the values. */
     this.names = [...all.filter((_, at) => spots[at]), ...this.rest.names];
-    this.questions = [...new Set(this.spots.map(({ question }) => question))];
+    this.queries = [...new Set(this.spots.map(({ query }) => query))];
     /** The query lines. */
-    this.lines = this.questions.map((question) => `${question}\n`).join("") + this.rest.lines(1);
-    const counts = this.questions.map((question) => (
-      question.startsWith("ram ") ? 1 + CHIP_LINES * chipsOf(board, Number(question.slice(4))) : 1));
+    this.lines = this.queries.map((query) => `${query}\n`).join("") + this.rest.lines(1);
+    const counts = this.queries.map((query) => (
+      query.startsWith("ram ") ? 1 + CHIP_LINES * countChips(board, Number(query.slice(4))) : 1));
     /** The line index of each position in the whole answer. */
-    this.at = this.spots.map(({ question, line }) => (
-      line + counts.slice(0, this.questions.indexOf(question)).reduce((sum, count) => sum + count, 0)));
-    this.count = counts.reduce((sum, count) => sum + count, 0);
+    this.answerIndexes = this.spots.map(({ query, line }) => (
+      line + counts.slice(0, this.queries.indexOf(query)).reduce((sum, count) => sum + count, 0)));
+    this.answerCount = counts.reduce((sum, count) => sum + count, 0);
   }
 
   /**
@@ -119,17 +120,17 @@ export class Snapshots {
    * @param {PlaceValues} values
    */
   row(values) {
-    const { spots, at, rest } = this;
+    const { spots, answerIndexes, rest: tracedPlaces } = this;
     const first = values.at;
     let row = "";
     for (let each = 0; each < spots.length; each++) {
-      const { after, from, length } = spots[each];
-      const answer = values.answers[first + at[each]];
-      const begin = after === "" ? from : answer.indexOf(after) + after.length + from;
+      const { precedingWord, start, length } = spots[each];
+      const answer = values.answers[first + answerIndexes[each]];
+      const begin = precedingWord === "" ? start : answer.indexOf(precedingWord) + precedingWord.length + start;
       row += `${each === 0 ? "" : " "}${length === 0 ? answer.slice(begin) : answer.substr(begin, length)}`;
     }
-    values.skip(this.count);
-    if (rest.names.length === 0) return row;
-    return row === "" ? values.row(rest) : `${row} ${values.row(rest)}`;
+    values.skip(this.answerCount);
+    if (tracedPlaces.names.length === 0) return row;
+    return row === "" ? values.row(tracedPlaces) : `${row} ${values.row(tracedPlaces)}`;
   }
 }

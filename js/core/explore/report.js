@@ -1,7 +1,7 @@
 // The result of a search and its TAP output. Joins the reports of searches with other seeds, processes or machines.
 
 import { counted } from "../bench/numbers.js";
-import { TAP_HEAD, described, quoted } from "../testing/tap.js";
+import { TAP_HEAD, tapDescription, yamlString } from "../testing/tap.js";
 import { Coverage } from "./search_coverage.js";
 import { andMore } from "../../words/debug.js";
 import * as say from "../../words/explore.js";
@@ -12,13 +12,13 @@ import { neverReached, proved } from "../../words/prove.js";
  * @typedef {import("./subject.js").Instruction} Instruction
  *
  * A counterexample: its test, its number of steps, its cycles, and the seed of the search that found it.
- * @typedef {{ test: string, steps: number, cycles: number, seed: number }} Found
+ * @typedef {{ test: string, steps: number, cycles: number, seed: number }} Counterexample
  *
  * A property in a report. `isSkipped`: it is a model whose command was not run. `applied`: it was checked. `states`: the number of states
  * in the proof for all inputs, otherwise 0. `leftOut`: the guards that the proof leaves out. `chains`: the number of key sequences for
- * which the model was asked.
+ * which the display was compared with the model.
  * @typedef {{ text: string, line: number, isGoal: boolean, isSkipped: boolean, applied: boolean, states: number, leftOut: string,
- *   chains: number, found: Found | null }} PropertyResult
+ *   chains: number, found: Counterexample | null }} PropertyResult
  *
  * @typedef {{ form: "explore 1", names: { board: string, program: string, properties: string }, sums: string, properties: PropertyResult[],
  *   seeds: number[], steps: number, states: number, seconds: number, covered: string, instructions: Instruction[],
@@ -26,22 +26,22 @@ import { neverReached, proved } from "../../words/prove.js";
  */
 
 /** @param {number} number */
-export const grouped = (number) => Math.round(number).toLocaleString("en");
+export const formatNumber = (number) => Math.round(number).toLocaleString("en");
 
 /**
  * Formats a step count: `1 step`, `1,204 steps`.
  * @param {number} count
  */
-export const stepsOf = (count) => counted(count, "step");
+export const formatSteps = (count) => counted(count, "step");
 
 /**
  * Returns the shorter of two counterexamples, by steps and then by time.
- * @param {Found | null} one
- * @param {Found | null} other
+ * @param {Counterexample | null} first
+ * @param {Counterexample | null} second
  */
-function shorterOf(one, other) {
-  if (!one || !other) return one || other;
-  return one.steps < other.steps || (one.steps === other.steps && one.cycles <= other.cycles) ? one : other;
+function pickShorter(first, second) {
+  if (!first || !second) return first || second;
+  return first.steps < second.steps || (first.steps === second.steps && first.cycles <= second.cycles) ? first : second;
 }
 
 /**
@@ -61,19 +61,22 @@ export function joinReports(reports) {
     steps: sumOf(({ steps }) => steps), seconds: sumOf(({ seconds }) => seconds),
     states: Math.max(...reports.map(({ states }) => states)), isStopped: reports.some(({ isStopped }) => isStopped),
     properties: first.properties.map((property, at) => {
-      const all = reports.map(({ properties }) => properties[at]);
+      const results = reports.map(({ properties }) => properties[at]);
       return {
-        ...property, isSkipped: all.every(({ isSkipped }) => isSkipped), applied: all.some(({ applied }) => applied),
-        states: Math.max(...all.map(({ states }) => states)),
-        chains: all.reduce((sum, { chains }) => sum + chains, 0),
-        found: all.map(({ found }) => found).reduce(shorterOf, null),
+        ...property, isSkipped: results.every(({ isSkipped }) => isSkipped), applied: results.some(({ applied }) => applied),
+        states: Math.max(...results.map(({ states }) => states)),
+        chains: results.reduce((sum, { chains }) => sum + chains, 0),
+        found: results.map(({ found }) => found).reduce(pickShorter, null),
       };
     }),
   };
 }
 
-/** @param {PropertyResult} property */
-export function isRight({ isGoal, isSkipped, found }) {
+/**
+ * Returns whether a property was not violated, or a goal was reached.
+ * @param {PropertyResult} property
+ */
+export function hasExpectedResult({ isGoal, isSkipped, found }) {
   return !isSkipped && isGoal === (found !== null);
 }
 
@@ -82,11 +85,11 @@ export function isRight({ isGoal, isSkipped, found }) {
  * @param {PropertyResult} property
  * @param {Report} report
  */
-export function remarkOf({ isGoal, applied, states, leftOut, chains, found }, report) {
-  if (found) return `${isGoal ? "reached" : "broken"}, ${stepsOf(found.steps)}`;
+export function formatRemark({ isGoal, applied, states, leftOut, chains, found }, report) {
+  if (found) return `${isGoal ? "reached" : "broken"}, ${formatSteps(found.steps)}`;
   if (states > 0) return (isGoal ? neverReached : proved)(counted(states, "state"), leftOut);
-  if (chains > 0) return say.chainsOfKeys(grouped(chains));
-  return applied ? say.stepsAndStates(grouped(report.steps), grouped(report.states)) : say.NEVER_LOOKED_AT;
+  if (chains > 0) return say.chainsOfKeys(formatNumber(chains));
+  return applied ? say.stepsAndStates(formatNumber(report.steps), formatNumber(report.states)) : say.NEVER_LOOKED_AT;
 }
 
 /**
@@ -94,23 +97,24 @@ export function remarkOf({ isGoal, applied, states, leftOut, chains, found }, re
  * @param {PropertyResult} property
  * @param {Report} report
  */
-export function lineOfProperty({ line }, { names }) {
+export function propertyLocation({ line }, { names }) {
   return line > 0 ? `${names.properties}:${line}` : names.properties;
 }
 
 /**
  * Returns the TAP lines for a property.
  * @param {PropertyResult} property
- * @param {number} at
+ * @param {number} index
  * @param {Report} report
  */
-function linesOf(property, at, report) {
+function formatTapLines(property, index, report) {
   const { text, found } = property;
-  const lines = [`${isRight(property) ? "" : "not "}ok ${at + 1} - ${described(text)} # ${remarkOf(property, report)}`];
+  const status = hasExpectedResult(property) ? "ok" : "not ok";
+  const lines = [`${status} ${index + 1} - ${tapDescription(text)} # ${formatRemark(property, report)}`];
   if (!found) return lines;
-  const how = property.isGoal ? "reached" : "broken";
-  const message = say.foundBy(how, stepsOf(found.steps), grouped(found.cycles), found.seed);
-  lines.push("  ---", `  message: ${quoted(message)}`, `  at: ${quoted(lineOfProperty(property, report))}`, "  test: |");
+  const resultWord = property.isGoal ? "reached" : "broken";
+  const message = say.foundBy(resultWord, formatSteps(found.steps), formatNumber(found.cycles), found.seed);
+  lines.push("  ---", `  message: ${yamlString(message)}`, `  at: ${yamlString(propertyLocation(property, report))}`, "  test: |");
   return [...lines, ...found.test.trimEnd().split("\n").map((line) => `    ${line}`), "  ..."];
 }
 
@@ -118,7 +122,7 @@ function linesOf(property, at, report) {
 const MAX_LINES = 40;
 
 /** @param {number[]} lines */
-function listed(lines) {
+function formatLineNumbers(lines) {
   const more = lines.length - MAX_LINES;
   return `${say.linesAre(lines.length, lines.slice(0, MAX_LINES).join(" "))}${more > 0 ? andMore(more) : ""}`;
 }
@@ -130,8 +134,8 @@ function listed(lines) {
 export function coverageLines({ covered, instructions }) {
   const { run, all, ways, allWays, left, oneWay } = new Coverage(covered).summary(instructions);
   const lines = [say.covered(say.partOf(run, all), say.partOf(ways, allWays))];
-  if (left.length > 0) lines.push(say.neverRun(listed(left)));
-  if (oneWay.length > 0) lines.push(say.alwaysOneWay(listed(oneWay)));
+  if (left.length > 0) lines.push(say.neverRun(formatLineNumbers(left)));
+  if (oneWay.length > 0) lines.push(say.alwaysOneWay(formatLineNumbers(oneWay)));
   return lines;
 }
 
@@ -139,15 +143,17 @@ export function coverageLines({ covered, instructions }) {
  * Returns the report as TAP. A skipped property is only a comment.
  * @param {Report} report
  */
-export function tapOf(report) {
+export function formatTap(report) {
   const { properties, seeds, steps, seconds, states, isStopped } = report;
-  const judged = properties.filter(({ isSkipped }) => !isSkipped);
-  const lines = [TAP_HEAD, `1..${judged.length}`];
-  judged.forEach((property, at) => lines.push(...linesOf(property, at, report)));
-  for (const property of properties) if (property.isSkipped) lines.push(`# ${say.notRun(lineOfProperty(property, report), property.text)}`);
-  const rate = seconds > 0 ? say.aSecond(grouped(steps / seconds)) : "";
+  const checkedProperties = properties.filter(({ isSkipped }) => !isSkipped);
+  const lines = [TAP_HEAD, `1..${checkedProperties.length}`];
+  checkedProperties.forEach((property, at) => lines.push(...formatTapLines(property, at, report)));
+  for (const property of properties) {
+    if (property.isSkipped) lines.push(`# ${say.notRun(propertyLocation(property, report), property.text)}`);
+  }
+  const rate = seconds > 0 ? say.aSecond(formatNumber(steps / seconds)) : "";
   lines.push(...coverageLines(report).map((line) => `# ${line}`));
-  lines.push(say.figures(seeds, grouped(steps), seconds.toFixed(1), rate, grouped(states), isStopped));
+  lines.push(say.figures(seeds, formatNumber(steps), seconds.toFixed(1), rate, formatNumber(states), isStopped));
   return `${lines.join("\n")}\n`;
 }
 
@@ -155,9 +161,9 @@ export function tapOf(report) {
  * Returns the tests of all counterexamples with their origin.
  * @param {Report} report
  */
-export function testsOfReport(report) {
+export function formatReportTests(report) {
   const { names: { board, program } } = report;
   const found = report.properties.filter((property) => property.found);
   const head = say.foundByTool(board, program);
-  return head + found.map((property) => `\n# ${lineOfProperty(property, report)}\n${property.found ? property.found.test : ""}`).join("");
+  return head + found.map((property) => `\n# ${propertyLocation(property, report)}\n${property.found ? property.found.test : ""}`).join("");
 }

@@ -2,34 +2,35 @@
 // its code is counted. A walk is watched instruction by instruction if it executes code for the first time, if a property needs more data,
 // or if a property seems violated. A sample of the other walks is also watched.
 
-import { countWalk, followsFromLooks } from "./counting.js";
+import { countWalk, isCountingSufficient } from "./counting.js";
 import { Coverage } from "./search_coverage.js";
-import { KeptFiles } from "./kept_files.js";
+import { DeltaFiles } from "./kept_files.js";
 import { Snapshots } from "./read_places.js";
-import { Conditions, PlaceValues, conditionsOf } from "./place_questions.js";
-import { addressesOf } from "./properties.js";
-import { chooseStep, downAfter, downAtFirst, lineOf, linesOf, randomFrom } from "./walks.js";
-import { sinceAfter, sinceAtFirst, upToRandom } from "./walks.js";
+import { Conditions, PlaceValues, listConditions } from "./place_questions.js";
+import { listAddresses } from "./properties.js";
+import { chooseStep, downInputsAfter, initialDownInputs, changeLine, walkLines, createRandom } from "./walks.js";
+import { nextAges, initialAges, randomBelow } from "./walks.js";
 import { Watcher } from "./watching.js";
-import { MOST_ON } from "../debug/breakpoints.js";
-import { LONGEST_RUN, runLines } from "../engine/key_queue.js";
+import { MAX_ENABLED } from "../debug/breakpoints.js";
+import { MAX_RUN_CYCLES, runLines } from "../engine/key_queue.js";
 
 /**
  * @typedef {import("./campaign.js").Campaign} Campaign
  * @typedef {import("./properties.js").Property} Property
  * @typedef {import("./subject.js").Subject} Subject
  * @typedef {import("./walks.js").WalkStep} WalkStep
- * @typedef {import("./kept_files.js").KeptFile} KeptFile
+ * @typedef {import("./kept_files.js").FileDelta} FileDelta
  *
  * A stored state: the steps from its parent, and how often the search resumed here.
- * @typedef {{ kept: KeptFile, time: number, down: number[], since: number[], memories: number[][], parent: State | null, steps: WalkStep[],
- *   depth: number, picked: number }} State `since` are the cycles since the last change, by input
+ * `ages` are the cycles since the last change of each input.
+ * @typedef {{ delta: FileDelta, time: number, down: number[], ages: number[], memories: number[][], parent: State | null,
+ *   steps: WalkStep[], depth: number, resumeCount: number }} State
  *
- * The violation of a property, or the reaching of a goal: the property number, the steps from power-on, and the time.
- * @typedef {{ property: number, steps: WalkStep[], time: number }} Find
+ * The violation of a property, or the arrival at a goal: the property number, the steps from the start state, and the time in cycles.
+ * @typedef {{ property: number, steps: WalkStep[], time: number }} Violation
  *
  * The snapshot of a state after a step: the values of the notes, and whether conditions and guard conditions are true, in property order.
- * @typedef {{ notes: string, holds: boolean[], opens: boolean[][] }} Snapshot
+ * @typedef {{ notes: string, holds: boolean[], areOpen: boolean[][] }} Snapshot
  */
 
 const MAX_WALK_STEPS = 16;
@@ -37,9 +38,9 @@ const MAX_WALK_STEPS = 16;
 const MAX_DEPTH = 120;
 const MAX_STATES = 20000;
 const MAX_SNAPSHOTS = 200000;
-/** The search watches one in WATCH_INTERVAL walks instruction by instruction, even if the walk shows nothing new. */
+/** Of this many consecutive walks, one is watched even if it shows nothing new. */
 const WATCH_INTERVAL = 32;
-/** The number of candidate states. Of these, the search resumes the state that it has resumed least often. */
+/** The number of states that are drawn for each walk. The walk starts at the state with the lowest `resumeCount`. */
 const CANDIDATE_COUNT = 3;
 /** The number of recently stored states. Half of all walks start at one of them. */
 const RECENT_STATES = 6;
@@ -53,42 +54,42 @@ export class Search {
   constructor(subject, campaign, seed) {
     this.subject = subject;
     this.campaign = campaign;
-    this.random = randomFrom(seed);
+    this.random = createRandom(seed);
     this.coverage = new Coverage();
     this.watcher = new Watcher(subject, campaign, this.coverage);
-    const conditionPlaces = campaign.properties.flatMap(conditionsOf).flatMap((condition) => (condition ? condition.places : []));
+    const conditionPlaces = campaign.properties.flatMap(listConditions).flatMap((condition) => (condition ? condition.places : []));
     this.places = new Snapshots([...campaign.notes, ...conditionPlaces], subject.names.board);
     this.notes = this.places.indexes(campaign.notes);
     this.conditions = campaign.properties.map((property) => new Conditions(property, this.places));
     /** @type {number[]} the properties that are not violated so far */
-    this.open = campaign.properties.flatMap(({ form }, at) => (form === "model" ? [] : [at]));
+    this.openProperties = campaign.properties.flatMap(({ form }, at) => (form === "model" ? [] : [at]));
     /** @type {Set<number>} the properties that applied to at least one state */
-    this.applied = new Set();
+    this.appliedProperties = new Set();
     this.steps = 0;
     this.walks = 0;
     /** @type {Map<string, Snapshot>} the snapshots, by row of values */
     this.snapshots = new Map();
     /** @type {Set<string>} */
-    this.seen = new Set();
+    this.seenKeys = new Set();
     /** The start state. */
-    this.start = this.startOf();
-    this.files = new KeptFiles(this.start.file);
+    this.start = this.createStart();
+    this.files = new DeltaFiles(this.start.file);
     const { file, time, down, memories } = this.start;
     /** @type {State[]} */
-    this.states = [{ kept: this.files.keep(file), time, down, since: sinceAtFirst(campaign), memories, parent: null, steps: [], depth: 0,
-      picked: 0 }];
+    this.states = [{ delta: this.files.keep(file), time, down, ages: initialAges(campaign), memories, parent: null, steps: [],
+      depth: 0, resumeCount: 0 }];
   }
 
-  /** Returns the number of distinguished states. */
+  /** The number of different states so far. */
   get stateCount() {
-    return this.seen.size;
+    return this.seenKeys.size;
   }
 
-  /** @returns {import("./watching.js").Start} */
-  startOf() {
+  /** @returns {import("./watching.js").WalkStart} the start state, at which the check of the properties begins */
+  createStart() {
     const { subject, campaign: { begin, properties } } = this;
     const file = subject.file.slice();
-    const down = downAtFirst(this.campaign);
+    const down = initialDownInputs(this.campaign);
     const { least, most } = this.campaign.calls;
     const memories = properties.map(({ from, form }) => (
       form === "calls" ? [least] : form === "returns" ? [most] : from(begin, down.length)));
@@ -100,25 +101,25 @@ export class Search {
   }
 
   /**
-   * Counts the open calls at the start state.
+   * Sets the memories about open calls to the number of open calls at the start state.
    * @param {number[][]} memories
    */
   countCalls(memories) {
     const { watcher, campaign: { begin }, subject: { file } } = this;
     /** @type {WalkStep[]} */
     const steps = [];
-    for (let left = begin; left > 0; left -= LONGEST_RUN) steps.push({ wait: Math.min(left, LONGEST_RUN), kind: "none", input: -1 });
-    const startMemories = memories.map((memory, at) => (watcher.calls.includes(at) ? memory : memory.map(() => 0)));
+    for (let left = begin; left > 0; left -= MAX_RUN_CYCLES) steps.push({ wait: Math.min(left, MAX_RUN_CYCLES), kind: "none", input: -1 });
+    const startMemories = memories.map((memory, at) => (watcher.callProperties.includes(at) ? memory : memory.map(() => 0)));
     const start = { file, time: 0, down: [], memories: startMemories };
     const { after } = watcher.watch(start, steps, []);
     const last = after[after.length - 1];
-    for (const at of watcher.calls) memories[at] = last ? last.memories[at] : [0];
+    for (const at of watcher.callProperties) memories[at] = last ? last.memories[at] : [0];
   }
 
   /**
    * Walks for a number of milliseconds, or until a walk finds a violation.
    * @param {number} milliseconds
-   * @returns {Find | null}
+   * @returns {Violation | null}
    */
   walkFor(milliseconds) {
     const end = performance.now() + milliseconds;
@@ -129,145 +130,160 @@ export class Search {
     return null;
   }
 
-  /** @returns {Find | null} */
+  /** @returns {Violation | null} the violation in a random walk from a stored state */
   walk() {
-    const state = this.pick();
+    const state = this.pickState();
     const steps = this.chooseSteps(state);
     this.walks += 1;
     this.steps += steps.length;
-    const file = this.fileOf(state);
-    const { fresh: newSteps, isSuspect, snapshots } = this.examine(file, state, steps);
-    const isWhole = isSuspect || this.walks % WATCH_INTERVAL === 1;
-    if (newSteps.length === 0 && !isWhole) return null;
+    const file = this.restoreFile(state);
+    const { newSteps, isSuspect, snapshots } = this.examineWalk(file, state, steps);
+    const isWatched = isSuspect || this.walks % WATCH_INTERVAL === 1;
+    if (newSteps.length === 0 && !isWatched) return null;
     const start = { ...state, file };
-    const { broken, after } = isWhole ? this.watcher.watch(start, steps, this.open) : this.repeat(start, steps, newSteps, snapshots);
-    if (after.length > 0) this.note(after[after.length - 1].memories);
+    const { broken, after } = isWatched ? this.watcher.watch(start, steps, this.openProperties)
+      : this.rerunWalk(start, steps, newSteps, snapshots);
+    if (after.length > 0) this.recordApplied(after[after.length - 1].memories);
     after.forEach(({ isNew }, at) => {
       if (isNew && !newSteps.includes(at)) newSteps.push(at);
     });
-    this.keep(state, file, steps, after, newSteps.filter((at) => at < after.length).sort((one, other) => one - other));
+    this.storeStates(state, file, steps, after, newSteps.filter((at) => at < after.length).sort((one, other) => one - other));
     if (!broken) return null;
-    return { property: broken.property, steps: [...pathOf(state), ...steps.slice(0, broken.step)], time: broken.time };
+    return { property: broken.property, steps: [...collectSteps(state), ...steps.slice(0, broken.step)], time: broken.time };
   }
 
   /**
-   * Repeats a walk up to its last new state; the rest has already been examined. If counting is sufficient, the walk is only counted. If it
-   * executes code for the first time, it is watched.
-   * @param {import("./watching.js").Start} start
+   * Repeats a walk up to its last new state, to determine the memories. Only counts the walk if this is sufficient. Otherwise, or if the
+   * walk executes code for the first time, watches the walk.
+   * @param {import("./watching.js").WalkStart} start
    * @param {WalkStep[]} steps
    * @param {number[]} newSteps the steps that show something new; the steps that execute code for the first time are added
    * @param {Snapshot[]} snapshots
    */
-  repeat(start, steps, newSteps, snapshots) {
-    const { campaign: { properties }, open, watcher } = this;
-    const part = steps.slice(0, Math.max(...newSteps) + 1);
-    if (followsFromLooks(properties, open, newSteps.map((at) => snapshots[at].holds))) {
-      const after = countWalk(this, start, part);
+  rerunWalk(start, steps, newSteps, snapshots) {
+    const { campaign: { properties }, openProperties, watcher } = this;
+    const walkPart = steps.slice(0, Math.max(...newSteps) + 1);
+    if (isCountingSufficient(properties, openProperties, newSteps.map((at) => snapshots[at].holds))) {
+      const after = countWalk(this, start, walkPart);
       const newCodeSteps = [...after.keys()].filter((at) => after[at].isNew);
       if (newCodeSteps.length === 0) return { broken: null, after };
       for (const at of newCodeSteps) if (!newSteps.includes(at)) newSteps.push(at);
     }
-    return watcher.watch(start, part, open);
+    return watcher.watch(start, walkPart, openProperties);
   }
 
-  /** @param {State} state */
-  fileOf(state) {
-    return this.files.file(state.kept);
+  /**
+   * Returns the session file of a stored state.
+   * @param {State} state
+   */
+  restoreFile(state) {
+    return this.files.file(state.delta);
   }
 
-  /** @param {number[][]} memories */
-  note(memories) {
+  /**
+   * Records the properties to which something in a walk was relevant.
+   * @param {number[][]} memories
+   */
+  recordApplied(memories) {
     memories.forEach((memory, at) => {
-      if (this.campaign.properties[at].applies(memory)) this.applied.add(at);
+      if (this.campaign.properties[at].hasApplied(memory)) this.appliedProperties.add(at);
     });
   }
 
-  pick() {
+  /** Returns one of the stored states at random. Prefers recent states, and states at which few walks have started. */
+  pickState() {
     const { states, random } = this;
     const isLast = random() < 0.5;
-    let found = null;
+    let chosenState = null;
     for (let tries = 0; tries < CANDIDATE_COUNT; tries++) {
-      const back = Math.floor(-Math.log(1 - random()) * RECENT_STATES);
-      const state = states[isLast ? Math.max(0, states.length - 1 - back) : upToRandom(random, states.length)];
-      if (!found || state.picked < found.picked) found = state;
+      const stepsBack = Math.floor(-Math.log(1 - random()) * RECENT_STATES);
+      const state = states[isLast ? Math.max(0, states.length - 1 - stepsBack) : randomBelow(random, states.length)];
+      if (!chosenState || state.resumeCount < chosenState.resumeCount) chosenState = state;
     }
-    const state = /** @type {State} */ (found);
-    state.picked += 1;
+    const state = /** @type {State} */ (chosenState);
+    state.resumeCount += 1;
     return state;
   }
 
-  /** @param {State} state */
+  /**
+   * Returns random steps from a state.
+   * @param {State} state
+   */
   chooseSteps(state) {
     const steps = [];
-    let now = state.down;
-    let { since } = state;
-    for (let left = 1 + upToRandom(this.random, MAX_WALK_STEPS); left > 0; left--) {
-      const step = chooseStep(this.campaign, now, since, this.random);
-      since = sinceAfter(since, step);
-      now = downAfter(now, step);
+    let currentDown = state.down;
+    let { ages } = state;
+    for (let left = 1 + randomBelow(this.random, MAX_WALK_STEPS); left > 0; left--) {
+      const step = chooseStep(this.campaign, currentDown, ages, this.random);
+      ages = nextAges(ages, step);
+      currentDown = downInputsAfter(currentDown, step);
       steps.push(step);
     }
     return steps;
   }
 
   /** The numbers of the open properties with a label. */
-  get ofLabels() {
-    return this.open.filter((at) => this.campaign.properties[at].address >= 0);
+  get labelProperties() {
+    return this.openProperties.filter((at) => this.campaign.properties[at].address >= 0);
   }
 
   /**
-   * Returns the labels at which a property can be violated independently of earlier events. A run stops at these labels. The maximum is 32,
-   * the limit of the bench.
+   * Returns the addresses of labels at which a property can be violated independently of earlier events. A run stops at these addresses.
+   * The maximum number is 32, the limit of the bench.
    * @returns {number[]}
    */
-  get stops() {
+  get stopAddresses() {
     const { properties } = this.campaign;
-    return [...new Set(this.ofLabels.map((at) => properties[at]).filter(stopsAtLabel).map(({ address }) => address))].slice(0, MOST_ON);
+    const stopping = this.labelProperties.map((at) => properties[at]).filter(stopsAtLabel);
+    return [...new Set(stopping.map(({ address }) => address))].slice(0, MAX_ENABLED);
   }
 
   /**
-   * Examines a walk after each change. Returns the steps after which something is new, and whether a property seems violated.
+   * Reads a snapshot after each change of a walk. Returns the snapshots, the steps after which something is new, and whether a property
+   * seems violated.
    * @param {Uint8Array} file
    * @param {State} state
    * @param {WalkStep[]} steps
    */
-  examine(file, state, steps) {
-    const { campaign, places, ofLabels, stops } = this;
-    const counts = ofLabels.some((at) => addressesOf(campaign.properties[at]).some((address) => !stops.includes(address)));
+  examineWalk(file, state, steps) {
+    const { campaign, places, labelProperties, stopAddresses } = this;
+    const labelAddresses = labelProperties.flatMap((at) => listAddresses(campaign.properties[at]));
+    const counts = labelAddresses.some((address) => !stopAddresses.includes(address));
     const lines = steps.map((step) => (
-      `${counts ? `count ${step.wait}\n` : ""}run ${step.wait}\n${lineOf(campaign, step)}${places.lines}`)).join("");
-    const values = new PlaceValues(this.subject.engine.ask(file, stops.map((address) => `break ${address}\n`).join("") + lines).answers);
-    values.skip(stops.length);
+      `${counts ? `count ${step.wait}\n` : ""}run ${step.wait}\n${changeLine(campaign, step)}${places.lines}`)).join("");
+    const breakLines = stopAddresses.map((address) => `break ${address}\n`).join("");
+    const values = new PlaceValues(this.subject.engine.ask(file, breakLines + lines).answers);
+    values.skip(stopAddresses.length);
     /** @type {number[]} */
     const newSteps = [];
     /** @type {Snapshot[]} */
     const snapshots = [];
-    const seem = new ApparentState(this, state);
+    const apparentState = new ApparentState(this, state);
     for (const [at, step] of steps.entries()) {
       const instructionCounts = counts ? values.counts() : [];
-      if (values.takeRun().end !== "end") return { fresh: newSteps, isSuspect: true, snapshots };
+      if (values.takeRun().end !== "end") return { newSteps, isSuspect: true, snapshots };
       if (step.kind !== "none") values.skip(1);
-      const snapshot = this.snapshotOf(places.row(values));
+      const snapshot = this.snapshotForRow(places.row(values));
       snapshots.push(snapshot);
-      if (seem.isBroken(step, snapshot, instructionCounts)) return { fresh: newSteps, isSuspect: true, snapshots };
+      if (apparentState.isBroken(step, snapshot, instructionCounts)) return { newSteps, isSuspect: true, snapshots };
       if (this.coverage.add(instructionCounts)) newSteps.push(at);
-      if (this.isNew(snapshot, seem.marks) && !newSteps.includes(at)) newSteps.push(at);
+      if (this.recordIfNew(snapshot, apparentState.marks) && !newSteps.includes(at)) newSteps.push(at);
     }
-    return { fresh: newSteps, isSuspect: false, snapshots };
+    return { newSteps, isSuspect: false, snapshots };
   }
 
   /**
    * @param {string} row
    * @returns {Snapshot}
    */
-  snapshotOf(row) {
+  snapshotForRow(row) {
     const known = this.snapshots.get(row);
     if (known) return known;
     const values = row.split(" ");
     const snapshot = {
       notes: this.notes.map((at) => values[at]).join(" "),
       holds: this.conditions.map((each) => each.holds(values)),
-      opens: this.conditions.map((each) => each.opens(values)),
+      areOpen: this.conditions.map((each) => each.areOpen(values)),
     };
     if (this.snapshots.size >= MAX_SNAPSHOTS) this.snapshots.clear();
     this.snapshots.set(row, snapshot);
@@ -275,13 +291,14 @@ export class Search {
   }
 
   /**
+   * Records the state in a snapshot. Returns false if the state is not new.
    * @param {Snapshot} snapshot
-   * @param {string} marks
+   * @param {string} marks the parts of the property memories that distinguish states
    */
-  isNew({ notes }, marks) {
+  recordIfNew({ notes }, marks) {
     const key = `${notes}${marks}`;
-    if (this.seen.has(key)) return false;
-    this.seen.add(key);
+    if (this.seenKeys.has(key)) return false;
+    this.seenKeys.add(key);
     return true;
   }
 
@@ -290,19 +307,19 @@ export class Search {
    * @param {State} state
    * @param {Uint8Array} file
    * @param {WalkStep[]} steps
-   * @param {import("./watching.js").After[]} after
+   * @param {import("./watching.js").StepState[]} after
    * @param {number[]} newSteps
    */
-  keep(state, file, steps, after, newSteps) {
+  storeStates(state, file, steps, after, newSteps) {
     let [from, parent] = [0, state];
     for (const at of newSteps) {
       if (this.states.length >= MAX_STATES || state.depth + at >= MAX_DEPTH) return;
-      const part = steps.slice(from, at + 1);
-      this.subject.engine.serve(file, linesOf(this.campaign, part), file);
+      const walkPart = steps.slice(from, at + 1);
+      this.subject.engine.serve(file, walkLines(this.campaign, walkPart), file);
       const { time, down, memories } = after[at];
-      const since = part.reduce(sinceAfter, parent.since);
-      parent = { kept: this.files.keep(file), time, down, since, memories, parent, steps: part,
-        depth: state.depth + at + 1, picked: 0 };
+      const ages = walkPart.reduce(nextAges, parent.ages);
+      parent = { delta: this.files.keep(file), time, down, ages, memories, parent, steps: walkPart,
+        depth: state.depth + at + 1, resumeCount: 0 };
       this.states.push(parent);
       from = at + 1;
     }
@@ -312,8 +329,8 @@ export class Search {
    * Closes a property that is violated or cannot be judged.
    * @param {number} property
    */
-  close(property) {
-    this.open = this.open.filter((at) => at !== property);
+  closeProperty(property) {
+    this.openProperties = this.openProperties.filter((at) => at !== property);
   }
 }
 
@@ -321,7 +338,7 @@ export class Search {
  * Returns the steps from power-on to a state.
  * @param {State} state
  */
-function pathOf(state) {
+function collectSteps(state) {
   /** @type {WalkStep[][]} */
   const parts = [];
   /** @type {State | null} */
@@ -345,56 +362,59 @@ function stopsAtLabel({ form, guards }) {
 }
 
 /**
- * The property states as far as snapshots show them. For a label, they show how often the counter reached it during a wait, but not when.
+ * The property memories after a step, estimated from snapshots. A snapshot does not show when the program counter reached a label, only how
+ * often it did so during the wait.
  */
 class ApparentState {
   /**
    * @param {Search} search
    * @param {State} state
    */
-  constructor({ campaign, open }, { memories, time, down }) {
+  constructor({ campaign, openProperties }, { memories, time, down }) {
     this.campaign = campaign;
     this.time = time;
     this.down = down;
-    this.asked = open.filter((at) => campaign.properties[at].address < 0 && campaign.properties[at].condition);
-    this.ofLabels = open.filter((at) => campaign.properties[at].address >= 0);
+    this.conditionProperties = openProperties.filter((at) => campaign.properties[at].address < 0 && campaign.properties[at].condition);
+    this.labelProperties = openProperties.filter((at) => campaign.properties[at].address >= 0);
     this.memories = memories.map((memory) => [...memory]);
   }
 
   /**
+   * Returns whether a property can be violated in a step.
    * @param {WalkStep} step
    * @param {Snapshot} snapshot
-   * @param {import("../engine/tracing.js").Counted[]} instructionCounts the instruction counts of the wait
+   * @param {import("../engine/tracing.js").InstructionCount[]} instructionCounts the instruction counts of the wait
    */
-  isBroken(step, { holds, opens }, instructionCounts) {
-    const { campaign: { properties, inputs }, asked, memories } = this;
-    this.down = downAfter(this.down, step);
+  isBroken(step, { holds, areOpen }, instructionCounts) {
+    const { campaign: { properties, inputs }, conditionProperties, memories } = this;
+    this.down = downInputsAfter(this.down, step);
     const input = step.kind === "down" ? inputs[step.input].name : "";
     const time = this.time + step.wait;
-    const moment = { time, changed: time, address: -1, holds: false, opens: NONE, input, isDown: this.down.length };
+    const moment = { time, changed: time, address: -1, holds: false, areOpen: NONE, input, isDown: this.down.length };
     const countAt = (/** @type {number} */ label) => (instructionCounts.find(({ address }) => address === label) || { begun: 0 }).begun;
-    const isAtLabel = this.ofLabels.some((at) => (
-      properties[at].form === "within" ? this.mayBeLate(properties[at], memories[at], moment, step, countAt)
-        : this.mayBreakAtLabel(properties[at], memories[at], moment, step, countAt(properties[at].address))));
+    const isAtLabel = this.labelProperties.some((at) => (
+      properties[at].form === "within" ? this.canBeLate(properties[at], memories[at], moment, step, countAt)
+        : this.canViolateAtLabel(properties[at], memories[at], moment, step, countAt(properties[at].address))));
     this.time += step.wait;
-    return isAtLabel || asked.some((at) => {
-      const { see } = properties[at];
+    return isAtLabel || conditionProperties.some((at) => {
+      const { update } = properties[at];
       const memory = memories[at];
-      if (step.kind === "down" && see(memory, "down", { ...moment, opens: opens[at] }) >= 0) return true;
-      if (step.kind === "reset" && see(memory, "reset", moment) >= 0) return true;
-      return see(memory, "values", { ...moment, holds: holds[at], opens: opens[at] }) >= 0;
+      if (step.kind === "down" && update(memory, "down", { ...moment, areOpen: areOpen[at] }) >= 0) return true;
+      if (step.kind === "reset" && update(memory, "reset", moment) >= 0) return true;
+      return update(memory, "values", { ...moment, holds: holds[at], areOpen: areOpen[at] }) >= 0;
     });
   }
 
   /**
+   * Returns whether a property with a label can be violated in a step.
    * @param {Property} property
    * @param {number[]} memory
    * @param {import("./properties.js").Moment} moment the moment at the end of the wait
    * @param {WalkStep} step
    * @param {number} count the number of times the counter reached the label
    */
-  mayBreakAtLabel(property, memory, moment, step, count) {
-    const { form, see, limit, guards } = property;
+  canViolateAtLabel(property, memory, moment, step, count) {
+    const { form, update, limit, guards } = property;
     // Only watching shows whether the guards were open at that time.
     if (guards.length > 0) return count > 0 || form === "after press";
     if (stopsAtLabel(property)) return count > 0;
@@ -408,9 +428,9 @@ class ApparentState {
       if (count > 0) memory[0] = this.time;
     }
     const isCounted = form === "once" || form === "only after";
-    for (let times = 0; isCounted && times < count; times++) if (see(memory, "label", moment) >= 0) return true;
-    if (step.kind === "down") see(memory, "down", moment);
-    if (step.kind === "reset") see(memory, "reset", moment);
+    for (let times = 0; isCounted && times < count; times++) if (update(memory, "label", moment) >= 0) return true;
+    if (step.kind === "down") update(memory, "down", moment);
+    if (step.kind === "reset") update(memory, "reset", moment);
     return false;
   }
 
@@ -422,22 +442,22 @@ class ApparentState {
    * @param {WalkStep} step
    * @param {(address: number) => number} countAt returns the number of times the counter reached an address
    */
-  mayBeLate({ start, address, limit, see }, memory, moment, step, countAt) {
+  canBeLate({ start, address, limit, update }, memory, moment, step, countAt) {
     const isLate = () => memory[0] >= 0 && moment.time - memory[0] > limit;
     if (isLate()) return true;
     if (countAt(address) > 0) memory[0] = -1;
     // The counter reached the first label at the start of the wait or later.
     if (countAt(start) > 0 && memory[0] < 0) memory[0] = this.time;
     if (isLate()) return true;
-    if (step.kind === "reset") see(memory, "reset", moment);
+    if (step.kind === "reset") update(memory, "reset", moment);
     return false;
   }
 
-  /** Returns the parts of the memories that make a state new. */
+  /** The parts of the property memories that distinguish states, as text. */
   get marks() {
     let marks = "";
-    for (const at of [...this.asked, ...this.ofLabels]) {
-      const mark = this.campaign.properties[at].mark(this.memories[at]);
+    for (const at of [...this.conditionProperties, ...this.labelProperties]) {
+      const mark = this.campaign.properties[at].newStateKey(this.memories[at]);
       if (mark !== "") marks += `/${mark}`;
     }
     return marks;

@@ -1,24 +1,26 @@
-// The coverage so far. For each address: whether an instruction started there, whether it jumped, and whether it continued.
+// The code that a search has executed so far. For each address: whether an instruction started there, whether it jumped, and whether it
+// continued at the next address.
 
-import { ADDRESSES } from "../bench/rom_bytes.js";
+import { ADDRESS_COUNT } from "../bench/rom_bytes.js";
 
 /** @typedef {import("./subject.js").Instruction} Instruction */
 
+/** The flags of an address. */
 const STARTED = 1;
 const JUMPED = 2;
 const CONTINUED = 4;
 
 export class Coverage {
-  /** @param {string} [text] the text of another coverage */
+  /** @param {string} [text] a coverage as text (the property `text`) */
   constructor(text = "") {
-    this.flags = new Uint8Array(ADDRESSES);
+    this.flags = new Uint8Array(ADDRESS_COUNT);
     [...text].forEach((digit, address) => {
       this.flags[address] = Number(digit);
     });
   }
 
   /**
-   * Adds the answer to `count`; returns whether any of it is new.
+   * Adds the counts in an answer to `count`. Returns whether a flag is new.
    * @param {{ address: number, begun: number, jumped: number }[]} counts
    */
   add(counts) {
@@ -31,7 +33,10 @@ export class Coverage {
     return isNew;
   }
 
-  /** @param {Coverage} other */
+  /**
+   * Adds the coverage of another search.
+   * @param {Coverage} other
+   */
   join(other) {
     this.flags.forEach((_, address) => {
       this.flags[address] |= other.flags[address];
@@ -44,16 +49,18 @@ export class Coverage {
   }
 
   /**
-   * Returns the number of executed instructions and branch directions of the program, and the lines of the others.
+   * Returns the numbers of executed instructions (`run`) and branch directions (`ways`), and their total numbers. `left` are the lines that
+   * were not executed, and `oneWay` the lines with only one executed branch direction.
    * @param {Instruction[]} instructions
    */
   summary(instructions) {
-    const left = instructions.filter(({ address }) => !(this.flags[address] & STARTED)).map(({ line }) => line);
-    const forks = instructions.filter(({ hasWays }) => hasWays);
+    const unexecutedLines = instructions.filter(({ address }) => !(this.flags[address] & STARTED)).map(({ line }) => line);
+    const forks = instructions.filter(({ isBranch }) => isBranch);
     const oneWay = forks.filter(({ address }) => (this.flags[address] & STARTED) && (this.flags[address] & (JUMPED | CONTINUED)) !== 6)
       .map(({ line }) => line);
     const ways = forks.reduce((sum, { address }) => sum + Number((this.flags[address] & JUMPED) > 0)
       + Number((this.flags[address] & CONTINUED) > 0), 0);
-    return { run: instructions.length - left.length, all: instructions.length, ways, allWays: 2 * forks.length, left, oneWay };
+    const run = instructions.length - unexecutedLines.length;
+    return { run, all: instructions.length, ways, allWays: 2 * forks.length, left: unexecutedLines, oneWay };
   }
 }

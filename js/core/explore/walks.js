@@ -16,29 +16,30 @@ import { runLines } from "../engine/key_queue.js";
  * @param {number} seed
  * @returns {Random}
  */
-export function randomFrom(seed) {
+export function createRandom(seed) {
   let state = seed >>> 0;
   return () => {
     state = (state + 0x6D2B79F5) >>> 0;
-    let mixed = Math.imul(state ^ (state >>> 15), state | 1);
-    mixed ^= mixed + Math.imul(mixed ^ (mixed >>> 7), mixed | 61);
-    return ((mixed ^ (mixed >>> 14)) >>> 0) / 4294967296;
+    let mixedBits = Math.imul(state ^ (state >>> 15), state | 1);
+    mixedBits ^= mixedBits + Math.imul(mixedBits ^ (mixedBits >>> 7), mixedBits | 61);
+    return ((mixedBits ^ (mixedBits >>> 14)) >>> 0) / 4294967296;
   };
 }
 
 /**
+ * Returns a random integer from 0 up to, but not including, `limit`.
  * @param {Random} random
- * @param {number} below
+ * @param {number} limit
  */
-export function upToRandom(random, below) {
-  return Math.floor(random() * below);
+export function randomBelow(random, limit) {
+  return Math.floor(random() * limit);
 }
 
 /**
  * Returns the numbers of the inputs that are down at power-on.
  * @param {Campaign} campaign
  */
-export function downAtFirst({ inputs }) {
+export function initialDownInputs({ inputs }) {
   return inputs.flatMap(({ isDown }, at) => (isDown ? [at] : []));
 }
 
@@ -48,69 +49,72 @@ const LONGEST_WAIT_SHARE = 0.6;
 const RESET_SHARE = 0.02;
 
 /**
+ * Returns a random wait in cycles.
  * @param {Campaign} campaign
  * @param {Random} random
  */
-function chooseWait({ shortest, longest }, random) {
-  return random() < LONGEST_WAIT_SHARE ? longest : Math.round(shortest * (longest / shortest) ** random());
+function chooseWait({ minWait, maxWait }, random) {
+  return random() < LONGEST_WAIT_SHARE ? maxWait : Math.round(minWait * (maxWait / minWait) ** random());
 }
 
 /**
- * Returns the next step. `down` are the inputs that are down, and `since` the cycles since the last change of each input. A key that
- * reaches the maximum hold time goes up.
+ * Returns a random step. An input that reaches the maximum hold time goes up.
  * @param {Campaign} campaign
- * @param {number[]} down
- * @param {number[]} since
+ * @param {number[]} down the numbers of the inputs that are down
+ * @param {number[]} ages the cycles since the last change of each input
  * @param {Random} random
  * @returns {WalkStep}
  */
-export function chooseStep(campaign, down, since, random) {
+export function chooseStep(campaign, down, ages, random) {
   const wait = chooseWait(campaign, random);
-  if (campaign.held === Infinity || down.length === 0) return chooseChange(campaign, down, since, wait, random);
-  const left = down.map((at) => campaign.held - since[at]);
-  const first = left.indexOf(Math.min(...left));
-  // An input that goes down now must also go up in time: after a wait, one key at a time.
-  if (left[first] >= wait + campaign.shortest * down.length) return chooseChange(campaign, down, since, wait, random);
-  // Inputs that went down together go up one after another, at least one cycle apart. Each wait has at least one cycle.
-  const inTurn = [...left].sort((one, other) => one - other).map((cycles, turn) => cycles - turn);
-  return { wait: Math.max(1, Math.min(wait, ...inTurn)), kind: "up", input: down[first] };
+  if (campaign.maxHoldTime === Infinity || down.length === 0) return chooseChange(campaign, down, ages, wait, random);
+  const timesLeft = down.map((at) => campaign.maxHoldTime - ages[at]);
+  const nextToRelease = timesLeft.indexOf(Math.min(...timesLeft));
+  // If another input goes down now, there must still be time to release the inputs one after another.
+  if (timesLeft[nextToRelease] >= wait + campaign.minWait * down.length) return chooseChange(campaign, down, ages, wait, random);
+  // Inputs that must go up at the same time go up one after another, one cycle apart.
+  const releaseTimes = [...timesLeft].sort((one, other) => one - other).map((cycles, turn) => cycles - turn);
+  return { wait: Math.max(1, Math.min(wait, ...releaseTimes)), kind: "up", input: down[nextToRelease] };
 }
 
 /**
+ * Returns a step with a random change after a given wait.
  * @param {Campaign} campaign
  * @param {number[]} down
- * @param {number[]} since
+ * @param {number[]} ages
  * @param {number} wait
  * @param {Random} random
  * @returns {WalkStep}
  */
-function chooseChange(campaign, down, since, wait, random) {
-  const { inputs, together, canReset, apart } = campaign;
+function chooseChange(campaign, down, ages, wait, random) {
+  const { inputs, maxKeysDown, canReset, minReleaseTime } = campaign;
   if (canReset && random() < RESET_SHARE) return { wait, kind: "reset", input: -1 };
   if (inputs.length === 0) return { wait, kind: "none", input: -1 };
-  const isFull = down.reduce((sum, at) => sum + Number(inputs[at].isKey), 0) >= together;
-  if (down.length > 0 && random() < 0.5) return { wait, kind: "up", input: down[upToRandom(random, down.length)] };
-  const up = inputs.flatMap(({ isKey }, at) => (down.includes(at) || (isKey && isFull) || since[at] + wait < apart ? [] : [at]));
-  if (up.length === 0 && down.length === 0) return { wait, kind: "none", input: -1 };
-  if (up.length === 0) return { wait, kind: "up", input: down[upToRandom(random, down.length)] };
-  return { wait, kind: "down", input: up[upToRandom(random, up.length)] };
+  const isFull = down.reduce((sum, at) => sum + Number(inputs[at].isKey), 0) >= maxKeysDown;
+  if (down.length > 0 && random() < 0.5) return { wait, kind: "up", input: down[randomBelow(random, down.length)] };
+  const isBlocked = (/** @type {boolean} */ isKey, /** @type {number} */ at) => (
+    down.includes(at) || (isKey && isFull) || ages[at] + wait < minReleaseTime);
+  const freeInputs = inputs.flatMap(({ isKey }, at) => (isBlocked(isKey, at) ? [] : [at]));
+  if (freeInputs.length === 0 && down.length === 0) return { wait, kind: "none", input: -1 };
+  if (freeInputs.length === 0) return { wait, kind: "up", input: down[randomBelow(random, down.length)] };
+  return { wait, kind: "down", input: freeInputs[randomBelow(random, freeInputs.length)] };
 }
 
 /**
- * Returns the cycles since the last change of each input, at power-on.
+ * Returns the age of each input at power-on, which is the number of cycles since its last change: 0 if the input is down, else Infinity.
  * @param {Campaign} campaign
  */
-export function sinceAtFirst({ inputs }) {
+export function initialAges({ inputs }) {
   return inputs.map(({ isDown }) => (isDown ? 0 : Infinity));
 }
 
 /**
- * Returns the cycles since the last change of each input, after a step.
- * @param {number[]} since
+ * Returns the age of each input after a step: the number of cycles since its last change.
+ * @param {number[]} ages
  * @param {WalkStep} step
  */
-export function sinceAfter(since, { wait, input }) {
-  return since.map((cycles, at) => (at === input ? 0 : cycles + wait));
+export function nextAges(ages, { wait, input }) {
+  return ages.map((cycles, at) => (at === input ? 0 : cycles + wait));
 }
 
 /**
@@ -118,38 +122,39 @@ export function sinceAfter(since, { wait, input }) {
  * @param {number[]} down
  * @param {WalkStep} step
  */
-export function downAfter(down, { kind, input }) {
+export function downInputsAfter(down, { kind, input }) {
   if (kind === "down") return [...down, input];
   return kind === "up" ? down.filter((at) => at !== input) : down;
 }
 
 /**
- * Returns whether all steps are allowed from power-on: each step changes something, and the limits on keys, hold times and pauses are kept.
+ * Returns whether steps are allowed from power-on: each step must change something, and must respect the limits on the number of keys, on
+ * hold times and on release times.
  * @param {Campaign} campaign
  * @param {WalkStep[]} steps
  */
-export function isSound(campaign, steps) {
-  let down = downAtFirst(campaign);
-  let since = sinceAtFirst(campaign);
+export function areAllowed(campaign, steps) {
+  let down = initialDownInputs(campaign);
+  let ages = initialAges(campaign);
   for (const step of steps) {
-    if (step.kind === "down" && (down.includes(step.input) || since[step.input] + step.wait < campaign.apart)) return false;
+    if (step.kind === "down" && (down.includes(step.input) || ages[step.input] + step.wait < campaign.minReleaseTime)) return false;
     if (step.kind === "up" && !down.includes(step.input)) return false;
-    if (step.wait > longestAllowedWait(campaign, down, since)) return false;
-    since = sinceAfter(since, step);
-    down = downAfter(down, step);
-    if (down.filter((at) => campaign.inputs[at].isKey).length > campaign.together) return false;
+    if (step.wait > longestAllowedWait(campaign, down, ages)) return false;
+    ages = nextAges(ages, step);
+    down = downInputsAfter(down, step);
+    if (down.filter((at) => campaign.inputs[at].isKey).length > campaign.maxKeysDown) return false;
   }
   return true;
 }
 
 /**
- * Returns the longest wait that keeps the hold time of each input; Infinity if no input is down.
+ * Returns the longest wait after which no input exceeds the maximum hold time; Infinity if no input is down.
  * @param {Campaign} campaign
  * @param {number[]} down
- * @param {number[]} since
+ * @param {number[]} ages
  */
-function longestAllowedWait({ held }, down, since) {
-  return Math.min(...down.map((at) => held - since[at]));
+function longestAllowedWait({ maxHoldTime }, down, ages) {
+  return Math.min(...down.map((at) => maxHoldTime - ages[at]));
 }
 
 /**
@@ -157,25 +162,26 @@ function longestAllowedWait({ held }, down, since) {
  * @param {Campaign} campaign
  * @param {WalkStep[]} steps
  */
-export function longestAfter(campaign, steps) {
-  return longestAllowedWait(campaign, steps.reduce(downAfter, downAtFirst(campaign)), steps.reduce(sinceAfter, sinceAtFirst(campaign)));
+export function longestWaitAfter(campaign, steps) {
+  const down = steps.reduce(downInputsAfter, initialDownInputs(campaign));
+  return longestAllowedWait(campaign, down, steps.reduce(nextAges, initialAges(campaign)));
 }
 
 /**
- * Returns the line for the change of a step; "" if there is no change.
+ * Returns the bench line for the change in a step, with its line feed; "" if there is no change.
  * @param {Campaign} campaign
  * @param {WalkStep} step
  */
-export function lineOf({ inputs }, { kind, input }) {
+export function changeLine({ inputs }, { kind, input }) {
   if (kind === "none") return "";
   return kind === "reset" ? "reset\n" : `${kind === "down" ? inputs[input].down : inputs[input].up}\n`;
 }
 
 /**
- * Returns the lines for steps.
+ * Returns the bench lines for steps.
  * @param {Campaign} campaign
  * @param {WalkStep[]} steps
  */
-export function linesOf(campaign, steps) {
-  return steps.map((step) => runLines(step.wait) + lineOf(campaign, step)).join("");
+export function walkLines(campaign, steps) {
+  return steps.map((step) => runLines(step.wait) + changeLine(campaign, step)).join("");
 }

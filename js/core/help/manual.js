@@ -7,33 +7,33 @@ import * as say from "../../words/help.js";
  * @typedef {{ caption: string, head: string[], rows: string[][] }} ManualTable
  * @typedef {{ title: string, tables: ManualTable[] }} ManualSection
  *
- * A piece of text in a cell.
+ * A piece of the text in a table cell.
  * @typedef {{ text: string, isCode: boolean }} Piece
  *
  * The manual's description of an instruction. `form` is the mnemonic with operands; `does` describes the effect.
  * @typedef {{ form: string, code: string, words: string, cycles: string, does: string }} Instruction
  */
 
-/** The titles of the sections about instructions and about the cells of the machine. */
+/** The titles of the manual's sections about instructions, and about the cells of the machine such as registers. */
 export const INSTRUCTIONS = say.INSTRUCTIONS;
 export const CELLS = say.CELLS;
-/** The titles of sections in which each row starts with a bench line. */
+/** The titles of the manual's sections whose rows start with a bench line. */
 const BENCH_LINE_SECTIONS = say.SECTIONS_OF_LINES;
 
 /**
- * Splits a cell into pieces of plain text and code.
+ * Splits a table cell into pieces of text and of code.
  * @param {string} cell
  * @returns {Piece[]}
  */
-export function piecesOf(cell) {
+export function splitCell(cell) {
   return cell.split("`").map((text, at) => ({ text, isCode: at % 2 === 1 })).filter(({ text }) => text !== "");
 }
 
 /**
- * Returns the text of a cell without the backticks.
+ * Returns the text of a table cell without backticks.
  * @param {string} cell
  */
-export function plain(cell) {
+export function cellText(cell) {
   return cell.replace(/`/g, "");
 }
 
@@ -42,7 +42,7 @@ export function plain(cell) {
  * @param {ManualSection[]} manual
  * @param {string} title
  */
-export function rowsOf(manual, title) {
+export function sectionRows(manual, title) {
   const section = manual.find((each) => each.title === title);
   return section ? section.tables.flatMap(({ rows }) => rows) : [];
 }
@@ -51,61 +51,62 @@ export function rowsOf(manual, title) {
  * Searches the manual for words and ignores case. Returns the sections whose titles contain all words, and the matching rows of the other
  * sections.
  * @param {ManualSection[]} manual
- * @param {string} wanted the words to search for
+ * @param {string} query the words to search for
  * @returns {ManualSection[]}
  */
-export function searchManual(manual, wanted) {
-  const words = wanted.toLowerCase().split(/\s+/).filter((word) => word !== "");
+export function searchManual(manual, query) {
+  const words = query.toLowerCase().split(/\s+/).filter((word) => word !== "");
   /** @type {(text: string) => boolean} */
   const hasAll = (text) => words.every((word) => text.toLowerCase().includes(word));
   return manual.map((section) => {
     if (hasAll(section.title)) return section;
-    const tables = section.tables.map((table) => ({ ...table, rows: table.rows.filter((row) => hasAll(plain(row.join(" ")))) }));
+    const tables = section.tables.map((table) => ({ ...table, rows: table.rows.filter((row) => hasAll(cellText(row.join(" ")))) }));
     return { ...section, tables: tables.filter(({ rows }) => rows.length > 0) };
   }).filter(({ tables }) => tables.length > 0);
 }
 
 /**
- * Returns the instructions by upper-case mnemonic.
+ * Returns the descriptions of instructions, by upper-case mnemonic.
  * @param {ManualSection[]} manual
  * @returns {Map<string, Instruction>}
  */
-export function instructionsOf(manual) {
+export function readInstructions(manual) {
   const found = new Map();
-  for (const row of rowsOf(manual, INSTRUCTIONS)) {
+  for (const row of sectionRows(manual, INSTRUCTIONS)) {
     // A table without columns for words and cycles describes instructions with one word and one cycle.
     const [forms, code, words, cycles, does] = row.length === 3 ? [row[0], row[1], "1", "1", row[2]] : row;
-    for (const [, form] of forms.matchAll(/`([^`]+)`/g)) found.set(form.split(" ")[0], { form, code, words, cycles, does: plain(does) });
+    for (const [, form] of forms.matchAll(/`([^`]+)`/g)) found.set(form.split(" ")[0], { form, code, words, cycles, does: cellText(does) });
   }
   return found;
 }
 
 /**
- * Returns the meanings of the JCN condition numbers.
+ * Returns the meanings of JCN conditions, by condition number.
  * @param {ManualSection[]} manual
  * @returns {Map<number, string>}
  */
-export function conditionsOf(manual) {
-  const rows = rowsOf(manual, say.CONDITIONS_OF_JCN);
-  return new Map(rows.flatMap(([low, ifLow, high, ifHigh]) => [[Number(low), plain(ifLow)], [Number(high), plain(ifHigh)]]));
+export function readConditions(manual) {
+  const rows = sectionRows(manual, say.CONDITIONS_OF_JCN);
+  return new Map(rows.flatMap(([low, ifLow, high, ifHigh]) => [[Number(low), cellText(ifLow)], [Number(high), cellText(ifHigh)]]));
 }
 
 /**
- * Returns the bench line forms with their effects.
+ * Returns the forms of bench lines, with descriptions of their effects.
  * @param {ManualSection[]} manual
  * @returns {{ form: string, does: string }[]}
  */
-export function linesOfBench(manual) {
-  return BENCH_LINE_SECTIONS.flatMap((title) => rowsOf(manual, title)).flatMap(([forms, does]) => (
-    [...forms.matchAll(/`([^`]+)`/g)].map(([, form]) => ({ form, does: plain(does) }))));
+export function readLineForms(manual) {
+  return BENCH_LINE_SECTIONS.flatMap((title) => sectionRows(manual, title)).flatMap(([forms, does]) => (
+    [...forms.matchAll(/`([^`]+)`/g)].map(([, form]) => ({ form, does: cellText(does) }))));
 }
 
 /**
- * Returns the bench lines that match the typed text: those with the same first word, or those that start with an unfinished first word.
+ * Returns the bench lines that match a typed text: with the same first word, or while the user types this word, with a first word that
+ * starts with the typed text.
  * @param {{ form: string, does: string }[]} lines
  * @param {string} typed
  */
-export function fittingLines(lines, typed) {
+export function matchLines(lines, typed) {
   const word = typed.trimStart().split(/\s/)[0];
   if (word === "") return [];
   const isWhole = /\s/.test(typed.trimStart());
@@ -113,23 +114,24 @@ export function fittingLines(lines, typed) {
 }
 
 /**
- * Returns the description of a cell; "" if there is none. `R5` can have the description of `R`, and `bank 0` that of `bank`.
+ * Returns the description of a cell of the machine; "" for none. `R5` can have the description of `R`, and `bank 0` the description of
+ * `bank`.
  * @param {Map<string, string>} words the descriptions, by cell name
  * @param {string} name
  */
-export function wordsOfCell(words, name) {
+export function describeCell(words, name) {
   return words.get(name) || words.get(name.replace(/ ?\d+$/, "")) || "";
 }
 
 /**
- * Returns the descriptions of the machine's cells, by cell name.
+ * Returns the descriptions of the cells of the machine, by cell name.
  * @param {ManualSection[]} manual
  * @returns {Map<string, string>}
  */
 export function cellWords(manual) {
   const found = new Map();
-  for (const [names, words] of rowsOf(manual, CELLS)) {
-    for (const [, name] of names.matchAll(/`([^`]+)`/g)) found.set(name, plain(words));
+  for (const [names, words] of sectionRows(manual, CELLS)) {
+    for (const [, name] of names.matchAll(/`([^`]+)`/g)) found.set(name, cellText(words));
   }
   return found;
 }

@@ -1,5 +1,5 @@
-// Parses the story of an example: a text in steps, with links that are actions on the page. The first line is `# TITLE`. Each step starts
-// with `## TITLE`. Blank lines separate paragraphs. `[WORDS](ACT)` is a link. The actions are:
+// Parses the story of an example: a text in steps, with links that run actions on the page. The first line is `# TITLE`. Each step starts
+// with `## TITLE`. Blank lines separate paragraphs. `[WORDS](ACTION)` is a link. The actions are:
 //
 //     run, stop, back, forward                runs time; pauses it; goes back to the previous stop; goes forward
 //     go to LABEL, run to LABEL               shows a line of the program; runs time to a line
@@ -8,46 +8,46 @@
 //     show VIEW                               shows a text or a panel
 
 /**
- * @typedef {import("./tour.js").Part} Part
+ * @typedef {import("./tour.js").ParagraphPiece} ParagraphPiece
  * @typedef {import("./tour.js").TourStep} TourStep
  *
- * The action of a link, with its argument ("" for none).
+ * The action of a link. `argument` is "" for an action without an argument.
  * @typedef {"run" | "stop" | "back" | "forward" | "go to" | "run to" | "back to" | "press" | "release" | "show"} ActName
  * @typedef {{ name: ActName, argument: string }} Act
  */
 
-/** The views that `show` accepts: texts in tab order, and panels. */
+/** The views that the action `show` accepts: texts in the order of their tabs, and panels. */
 export const TEXTS = ["program", "board", "tests", "properties", "wiring", "waves"];
 export const PANELS = ["front", "processor", "listing", "memory", "ports"];
 
-const ACT = /^(?:(run|stop|back|forward)|(go to|run to|back to|press|release|show) ([^ ]+))$/;
-const LINK = /\[([^\]]+)\]\(([^()]+)\)/g;
+const ACT_PATTERN = /^(?:(run|stop|back|forward)|(go to|run to|back to|press|release|show) ([^ ]+))$/;
+const LINK_PATTERN = /\[([^\]]+)\]\(([^()]+)\)/g;
 
 /**
- * Parses the action of a link; returns null if the action is invalid.
+ * Parses the action of a link. Returns null if the action is invalid.
  * @param {string} words
  * @returns {Act | null}
  */
-function readAct(words) {
-  const found = ACT.exec(words);
+function parseAct(words) {
+  const found = ACT_PATTERN.exec(words);
   if (!found) return null;
-  const [, alone, name, argument = ""] = found;
+  const [, simpleName, name, argument = ""] = found;
   if (name === "show" && !TEXTS.includes(argument) && !PANELS.includes(argument)) return null;
-  return { name: /** @type {ActName} */ (alone || name), argument };
+  return { name: /** @type {ActName} */ (simpleName || name), argument };
 }
 
 /**
- * Splits a paragraph into text and links. A link without a valid action becomes text.
+ * Splits a paragraph into texts and links. The words of a link without a valid action become a text.
  * @param {string} text
- * @returns {Part[]}
+ * @returns {ParagraphPiece[]}
  */
-function partsOf(text) {
-  /** @type {Part[]} */
+function splitParagraph(text) {
+  /** @type {ParagraphPiece[]} */
   const parts = [];
   let end = 0;
-  for (const found of text.matchAll(LINK)) {
-    const [whole, words, rest] = found;
-    const act = readAct(rest);
+  for (const found of text.matchAll(LINK_PATTERN)) {
+    const [whole, words, action] = found;
+    const act = parseAct(action);
     parts.push(text.slice(end, found.index), act ? { words, act } : words);
     end = (found.index || 0) + whole.length;
   }
@@ -59,9 +59,9 @@ function partsOf(text) {
  * @param {string} text
  * @returns {TourStep}
  */
-function stepOf(text) {
+function parseStep(text) {
   const [title, ...paragraphs] = text.trim().split(/\n[ \t]*\n/).map((each) => each.replace(/\s+/g, " ").trim());
-  return { title, words: paragraphs.map(partsOf), program: "", isDone: () => false };
+  return { title, words: paragraphs.map(splitParagraph), program: "", isDone: () => false };
 }
 
 /**
@@ -69,6 +69,6 @@ function stepOf(text) {
  * @param {string} text
  * @returns {TourStep[]}
  */
-export function stepsOfStory(text) {
-  return text.split(/^## /m).slice(1).map(stepOf);
+export function parseStory(text) {
+  return text.split(/^## /m).slice(1).map(parseStep);
 }

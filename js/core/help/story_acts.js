@@ -11,19 +11,19 @@ import * as say from "../../words/help.js";
  */
 
 /**
- * The functions of the page that actions use.
+ * The functions of the page that the actions call.
  * @typedef {object} ActCalls
  * @property {(label: string) => number | undefined} addressOf Returns the address of a label of the program in ROM; undefined if there is
  *   no such label.
  * @property {() => BoardKey[]} keys Returns the keys of the displayed board.
  * @property {() => void} run Runs time without a goal.
- * @property {() => Promise<void>} stand Pauses time; resolves after time is paused.
+ * @property {() => Promise<void>} pause Pauses time; resolves after time is paused.
  * @property {(goal: Goal) => Promise<void>} goOn Runs time to a goal. Resolves when time reaches a near goal; for a distant goal, when time
  *   runs towards it.
  * @property {(goal: BackGoal) => Promise<void>} goBack Goes back to a goal; resolves when the session is at the goal.
  * @property {() => Promise<void>} goForward Returns to the state before the last move back.
  * @property {(address: number) => void} goTo Shows an address in the source and in the listing.
- * @property {() => boolean} isRunning Returns whether time runs; key changes are then queued.
+ * @property {() => boolean} isRunning Returns whether the machine runs; key changes are then queued.
  * @property {(key: BoardKey) => boolean} isDown Returns whether a key will be down after all queued changes.
  * @property {(key: BoardKey) => void} press Clicks a key: presses it, or releases it if it is down.
  * @property {(name: string) => void} showText Shows a text, selected by tab name.
@@ -31,12 +31,12 @@ import * as say from "../../words/help.js";
  */
 
 /**
- * Calls a function with the address of a label. Returns an error message, or "".
+ * Calls a function with the address of a label. Resolves to an error message, "" for none.
  * @param {string} label
  * @param {ActCalls} calls
  * @param {(address: number) => unknown} act
  */
-async function atLabel(label, calls, act) {
+async function callWithAddress(label, calls, act) {
   const address = calls.addressOf(label);
   if (address === undefined) return say.noLabel(label);
   await act(address);
@@ -44,12 +44,12 @@ async function atLabel(label, calls, act) {
 }
 
 /**
- * Calls a function with the key that has a legend. Returns an error message, or "".
+ * Calls a function with the key that has a legend. Returns an error message, "" for none.
  * @param {string} legend
  * @param {ActCalls} calls
  * @param {(key: BoardKey) => unknown} act
  */
-function atKey(legend, calls, act) {
+function callWithKey(legend, calls, act) {
   const key = calls.keys().find((each) => each.legend === legend);
   if (!key) return say.noKey(legend);
   act(key);
@@ -57,19 +57,19 @@ function atKey(legend, calls, act) {
 }
 
 /**
- * The action functions, by action name. Each function resolves to an error message, or "".
+ * The functions that run actions, by name of the action. Each function resolves to an error message, "" for none.
  * @type {Record<import("./story.js").ActName, (argument: string, calls: ActCalls) => Promise<string>>}
  */
 const ACTS = {
   run: (_, calls) => perform(() => calls.run()),
-  stop: (_, calls) => perform(() => calls.stand()),
+  stop: (_, calls) => perform(() => calls.pause()),
   back: (_, calls) => perform(() => calls.goBack({ kind: "stop" })),
   forward: (_, calls) => perform(() => calls.goForward()),
-  "go to": (argument, calls) => atLabel(argument, calls, (address) => calls.goTo(address)),
-  "run to": (argument, calls) => atLabel(argument, calls, (address) => calls.goOn({ kind: "here", address })),
+  "go to": (argument, calls) => callWithAddress(argument, calls, (address) => calls.goTo(address)),
+  "run to": (argument, calls) => callWithAddress(argument, calls, (address) => calls.goOn({ kind: "here", address })),
   "back to": (argument, calls) => perform(() => calls.goBack({ kind: "change", place: argument })),
-  press: async (argument, calls) => atKey(argument, calls, (key) => (calls.isRunning() || !calls.isDown(key)) && calls.press(key)),
-  release: async (argument, calls) => atKey(argument, calls, (key) => calls.isDown(key) && calls.press(key)),
+  press: async (argument, calls) => callWithKey(argument, calls, (key) => (calls.isRunning() || !calls.isDown(key)) && calls.press(key)),
+  release: async (argument, calls) => callWithKey(argument, calls, (key) => calls.isDown(key) && calls.press(key)),
   show: (argument, calls) => perform(() => (TEXTS.includes(argument) ? calls.showText(argument) : calls.showPanel(argument))),
 };
 
@@ -83,10 +83,10 @@ async function perform(act) {
 }
 
 /**
- * Runs an action. Resolves to an error message, or "".
+ * Runs an action of a link. Resolves to an error message, "" for none.
  * @param {Act} act
  * @param {ActCalls} calls
  */
-export function doAct({ name, argument }, calls) {
+export function runAct({ name, argument }, calls) {
   return ACTS[name](argument, calls);
 }

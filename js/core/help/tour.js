@@ -1,29 +1,30 @@
-// The tour: a first program in five steps. Each step has a text, a program to type, and a condition on the bench's answers.
+// Defines the tour of the page, which explains a first program in five steps. Each step has a text, a program to type, and a condition that
+// is true when the step is done.
 
 import * as say from "../../words/help.js";
 
 /**
- * The values that decide whether a step is done:
+ * The values from which the conditions of the steps are computed:
  * - `lamps`: one mark per lamp, `*` if the lamp is on;
  * - `patterns`: the number of different lamp patterns in this step;
  * - `keysDown`: the number of pressed keys;
  * - `end`: the reason for the last stop in this step, such as `break` or `watch`; "" for none.
  * @typedef {{ lamps: string, patterns: number, keysDown: number, end: string }} TourState
  *
- * A piece of a paragraph: text, or a link with an action (only in a story).
- * @typedef {string | { words: string, act: import("./story.js").Act }} Part
+ * A piece of a paragraph: a text, or a link with an action. Only stories have links.
+ * @typedef {string | { words: string, act: import("./story.js").Act }} ParagraphPiece
  *
- * The control that a step highlights: the assemble button, a key, the margin of the source, or a RAM character.
+ * The control that a step highlights: the assemble button, a key of the board, the margin of the source, or a RAM character.
  * @typedef {"send" | "key" | "margin" | "ram"} Target
  *
  * A step: its title, its paragraphs, the program to type ("" for no change), the highlighted control, and a function that returns whether
  * the step is done.
- * @typedef {{ title: string, words: (string | Part[])[], program: string, target?: Target,
+ * @typedef {{ title: string, words: (string | ParagraphPiece[])[], program: string, target?: Target,
  *   isDone: (state: TourState) => boolean }} TourStep
  */
 
 /**
- * The texts at the start of the tour.
+ * The session at the start of the tour, as an example.
  * @type {import("../engine/examples.js").Example}
  */
 export const FIRST_PROGRAM = {
@@ -66,15 +67,15 @@ export const TOUR = [
 ];
 
 /**
- * Returns whether a text is empty or the program of a step. The tour can replace such a text.
+ * Returns whether the tour can replace a text: true if the text is empty or the program of a step.
  * @param {string} text
  */
-export function isOfTour(text) {
+export function isTourText(text) {
   return text.trim() === "" || TOUR.some(({ program }) => program === text);
 }
 
-/** The progress of the tour: the current step, and whether it is done. */
-export class TourWatch {
+/** The progress of the tour: the current step, and whether this step is done. */
+export class TourProgress {
   /** @param {TourStep[]} steps */
   constructor(steps = TOUR) {
     this.steps = steps;
@@ -105,23 +106,23 @@ export class TourWatch {
    * Records the state of the lamps.
    * @param {string} lamps one mark per lamp, `*` if the lamp is on
    */
-  seeLamps(lamps) {
+  recordLamps(lamps) {
     this.patterns.add(lamps);
     this.update({ lamps, patterns: this.patterns.size });
   }
 
   /** @param {number} keysDown */
-  seeKeys(keysDown) {
+  recordKeys(keysDown) {
     this.update({ keysDown });
   }
 
   /** @param {string} end the reason for the last stop */
-  noteEnd(end) {
+  recordEnd(end) {
     this.update({ end });
   }
 
   /**
-   * Updates the values and checks whether the step is done.
+   * Changes values of the state, and checks whether the step is done.
    * @param {Partial<TourState>} changes
    */
   update(changes) {

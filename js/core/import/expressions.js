@@ -1,12 +1,12 @@
 // Evaluates expressions in the syntax of Intel's assembler and of the AS macro assembler: names, numbers, parentheses and the operators + -
-// * / and &. The prefixes < and > select the low and the high byte. $ and * stand for the address of the line.
+// * / and &. The prefixes < and > select the low and the high byte. As operands, $ and * mean the address of the line.
 
-import { capitals } from "./source_lines.js";
+import { upperCase } from "./source_lines.js";
 import * as say from "../../words/import.js";
 
 /**
- * A value. `isKnown` is false if a name in the expression has no value yet. `fault` is an error message, or "".
- * @typedef {{ value: number, isKnown: boolean, fault: string }} Evaluated
+ * The value of an expression. `isKnown` is false if a name in the expression has no value yet. `fault` is an error message, "" for none.
+ * @typedef {{ value: number, isKnown: boolean, fault: string }} EvaluationResult
  *
  * The values of names. `isDefined` returns whether a line defines a name. `valueOf` returns the value, undefined if it is not known yet.
  * @typedef {{ isDefined: (name: string) => boolean, valueOf: (name: string) => number | undefined }} NameValues
@@ -15,12 +15,12 @@ import * as say from "../../words/import.js";
 /** The maximum nesting depth of an expression. */
 const MAX_DEPTH = 50;
 const BYTE = 256;
-/** The highest bit that & compares; higher bits of the result are 0. */
+/** The value of the highest bit that & compares. Higher bits of the result are 0. */
 const HIGHEST_BIT = 4096;
 const NAME = /[A-Za-z_.?@][A-Za-z0-9_.?@$]*/y;
-const BYTE_OF = /(LOW|HIGH|LO|HI|low|high|lo|hi)[ \t]*\(/y;
+const BYTE_FUNCTION = /(LOW|HIGH|LO|HI|low|high|lo|hi)[ \t]*\(/y;
 const CHARACTER = /'[^']'|"[^"]"/y;
-/** The number patterns in the order of the attempts, with their bases. */
+/** The patterns of numbers with their bases, in the order in which the evaluator tries them. */
 const NUMBER_PATTERNS = [
   { pattern: /0[xX]([0-9A-Fa-f]+)/y, base: 16 },
   { pattern: /[$]([0-9A-Fa-f]+)/y, base: 16 },
@@ -37,9 +37,9 @@ const NUMBER_PATTERNS = [
  * @param {number} right
  */
 function bitwiseAnd(left, right) {
-  const has = (/** @type {number} */ number, /** @type {number} */ bit) => Math.trunc(number / bit) % 2 !== 0;
+  const hasBit = (/** @type {number} */ number, /** @type {number} */ bit) => Math.trunc(number / bit) % 2 !== 0;
   let bits = 0;
-  for (let bit = 1; bit <= HIGHEST_BIT; bit *= 2) if (has(left, bit) && has(right, bit)) bits += bit;
+  for (let bit = 1; bit <= HIGHEST_BIT; bit *= 2) if (hasBit(left, bit) && hasBit(right, bit)) bits += bit;
   return bits;
 }
 
@@ -48,7 +48,7 @@ function bitwiseAnd(left, right) {
  * @param {string} digits
  * @param {number} base
  */
-function numberOfDigits(digits, base) {
+function parseDigits(digits, base) {
   let value = 0;
   for (const digit of digits) value = value * base + parseInt(digit, 16);
   return value;
@@ -138,13 +138,13 @@ class Evaluation {
 
   operand() {
     const letter = this.peek();
-    if (letter === "(") return this.bracketed();
-    if (letter !== "" && "-+<>".includes(letter)) return this.signed(letter);
-    const byteOf = this.match(BYTE_OF);
-    if (byteOf) {
-      this.at += byteOf[0].length - 1;
-      const value = this.bracketed();
-      return /^l/i.test(byteOf[0]) ? value % BYTE : Math.trunc(value / BYTE);
+    if (letter === "(") return this.parseBracketed();
+    if (letter !== "" && "-+<>".includes(letter)) return this.parsePrefixed(letter);
+    const byteFunction = this.match(BYTE_FUNCTION);
+    if (byteFunction) {
+      this.at += byteFunction[0].length - 1;
+      const value = this.parseBracketed();
+      return /^l/i.test(byteFunction[0]) ? value % BYTE : Math.trunc(value / BYTE);
     }
     const character = this.match(CHARACTER);
     if (character) return this.character(character[0]);
@@ -163,8 +163,8 @@ class Evaluation {
     return 0;
   }
 
-  /** @param {string} sign the prefix: - and + apply to a factor, `<` and `>` to the whole sum that follows */
-  signed(sign) {
+  /** @param {string} sign the prefix: `-` and `+` apply to the next factor, `<` and `>` apply to the next sum */
+  parsePrefixed(sign) {
     this.at += 1;
     if (sign === "-") return -this.factor();
     if (sign === "+") return this.factor();
@@ -172,7 +172,7 @@ class Evaluation {
     return sign === "<" ? ((value % BYTE) + BYTE) % BYTE : Math.trunc(value / BYTE);
   }
 
-  bracketed() {
+  parseBracketed() {
     this.at += 1;
     const value = this.sum();
     if (this.peek() !== ")") this.fail(say.NO_BRACKET);
@@ -194,13 +194,13 @@ class Evaluation {
   number([whole, digits], base) {
     this.at += whole.length;
     if (/\w/.test(this.text[this.at] || "")) this.fault = say.noNumber(this.text);
-    return numberOfDigits(digits, base);
+    return parseDigits(digits, base);
   }
 
   /** @param {string} spelling */
   nameValue(spelling) {
     this.at += spelling.length;
-    const name = capitals(spelling);
+    const name = upperCase(spelling);
     const value = this.names.valueOf(name);
     if (!this.names.isDefined(name)) this.fail(say.noName(spelling));
     else if (value === undefined) this.isKnown = false;
@@ -221,7 +221,7 @@ export function isAscii(text) {
  * @param {string} text
  * @param {number} address the address of the line
  * @param {NameValues} names
- * @returns {Evaluated}
+ * @returns {EvaluationResult}
  */
 export function evaluate(text, address, names) {
   const evaluation = new Evaluation(text, address, names);

@@ -1,9 +1,8 @@
-// Splits source lines in the syntax of Intel's assembler or of the AS macro assembler. (text/assembly.js splits lines in the bench's
-// syntax.)
+// Splits source lines in the syntax of Intel's assembler or of the AS macro assembler. text/assembly.js splits lines in the bench's syntax.
 
 /**
- * A line: its label, its upper-case mnemonic or directive (`word`), the text of its operands, and its comment. `word` is always EQU for a
- * definition. `isLong` is true if the line is too long to be split.
+ * A source line. `word` is the upper-case mnemonic or directive, and always EQU for a definition. `operand` is the text of all operands.
+ * `isLong` is true if the line is longer than the maximum length.
  * @typedef {{ text: string, label: string, word: string, operand: string, comment: string, isLong: boolean }} SourceLine
  *
  * @typedef {"register" | "pair" | "digit" | "byte" | "target" | "condition"} OperandKind
@@ -28,7 +27,7 @@ const INSTRUCTION_FORMS = [
 export const OPERANDS = new Map(INSTRUCTION_FORMS.flatMap(([names, kinds]) => names.map((name) => /** @type {const} */ ([name, kinds]))));
 /** The instructions that exist only on the 4040. */
 export const ONLY_4040 = new Set(["HLT", "BBS", "LCR", "OR4", "OR5", "AN6", "AN7", "DB0", "DB1", "SB0", "SB1", "EIN", "DIN", "RPM"]);
-/** The directives that the import turns into comments. */
+/** The directives that the import converts to comments. */
 export const REMARKS = new Set(["CPU", "TITLE", "PAGE", "LISTING", "NEWPAGE", "PRTINIT", "PRTEXIT", "SUBTITLE", "EJECT", "NOLIST", "LIST",
   "NAME", "SPACE", "RELAXED", "RADIX", "INTSYNTAX"]);
 /** The directives that define bytes, and the directives that reserve bytes. */
@@ -36,12 +35,12 @@ export const BYTE_WORDS = new Set(["DB", "DATA", "BYTE", "DEFB", "FCB", "DC"]);
 export const RESERVE_WORDS = new Set(["DS", "RES", "DEFS", "RMB"]);
 const DIRECTIVES = new Set([...BYTE_WORDS, ...RESERVE_WORDS, "EQU", "=", "SET", "ORG", "ALIGN", "END"]);
 /** The directives that cannot be imported. */
-export const UNSUPPORTED = new Set(["MACRO", "ENDM", "IF", "ELSE", "ENDIF", "IFDEF", "IFNDEF", "INCLUDE", "BINCLUDE", "REPT", "IRP",
-  "WHILE", "STRUCT", "SECTION", "DW"]);
+export const UNSUPPORTED_DIRECTIVES = new Set(["MACRO", "ENDM", "IF", "ELSE", "ENDIF", "IFDEF", "IFNDEF", "INCLUDE", "BINCLUDE", "REPT",
+  "IRP", "WHILE", "STRUCT", "SECTION", "DW"]);
 /** The instruction that writes to program RAM. The bench has no program RAM. */
 export const PROGRAM_RAM = "WPM";
 /** The words that cannot be labels. */
-const KNOWN_WORDS = [OPERANDS, ONLY_4040, REMARKS, DIRECTIVES, UNSUPPORTED, new Set([PROGRAM_RAM])];
+const KNOWN_WORDS = [OPERANDS, ONLY_4040, REMARKS, DIRECTIVES, UNSUPPORTED_DIRECTIVES, new Set([PROGRAM_RAM])];
 
 const NAME = "[A-Za-z_.?@][A-Za-z0-9_.?@$]*";
 const MARKED_LABEL = new RegExp(`^[ \\t]*(${NAME})[ \\t]*[:,]`);
@@ -53,7 +52,7 @@ const NAMED_DEFINITION = new RegExp(`^(${NAME})[ \\t]*(?:=|[ \\t]EQU[ \\t]|[ \\t
  * Returns a text with upper-case ASCII letters.
  * @param {string} text
  */
-export function capitals(text) {
+export function upperCase(text) {
   return text.replace(/[a-z]+/g, (letters) => letters.toUpperCase());
 }
 
@@ -61,7 +60,7 @@ export function capitals(text) {
  * Removes blanks and tabs from both ends of a text.
  * @param {string} text
  */
-export function trimmed(text) {
+export function trimBlanks(text) {
   return text.replace(/^[ \t]+/, "").replace(/[ \t]+$/, "");
 }
 
@@ -85,42 +84,42 @@ function commentAt(line) {
  * Splits a line into its code and its comment. A line that starts with `*` or `/` is a comment.
  * @param {string} text
  */
-function withoutComment(text) {
-  if (/^[*/]/.test(text)) return { rest: "", comment: text.slice(1) };
+function splitComment(text) {
+  if (/^[*/]/.test(text)) return { code: "", comment: text.slice(1) };
   const begin = text.slice(0, LONGEST_SOURCE_LINE + 1);
   const at = commentAt(begin);
-  const rest = at < 0 ? begin : begin.slice(0, at);
+  const code = at < 0 ? begin : begin.slice(0, at);
   const isWhole = at >= 0 || begin.length <= LONGEST_SOURCE_LINE;
-  return { rest: isWhole ? rest.replace(/[ \t]+$/, "") : rest, comment: at < 0 ? "" : text.slice(at + 1) };
+  return { code: isWhole ? code.replace(/[ \t]+$/, "") : code, comment: at < 0 ? "" : text.slice(at + 1) };
 }
 
 /**
- * Splits a line into its label and the rest. A name in the first column is a label, unless it is a mnemonic or a directive.
+ * Splits a line into its label and the code after the label. A name in the first column is a label, unless it is a mnemonic or a directive.
  * @param {string} line
  */
-function withoutLabel(line) {
-  const marked = MARKED_LABEL.exec(line);
-  if (marked) return { label: marked[1], rest: trimmed(line.slice(marked[0].length)) };
+function splitLabel(line) {
+  const markedLabel = MARKED_LABEL.exec(line);
+  if (markedLabel) return { label: markedLabel[1], code: trimBlanks(line.slice(markedLabel[0].length)) };
   const [first = ""] = FIRST_NAME.exec(line) || [];
-  const rest = trimmed(line.slice(first.length));
-  const isLabel = first !== "" && !KNOWN_WORDS.some((names) => names.has(capitals(first))) && !rest.startsWith("=");
-  return isLabel ? { label: first, rest } : { label: "", rest: trimmed(line) };
+  const code = trimBlanks(line.slice(first.length));
+  const isLabel = first !== "" && !KNOWN_WORDS.some((names) => names.has(upperCase(first))) && !code.startsWith("=");
+  return isLabel ? { label: first, code } : { label: "", code: trimBlanks(line) };
 }
 
 /**
  * Splits the statement after a label. A definition has the form `X = 5` or `X EQU 5`, with or without a colon after X.
  * @param {string} label
- * @param {string} rest
+ * @param {string} code
  */
-function statementIn(label, rest) {
-  if (rest === "") return { label, word: "", operand: "" };
-  if (label !== "" && DEFINITION.test(rest)) {
-    return { label, word: "EQU", operand: rest.replace(/^(=|:=|[A-Za-z]+)[ \t]*/, "") };
+function splitStatement(label, code) {
+  if (code === "") return { label, word: "", operand: "" };
+  if (label !== "" && DEFINITION.test(code)) {
+    return { label, word: "EQU", operand: code.replace(/^(=|:=|[A-Za-z]+)[ \t]*/, "") };
   }
-  const named = label === "" ? NAMED_DEFINITION.exec(rest) : null;
-  if (named) return { label: named[1], word: "EQU", operand: trimmed(rest.slice(named[0].length)) };
-  const [word] = /^[^ \t]+/.exec(rest) || [""];
-  return { label, word: capitals(word), operand: trimmed(rest.slice(word.length)) };
+  const namedDefinition = label === "" ? NAMED_DEFINITION.exec(code) : null;
+  if (namedDefinition) return { label: namedDefinition[1], word: "EQU", operand: trimBlanks(code.slice(namedDefinition[0].length)) };
+  const [word] = /^[^ \t]+/.exec(code) || [""];
+  return { label, word: upperCase(word), operand: trimBlanks(code.slice(word.length)) };
 }
 
 /**
@@ -133,20 +132,20 @@ export function readSource(texts) {
   return texts.map((text) => {
     const emptyLine = { text, label: "", word: "", operand: "", isLong: false };
     if (isEnded) return { ...emptyLine, comment: text };
-    const { rest, comment } = withoutComment(text);
-    if (rest.length > LONGEST_SOURCE_LINE) return { ...emptyLine, comment, isLong: true };
-    const { label, rest: afterLabel } = withoutLabel(rest);
-    const statement = statementIn(label, afterLabel);
+    const { code, comment } = splitComment(text);
+    if (code.length > LONGEST_SOURCE_LINE) return { ...emptyLine, comment, isLong: true };
+    const { label, code: afterLabel } = splitLabel(code);
+    const statement = splitStatement(label, afterLabel);
     isEnded = statement.word === "END";
     return { text, comment, isLong: false, ...statement };
   });
 }
 
 /**
- * Splits a list at commas outside parentheses and quotes.
+ * Splits a list of operands at the commas outside of parentheses and quotes.
  * @param {string} list
  */
-export function partsOfList(list) {
+export function splitList(list) {
   if (list === "") return [];
   const parts = [""];
   let [depth, quote] = [0, ""];
@@ -162,11 +161,11 @@ export function partsOfList(list) {
     }
     parts[parts.length - 1] += letter;
   }
-  return parts.map(trimmed);
+  return parts.map(trimBlanks);
 }
 
 /**
- * Returns the characters of a quoted string with two or more characters; null for any other part.
+ * Returns the characters of a quoted string of two or more characters; null for any other operand.
  * @param {string} part
  */
 export function quotedCharacters(part) {

@@ -1,4 +1,4 @@
-// The breakpoint marks in the margin of the source and in the listing, with their descriptions.
+// Chooses and describes the marks of breakpoints in the margin of the source and in the listing.
 
 import * as say from "../../words/machine.js";
 
@@ -8,27 +8,27 @@ import * as say from "../../words/machine.js";
  */
 
 /** The marks of breakpoints that always stop, stop on a condition, log, or never stop. */
-const ALWAYS = "\u25CF";
-const SOMETIMES = "\u25C6";
-const LOGS = "\u25B8";
-const NEVER = "\u25CB";
+const ALWAYS_STOPS_MARK = "\u25CF";
+const CONDITION_MARK = "\u25C6";
+const LOG_MARK = "\u25B8";
+const NEVER_STOPS_MARK = "\u25CB";
 
 /**
- * Describes the condition, the hit count and the log text of a breakpoint; "" if it has none of them.
+ * Describes the condition, the hit count and the log text of a breakpoint. Returns "" if it has none of them.
  * @param {Pick<Breakpoint, "condition" | "from" | "note">} breakpoint
  */
-export function detailsOfBreakpoint({ condition, from, note }) {
-  const when = condition.trim() ? say.ifCondition(condition.trim()) : "";
-  const since = from > 1 ? say.fromHit(from) : "";
-  return `${when}${since}${note.trim() && say.logs(note.trim())}`.replace(/^:? /, "");
+export function describeDetails({ condition, from, note }) {
+  const conditionText = condition.trim() ? say.ifCondition(condition.trim()) : "";
+  const hitText = from > 1 ? say.fromHit(from) : "";
+  return `${conditionText}${hitText}${note.trim() && say.logs(note.trim())}`.replace(/^:? /, "");
 }
 
 /**
  * Describes a breakpoint in one sentence.
  * @param {Pick<Breakpoint, "condition" | "from" | "note">} breakpoint
  */
-export function wordsOfBreakpoint(breakpoint) {
-  return say.breakpointWith(detailsOfBreakpoint(breakpoint));
+export function describeBreakpoint(breakpoint) {
+  return say.breakpointWith(describeDetails(breakpoint));
 }
 
 /**
@@ -37,13 +37,13 @@ export function wordsOfBreakpoint(breakpoint) {
  * @param {string} fault the error in its condition or log text, or ""; a breakpoint with an error stops every time
  * @returns {BreakpointMark}
  */
-export function markOf(breakpoint, fault) {
-  const words = wordsOfBreakpoint(breakpoint);
-  if (fault) return { mark: ALWAYS, words: say.stopsAlwaysByError(words, fault) };
-  if (!breakpoint.isOn) return { mark: NEVER, words: say.isOff(words) };
-  if (breakpoint.address < 0) return { mark: NEVER, words: say.stopsLater(words) };
-  if (breakpoint.note.trim()) return { mark: LOGS, words };
-  return { mark: breakpoint.condition.trim() || breakpoint.from > 1 ? SOMETIMES : ALWAYS, words };
+export function breakpointMark(breakpoint, fault) {
+  const words = describeBreakpoint(breakpoint);
+  if (fault) return { mark: ALWAYS_STOPS_MARK, words: say.stopsAlwaysByError(words, fault) };
+  if (!breakpoint.isOn) return { mark: NEVER_STOPS_MARK, words: say.isOff(words) };
+  if (breakpoint.address < 0) return { mark: NEVER_STOPS_MARK, words: say.stopsLater(words) };
+  if (breakpoint.note.trim()) return { mark: LOG_MARK, words };
+  return { mark: breakpoint.condition.trim() || breakpoint.from > 1 ? CONDITION_MARK : ALWAYS_STOPS_MARK, words };
 }
 
 /**
@@ -51,13 +51,13 @@ export function markOf(breakpoint, fault) {
  * @param {Breakpoint[]} breakpoints
  * @param {Map<number, string>} faults the error messages, by breakpoint id
  */
-export function marksOf(breakpoints, faults) {
+export function breakpointMarks(breakpoints, faults) {
   /** @type {Map<number, BreakpointMark>} */
   const lines = new Map();
   /** @type {Map<number, BreakpointMark>} */
   const addresses = new Map();
   for (const each of breakpoints) {
-    const mark = markOf(each, faults.get(each.id) || "");
+    const mark = breakpointMark(each, faults.get(each.id) || "");
     if (each.line > 0) lines.set(each.line, mark);
     if (each.address >= 0) addresses.set(each.address, mark);
   }

@@ -1,6 +1,6 @@
-// Parses the target of "go to": a program name, a name plus an offset, an address as in listings, or a number as in commands.
+// Parses the target of the command "go to": a program name, a name plus an offset, an address as in listings, or a number as in commands.
 
-import { LAST_ADDRESS, numberOf } from "../bench/numbers.js";
+import { LAST_ADDRESS, parseNumber } from "../bench/numbers.js";
 import * as say from "../../words/machine.js";
 
 /**
@@ -17,11 +17,11 @@ const NAME_PLUS_OFFSET = /^([a-z_]\w*)\s*\+\s*(0x[0-9a-f]+|\d+)$/i;
 
 /**
  * Creates an error result.
- * @param {string} words
+ * @param {string} message
  * @returns {Goal}
  */
-function goalError(words) {
-  return { address: 0, words };
+function goalError(message) {
+  return { address: 0, words: message };
 }
 
 /**
@@ -30,14 +30,14 @@ function goalError(words) {
  * @param {SourceMap | null} map the source map of the program in ROM; null if unknown
  * @returns {Goal}
  */
-export function goalOf(text, map) {
+export function parseGoal(text, map) {
   const word = text.trim();
   const [, name = word, offset = "0"] = NAME_PLUS_OFFSET.exec(word) || [];
   const value = map ? map.valueInAnyCase(name) : undefined;
-  if (value !== undefined && value + numberOf(offset) <= LAST_ADDRESS) return { address: value + numberOf(offset), words: "" };
-  const address = LISTING_ADDRESS.test(word) ? parseInt(word, 16) : numberOf(word);
+  if (value !== undefined && value + parseNumber(offset) <= LAST_ADDRESS) return { address: value + parseNumber(offset), words: "" };
+  const address = LISTING_ADDRESS.test(word) ? parseInt(word, 16) : parseNumber(word);
   if (address <= LAST_ADDRESS) return { address, words: "" };
-  if (!Number.isNaN(numberOf(word))) return goalError(say.beyondLast(word));
+  if (!Number.isNaN(parseNumber(word))) return goalError(say.beyondLast(word));
   if (word === "") return goalError(say.nothingToGoTo(say.ADDRESS_FORMS));
   if (map) return goalError(say.noNameOrAddress(word, say.ADDRESS_FORMS));
   return goalError(say.noAddress(word, say.ADDRESS_FORMS));

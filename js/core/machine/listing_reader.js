@@ -1,11 +1,11 @@
-// Reads the visible part of a listing with as few queries as possible.
+// Reads the visible lines of a listing with as few queries as possible.
 
 import { readListing } from "../bench/answers.js";
 import { joinLines, matchAnswers, readInputs } from "../bench/inputs.js";
-import { beginningsOf, beginsLine, linesNeeded } from "./listing_stretch.js";
+import { listingStarts, hasLineAt, linesNeeded } from "./listing_stretch.js";
 
 /**
- * @typedef {import("../bench/answers.js").Listed} Listed
+ * @typedef {import("../bench/answers.js").ListingLine} ListingLine
  * @typedef {import("./listing_stretch.js").Goal} Goal
  */
 
@@ -21,11 +21,11 @@ export class ListingReader {
    * @param {number} rows the number of visible lines
    */
   async read(goal, rows) {
-    /** @type {Listed[]} */
+    /** @type {ListingLine[]} */
     let lines = [];
-    for (const start of beginningsOf(goal, rows)) {
+    for (const start of listingStarts(goal, rows)) {
       lines = await this.list(start, linesNeeded(start, goal, rows));
-      if (beginsLine(lines, goal.anchor)) break;
+      if (hasLineAt(lines, goal.anchor)) break;
     }
     return lines;
   }

@@ -1,25 +1,25 @@
-// Finds names for RAM nibbles: the names of watch expressions, and the names of numbers that the source loads for an SRC.
+// Finds names for RAM nibbles: the names of watch expressions, and the program names of the bytes that the source loads for SRC.
 
 import { hex } from "../bench/numbers.js";
-import { PAIR, partsOf } from "../text/assembly.js";
+import { PAIR, splitStatement } from "../text/assembly.js";
 
 /**
  * @typedef {import("../bench/answers.js").Board} Board
- * @typedef {import("../debug/watched.js").Watched} Watched
+ * @typedef {import("../debug/watched.js").WatchExpression} WatchExpression
  * @typedef {import("./source_map.js").SourceMap} SourceMap
  */
 
 /**
- * Returns the named numbers that FIM loads into a register pair used by SRC, without duplicates.
+ * Returns the named numbers that a FIM loads into a register pair that an SRC uses, without duplicates.
  * @param {SourceMap} map
  * @returns {{ name: string, byte: number }[]}
  */
-export function bytesOfSource(map) {
-  const lines = map.sources.map(partsOf).filter(({ head }) => head !== null);
+export function namedSrcBytes(map) {
+  const lines = map.sources.map(splitStatement).filter(({ head }) => head !== null);
   /** @type {(name: string) => import("../text/assembly.js").Word[][]} */
-  const operandsOf = (name) => lines.filter(({ head }) => head && head.text.toUpperCase() === name).map(({ operands }) => operands);
-  const srcPairs = new Set(operandsOf("SRC").flatMap(([pair]) => (pair && PAIR.test(pair.text) ? [pair.text.toUpperCase()] : [])));
-  const loadedValues = operandsOf("FIM")
+  const findOperands = (name) => lines.filter(({ head }) => head && head.text.toUpperCase() === name).map(({ operands }) => operands);
+  const srcPairs = new Set(findOperands("SRC").flatMap(([pair]) => (pair && PAIR.test(pair.text) ? [pair.text.toUpperCase()] : [])));
+  const loadedValues = findOperands("FIM")
     .flatMap(([pair, value]) => (pair && value && srcPairs.has(pair.text.toUpperCase()) ? [value.text] : []));
   return [...new Set(loadedValues)].flatMap((text) => {
     const name = map.names.get(text);
@@ -30,11 +30,11 @@ export function bytesOfSource(map) {
 /**
  * Returns the names of RAM nibbles, by `poke` place. An SRC byte selects one nibble in each bank.
  * @param {Board} board
- * @param {Pick<Watched, "name" | "place">[]} watched
+ * @param {Pick<WatchExpression, "name" | "place">[]} watched
  * @param {SourceMap | null} map null if the source is not the program in ROM
  * @returns {Map<string, string[]>}
  */
-export function namesOfCharacters({ banks }, watched, map) {
+export function nibbleNames({ banks }, watched, map) {
   /** @type {Map<string, string[]>} */
   const names = new Map();
   /** @type {(place: string, name: string) => void} */
@@ -42,9 +42,9 @@ export function namesOfCharacters({ banks }, watched, map) {
     const present = names.get(place) || [];
     if (!present.includes(name)) names.set(place, [...present, name]);
   };
-  // A watch expression without a name has its place as its name, which is not a word.
+  // If a watch expression has no name, its `name` is its place, which is not a word.
   for (const { name, place } of watched) if (place !== "" && /^\w+$/.test(name)) add(place, name);
-  for (const { name, byte } of map ? bytesOfSource(map) : []) {
+  for (const { name, byte } of map ? namedSrcBytes(map) : []) {
     for (const { bank, chips } of banks) if (byte < chips * 64) add(`ram.${bank}.0x${hex(byte, 2)}`, name);
   }
   return names;

@@ -2,7 +2,7 @@
 
 import { readMap } from "../bench/answers.js";
 import { hex } from "../bench/numbers.js";
-import { ADDRESSES } from "../bench/rom_bytes.js";
+import { ADDRESS_COUNT } from "../bench/rom_bytes.js";
 import * as say from "../../words/machine.js";
 
 /**
@@ -10,8 +10,8 @@ import * as say from "../../words/machine.js";
  * @typedef {{ name: string, value: number, isLabel: boolean }} Name
  */
 
-const LABEL = /^[ \t]*([A-Za-z_][A-Za-z0-9_]*)[ \t]*:/;
-const DATA = /^([ \t]*[A-Za-z_][A-Za-z0-9_]*[ \t]*:)?[ \t]*DB[ \t]/i;
+const LABEL_LINE = /^[ \t]*([A-Za-z_][A-Za-z0-9_]*)[ \t]*:/;
+const DATA_LINE = /^([ \t]*[A-Za-z_][A-Za-z0-9_]*[ \t]*:)?[ \t]*DB[ \t]/i;
 
 export class SourceMap {
   /**
@@ -28,23 +28,23 @@ export class SourceMap {
     this.names = new Map();
     /** @type {Map<number, string[]>} the labels, by address */
     this.labels = new Map();
-    /** The source lines, by the address of the byte; 0 for none. */
-    this.lines = new Uint16Array(ADDRESSES);
+    /** The number of the source line of each byte, by address; 0 for none. */
+    this.lines = new Uint16Array(ADDRESS_COUNT);
     this.sources = text.split("\n");
     this.read(answers);
     /** The nearest labelled address at or below each address, within the same contiguous bytes; -1 for none. */
-    this.owners = this.findOwners();
+    this.labelledAddresses = this.findLabelledAddresses();
   }
 
   /** @param {string[]} answers */
   read(answers) {
-    const labels = new Set(this.sources.map((line) => (LABEL.exec(line) || ["", ""])[1]));
+    const labels = new Set(this.sources.map((line) => (LABEL_LINE.exec(line) || ["", ""])[1]));
     const { lines, names } = readMap(answers);
     for (const line of lines) this.addLine(line);
     for (const { name, value } of names) this.addName({ name, value, isLabel: labels.has(name) });
   }
 
-  /** @param {import("../bench/answers.js").MappedLine} mapped */
+  /** @param {import("../bench/answers.js").MappedLine} mappedLine */
   addLine({ line, address, size }) {
     this.addresses[line] = address;
     this.sizes[line] = size;
@@ -57,16 +57,16 @@ export class SourceMap {
     if (name.isLabel) this.labels.set(name.value, [...this.labelsAt(name.value), name.name]);
   }
 
-  /** Computes `owners`. */
-  findOwners() {
-    const owners = new Int16Array(ADDRESSES);
-    let owner = -1;
-    for (let address = 0; address < ADDRESSES; address++) {
-      if (this.lines[address] === 0) owner = -1;
-      else if (this.labels.has(address)) owner = address;
-      owners[address] = owner;
+  /** Returns the value of `labelledAddresses`. */
+  findLabelledAddresses() {
+    const addresses = new Int16Array(ADDRESS_COUNT);
+    let labelledAddress = -1;
+    for (let address = 0; address < ADDRESS_COUNT; address++) {
+      if (this.lines[address] === 0) labelledAddress = -1;
+      else if (this.labels.has(address)) labelledAddress = address;
+      addresses[address] = labelledAddress;
     }
-    return owners;
+    return addresses;
   }
 
   /** The number of program lines. */
@@ -96,7 +96,7 @@ export class SourceMap {
    * @param {string} label
    */
   lineOfLabel(label) {
-    return this.sources.findIndex((line) => (LABEL.exec(line) || ["", ""])[1] === label) + 1;
+    return this.sources.findIndex((line) => (LABEL_LINE.exec(line) || ["", ""])[1] === label) + 1;
   }
 
   /**
@@ -105,7 +105,7 @@ export class SourceMap {
    */
   beginsInstruction(address) {
     const line = this.lineOf(address);
-    return line > 0 && this.addresses[line] === address && !DATA.test(this.sources[line - 1]);
+    return line > 0 && this.addresses[line] === address && !DATA_LINE.test(this.sources[line - 1]);
   }
 
   /**
@@ -114,7 +114,7 @@ export class SourceMap {
    */
   isInside(address) {
     const line = this.lineOf(address);
-    return line > 0 && this.addresses[line] !== address && !DATA.test(this.sources[line - 1]);
+    return line > 0 && this.addresses[line] !== address && !DATA_LINE.test(this.sources[line - 1]);
   }
 
   /**
@@ -133,8 +133,8 @@ export class SourceMap {
   nameOf(address) {
     const [label] = this.labelsAt(address);
     if (label) return label;
-    const owner = address < ADDRESSES ? this.owners[address] : -1;
-    return owner < 0 ? "" : `${this.labelsAt(owner)[0]} + ${address - owner}`;
+    const labelledAddress = address < ADDRESS_COUNT ? this.labelledAddresses[address] : -1;
+    return labelledAddress < 0 ? "" : `${this.labelsAt(labelledAddress)[0]} + ${address - labelledAddress}`;
   }
 
   /**
@@ -160,7 +160,7 @@ export class SourceMap {
   }
 
   /**
-   * Returns the value of a name and ignores case if necessary. Returns undefined if no name matches, or if several names match.
+   * Returns the value of a name. If no name is equal, ignores the case. Returns undefined if no name matches, or if several names match.
    * @param {string} word
    * @returns {number | undefined}
    */

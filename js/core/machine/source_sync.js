@@ -1,12 +1,12 @@
-// Links the source and the machine. While the source is the program in ROM, the editor marks the next line, and addresses have names. The
-// check is repeated after each possible change of the source or ROM.
+// Links the source and the machine. While the source is that of the program in ROM, the editor marks the next line, and addresses have
+// names. The page checks this again after each possible change of the source or of ROM.
 
 import { hex } from "../bench/numbers.js";
 import { SourceMap } from "./source_map.js";
 import * as say from "../../words/machine.js";
 
 /**
- * @typedef {import("../engine/program_check.js").Checked} Checked
+ * @typedef {import("../engine/program_check.js").ProgramCheck} ProgramCheck
  *
  * The source editor. `showNext` marks the next line, 0 for none. `showAddresses` shows the addresses of the lines, "" for none. `reveal`
  * scrolls to a line.
@@ -16,13 +16,13 @@ import * as say from "../../words/machine.js";
 
 /**
  * The callbacks of SourceSync.
- * @typedef {object} SyncCalls
+ * @typedef {object} SourceSyncCallbacks
  * @property {() => string} text Returns the source as sent to the bench.
- * @property {(text: string) => Promise<Checked>} check Resolves to the `map` answer for a source or its refusal, and the first difference
- *   from ROM.
+ * @property {(text: string) => Promise<ProgramCheck>} check Resolves to the `map` answer for a source or its refusal, and the first
+ *   difference from ROM.
  * @property {(map: SourceMap | null, words: string) => void} changed Handles a change of the program in ROM. `map` is null if the source is
  * not that program; then `words` is the message.
- * @property {(number: number) => string} wordsOfRefusal Returns the message of a refusal.
+ * @property {(number: number) => string} describeRefusal Returns the message of a refusal.
  */
 
 /** @type {SourceEditor} */
@@ -34,7 +34,7 @@ function hexAddress(address) {
 }
 
 export class SourceSync {
-  /** @param {SyncCalls} calls */
+  /** @param {SourceSyncCallbacks} calls */
   constructor(calls) {
     this.calls = calls;
     this.editor = NO_EDITOR;
@@ -42,24 +42,24 @@ export class SourceSync {
     this.map = null;
     /** The reason why the source is not the program in ROM, or "". */
     this.words = "";
-    /** @type {Checked | null} the result of the last check */
-    this.checked = null;
+    /** @type {ProgramCheck | null} the result of the last check */
+    this.lastResult = null;
     /** The text of the last check. */
     this.text = "";
     /** The number of the last check; results of older checks are discarded. */
     this.lastCheck = 0;
-    /** @type {Promise<void> | null} the check shared by all callers of `fresh` */
+    /** @type {Promise<void> | null} the check shared by all callers of `waitForCheck` */
     this.pendingCheck = null;
-    this.next = 0;
+    this.nextLine = 0;
   }
 
-  /** Forgets the program because the editor shows another text. */
+  /** Clears all results because the editor shows another text. */
   forget() {
     this.map = null;
     this.words = "";
-    this.checked = null;
+    this.lastResult = null;
     this.text = "";
-    this.next = 0;
+    this.nextLine = 0;
     this.calls.changed(null, "");
   }
 
@@ -75,30 +75,30 @@ export class SourceSync {
   /**
    * Handles the result of a check.
    * @param {string} text
-   * @param {Checked} checked
+   * @param {ProgramCheck} result
    */
-  take(text, checked) {
-    const isSame = text === this.text && JSON.stringify(checked) === JSON.stringify(this.checked);
-    if (isSame) return;
+  take(text, result) {
+    const isUnchanged = text === this.text && JSON.stringify(result) === JSON.stringify(this.lastResult);
+    if (isUnchanged) return;
     this.text = text;
-    this.checked = checked;
-    const map = new SourceMap(checked.map, text);
-    this.words = this.wordsOf(checked, map);
+    this.lastResult = result;
+    const map = new SourceMap(result.map, text);
+    this.words = this.mismatchReason(result, map);
     this.map = this.words === "" && map.count > 0 ? map : null;
-    this.editor.showAddresses(addressesOf(map));
+    this.editor.showAddresses(lineAddresses(map));
     this.calls.changed(this.map, this.words);
   }
 
   /**
    * Returns the reason why the source is not the program in ROM, or "".
-   * @param {Checked} checked
+   * @param {ProgramCheck} result
    * @param {SourceMap} map
    */
-  wordsOf({ refusal, difference }, map) {
+  mismatchReason({ refusal, difference }, map) {
     if (refusal) {
-      const where = refusal.line > 0 ? say.inThatLine(refusal.line) : "";
-      const what = refusal.number > 0 ? `no ${refusal.number}: ${this.calls.wordsOfRefusal(refusal.number)}` : say.DOT_ENDS;
-      return say.sourceHasError(where, what);
+      const lineText = refusal.line > 0 ? say.inThatLine(refusal.line) : "";
+      const errorText = refusal.number > 0 ? `no ${refusal.number}: ${this.calls.describeRefusal(refusal.number)}` : say.DOT_ENDS;
+      return say.sourceHasError(lineText, errorText);
     }
     if (!difference) return "";
     const line = map.lineOf(difference.address);
@@ -113,8 +113,8 @@ export class SourceSync {
    */
   showNext(counter, isRunning) {
     const line = this.map && !isRunning ? this.map.lineOf(counter) : 0;
-    if (line === this.next) return;
-    this.next = line;
+    if (line === this.nextLine) return;
+    this.nextLine = line;
     this.editor.showNext(line);
   }
 
@@ -128,10 +128,10 @@ export class SourceSync {
   }
 
   /** Waits until the current source has been checked. */
-  async fresh() {
-    // A newer check invalidates the result of an older one. If each caller started a check, none would ever finish, so all callers share
-    // one check.
-    while (this.calls.text() !== this.text || !this.checked) {
+  async waitForCheck() {
+    // A newer check discards the result of an older check. If each caller started a check, no result might ever be accepted. Therefore all
+    // callers share one check.
+    while (this.calls.text() !== this.text || !this.lastResult) {
       this.pendingCheck = this.pendingCheck || this.check().finally(() => {
         this.pendingCheck = null;
       });
@@ -152,6 +152,6 @@ export class SourceSync {
  * Returns the addresses of all lines, "" for a line without bytes.
  * @param {SourceMap} map
  */
-function addressesOf(map) {
+function lineAddresses(map) {
   return map.sizes.slice(1).map((size, at) => (size > 0 ? hex(map.addresses[at + 1], 3) : ""));
 }

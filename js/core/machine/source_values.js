@@ -1,8 +1,8 @@
-// Provides the values of words in the source while time is paused, and the changes made by the last executed lines. Both come from the last
-// snapshot.
+// Provides the values of words in the source while time is paused, and the changes that the last executed lines made. Both are read from
+// the last snapshot.
 
 import { LineChanges } from "../debug/line_changes.js";
-import { MachineState } from "../debug/standing.js";
+import { MachineState } from "../debug/machine_state.js";
 import { valuesAt } from "../debug/value_words.js";
 
 /**
@@ -31,51 +31,51 @@ export class SourceValues {
     /** @type {string[]} the last snapshot */
     this.snapshot = [];
     /** @type {MachineState | null} the state in the last snapshot */
-    this.read = null;
+    this.state = null;
     this.isRunning = false;
     this.changes = new LineChanges();
   }
 
-  /** Forgets the values because another session is shown. */
+  /** Clears the values because another session is shown. */
   forget() {
     this.snapshot = [];
-    this.read = null;
+    this.state = null;
     this.changes.forget();
   }
 
-  /** @returns {MachineState | null} the state of the machine; null while time runs */
-  get standing() {
+  /** @returns {MachineState | null} the state of the machine while time is paused; null while time runs */
+  get machineState() {
     if (this.calls.isRunning()) return null;
     const snapshot = this.calls.snapshot();
     if (snapshot !== this.snapshot) {
       this.snapshot = snapshot;
-      this.read = snapshot.length > 0 ? new MachineState(snapshot) : null;
+      this.state = snapshot.length > 0 ? new MachineState(snapshot) : null;
     }
-    return this.read;
+    return this.state;
   }
 
   /**
    * Returns the value of the word at a position in a line.
    * @param {string} text
-   * @param {number} at
+   * @param {number} column
    * @returns {Piece[]}
    */
-  at(text, at) {
-    const { standing } = this;
-    return standing ? valuesAt(text, at, standing, this.calls) : [];
+  at(text, column) {
+    const { machineState } = this;
+    return machineState ? valuesAt(text, column, machineState, this.calls) : [];
   }
 
   /**
    * Handles a new snapshot. While time runs, only the first snapshot updates the view.
    * @param {number} cycles the cycle count
    */
-  looked(cycles) {
+  updateFromSnapshot(cycles) {
     const wasRunning = this.isRunning;
     this.isRunning = this.calls.isRunning();
     if (this.isRunning && wasRunning) return;
-    const { standing } = this;
-    if (standing) this.changes.addPause(standing, cycles, this.calls.map());
-    this.calls.showLines(standing ? this.changes.lines : new Map());
+    const { machineState } = this;
+    if (machineState) this.changes.addPause(machineState, cycles, this.calls.map());
+    this.calls.showLines(machineState ? this.changes.lines : new Map());
     this.calls.showWatched();
     this.calls.changed();
   }

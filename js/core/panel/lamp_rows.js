@@ -1,26 +1,26 @@
-// Lays out the lamps of a board as rows of characters: first lamps in groups and in the grid, then the other named lamps.
+// Lays out the lamps of a board as rows of characters: first the lamps of groups and of the grid, then the other named lamps.
 
 import { fittingGroups, isScanned, lampNames, looseLamps } from "../board/face_board.js";
 import { lampAt, scannedLampAt } from "../board/seen_lamps.js";
-import { upTo } from "../bench/numbers.js";
+import { indices } from "../bench/numbers.js";
 
 /**
  * @typedef {import("../board/face.js").Face} Face
  * @typedef {import("../board/face.js").Group} Group
- * @typedef {import("../board/seen_lamps.js").SeenLamp} SeenLamp
+ * @typedef {import("../board/seen_lamps.js").LampReader} LampReader
  *
- * A cell in a row: its lamp (null for a gap), its width in characters, the lamp name ("" for none) and the colour.
- * @typedef {{ seen: SeenLamp | null, width: number, name: string, colour: string }} LampCell
+ * A cell in a row: its lamp (`seen`, null for a gap), its width in characters, the name of the lamp ("" for none) and its colour.
+ * @typedef {{ seen: LampReader | null, width: number, name: string, colour: string }} LampCell
  */
 
-/** The minimum number of columns at which a group has no gaps between its lamps. */
+/** The minimum number of columns in a group that is drawn without gaps between its lamps. */
 const MIN_NARROW_COLUMNS = 13;
 /** The width of a die cell in characters. */
 const DIE_WIDTH = 4;
-/** The width of a named cell without the name: `( ) ` before it and a blank after it. */
+/** The width of a cell with a name, without the name itself: `( ) ` before the name and a blank after it. */
 const NAME_PADDING = 5;
 const DEFAULT_COLOUR = "red";
-/** The lamp characters, by brightness level. */
+/** The characters for lamps, by brightness level. */
 const LEVEL_CHARACTERS = [" ", ":", "+", "*"];
 
 /** Builds the lamp rows of a board. */
@@ -40,27 +40,27 @@ class LampRows {
       this.addGroup(group, isScanned(group) ? scanned++ : -1);
     }
     this.addGrid(face.grid.filter(({ lamp }) => lamp < count));
-    for (const lamp of looseLamps(face, count)) if (this.names[lamp] !== "") this.rows.push([this.namedCell(lamp, this.widthOf(lamp))]);
+    for (const lamp of looseLamps(face, count)) if (this.names[lamp] !== "") this.rows.push([this.namedCell(lamp, this.cellWidth(lamp))]);
   }
 
   /**
    * Returns the width of a cell with the lamp name; 0 if the lamp has no name.
    * @param {number} lamp
    */
-  widthOf(lamp) {
+  cellWidth(lamp) {
     return this.names[lamp] === "" ? 0 : this.names[lamp].length + NAME_PADDING;
   }
 
   /**
-   * @param {SeenLamp} seen
+   * @param {LampReader} seenLamp
    * @param {number} lamp the lamp that determines the colour of the cell
    * @param {number} width
    * @param {string} name
    * @returns {LampCell}
    */
-  cell(seen, lamp, width, name) {
+  makeCell(seenLamp, lamp, width, name) {
     const colour = this.face.colours.get(lamp);
-    return { seen, width, name, colour: colour ? colour.text : DEFAULT_COLOUR };
+    return { seen: seenLamp, width, name, colour: colour ? colour.text : DEFAULT_COLOUR };
   }
 
   /**
@@ -69,7 +69,7 @@ class LampRows {
    * @param {number} width
    */
   namedCell(lamp, width) {
-    return this.cell(lampAt(lamp), lamp, width, this.names[lamp]);
+    return this.makeCell(lampAt(lamp), lamp, width, this.names[lamp]);
   }
 
   /**
@@ -80,13 +80,13 @@ class LampRows {
   addGroup(group, number) {
     const { kind, first, rows, columns } = group;
     const width = kind === "die" ? DIE_WIDTH : columns < MIN_NARROW_COLUMNS ? 2 : 1;
-    const cells = upTo(rows * columns).map((at) => {
-      if (number < 0) return this.cell(lampAt(first + at), first + at, width, "");
+    const cells = indices(rows * columns).map((at) => {
+      if (number < 0) return this.makeCell(lampAt(first + at), first + at, width, "");
       const seen = scannedLampAt(group, number, at);
-      return this.cell(seen, seen.column, width, "");
+      return this.makeCell(seen, seen.column, width, "");
     });
     if (kind === "die") this.addDie(cells);
-    else for (const row of upTo(rows)) this.rows.push(cells.slice(row * columns, (row + 1) * columns));
+    else for (const row of indices(rows)) this.rows.push(cells.slice(row * columns, (row + 1) * columns));
     this.rows.push([]);
   }
 
@@ -95,19 +95,19 @@ class LampRows {
    * @param {LampCell[]} pips
    */
   addDie([first, second, ...others]) {
-    const space = gap(DIE_WIDTH);
+    const space = gapCell(DIE_WIDTH);
     this.rows.push([first, space, second], others.slice(0, 3), [others[3], space, others[4]]);
   }
 
   /** @param {Face["grid"]} grid */
   addGrid(grid) {
     if (grid.length === 0) return;
-    const columns = upTo(Math.max(...grid.map(({ column }) => column)) + 1);
-    const widths = columns.map((at) => Math.max(2, ...grid.filter(({ column }) => column === at).map(({ lamp }) => this.widthOf(lamp))));
-    for (const row of upTo(Math.max(...grid.map((each) => each.row)) + 1)) {
+    const columns = indices(Math.max(...grid.map(({ column }) => column)) + 1);
+    const widths = columns.map((at) => Math.max(2, ...grid.filter(({ column }) => column === at).map(({ lamp }) => this.cellWidth(lamp))));
+    for (const row of indices(Math.max(...grid.map((each) => each.row)) + 1)) {
       this.rows.push(columns.map((column) => {
         const found = grid.find((each) => each.row === row && each.column === column);
-        return found ? this.namedCell(found.lamp, widths[column]) : gap(widths[column]);
+        return found ? this.namedCell(found.lamp, widths[column]) : gapCell(widths[column]);
       }));
     }
     this.rows.push([]);
@@ -118,7 +118,7 @@ class LampRows {
  * @param {number} width
  * @returns {LampCell}
  */
-function gap(width) {
+function gapCell(width) {
   return { seen: null, width, name: "", colour: "" };
 }
 
@@ -127,7 +127,7 @@ function gap(width) {
  * @param {Face} face
  * @param {number} count the number of lamps on the board
  */
-export function lampRowsOf(face, count) {
+export function buildLampRows(face, count) {
   return new LampRows(face, count).rows;
 }
 
@@ -136,7 +136,7 @@ export function lampRowsOf(face, count) {
  * @param {LampCell} cell
  * @param {number} level the brightness level
  */
-export function textOfCell({ seen, width, name }, level) {
+export function formatCell({ seen, width, name }, level) {
   if (!seen) return " ".repeat(width);
   const text = name === "" ? (level > 0 ? LEVEL_CHARACTERS[level] : ".") : `(${LEVEL_CHARACTERS[level]}) ${name}`;
   return text.padEnd(width);

@@ -1,12 +1,12 @@
 // Formats a number in large seven-segment digits: five rows of characters.
 
-import { patternOf } from "../board/digit_patterns.js";
+import { digitPattern } from "../board/digit_patterns.js";
 
 export const LARGE_ROWS = 5;
 const BLANK = " ";
 
-/** Returns whether a pattern contains a segment; `letter` is a letter from a to g. */
-const hasSegment = (/** @type {number} */ pattern, /** @type {string} */ letter) => ((pattern >> "abcdefg".indexOf(letter)) & 1) === 1;
+/** @type {(pattern: number, letter: string) => boolean} returns whether a pattern contains a segment, given as a letter from a to g */
+const hasSegment = (pattern, letter) => ((pattern >> "abcdefg".indexOf(letter)) & 1) === 1;
 
 /**
  * Returns the rows of a character.
@@ -14,18 +14,18 @@ const hasSegment = (/** @type {number} */ pattern, /** @type {string} */ letter)
  */
 function characterRows(character) {
   if (character === ".") return [...Array(LARGE_ROWS - 1).fill("  "), "# "];
-  const pattern = patternOf(character);
-  const across = (/** @type {string} */ letter) => (hasSegment(pattern, letter) ? " ###  " : BLANK.repeat(6));
-  const sides = (/** @type {string} */ letters) => (
+  const pattern = digitPattern(character);
+  const horizontalRow = (/** @type {string} */ letter) => (hasSegment(pattern, letter) ? " ###  " : BLANK.repeat(6));
+  const verticalRow = (/** @type {string} */ letters) => (
     `${[...letters].map((letter) => (hasSegment(pattern, letter) ? "#" : BLANK)).join("   ")} `);
-  return [across("a"), sides("fb"), across("g"), sides("ec"), across("d")];
+  return [horizontalRow("a"), verticalRow("fb"), horizontalRow("g"), verticalRow("ec"), horizontalRow("d")];
 }
 
 /**
- * Returns the rows of a whole number text.
+ * Returns the rows for the text of a number.
  * @param {string} number
  */
-export function largeRows(number) {
+export function largeDigitRows(number) {
   const characters = [...number].map(characterRows);
   return Array.from({ length: LARGE_ROWS }, (_, at) => characters.map((rows) => rows[at]).join(""));
 }

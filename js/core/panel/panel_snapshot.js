@@ -3,29 +3,29 @@
 
 import { readRam } from "../bench/answers.js";
 import { joinLines, matchAnswers, readInputs } from "../bench/inputs.js";
-import { hex, upTo } from "../bench/numbers.js";
-import { itemsOf, partsOfState, registersOf, valueIn } from "../bench/state_line.js";
-import { FULL_LEVEL, levelOf } from "../board/brightness.js";
-import { KeysDown } from "../board/key_place.js";
-import { wholeText } from "../board/display_text.js";
-import { SEEN_QUERY, SeenText, seenBrightness } from "../engine/seen_text.js";
+import { hex, indices } from "../bench/numbers.js";
+import { parseItems, parseState, parseRegisters, stateValue } from "../bench/state_line.js";
+import { FULL_LEVEL, brightnessLevel } from "../board/brightness.js";
+import { PressedKeys } from "../board/key_place.js";
+import { joinDisplayText } from "../board/display_text.js";
+import { LAMPS_FORECAST_QUERY, PerceivedText, forecastBrightness } from "../engine/seen_text.js";
 import { ListingReader } from "../machine/listing_reader.js";
-import { stretchOf } from "../machine/listing_stretch.js";
+import { visibleLines } from "../machine/listing_stretch.js";
 
 /**
- * @typedef {import("../bench/answers.js").Listed} Listed
+ * @typedef {import("../bench/answers.js").ListingLine} ListingLine
  * @typedef {import("../bench/answers.js").Ram} Ram
  * @typedef {import("../bench/answers.js").Registers} Registers
  * @typedef {import("../board/brightness.js").Brightness} Brightness
- * @typedef {import("../board/seen_lamps.js").SeenLamp} SeenLamp
+ * @typedef {import("../board/seen_lamps.js").LampReader} LampReader
  * @typedef {import("./terminal_panel.js").Panel} Panel
  */
 
 /** The number of screen rows per RAM chip: four registers and a port. */
 export const CHIP_ROWS = 5;
-/** The number of bytes between the start of a new listing and the program counter. */
+/** The number of bytes from the start of a new listing to the program counter. */
 const BYTES_BEFORE = 6;
-/** The number of lines at the end of a listing. If the counter reaches them or leaves the listing, a new listing replaces it. */
+/** If the program counter is in the last LINES_LEFT lines of the listing or outside of the listing, the panel reads a new listing. */
 const LINES_LEFT = 2;
 
 export class PanelSnapshot {
@@ -34,15 +34,15 @@ export class PanelSnapshot {
     this.panel = panel;
     const { board, face } = panel.subject;
     /** @type {{ bank: number, name: string }[]} the RAM chips of the board; their names have the form `0.1` */
-    this.chips = board.banks.flatMap(({ bank, chips }) => upTo(chips).map((chip) => ({ bank, name: `${bank}.${chip}` })));
+    this.chips = board.banks.flatMap(({ bank, chips }) => indices(chips).map((chip) => ({ bank, name: `${bank}.${chip}` })));
     this.hasDisplay = face.groups.some(({ kind }) => kind === "display");
-    this.text = new SeenText(face, board.lamps.length);
+    this.text = new PerceivedText(face, board.lamps.length);
     this.reader = new ListingReader(panel.ask);
     this.commands = "0";
     /** @type {Registers | null} */
     this.registers = null;
-    this.keysDown = new KeysDown();
-    /** The lamp marks at this instant, `*` if the lamp is on. */
+    this.keysDown = new PressedKeys();
+    /** The marks of the lamps at this instant: `*` for each lamp that is on. */
     this.marks = "";
     /** @type {Brightness | null} the perceived brightness of the lamps; null while time is paused */
     this.brightness = null;
@@ -50,7 +50,7 @@ export class PanelSnapshot {
     this.breakpoints = [];
     /** @type {Ram} the contents of the visible chips */
     this.ram = { registers: new Map(), ports: new Map() };
-    /** @type {Listed[]} */
+    /** @type {ListingLine[]} */
     this.listing = [];
   }
 
@@ -81,37 +81,37 @@ export class PanelSnapshot {
   }
 
   /**
-   * Queries the session and takes a new snapshot.
+   * Queries the session and stores the answers as the new snapshot.
    * @param {number} rows the number of rows for RAM and listing; 0 to query only the state
    */
   async take(rows) {
     const banks = new Set(this.shownChips(rows).map(({ bank }) => bank));
     const showsBrightness = rows > 0 && !this.panel.isPaused && this.panel.subject.board.lamps.length > 0;
-    const questions = `${joinLines(["state", ...[...banks].map((bank) => `ram ${bank}`)])}${showsBrightness ? SEEN_QUERY : ""}`;
+    const questions = `${joinLines(["state", ...[...banks].map((bank) => `ram ${bank}`)])}${showsBrightness ? LAMPS_FORECAST_QUERY : ""}`;
     const answers = matchAnswers(readInputs(questions), await this.panel.ask(questions));
     this.takeState(answers[0][0]);
     this.takeRam(answers.slice(1, 1 + banks.size));
     const { face, board } = this.panel.subject;
-    this.brightness = showsBrightness ? seenBrightness(face, board.lamps.length, answers[answers.length - 1]) : null;
+    this.brightness = showsBrightness ? forecastBrightness(face, board.lamps.length, answers[answers.length - 1]) : null;
     if (rows > 0) await this.takeListing(rows);
   }
 
   /** @param {string} answer the answer to `state` */
   takeState(answer) {
-    const { registers, keys, lamps, breaks } = partsOfState(answer);
-    this.commands = valueIn(answer, "seq");
-    this.registers = registersOf(registers);
-    this.keysDown = new KeysDown(itemsOf(keys));
-    this.marks = itemsOf(lamps).join("");
-    this.breakpoints = itemsOf(breaks);
+    const { registers, keys, lamps, breaks } = parseState(answer);
+    this.commands = stateValue(answer, "seq");
+    this.registers = parseRegisters(registers);
+    this.keysDown = new PressedKeys(parseItems(keys));
+    this.marks = parseItems(lamps).join("");
+    this.breakpoints = parseItems(breaks);
   }
 
   /** @param {string[][]} answers the answers to `ram B`, one for each visible bank */
   takeRam(answers) {
-    const read = answers.map(readRam);
+    const rams = answers.map(readRam);
     this.ram = {
-      registers: new Map(read.flatMap(({ registers }) => [...registers])),
-      ports: new Map(read.flatMap(({ ports }) => [...ports])),
+      registers: new Map(rams.flatMap(({ registers }) => [...registers])),
+      ports: new Map(rams.flatMap(({ ports }) => [...ports])),
     };
   }
 
@@ -123,26 +123,26 @@ export class PanelSnapshot {
     const { counter } = this;
     if (this.listing.slice(0, -LINES_LEFT).some(({ address }) => address === counter)) return;
     const from = Math.max(0, counter - BYTES_BEFORE);
-    this.listing = stretchOf(await this.reader.read({ from, anchor: counter }, rows), from, rows);
+    this.listing = visibleLines(await this.reader.read({ from, anchor: counter }, rows), from, rows);
   }
 
-  /** Drops the listing after a change of the terminal size. */
+  /** Clears the listing. Callers do this when the size of the terminal changes. */
   forgetListing() {
     this.listing = [];
   }
 
   /**
    * Returns the brightness level of a lamp: the perceived level while time runs, otherwise the level at this instant.
-   * @param {SeenLamp} lamp
+   * @param {LampReader} lamp
    */
-  levelOf(lamp) {
-    if (this.brightness) return levelOf(lamp.part(this.brightness));
+  lampLevel(lamp) {
+    if (this.brightness) return brightnessLevel(lamp.part(this.brightness));
     return lamp.isLit(this.marks) ? FULL_LEVEL : 0;
   }
 
   /** The text of the displays. */
   get display() {
     const { text } = this.text;
-    return wholeText(this.brightness ? this.text.ofBrightness(this.brightness) : text.read(this.marks));
+    return joinDisplayText(this.brightness ? this.text.readBrightness(this.brightness) : text.read(this.marks));
   }
 }

@@ -2,7 +2,7 @@
 
 /** Matches one key of the input. */
 // eslint-disable-next-line no-control-regex
-const KEYS = /\u001b(?:\[[0-9;?]*[A-Za-z~]|O[A-Za-z]|[^\u001b[O])?|[^]/gu;
+const KEY_PATTERN = /\u001b(?:\[[0-9;?]*[A-Za-z~]|O[A-Za-z]|[^\u001b[O])?|[^]/gu;
 /** @type {Record<string, string>} the arrow keys, by sequence without the escape character */
 const ARROWS = { "[C": "right", OC: "right", "[D": "left", OD: "left" };
 
@@ -12,12 +12,12 @@ const ARROWS = { "[C": "right", OC: "right", "[D": "left", OD: "left" };
  */
 
 /**
- * Returns the keys of an input in order.
+ * Splits an input into keys.
  * @param {string} input
  * @returns {TypedKey[]}
  */
-export function keysIn(input) {
-  return (input.match(KEYS) || []).map((text) => {
+export function splitKeys(input) {
+  return (input.match(KEY_PATTERN) || []).map((text) => {
     if (!text.startsWith("\u001b")) return { kind: "character", text };
     const arrow = ARROWS[text.slice(1)];
     return arrow ? { kind: "arrow", text: arrow } : { kind: text.length > 1 ? "sequence" : "escape", text };

@@ -1,16 +1,16 @@
-// The panel of a session in a terminal. Time runs as fast as on a real 4004, or is paused. Typed keys press the keys of the board. The
-// panel only sends lines to a session. screen.js converts its state to rows of characters.
+// Controls a session from a panel in a terminal. Time runs as fast as on a real 4004, or is paused. Typed keys press the keys of the board.
+// The panel only sends lines to a session. screen.js converts the state of the panel to rows of characters.
 
-import { refusalOf, readRun } from "../bench/answers.js";
+import { parseRefusal, readRun } from "../bench/answers.js";
 import { joinLines } from "../bench/inputs.js";
 import { hex } from "../bench/numbers.js";
-import { keyOfKeyboard, keysOf } from "../board/board_keys.js";
-import { printerOf } from "../board/face_board.js";
-import { isSameKey, lineOfKey } from "../board/key_place.js";
-import { cyclesOfLine } from "../debug/ahead.js";
+import { findBoardKey, boardKeys } from "../board/board_keys.js";
+import { findPrinter } from "../board/face_board.js";
+import { isSameKey, keyLine } from "../board/key_place.js";
+import { plannedCycles } from "../debug/ahead.js";
 import { linesWithQueries, splitAnswers } from "../engine/asking.js";
-import { KeyQueue, LONGEST_RUN } from "../engine/key_queue.js";
-import { Printing } from "../engine/printing.js";
+import { KeyQueue, MAX_RUN_CYCLES } from "../engine/key_queue.js";
+import { PrinterCodes } from "../engine/printing.js";
 import { RealTime } from "../time/real_time.js";
 import { REASONS } from "../../words/stops.js";
 import { PanelSnapshot } from "./panel_snapshot.js";
@@ -33,7 +33,7 @@ import * as say from "../../words/panel.js";
  *
  * The subject of the panel: the session name, the board and its front panel, the program (null if unknown), and the messages for refusal
  * numbers. `isPaused` is true if time is paused at the start. `note` is the first message.
- * @typedef {{ name: string, board: Board, face: Face, source: PanelSource | null, wordsOfRefusal: (number: number) => string,
+ * @typedef {{ name: string, board: Board, face: Face, source: PanelSource | null, describeRefusal: (number: number) => string,
  *   isPaused: boolean, note: string }} PanelSubject
  */
 
@@ -52,9 +52,9 @@ export class Panel {
     this.ask = ask;
     this.subject = subject;
     const { board, face } = subject;
-    this.keys = keysOf(board, { keys: face.keys, test: null });
+    this.keys = boardKeys(board, { keys: face.keys, test: null });
     this.queue = new KeyQueue();
-    /** @type {Key[]} the keys that this panel holds down */
+    /** @type {Key[]} the keys that this panel has pressed and not released */
     this.heldKeys = [];
     this.time = new RealTime(now, now);
     this.isPaused = subject.isPaused;
@@ -64,8 +64,8 @@ export class Panel {
     /** The index of the first visible RAM chip. */
     this.firstChip = 0;
     this.isEnded = false;
-    const printer = printerOf(board, face);
-    this.printing = printer && new Printing({ ...printer, codes: [] });
+    const printer = findPrinter(board, face);
+    this.printing = printer && new PrinterCodes({ ...printer, codes: [] });
     /** The number of cycles that this panel has run. */
     this.cycles = 0;
     this.seen = new PanelSnapshot(this);
@@ -94,8 +94,8 @@ export class Panel {
    * @param {string} answer
    */
   reportRefusal(line, answer) {
-    const refusal = refusalOf(answer);
-    if (refusal) this.message = say.refused(line, answer, this.subject.wordsOfRefusal(refusal.number));
+    const refusal = parseRefusal(answer);
+    if (refusal) this.message = say.refused(line, answer, this.subject.describeRefusal(refusal.number));
   }
 
   // --- time ---
@@ -114,7 +114,7 @@ export class Panel {
   }
 
   /**
-   * Runs the cycles that are due.
+   * Runs the cycles that are due since the previous call.
    * @param {number} now
    */
   async keepTime(now) {
@@ -122,11 +122,11 @@ export class Panel {
   }
 
   /**
-   * Runs cycles, including the waiting key changes, up to a stop.
+   * Runs cycles and makes the queued key changes that become due, up to a stop.
    * @param {number} cycles
    */
   async advance(cycles) {
-    for (let left = cycles; left > 0 && !this.isPaused;) left -= await this.runNextEvent(left);
+    for (let remaining = cycles; remaining > 0 && !this.isPaused;) remaining -= await this.runNextEvent(remaining);
   }
 
   /**
@@ -135,11 +135,11 @@ export class Panel {
    */
   async runNextEvent(cycles) {
     const [planned] = this.queue.plan(cycles);
-    let done = 0;
+    let cyclesRun = 0;
     if (planned.change) await this.change(planned.change);
-    else done = await this.run(planned);
-    this.queue.done([planned], () => done);
-    return done;
+    else cyclesRun = await this.run(planned);
+    this.queue.done([planned], () => cyclesRun);
+    return cyclesRun;
   }
 
   /**
@@ -148,24 +148,25 @@ export class Panel {
    */
   async change(change) {
     const { word, key } = change;
-    await this.sendCommand(lineOfKey(word, key));
+    await this.sendCommand(keyLine(word, key));
     this.heldKeys = this.heldKeys.filter((each) => !isSameKey(each, key));
     if (word === "press") this.heldKeys.push(key);
   }
 
   /**
    * Runs time up to a stop. Returns the number of cycles run. If the bench rejects the run, returns the number of planned cycles.
-   * @param {PlannedLine} planned
+   * @param {PlannedLine} plannedLine
    */
-  async run(planned) {
-    const askers = this.printing ? [this.printing] : [];
-    const { answers: [answer], askerAnswers } = splitAnswers([planned], askers, await this.ask(linesWithQueries([planned], askers)));
-    if (this.printing) this.printing.take(askerAnswers[0], this.cycles);
+  async run(plannedLine) {
+    const querySources = this.printing ? [this.printing] : [];
+    const allAnswers = await this.ask(linesWithQueries([plannedLine], querySources));
+    const { answers: [answer], sourceAnswers } = splitAnswers([plannedLine], querySources, allAnswers);
+    if (this.printing) this.printing.take(sourceAnswers[0], this.cycles);
     const run = readRun(answer);
     this.cycles += run ? run.cycles : 0;
-    this.reportRefusal(planned.line, answer);
+    this.reportRefusal(plannedLine.line, answer);
     if (!run || run.end !== "end") this.pause(run ? REASONS[run.end] : "");
-    return run ? run.cycles : cyclesOfLine(planned);
+    return run ? run.cycles : plannedCycles(plannedLine);
   }
 
   /** Runs one instruction. */
@@ -211,15 +212,15 @@ export class Panel {
 
   /**
    * Handles a board key. While time runs, queues a short press. While time is paused, presses or releases the key at once.
-   * @param {string} typed the typed character
+   * @param {string} typedCharacter
    */
-  async typeKey(typed) {
-    const found = keyOfKeyboard(this.keys, typed);
-    if (!found) this.message = /\p{C}/u.test(typed) ? say.NOTHING_HERE : say.noKey(typed);
-    else if (this.isPaused) await this.toggle(found.key);
+  async typeKey(typedCharacter) {
+    const boardKey = findBoardKey(this.keys, typedCharacter);
+    if (!boardKey) this.message = /\p{C}/u.test(typedCharacter) ? say.NOTHING_HERE : say.noKey(typedCharacter);
+    else if (this.isPaused) await this.toggle(boardKey.key);
     else if (this.queue.changes.length < MAX_CHANGES) {
-      this.queue.press(found.key);
-      this.queue.release(found.key);
+      this.queue.press(boardKey.key);
+      this.queue.release(boardKey.key);
     }
   }
 
@@ -238,10 +239,10 @@ export class Panel {
     await this.sendCommand(`${this.seen.isAtBreakpoint ? "unbreak" : "break"} 0x${hex(counter, 3)}`);
   }
 
-  /** Ends the panel. Completes the queued key presses while time runs, and releases the keys that the panel holds down. */
+  /** Ends the panel. If time runs, first completes the queued key presses. Releases the keys that the panel has pressed. */
   async end() {
-    while (!this.isPaused && this.queue.changes.length > 0) await this.runNextEvent(LONGEST_RUN);
-    for (const key of this.heldKeys) await this.sendCommand(lineOfKey("release", key));
+    while (!this.isPaused && this.queue.changes.length > 0) await this.runNextEvent(MAX_RUN_CYCLES);
+    for (const key of this.heldKeys) await this.sendCommand(keyLine("release", key));
     this.isEnded = true;
   }
 }

@@ -1,6 +1,6 @@
-// Reads a project from its folder. All files named in the project file must exist.
+// Reads a project from its folder. All files that the project file names must exist.
 
-import { LONGEST_PROJECT_FILE, PROJECT_FILE, filesNamed, readProjectToml } from "./project_toml.js";
+import { LONGEST_PROJECT_FILE, PROJECT_FILE, listNamedFiles, readProjectToml } from "./project_toml.js";
 import * as say from "../../words/server.js";
 
 /**
@@ -9,12 +9,12 @@ import * as say from "../../words/server.js";
  * A project: the paths of its files, relative to the project folder. `speed` is "" if the project file does not set it.
  * @typedef {{ board: string, program: string, tests: string[], properties: string[], speed: string }} ProjectFolder
  *
- * Checks that a path names a file in the folder. Returns an error message, or "" for a valid path.
+ * Checks that a path names a file in the project folder. Returns an error message, "" for a valid path.
  * @typedef {(path: string) => string} CheckFile
  */
 
 /** The error for a folder that is not a valid project. The message names the file, the line and the error. */
-export class ProjectFault extends Error {
+export class ProjectError extends Error {
   /**
    * @param {string} file
    * @param {string} words
@@ -29,10 +29,10 @@ export class ProjectFault extends Error {
 }
 
 /**
- * Checks the bytes of a project file before they are decoded. Returns an error message, or "".
+ * Checks the bytes of a project file before their decoding. Returns an error message, "" for none.
  * @param {Uint8Array} bytes
  */
-function faultOfBytes(bytes) {
+function bytesError(bytes) {
   if (bytes.length === 0) return say.EMPTY;
   const { length } = bytes;
   if (length > LONGEST_PROJECT_FILE) return say.tooLong(length, LONGEST_PROJECT_FILE);
@@ -44,26 +44,26 @@ function faultOfBytes(bytes) {
  * @param {ProjectNames} names
  * @returns {ProjectFolder}
  */
-function pathsOf({ board, program, tests, properties, speed }) {
+function listPaths({ board, program, tests, properties, speed }) {
   const paths = (/** @type {{ path: string }[]} */ files) => files.map(({ path }) => path);
   return { board: board.path, program: program.path, tests: paths(tests), properties: paths(properties), speed };
 }
 
 /**
- * Reads a project file; throws ProjectFault for the first error.
+ * Reads a project file; throws ProjectError for the first error.
  * @param {Uint8Array} bytes
  * @param {CheckFile} checkFile
  * @param {string} file the file name for error messages
  * @returns {ProjectFolder}
  */
 export function readProject(bytes, checkFile, file = PROJECT_FILE) {
-  const words = faultOfBytes(bytes);
-  if (words) throw new ProjectFault(file, words);
+  const words = bytesError(bytes);
+  if (words) throw new ProjectError(file, words);
   const { names, faults } = readProjectToml(new TextDecoder().decode(bytes));
-  if (!names) throw new ProjectFault(file, faults[0].words, faults[0].line);
-  for (const { path, key, line } of filesNamed(names).sort((one, other) => one.line - other.line)) {
+  if (!names) throw new ProjectError(file, faults[0].words, faults[0].line);
+  for (const { path, key, line } of listNamedFiles(names).sort((one, other) => one.line - other.line)) {
     const error = checkFile(path);
-    if (error) throw new ProjectFault(file, `${key}: ${error}`, line);
+    if (error) throw new ProjectError(file, `${key}: ${error}`, line);
   }
-  return pathsOf(names);
+  return listPaths(names);
 }

@@ -9,7 +9,7 @@ import * as say from "../../words/server.js";
  * @typedef {import("../text/board_reader.js").Value} Value
  * @typedef {import("../text/text_fault.js").Fault} Fault
  *
- * A path in the project file, with its key and its range. The line counts from 1, columns from 0.
+ * A path in a project file, with its key, line and columns. Lines count from 1, columns from 0.
  * @typedef {{ path: string, key: string, line: number, from: number, to: number }} NamedFile
  *
  * The contents of a project file. `speed` is "" if the file does not set it.
@@ -21,8 +21,8 @@ export const PROJECT_FILE = "mcs4.toml";
 export const LONGEST_PROJECT_FILE = 16384;
 
 const SPEED_NAMES = SPEEDS.map(({ id }) => `"${id}"`);
-/** The descriptions of the keys, for error messages. */
-const KEYS = new Map([
+/** The descriptions of the keys of a project file, for error messages. */
+const KEY_TEXTS = new Map([
   ["board", say.BOARD_IS],
   ["program", say.PROGRAM_IS],
   ["tests", say.TESTS_ARE],
@@ -30,7 +30,7 @@ const KEYS = new Map([
   ["speed", say.speedIs(SPEED_NAMES.slice(0, -1).join(", "), SPEED_NAMES[SPEED_NAMES.length - 1])],
 ]);
 const LIST_KEYS = ["tests", "properties"];
-const REQUIRED = ["board", "program"];
+const REQUIRED_KEYS = ["board", "program"];
 
 /**
  * Returns an error with its range.
@@ -38,7 +38,7 @@ const REQUIRED = ["board", "program"];
  * @param {string} words
  * @returns {Fault}
  */
-function faultAt({ line, from, to }, words) {
+function errorAt({ line, from, to }, words) {
   return { number: 0, line, from, to, words };
 }
 
@@ -47,8 +47,8 @@ function faultAt({ line, from, to }, words) {
  * @param {string} key
  * @param {string} path
  */
-function faultOfPath(key, path) {
-  if (path === "") return say.emptyPath(key, KEYS.get(key));
+function pathError(key, path) {
+  if (path === "") return say.emptyPath(key, KEY_TEXTS.get(key));
   // eslint-disable-next-line no-control-regex
   if (/[\u0000-\u001f\u007f]/.test(path)) return say.controlCharacter(key);
   if (path.includes("\\")) return say.backslash(key);
@@ -58,21 +58,21 @@ function faultOfPath(key, path) {
 }
 
 /**
- * Returns the errors of a key and its value.
+ * Returns the errors in a key and its value.
  * @param {Key} key
  * @returns {Fault[]}
  */
-function faultsOfKey({ name, line, from, to, value }) {
-  const description = KEYS.get(name);
-  if (!description) return [faultAt({ line, from, to }, say.noKey(name))];
+function keyErrors({ name, line, from, to, value }) {
+  const description = KEY_TEXTS.get(name);
+  if (!description) return [errorAt({ line, from, to }, say.noKey(name))];
   const { inner } = value;
   const values = LIST_KEYS.includes(name) && Array.isArray(inner) ? inner : [value];
-  if (LIST_KEYS.includes(name) !== Array.isArray(inner)) return [faultAt(value, description)];
+  if (LIST_KEYS.includes(name) !== Array.isArray(inner)) return [errorAt(value, description)];
   return values.flatMap((each) => {
-    if (typeof each.inner !== "string") return [faultAt(each, description)];
-    if (name === "speed") return SPEEDS.some(({ id }) => id === each.inner) ? [] : [faultAt(each, description)];
-    const words = faultOfPath(name, each.inner);
-    return words ? [faultAt(each, words)] : [];
+    if (typeof each.inner !== "string") return [errorAt(each, description)];
+    if (name === "speed") return SPEEDS.some(({ id }) => id === each.inner) ? [] : [errorAt(each, description)];
+    const words = pathError(name, each.inner);
+    return words ? [errorAt(each, words)] : [];
   });
 }
 
@@ -81,13 +81,13 @@ function faultsOfKey({ name, line, from, to, value }) {
  * @param {Key[]} keys
  * @returns {Fault[]}
  */
-function faultsOfDuplicates(keys) {
+function duplicateErrors(keys) {
   /** @type {Map<string, number>} */
   const lines = new Map();
   return keys.flatMap((key) => {
-    const before = lines.get(key.name);
-    if (before === undefined) lines.set(key.name, key.line);
-    return before === undefined || !KEYS.has(key.name) ? [] : [faultAt(key, say.alreadyIn(key.name, before))];
+    const firstLine = lines.get(key.name);
+    if (firstLine === undefined) lines.set(key.name, key.line);
+    return firstLine === undefined || !KEY_TEXTS.has(key.name) ? [] : [errorAt(key, say.alreadyIn(key.name, firstLine))];
   });
 }
 
@@ -97,7 +97,7 @@ function faultsOfDuplicates(keys) {
  * @param {string} name
  * @returns {NamedFile[]}
  */
-function filesOf(keys, name) {
+function filesForKey(keys, name) {
   const key = keys.find((each) => each.name === name);
   if (!key) return [];
   const values = Array.isArray(key.value.inner) ? key.value.inner : [key.value];
@@ -105,26 +105,26 @@ function filesOf(keys, name) {
 }
 
 /**
- * Parses a project file. Returns its contents; or null, and the errors in line order.
+ * Parses a project file. Returns its contents; or, if the file has errors, null and the errors in the order of their lines.
  * @param {string} text
  * @returns {{ names: ProjectNames | null, faults: Fault[] }}
  */
 export function readProjectToml(text) {
   const { entries, others, keys, faults } = readBoardText(text.replace(/^\uFEFF/, ""));
-  // The board reader does not list keys with an empty list in `others`.
-  const lists = keys.filter(({ value: { inner } }) => Array.isArray(inner) && inner.length === 0);
+  // `others` of the board reader lacks the keys whose value is an empty list.
+  const emptyLists = keys.filter(({ value: { inner } }) => Array.isArray(inner) && inner.length === 0);
   const errors = [
     ...faults.map((fault) => ({ ...fault, number: 0 })),
-    ...entries.map((entry) => faultAt(entry, say.NO_TABLES)),
-    ...[...others, ...lists].flatMap(faultsOfKey),
-    ...faultsOfDuplicates(keys),
+    ...entries.map((entry) => errorAt(entry, say.NO_TABLES)),
+    ...[...others, ...emptyLists].flatMap(keyErrors),
+    ...duplicateErrors(keys),
   ];
   if (errors.length === 0) {
-    const missing = REQUIRED.filter((name) => !keys.some((key) => key.name === name));
-    errors.push(...missing.map((name) => faultAt({ line: 1, from: 0, to: 0 }, say.missing(name, KEYS.get(name)))));
+    const missingKeys = REQUIRED_KEYS.filter((name) => !keys.some((key) => key.name === name));
+    errors.push(...missingKeys.map((name) => errorAt({ line: 1, from: 0, to: 0 }, say.missing(name, KEY_TEXTS.get(name)))));
   }
   if (errors.length > 0) return { names: null, faults: errors.sort((one, other) => one.line - other.line) };
-  const [[board], [program], tests, properties] = ["board", "program", ...LIST_KEYS].map((name) => filesOf(keys, name));
+  const [[board], [program], tests, properties] = ["board", "program", ...LIST_KEYS].map((name) => filesForKey(keys, name));
   const speed = keys.find(({ name }) => name === "speed");
   return { names: { board, program, tests, properties, speed: speed ? String(speed.value.inner) : "" }, faults: [] };
 }
@@ -133,6 +133,6 @@ export function readProjectToml(text) {
  * Returns all files that a project file names: board, program, tests, properties.
  * @param {ProjectNames} names
  */
-export function filesNamed({ board, program, tests, properties }) {
+export function listNamedFiles({ board, program, tests, properties }) {
   return [board, program, ...tests, ...properties];
 }

@@ -1,14 +1,14 @@
-// The prompt of `mcs4 new` and `mcs4 open`. The host serves the bench lines. The prompt adds texts from files, help, completion, and
-// explanations of rejected lines.
+// The prompt of `mcs4 new` and `mcs4 open`. A callback serves the bench lines. The prompt also reads texts from files, prints help,
+// completes lines, and explains why the bench rejects a line.
 //
 //     const prompt = new SessionPrompt(calls);
 //     await prompt.take("press 3 9"); prompt.label; prompt.isEnded; await prompt.complete("pr");
 
-import { readBoard, refusalOf } from "../bench/answers.js";
-import { faultOfLine } from "../bench/line_forms.js";
-import { opensText, withoutReturn } from "../bench/inputs.js";
-import { fittingLines, linesOfBench, plain, rowsOf } from "../help/manual.js";
-import { faultsOfLines, sentText } from "../text/text_fault.js";
+import { readBoard, parseRefusal } from "../bench/answers.js";
+import { findLineError } from "../bench/line_forms.js";
+import { opensText, stripReturn } from "../bench/inputs.js";
+import { matchLines, readLineForms, cellText, sectionRows } from "../help/manual.js";
+import { findLineFaults, sentText } from "../text/text_fault.js";
 import { FILE_WORDS, completeLine } from "./line_completion.js";
 import { Sources } from "./sources.js";
 import { LINES_BY_GROUPS, noLine } from "../../words/lines.js";
@@ -24,7 +24,8 @@ import * as say from "../../words/session_prompt.js";
  * An error in a text: the line number from 1 (0 for none), and the message.
  * @typedef {{ line: number, words: string }} TextError
  *
- * An unfinished text: the word that opened it, its lines, and the line number of the opening line in the source file (0 if typed).
+ * An unfinished text: its first line, such as `wire`, and its other lines. `at` is the line number of the first line in a `source` file (0
+ * for a typed line).
  * @typedef {{ word: TextWord, lines: string[], at: number }} OpenedText
  */
 
@@ -44,16 +45,17 @@ import * as say from "../../words/session_prompt.js";
  */
 
 const COMMENT_MARKS = /** @type {const} */ ({ wire: "#", asm: ";", map: ";", wiring: "#", errors: ";" });
-const MAX_SHOWN = 120;
+/** The maximum number of characters of a source line in an error message. */
+const MAX_SHOWN_CHARACTERS = 120;
 /** The refusal numbers that this prompt explains in its own words. */
 const NO_KEY = 41;
 const NO_ROM = 42;
 const NO_RAM = 43;
 const NO_RUN = 44;
-/** The range of refusal numbers for errors in texts. */
+/** The range of the refusal numbers for errors in texts. */
 const TEXT_REFUSALS = { first: 12, last: 42 };
 
-/** An error that the prompt itself finds. */
+/** The error for a line that the prompt itself rejects. */
 class RejectedLine extends Error {}
 
 export class SessionPrompt {
@@ -83,19 +85,19 @@ export class SessionPrompt {
     return openText ? say.textDropped(openText.word) : "";
   }
 
-  /** The unfinished text, which the session receives at the end of input; "" if there is none. */
+  /** The unfinished text, which is served at the end of the input; "" if there is none. */
   get rest() {
     return this.openText ? [this.openText.word, ...this.openText.lines].map((line) => `${line}\n`).join("") : "";
   }
 
   /**
    * Serves a line. If the line is rejected, prints the reason and returns false.
-   * @param {string} whole the line, with or without a carriage return
+   * @param {string} input the line, with or without a carriage return
    */
-  async take(whole) {
-    const line = withoutReturn(whole);
+  async take(input) {
+    const line = stripReturn(input);
     try {
-      return await (this.openText ? this.takeText(line, this.openText) : this.takeLine(line));
+      return await (this.openText ? this.addTextLine(line, this.openText) : this.handleLine(line));
     } catch (thrown) {
       if (!(thrown instanceof RejectedLine)) throw thrown;
       this.sources.complain(thrown.message);
@@ -104,11 +106,11 @@ export class SessionPrompt {
   }
 
   /**
-   * Adds a line to the open text. At a dot, serves the text.
+   * Adds a line to the unfinished text. If the line is a dot, serves the text.
    * @param {string} line
    * @param {OpenedText} openText
    */
-  async takeText(line, openText) {
+  async addTextLine(line, openText) {
     if (line !== ".") {
       openText.lines.push(line);
       return true;
@@ -126,29 +128,32 @@ export class SessionPrompt {
    * @param {string} line
    * @returns {Promise<boolean>}
    */
-  async takeLine(line) {
-    const [, word = "", rest = ""] = /^[ \t]*(\S+)[ \t]*(.*?)[ \t]*$/.exec(line) || [];
+  async handleLine(line) {
+    const [, word = "", argumentText = ""] = /^[ \t]*(\S+)[ \t]*(.*?)[ \t]*$/.exec(line) || [];
     if (word === "") return line.length === 0 || this.serve(line);
-    if ((word === "quit" || word === "exit") && rest === "") {
+    if ((word === "quit" || word === "exit") && argumentText === "") {
       this.isEnded = true;
       return true;
     }
-    if (word === "help") return this.help(rest);
-    if (word === "source") return this.source(rest);
+    if (word === "help") return this.help(argumentText);
+    if (word === "source") return this.source(argumentText);
     if (opensText(line)) {
       const { file } = this.sources;
       this.openText = { word: /** @type {TextWord} */ (word), lines: [], at: file ? file.at : 0 };
       return true;
     }
-    if (FILE_WORDS.includes(word)) return this.takeFile(/** @type {TextWord} */ (word), rest);
+    if (FILE_WORDS.includes(word)) return this.serveFile(/** @type {TextWord} */ (word), argumentText);
     return this.serve(line);
   }
 
-  /** @param {string} line */
+  /**
+   * Serves a bench line. If the bench rejects the line, prints the reason and returns false.
+   * @param {string} line
+   */
   async serve(line) {
-    const refusal = refusalOf(await this.calls.serve(`${line}\n`));
+    const refusal = parseRefusal(await this.calls.serve(`${line}\n`));
     if (!refusal) return true;
-    this.sources.complain(await this.whyRejected(line, refusal));
+    this.sources.complain(await this.explainRefusal(line, refusal));
     return false;
   }
 
@@ -159,26 +164,27 @@ export class SessionPrompt {
    * @param {TextWord} word
    * @param {string} name
    */
-  async takeFile(word, name) {
+  async serveFile(word, name) {
     const text = this.read(name);
     const mark = COMMENT_MARKS[word];
-    const textFaults = faultsOfLines(text, mark);
-    if (textFaults.length > 0) return this.complainOfText(textFaults, text, { name, before: 0 });
+    const textFaults = findLineFaults(text, mark);
+    if (textFaults.length > 0) return this.reportTextErrors(textFaults, text, { name, before: 0 });
     return this.serveText(word, sentText(text, mark), text, { name, before: 0 });
   }
 
   /**
+   * Serves a text and prints the errors in it. Returns false if the bench rejects the text.
    * @param {TextWord} word
-   * @param {string} sent
+   * @param {string} sentLines the text as sent
    * @param {string} text the text with its comments
    * @param {{ name: string, before: number }} place the file name ("" for none), and the number of lines before the text
    */
-  async serveText(word, sent, text, place) {
-    const board = word === "asm" ? await this.board() : "";
-    const first = await this.calls.serve(`${word}\n${sent}.\n`);
-    const refusal = refusalOf(first);
-    if (refusal) return this.complainOfText(await this.errorsOfText(word, text, board, refusal), text, place);
-    if (/^errors [1-9]/.test(first)) this.complainOfText(await this.calls.errorsOf(word, text, board), text, place);
+  async serveText(word, sentLines, text, place) {
+    const board = word === "asm" ? await this.readBoardText() : "";
+    const first = await this.calls.serve(`${word}\n${sentLines}.\n`);
+    const refusal = parseRefusal(first);
+    if (refusal) return this.reportTextErrors(await this.findTextErrors(word, text, board, refusal), text, place);
+    if (/^errors [1-9]/.test(first)) this.reportTextErrors(await this.calls.errorsOf(word, text, board), text, place);
     return true;
   }
 
@@ -190,7 +196,7 @@ export class SessionPrompt {
    * @param {Refusal} refusal
    * @returns {Promise<TextError[]>}
    */
-  async errorsOfText(word, text, board, { number, line }) {
+  async findTextErrors(word, text, board, { number, line }) {
     const isTextRefusal = number >= TEXT_REFUSALS.first && number <= TEXT_REFUSALS.last;
     const errors = isTextRefusal ? await this.calls.errorsOf(word, text, board) : [];
     // For a board, the bench reports the line of a table, but the error can be in one of its keys.
@@ -199,28 +205,32 @@ export class SessionPrompt {
   }
 
   /**
+   * Prints errors, each with its source line. Returns false.
    * @param {TextError[]} errors
    * @param {string} text
    * @param {{ name: string, before: number }} place
    */
-  complainOfText(errors, text, { name, before }) {
+  reportTextErrors(errors, text, { name, before }) {
     const lines = text.split("\n");
     this.calls.complain(errors.flatMap(({ line, words }) => {
-      const shown = line > 0 ? [`    ${(lines[line - 1] || "").slice(0, MAX_SHOWN)}`] : [];
+      const shown = line > 0 ? [`    ${(lines[line - 1] || "").slice(0, MAX_SHOWN_CHARACTERS)}`] : [];
       return [say.inText(name, line > 0 ? line + before : 0, words), ...shown];
     }).join("\n"));
     return false;
   }
 
   /** Returns the text of the wired board. */
-  async board() {
+  async readBoardText() {
     const [, ...lines] = await this.calls.ask("board");
     return lines.map((line) => `${line}\n`).join("");
   }
 
   // --- files ---
 
-  /** @param {string} name */
+  /**
+   * Returns the text of a file. Throws RejectedLine if the file cannot be read.
+   * @param {string} name
+   */
   read(name) {
     try {
       return this.calls.read(name);
@@ -245,8 +255,8 @@ export class SessionPrompt {
    * @param {string} line
    * @param {Refusal} refusal
    */
-  async whyRejected(line, { number }) {
-    const fault = faultOfLine(line);
+  async explainRefusal(line, { number }) {
+    const fault = findLineError(line);
     if (fault && fault.number === number) return fault.words;
     const [word, ...words] = line.trim().split(/[ \t]+/);
     if (number === NO_KEY) {
@@ -262,24 +272,27 @@ export class SessionPrompt {
 
   /**
    * Prints a list of all lines; or the manual's description of a line, of the places, or of a refusal number.
-   * @param {string} about the topic; "" for all lines
+   * @param {string} topic the topic; "" for all lines
    */
-  help(about) {
-    const [word = ""] = about.split(/[ \t]+/);
-    const words = word === "" ? helpOfAll() : this.helpOf(word);
+  help(topic) {
+    const [word = ""] = topic.split(/[ \t]+/);
+    const words = word === "" ? listAllLines() : this.describeTopic(word);
     if (words === "") throw new RejectedLine(noLine(word, []));
     this.calls.print(words);
     return true;
   }
 
-  /** @param {string} word */
-  helpOf(word) {
+  /**
+   * Returns the description of a topic; "" if there is none.
+   * @param {string} word
+   */
+  describeTopic(word) {
     if (/^\d\d$/.test(word)) return `no ${word}: ${this.calls.wordsOf(Number(word))}`;
     const manual = this.calls.manual();
-    const places = rowsOf(manual, say.PLACES_TITLE).map((row) => `  ${row.map(plain).join(", ").replace(", ", ": ")}`);
+    const places = sectionRows(manual, say.PLACES_TITLE).map((row) => `  ${row.map(cellText).join(", ").replace(", ", ": ")}`);
     if (word === "places") return places.join("\n");
     const promptLines = say.OWN_LINES.filter(([form]) => form.split(/[ ,]+/).includes(word)).map(([form, does]) => `${form}: ${does}`);
-    const lines = fittingLines(linesOfBench(manual), `${word} `).map(({ form, does }) => `${form}: ${does}`);
+    const lines = matchLines(readLineForms(manual), `${word} `).map(({ form, does }) => `${form}: ${does}`);
     return [...lines, ...(word === "poke" ? places : []), ...promptLines].join("\n");
   }
 
@@ -297,7 +310,7 @@ export class SessionPrompt {
 }
 
 /** Returns the list of all lines. */
-function helpOfAll() {
+function listAllLines() {
   const groups = [...LINES_BY_GROUPS, { title: say.OWN_TITLE, lines: say.OWN_LINES }];
   const shown = groups.map(({ title, lines }) => `${title}\n${lines.map(([form, does]) => `  ${form.padEnd(24)} ${does}`).join("\n")}`);
   return [...shown, say.KEYS_OF_PROMPT].join("\n");

@@ -2,7 +2,7 @@
 
 import { watchedPlaces } from "../bench/answers.js";
 import { addressText, breakpointLines } from "./looks.js";
-import { instructionIn, refuse } from "./words_of_line.js";
+import { findInstruction, rejectCommand } from "./words_of_line.js";
 import * as say from "../../words/prompt.js";
 
 /**
@@ -10,22 +10,24 @@ import * as say from "../../words/prompt.js";
  * @typedef {import("./debugger_prompt.js").Prompt} Prompt
  */
 
+/** Matches the arguments of `break`: the location, and optionally the first hit, the condition and the note. */
 const BREAKPOINT_ARGUMENTS = /^(.*?)(?:\s*\bfrom\s+(\d{1,9}))?(?:\s*\bif\s+(.+?))?(?:\s*\blog\s+"([^"]*)")?$/;
 /** The word for the last breakpoint that was set, as in gdb. */
 export const LAST_BREAKPOINT = "$bpnum";
-/** Matches a RAM character; the bench itself watches RAM characters. */
+/** Matches a RAM character. The bench watches RAM characters; `continue` watches any other place. */
 const RAM_CHARACTER = /^ram\.[0-7]\.\w+$/i;
 
 export class BreakpointCommands {
   /** @param {Prompt} prompt */
   constructor(prompt) {
     this.prompt = prompt;
-    /** The place that `continue` watches, "" for none. The bench watches RAM characters, so they are not stored here. */
-    this.watched = "";
+    /** The place that `continue` watches, "" for none. This is never a RAM character, because the bench watches RAM characters. */
+    this.watchedPlace = "";
     /** The number of the last breakpoint that was set, 0 for none. */
     this.lastNumber = 0;
   }
 
+  /** The list of breakpoints. */
   get list() {
     return this.prompt.session.breakpoints;
   }
@@ -33,19 +35,19 @@ export class BreakpointCommands {
   /** @returns {Record<string, CommandHandler>} */
   get handlers() {
     /** @type {(isOn: boolean) => CommandHandler} */
-    const setOn = (isOn) => async (rest) => {
-      if (rest === "") refuse(say.WHICH_ONE);
-      for (const id of this.numbersOf(rest)) this.list.change(id, { isOn });
+    const createSwitch = (isOn) => async (argumentText) => {
+      if (argumentText === "") rejectCommand(say.WHICH_ONE);
+      for (const id of this.parseNumbers(argumentText)) this.list.change(id, { isOn });
       await this.applyBreakpoints();
     };
     return {
-      break: async (rest) => {
-        await this.add(rest);
+      break: async (argumentText) => {
+        await this.add(argumentText);
       },
-      delete: (rest) => this.remove(rest),
-      disable: setOn(false),
-      enable: setOn(true),
-      watch: (rest) => this.watch(rest),
+      delete: (argumentText) => this.remove(argumentText),
+      disable: createSwitch(false),
+      enable: createSwitch(true),
+      watch: (argumentText) => this.watch(argumentText),
     };
   }
 
@@ -53,52 +55,52 @@ export class BreakpointCommands {
   syncWithBench() {
     const { map, debugger: { session } } = this.prompt.session;
     for (const address of session.breaks) {
-      if (!this.list.atAddress(address)) this.list.add({ line: map.lineOf(address), address });
+      if (!this.list.findByAddress(address)) this.list.add({ line: map.lineOf(address), address });
     }
-    const hard = this.list.placed.filter(({ condition, note, from }) => !condition && !note && from === 1);
-    for (const { id, address } of hard) if (!session.breaks.includes(address)) this.list.remove(id);
+    const benchBreakpoints = this.list.placed.filter(({ condition, note, from }) => !condition && !note && from === 1);
+    for (const { id, address } of benchBreakpoints) if (!session.breaks.includes(address)) this.list.remove(id);
   }
 
   /**
-   * Sets a breakpoint. Returns its number.
-   * @param {string} rest the arguments: location, first hit, condition and note
+   * Sets a breakpoint and replaces the breakpoint at the same address. Returns the breakpoint number.
+   * @param {string} argumentText the arguments: location, first hit, condition and note
    */
-  async add(rest) {
+  async add(argumentText) {
     const { session, machine, calls } = this.prompt;
-    const [, place, from = "1", condition = "", note = ""] = /** @type {RegExpExecArray} */ (BREAKPOINT_ARGUMENTS.exec(rest));
-    const { line, address } = instructionIn(place, session);
-    const before = this.list.atAddress(address);
-    if (before) this.list.remove(before.id);
-    const added = this.list.add({ line, address, from: Math.max(1, Number(from)), condition, note });
+    const [, place, from = "1", condition = "", note = ""] = /** @type {RegExpExecArray} */ (BREAKPOINT_ARGUMENTS.exec(argumentText));
+    const { line, address } = findInstruction(place, session);
+    const previous = this.list.findByAddress(address);
+    if (previous) this.list.remove(previous.id);
+    const newBreakpoint = this.list.add({ line, address, from: Math.max(1, Number(from)), condition, note });
     const { faults } = await session.applyBreakpoints();
-    const fault = faults.find(([id]) => id === added.id);
+    const fault = faults.find(([id]) => id === newBreakpoint.id);
     if (fault) {
-      this.list.remove(added.id);
-      if (before) this.list.add(before);
+      this.list.remove(newBreakpoint.id);
+      if (previous) this.list.add(previous);
       await this.applyBreakpoints();
-      refuse(fault[1]);
+      rejectCommand(fault[1]);
     }
     await machine.saveAndReport();
-    const { address: placed } = this.list.get(added.id) || added;
-    calls.print(say.breakpointAt(added.id, addressText(session, placed)));
-    this.lastNumber = added.id;
-    return added.id;
+    const { address: placedAddress } = this.list.get(newBreakpoint.id) || newBreakpoint;
+    calls.print(say.breakpointAt(newBreakpoint.id, addressText(session, placedAddress)));
+    this.lastNumber = newBreakpoint.id;
+    return newBreakpoint.id;
   }
 
   /**
-   * Changes a breakpoint. If its condition or note has an error, restores it and fails.
+   * Changes a breakpoint. If the new condition or note has an error, restores the breakpoint and fails.
    * @param {number} id
-   * @param {Partial<import("../debug/breakpoints.js").KeptBreakpoint>} changes
+   * @param {Partial<import("../debug/breakpoints.js").SavedBreakpoint>} changes
    */
   async change(id, changes) {
     const { session, machine } = this.prompt;
-    const before = this.list.get(id);
+    const previous = this.list.get(id);
     this.list.change(id, changes);
     const fault = (await session.applyBreakpoints()).faults.find(([other]) => other === id);
-    if (fault && before) {
-      this.list.change(id, before);
+    if (fault && previous) {
+      this.list.change(id, previous);
       await this.applyBreakpoints();
-      refuse(fault[1]);
+      rejectCommand(fault[1]);
     }
     await machine.saveAndReport();
   }
@@ -110,61 +112,61 @@ export class BreakpointCommands {
 
   /**
    * Returns breakpoint numbers; fails if a word is not the number of a breakpoint.
-   * @param {string} rest
+   * @param {string} argumentText
    */
-  numbersOf(rest) {
-    return rest.split(/\s+/).filter(Boolean).map((word) => {
+  parseNumbers(argumentText) {
+    return argumentText.split(/\s+/).filter(Boolean).map((word) => {
       const id = word === LAST_BREAKPOINT ? this.lastNumber : /^\d+$/.test(word) ? Number(word) : 0;
-      return this.list.get(id) ? id : refuse(say.noBreakpoint(word));
+      return this.list.get(id) ? id : rejectCommand(say.noBreakpoint(word));
     });
   }
 
-  /** @param {string} rest */
-  async remove(rest) {
-    if (/[a-z]/i.test(rest.replace(LAST_BREAKPOINT, ""))) return this.unwatch(rest);
-    const ids = rest === "" ? this.list.all.map(({ id }) => id) : this.numbersOf(rest);
+  /** @param {string} argumentText */
+  async remove(argumentText) {
+    if (/[a-z]/i.test(argumentText.replace(LAST_BREAKPOINT, ""))) return this.unwatch(argumentText);
+    const ids = argumentText === "" ? this.list.all.map(({ id }) => id) : this.parseNumbers(argumentText);
     for (const id of ids) this.list.remove(id);
     return this.applyBreakpoints();
   }
 
-  /** @param {string} rest */
-  async watch(rest) {
-    const { prompt, watched } = this;
-    const place = prompt.placeOfWords(rest, "watch");
+  /** @param {string} argumentText */
+  async watch(argumentText) {
+    const { prompt, watchedPlace } = this;
+    const place = prompt.parsePlace(argumentText, "watch");
     if (RAM_CHARACTER.test(place)) {
       await prompt.serve(`watch ${place.slice("ram.".length).replace(".", " ")}`);
       prompt.calls.print(say.isWatched(place));
       return;
     }
-    if (watched !== "" && watched !== place) {
-      refuse(say.oneIsWatched(watched));
+    if (watchedPlace !== "" && watchedPlace !== place) {
+      rejectCommand(say.oneIsWatched(watchedPlace));
     }
-    this.watched = place;
+    this.watchedPlace = place;
     prompt.calls.print(say.watchedByContinue(place));
   }
 
-  /** @param {string} rest */
-  async unwatch(rest) {
-    const place = this.prompt.placeOfWords(rest, "delete");
+  /** @param {string} argumentText */
+  async unwatch(argumentText) {
+    const place = this.prompt.parsePlace(argumentText, "delete");
     if (RAM_CHARACTER.test(place)) await this.prompt.serve(`unwatch ${place.slice("ram.".length).replace(".", " ")}`);
-    else if (this.watched === place) this.watched = "";
-    else refuse(say.notWatched(place));
+    else if (this.watchedPlace === place) this.watchedPlace = "";
+    else rejectCommand(say.notWatched(place));
   }
 
   /** The watched places. */
   get watchedPlaces() {
     const [answer] = this.prompt.session.debugger.session.ask("watches\n");
-    return [...watchedPlaces(answer), ...(this.watched ? [this.watched] : [])];
+    return [...watchedPlaces(answer), ...(this.watchedPlace ? [this.watchedPlace] : [])];
   }
 
   /** The text of `info watches`. */
   get watches() {
-    const places = this.watchedPlaces.map((place) => (place === this.watched ? say.byContinue(place) : place));
+    const places = this.watchedPlaces.map((place) => (place === this.watchedPlace ? say.byContinue(place) : place));
     return places.join("\n") || say.NOTHING_WATCHED;
   }
 
   /** The text of `info breakpoints`. */
   get lines() {
-    return breakpointLines(this.prompt.session, (id) => this.prompt.stops.textOf(id));
+    return breakpointLines(this.prompt.session, (id) => this.prompt.stops.describeActions(id));
   }
 }

@@ -1,36 +1,36 @@
-// The debugger at a prompt: each line is a command. Output goes to `print`, errors go to `complain`. The prompt uses the same debugger as
-// the page (debug/), on a session in memory. At each stop, the session is saved to its file.
+// The prompt of the debugger: each line is a command. Uses the same debugger as the page (js/core/debug), on a session in memory, and saves
+// the session to its file at each stop. Callbacks print output and errors.
 //
-//     const prompt = new Prompt(launched, dataOfPage, { print, complain, pause, source, isByHand });   (adapter/launching.js launches)
+//     const prompt = new Prompt(launched, readPageData, { print, complain, pause, source, isInteractive });   (see adapter/launching.js)
 //     await prompt.begin(); await prompt.take("break show"); prompt.isEnded; prompt.complete("br")
 
-import { WORDS } from "../conditions/parser.js";
-import { PLACE_WORDS, placeOf } from "../conditions/places.js";
+import { KEYWORDS } from "../conditions/parser.js";
+import { PLACE_WORDS, parsePlace } from "../conditions/places.js";
 import { NAMED_PLACES } from "../../words/conditions.js";
 import { Face } from "../board/face.js";
-import { instructionsOf } from "../help/manual.js";
+import { readInstructions } from "../help/manual.js";
 import { Console } from "../adapter/console.js";
 import { Machine } from "../adapter/debugged_machine.js";
-import { Words } from "../bench/words.js";
+import { ErrorMessages } from "../bench/words.js";
 import { BreakpointCommands } from "./breakpoint_commands.js";
 import { ChangeCommands } from "./change_commands.js";
-import { COMMANDS, commandOf } from "./prompt_commands.js";
-import { KeysOfPrompt } from "./keys_of_prompt.js";
-import { INFO_WORDS, LookCommands } from "./look_commands.js";
+import { COMMANDS, findCommand } from "./prompt_commands.js";
+import { PromptKeys } from "./keys_of_prompt.js";
+import { INFO_WORDS, InspectCommands } from "./look_commands.js";
 import { nextInstruction } from "./looks.js";
 import { MoveCommands } from "./move_commands.js";
 import { Sources } from "./sources.js";
 import { StopCommands } from "./stop_commands.js";
-import { refuse } from "./words_of_line.js";
+import { rejectCommand } from "./words_of_line.js";
 import { boardHasNo } from "../../words/adapter.js";
 import * as say from "../../words/prompt.js";
 import { stoppedAt } from "../../words/stops.js";
 
 /**
- * @typedef {import("../adapter/launching.js").Launched} Launched
+ * @typedef {import("../adapter/launching.js").LaunchResult} LaunchResult
  *
- * A command handler. It receives the text after the command name.
- * @typedef {(rest: string) => void | Promise<void>} CommandHandler
+ * A command handler, which receives the text after the command name.
+ * @typedef {(argumentText: string) => void | Promise<void>} CommandHandler
  */
 
 /**
@@ -43,12 +43,14 @@ import { stoppedAt } from "../../words/stops.js";
  * @property {(name: string) => string} read Returns the text of a file; throws an error with the reason if it cannot be read.
  * @property {(name: string, text: string) => void} write Writes a text to a file; throws an error with the reason if it cannot be written.
  * @property {(begin: string) => string[]} files Returns the file names that start with a prefix.
- * @property {boolean} isByHand True if a user at a terminal can interrupt an endless run.
+ * @property {boolean} isInteractive True if a user at a terminal can interrupt an endless run.
  * @property {{ toggle: () => string, turn: (isOn: boolean) => string } | null} view Shows or hides the view (view.js); null without a
  *   terminal. Each function returns an error message, or "".
  */
 
-/** The maximum length of a move in a script, in cycles: 18 minutes on a real board. */
+/**
+ * The maximum length in cycles of a move in a script; a real board needs 18 minutes for it. A move is a command that runs or rewinds time.
+ */
 const MAX_CYCLES = 100000000;
 /** The maximum number of stops per script line at which breakpoint commands run. */
 const MAX_STOPS = 100000;
@@ -56,7 +58,7 @@ const MAX_STOPS = 100000;
 const COMMAND = /^([a-zA-Z-]+|\S)(.*)$/;
 const NO_COMMANDS = { commands: [], isSilent: false, words: "", hasMoved: false };
 /** Matches the commands that an empty line repeats. */
-const REPEATED = /^(next|step|reverse-step|reverse-next|reverse-continue|continue|until|list|run|x)$/;
+const REPEATABLE_COMMANDS = /^(next|step|reverse-step|reverse-next|reverse-continue|continue|until|list|run|x)$/;
 
 /**
  * The commands with a file name, and the patterns that capture it.
@@ -69,7 +71,7 @@ class ReportedError extends Error {}
 
 export class Prompt {
   /**
-   * @param {Launched} launched
+   * @param {LaunchResult} launched
    * @param {{ refusals: Record<string, string>, manual: import("../help/manual.js").ManualSection[] }} data the refusal texts and the
    *   manual
    * @param {PromptCalls} calls
@@ -85,25 +87,25 @@ export class Prompt {
     this.startCycles = 0;
     /** True if the user interrupted the last line. */
     this.isInterrupted = false;
-    /** @type {{ commands: string[], isSilent: boolean, words: string, hasMoved: boolean }} the commands to run after the last stop */
-    this.atStop = NO_COMMANDS;
+    /** @type {{ commands: string[], isSilent: boolean, words: string, hasMoved: boolean }} the actions after the last stop */
+    this.stopActions = NO_COMMANDS;
     /** @type {import("../adapter/debugged_machine.js").MoveEnd} the last stop */
     this.lastStop = { reason: "", words: "", id: 0 };
     this.machine = this.makeMachine();
     this.face = new Face(this.session.boardText);
     this.expressionContext = {
-      session: this.session, face: this.face, instructions: instructionsOf(manual), shown: () => this.machine.shown.now(),
+      session: this.session, face: this.face, instructions: readInstructions(manual), shown: () => this.machine.shown.now(),
     };
     this.breakpoints = new BreakpointCommands(this);
-    this.looks = new LookCommands(this);
+    this.inspectCommands = new InspectCommands(this);
     this.stops = new StopCommands(this);
     this.sources = new Sources(this, calls);
     const consoleCalls = { breaksChanged: () => this.breakpoints.syncWithBench(), romChanged: () => {} };
-    this.console = new Console(this.machine, this.expressionContext, new Words(refusals), consoleCalls);
-    this.keys = new KeysOfPrompt(this.session, this.face);
+    this.console = new Console(this.machine, this.expressionContext, new ErrorMessages(refusals), consoleCalls);
+    this.keys = new PromptKeys(this.session, this.face);
     /** @type {Record<string, CommandHandler>} */
     this.handlers = {
-      ...new MoveCommands(this).handlers, ...this.breakpoints.handlers, ...this.stops.handlers, ...this.looks.handlers,
+      ...new MoveCommands(this).handlers, ...this.breakpoints.handlers, ...this.stops.handlers, ...this.inspectCommands.handlers,
       ...new ChangeCommands(this).handlers,
       source: async (name) => {
         if (!(await this.sources.serve(name))) throw new ReportedError();
@@ -123,25 +125,26 @@ export class Prompt {
   }
 
   /** The place that `continue` watches; "" for none. */
-  get watched() {
-    return this.breakpoints.watched;
+  get watchedPlace() {
+    return this.breakpoints.watchedPlace;
   }
 
   /** Adds the session's breakpoints to the list, and shows the current stop. */
   async begin() {
     this.breakpoints.syncWithBench();
     await this.session.applyBreakpoints();
-    this.showStop(stoppedAt(this.session.counterWords));
+    this.showStop(stoppedAt(this.session.counterText));
   }
 
   /** Yields to other tasks. In a script, ends a move that exceeds MAX_CYCLES. */
   async yieldTurn() {
     await this.calls.pause();
     const { count } = this.session.debugger.session;
-    if (!this.calls.isByHand && count.total - this.startCycles >= MAX_CYCLES) this.machine.pause();
+    if (!this.calls.isInteractive && count.total - this.startCycles >= MAX_CYCLES) this.machine.pause();
   }
 
   /**
+   * Prints the output of the machine. Errors go to the standard error.
    * @param {string} words
    * @param {"console" | "stdout" | "stderr"} category
    */
@@ -158,13 +161,13 @@ export class Prompt {
    * @param {string} text
    */
   async take(text) {
-    const line = text.trim() || (this.calls.isByHand && !this.stops.unfinished ? this.repeatedLine : "");
+    const line = text.trim() || (this.calls.isInteractive && !this.stops.unfinishedCommands ? this.repeatedLine : "");
     this.startCycles = this.session.debugger.session.count.total;
     this.isInterrupted = false;
-    const name = this.nameOf(line);
+    const name = this.findCommandName(line);
     const isDone = await this.executeLine(line);
     // A repeated `list` has no argument, so that it lists the next lines.
-    this.repeatedLine = isDone && REPEATED.test(name) ? (name === "list" ? name : line) : "";
+    this.repeatedLine = isDone && REPEATABLE_COMMANDS.test(name) ? (name === "list" ? name : line) : "";
     return isDone && this.runCommands();
   }
 
@@ -173,9 +176,9 @@ export class Prompt {
    * @param {string} line
    */
   async executeLine(line) {
-    this.atStop = NO_COMMANDS;
+    this.stopActions = NO_COMMANDS;
     try {
-      if (this.stops.unfinished) this.stops.addLine(line);
+      if (this.stops.unfinishedCommands) this.stops.addLine(line);
       else if (line !== "" && !line.startsWith("#")) await this.runCommand(line);
       return true;
     } catch (thrown) {
@@ -188,16 +191,19 @@ export class Prompt {
    * Returns the full command name of a line; "" if the line has no command.
    * @param {string} line
    */
-  nameOf(line) {
-    const { command } = commandOf((COMMAND.exec(line) || ["", ""])[1]);
-    return command && !this.stops.unfinished ? command.name : "";
+  findCommandName(line) {
+    const { command } = findCommand((COMMAND.exec(line) || ["", ""])[1]);
+    return command && !this.stops.unfinishedCommands ? command.name : "";
   }
 
-  /** @param {string} line */
+  /**
+   * Executes the command in a line; fails if there is none.
+   * @param {string} line
+   */
   async runCommand(line) {
     const [, word, rest] = /** @type {string[]} */ (COMMAND.exec(line));
-    const { command, words } = commandOf(word);
-    await this.handlers[command ? command.name : refuse(words)](rest.trim());
+    const { command, words } = findCommand(word);
+    await this.handlers[command ? command.name : rejectCommand(words)](rest.trim());
   }
 
   /**
@@ -206,30 +212,30 @@ export class Prompt {
    */
   async runCommands() {
     let stops = 0;
-    for (let { commands } = this.atStop; commands.length > 0 && !this.isInterrupted; { commands } = this.atStop) {
+    for (let { commands } = this.stopActions; commands.length > 0 && !this.isInterrupted; { commands } = this.stopActions) {
       for (const line of commands) {
         if (!(await this.executeLine(line))) return false;
-        if (this.atStop.hasMoved || this.isEnded) break;
+        if (this.stopActions.hasMoved || this.isEnded) break;
       }
       stops += 1;
-      if (!this.atStop.hasMoved || (!this.calls.isByHand && stops === MAX_STOPS)) break;
+      if (!this.stopActions.hasMoved || (!this.calls.isInteractive && stops === MAX_STOPS)) break;
       await this.yieldTurn();
     }
-    this.atStop = NO_COMMANDS;
+    this.stopActions = NO_COMMANDS;
     return true;
   }
 
   /**
    * Starts a move and waits for its end. Returns the report; fails if the move did nothing.
-   * @param {() => void} begin starts the move
+   * @param {() => void} startMove starts the move
    */
-  async makeMove(begin) {
-    begin();
+  async makeMove(startMove) {
+    startMove();
     await this.machine.move;
     const words = this.lastStop.words.replace(say.PAGE_REMEMBERS, say.SESSION_REMEMBERS);
-    if (words.startsWith(say.NOTHING_DONE)) refuse(words);
+    if (words.startsWith(say.NOTHING_DONE)) rejectCommand(words);
     const reached = await this.stops.commandsAtStop();
-    this.atStop = { ...reached, hasMoved: true };
+    this.stopActions = { ...reached, hasMoved: true };
     return reached.words ? `${words} ${reached.words}` : words;
   }
 
@@ -247,29 +253,29 @@ export class Prompt {
    * @param {string} words the stop reason
    */
   showStop(words) {
-    this.looks.listed = 0;
-    if (this.atStop.isSilent) return;
+    this.inspectCommands.lastListedLine = 0;
+    if (this.stopActions.isSilent) return;
     if (words) this.calls.print(words);
     this.calls.print(nextInstruction(this.session));
-    this.looks.showDisplays();
+    this.inspectCommands.showDisplays();
   }
 
   /**
-   * Returns the name of a place; fails if the board does not have it.
+   * Returns the name of a place; fails if the board lacks this place.
    * @param {string} text a place or a lamp name
    * @param {string} command the prompt command, for messages
    */
-  placeOfWords(text, command) {
-    if (text === "") refuse(say.placeForm(command));
+  parsePlace(text, command) {
+    if (text === "") rejectCommand(say.placeForm(command));
     const lamp = this.face.lampNumbers.get(text.replace(/ /g, "_"));
-    const place = placeOf(lamp === undefined ? text : `lamp ${lamp}`);
-    if (!place) return refuse(say.noPlace(text, NAMED_PLACES));
-    return this.session.values([place.name])[0] === "" ? refuse(boardHasNo(place.name)) : place.name;
+    const place = parsePlace(lamp === undefined ? text : `lamp ${lamp}`);
+    if (!place) return rejectCommand(say.noPlace(text, NAMED_PLACES));
+    return this.session.values([place.name])[0] === "" ? rejectCommand(boardHasNo(place.name)) : place.name;
   }
 
   /** The prompt text before a line. */
   get label() {
-    return this.stops.unfinished ? "> " : "(mcs4) ";
+    return this.stops.unfinishedCommands ? "> " : "(mcs4) ";
   }
 
   /** Interrupts the current move. Returns false if there is none. */
@@ -295,12 +301,12 @@ export class Prompt {
   async complete(line) {
     const [, first] = /^\s*(\S*)$/.exec(line) || [];
     if (first !== undefined) return [COMMANDS.map(({ name }) => `${name} `).filter((name) => name.startsWith(first)), first];
-    const { command } = commandOf((/^\s*([a-zA-Z-]+)/.exec(line) || ["", ""])[1]);
+    const { command } = findCommand((/^\s*([a-zA-Z-]+)/.exec(line) || ["", ""])[1]);
     const name = command ? command.name : "";
     const file = FILE_ARGUMENTS[name] ? FILE_ARGUMENTS[name].exec(line) : null;
     if (file) return [this.calls.files(file[1]), file[1]];
     const [word] = /** @type {string[]} */ (/[\w@.+~*/-]*$/.exec(line));
-    const candidates = this.wordsFor(name);
+    const candidates = this.listArguments(name);
     return [candidates.filter((each) => each.toLowerCase().startsWith(word.toLowerCase())), word];
   }
 
@@ -308,7 +314,7 @@ export class Prompt {
    * Returns the words that can follow a command.
    * @param {string} command
    */
-  wordsFor(command) {
+  listArguments(command) {
     if (command === "info") return INFO_WORDS;
     if (command === "save") return ["breakpoints"];
     if (command === "help") return COMMANDS.map(({ name }) => name);
@@ -316,6 +322,6 @@ export class Prompt {
     if (/^(condition|ignore|commands|enable|disable)$/.test(command)) return this.session.breakpoints.all.map(({ id }) => String(id));
     const names = [...this.session.map.names.keys()];
     if (/^(list|x)$/.test(command)) return names;
-    return [...new Set([...names, ...PLACE_WORDS, "display", ...this.face.lampNumbers.keys(), ...WORDS])];
+    return [...new Set([...names, ...PLACE_WORDS, "display", ...this.face.lampNumbers.keys(), ...KEYWORDS])];
   }
 }

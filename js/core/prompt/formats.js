@@ -1,9 +1,9 @@
 // Formats values for `print/FORMAT`.
 
-import { expressionOf } from "../conditions/condition_language.js";
-import { valueOfExpression } from "../adapter/expression_values.js";
+import { compileExpression } from "../conditions/condition_language.js";
+import { evaluateExpression } from "../adapter/expression_values.js";
 import { hex } from "../bench/numbers.js";
-import { refuse } from "./words_of_line.js";
+import { rejectCommand } from "./words_of_line.js";
 import { inColumn } from "../../words/conditions.js";
 import * as say from "../../words/prompt.js";
 
@@ -12,19 +12,17 @@ import * as say from "../../words/prompt.js";
  * @typedef {import("../adapter/expression_values.js").ExpressionContext} ExpressionContext
  */
 
-/**
- * @type {(base: number, mark: string) => (value: number) => string} creates a formatter for a number base, with a prefix before the digits
- */
-const digits = (base, mark) => (value) => `${value < 0 ? "-" : ""}${mark}${Math.abs(value).toString(base).toUpperCase()}`;
-/** @type {Record<string, (value: number, session: DebugSession) => string>} */
+/** @type {(base: number, mark: string) => (value: number) => string} creates a formatter for a number base, with a prefix */
+const createFormatter = (base, mark) => (value) => `${value < 0 ? "-" : ""}${mark}${Math.abs(value).toString(base).toUpperCase()}`;
+/** @type {Record<string, (value: number, session: DebugSession) => string>} the formatters, by the letter after `print/` */
 const FORMATS = {
-  x: digits(16, "0x"),
-  d: digits(10, ""),
-  u: digits(10, ""),
-  o: digits(8, "0"),
-  t: digits(2, "0b"),
-  b: digits(2, "0b"),
-  a: (value, { map }) => (value < 0 ? digits(16, "0x")(value) : say.addressIs(hex(value, 3), map.nameOf(value) || "")),
+  x: createFormatter(16, "0x"),
+  d: createFormatter(10, ""),
+  u: createFormatter(10, ""),
+  o: createFormatter(8, "0"),
+  t: createFormatter(2, "0b"),
+  b: createFormatter(2, "0b"),
+  a: (value, { map }) => (value < 0 ? createFormatter(16, "0x")(value) : say.addressIs(hex(value, 3), map.nameOf(value) || "")),
 };
 
 /**
@@ -32,9 +30,9 @@ const FORMATS = {
  * @param {string} text
  * @param {DebugSession} session
  */
-function numberOfText(text, session) {
-  const { expression, fault, column } = expressionOf(text, session.names);
-  if (!expression) return refuse(inColumn(fault, column));
+function evaluateNumber(text, session) {
+  const { expression, fault, column } = compileExpression(text, session.names);
+  if (!expression) return rejectCommand(inColumn(fault, column));
   const values = session.debugger.readPlaces(expression.places);
   if (expression.number) return expression.number(values);
   return expression.textOf(values) === "true" ? 1 : 0;
@@ -47,9 +45,10 @@ function numberOfText(text, session) {
  */
 export function formattedValue(text, context) {
   const [, format, expression = ""] = /^\/(\w*)\s*(.*)$/.exec(text) || [];
-  if (format === undefined) return valueOfExpression(text, context);
-  const shown = Object.keys(FORMATS).includes(format) ? FORMATS[format] : refuse(say.noFormat(format, Object.keys(FORMATS).join(", ")));
-  if (expression === "") refuse(say.PRINT_FORM);
-  if (/^(display|lamps)$/.test(expression.trim())) refuse(say.noNumberOf(expression));
-  return shown(numberOfText(expression, context.session), context.session);
+  if (format === undefined) return evaluateExpression(text, context);
+  const formatNames = Object.keys(FORMATS);
+  const formatter = formatNames.includes(format) ? FORMATS[format] : rejectCommand(say.noFormat(format, formatNames.join(", ")));
+  if (expression === "") rejectCommand(say.PRINT_FORM);
+  if (/^(display|lamps)$/.test(expression.trim())) rejectCommand(say.noNumberOf(expression));
+  return formatter(evaluateNumber(expression, context.session), context.session);
 }

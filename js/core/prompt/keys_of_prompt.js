@@ -1,10 +1,10 @@
-// The key names at a prompt: the names on the board's front panel, or `row.column`.
+// Finds keys by the names that a user types at a prompt: the names on the board's front panel, or `row.column`.
 
 import { readBoard } from "../bench/answers.js";
-import { matrixKey, textOfKey } from "../board/key_place.js";
-import { keysOf, namedKey } from "../testing/test_text.js";
-import { keysDown } from "./looks.js";
-import { refuse } from "./words_of_line.js";
+import { matrixKey, formatKey } from "../board/key_place.js";
+import { listNamedKeys, createKey } from "../testing/test_text.js";
+import { pressedKeys } from "./looks.js";
+import { rejectCommand } from "./words_of_line.js";
 import * as say from "../../words/prompt.js";
 
 /**
@@ -12,31 +12,31 @@ import * as say from "../../words/prompt.js";
  * @typedef {import("../testing/test_text.js").Key} NamedKey
  */
 
-export class KeysOfPrompt {
+export class PromptKeys {
   /**
    * @param {DebugSession} session
    * @param {import("../board/face.js").Face} face
    */
   constructor(session, face) {
     this.session = session;
-    this.named = keysOf(face);
+    this.namedKeys = listNamedKeys(face);
   }
 
   /** The names of all keys; an unnamed key is called `row.column`. */
   get names() {
     const { rows, columns } = readBoard(this.session.debugger.session.statusQueries.board);
-    const namedKeys = new Set([...this.named.values()].map(({ key }) => textOfKey(key)));
+    const namedKeys = new Set([...this.namedKeys.values()].map(({ key }) => formatKey(key)));
     const unnamed = [];
     for (let at = 0; at < rows * columns; at++) {
       const [row, column] = [Math.floor(at / columns), at % columns];
-      if (!namedKeys.has(textOfKey(matrixKey(row, column)))) unnamed.push(`${row}.${column}`);
+      if (!namedKeys.has(formatKey(matrixKey(row, column)))) unnamed.push(`${row}.${column}`);
     }
-    return [...this.named.keys(), ...unnamed];
+    return [...this.namedKeys.keys(), ...unnamed];
   }
 
   /** Returns the text of `info keys`. */
   infoText() {
-    const down = keysDown(this.session);
+    const down = pressedKeys(this.session);
     const { names } = this;
     if (names.length === 0) return say.NO_KEYS;
     return `${names.join(" ")}\n${down.length > 0 ? say.down(down.join(" ")) : say.NONE_DOWN}`;
@@ -47,13 +47,13 @@ export class KeysOfPrompt {
    * @param {string} word
    * @returns {NamedKey | null}
    */
-  find(word) {
-    const named = this.named.get(word);
+  findKey(word) {
+    const named = this.namedKeys.get(word);
     if (named) return named;
     const [, row, column] = /^(\d+)\.(\d+)$/.exec(word) || [];
     const { rows, columns } = readBoard(this.session.debugger.session.statusQueries.board);
     if (row === undefined || Number(row) >= rows || Number(column) >= columns) return null;
-    return namedKey(word, matrixKey(Number(row), Number(column)));
+    return createKey(word, matrixKey(Number(row), Number(column)));
   }
 
   /**
@@ -61,14 +61,14 @@ export class KeysOfPrompt {
    * @param {string} text
    * @param {string} command the prompt command, for messages
    */
-  read(text, command) {
-    if (text === "") refuse(say.keyForm(command));
+  parseKeys(text, command) {
+    if (text === "") rejectCommand(say.keyForm(command));
     /** @type {(word: string) => NamedKey} */
-    const found = (word) => {
+    const requireKey = (word) => {
       const { names } = this;
-      const why = names.length === 0 ? say.NO_KEYS : say.noKey(word, names.join(" "));
-      return this.find(word) || refuse(why);
+      const message = names.length === 0 ? say.NO_KEYS : say.noKey(word, names.join(" "));
+      return this.findKey(word) || rejectCommand(message);
     };
-    return text.split(/\s+/).flatMap((word) => (this.find(word) ? [word] : [...word])).map(found);
+    return text.split(/\s+/).flatMap((word) => (this.findKey(word) ? [word] : [...word])).map(requireKey);
   }
 }

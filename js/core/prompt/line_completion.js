@@ -1,12 +1,12 @@
 // Completes lines at the prompt of `mcs4 new` and `mcs4 open`.
 
 import { ANSWER_FORMS } from "../bench/answer_table.js";
-import { readBoard, readMarks } from "../bench/answers.js";
+import { readBoard, readItems } from "../bench/answers.js";
 import { POKE_NAMES, TRACE_NAMES } from "../bench/line_forms.js";
-import { upTo } from "../bench/numbers.js";
+import { indices } from "../bench/numbers.js";
 
 /**
- * The possible words, and the part at the end of the line that they replace.
+ * The possible words, and the end of the line that one of them replaces.
  * @typedef {[string[], string]} Completion
  */
 
@@ -23,22 +23,22 @@ export const PROMPT_WORDS = ["help", "source", "quit"];
 export const FILE_WORDS = ["wire", "asm", "map", "wiring", "errors", "source"];
 const HELP_WORDS = ["places"];
 
-/** @type {(words: string[], begin: string) => string[]} */
-const withPrefix = (words, begin) => words.filter((word) => word.startsWith(begin));
-/** @type {(count: number) => string[]} */
-const numbers = (count) => upTo(count).map(String);
+/** @type {(words: string[], begin: string) => string[]} returns the words that start with a prefix */
+const filterByPrefix = (words, begin) => words.filter((word) => word.startsWith(begin));
+/** @type {(count: number) => string[]} returns the numbers from 0 to `count` - 1 as words */
+const numberWords = (count) => indices(count).map(String);
 
 /**
- * Resolves to the possible words for the argument at an index.
+ * A function that resolves to the possible words for the argument at an index.
  * @typedef {(at: number, ask: (line: string) => Promise<string[]>) => Promise<string[]>} WordsAt
  */
 
 /** @type {(words: string[]) => WordsAt} proposes words only for the first argument */
 const firstArgument = (words) => async (at) => (at === 0 ? words : []);
 /** @type {WordsAt} proposes row numbers, then column numbers */
-const keysAt = async (at, ask) => {
+const completeKeys = async (at, ask) => {
   const { rows, columns } = readBoard(await ask("board"));
-  return at > 1 ? [] : numbers(at === 0 ? rows : columns);
+  return at > 1 ? [] : numberWords(at === 0 ? rows : columns);
 };
 
 /**
@@ -50,11 +50,11 @@ const WORDS_AFTER = {
   poke: firstArgument(POKE_NAMES),
   trace: async (at) => (at > 0 ? TRACE_NAMES : []),
   test: firstArgument(["0", "1"]),
-  press: keysAt,
-  release: keysAt,
+  press: completeKeys,
+  release: completeKeys,
   ram: async (at, ask) => (at > 0 ? [] : readBoard(await ask("board")).banks.map(({ bank }) => String(bank))),
-  unbreak: async (at, ask) => (at > 0 ? [] : readMarks((await ask("breaks"))[0]).map((word) => `0x${word}`)),
-  unwatch: async (at, ask) => (at > 0 ? [] : readMarks((await ask("watches"))[0]).map((word) => word.replace(".", " 0x"))),
+  unbreak: async (at, ask) => (at > 0 ? [] : readItems((await ask("breaks"))[0]).map((word) => `0x${word}`)),
+  unwatch: async (at, ask) => (at > 0 ? [] : readItems((await ask("watches"))[0]).map((word) => word.replace(".", " 0x"))),
 };
 
 /**
@@ -65,12 +65,12 @@ const WORDS_AFTER = {
  */
 export async function completeLine(line, calls) {
   const [, first] = /^[ \t]*(\S*)$/.exec(line) || [];
-  if (first !== undefined) return [withPrefix([...ANSWER_FORMS.keys(), ...PROMPT_WORDS], first).map((word) => `${word} `), first];
+  if (first !== undefined) return [filterByPrefix([...ANSWER_FORMS.keys(), ...PROMPT_WORDS], first).map((word) => `${word} `), first];
   const [, word, rest] = /** @type {RegExpExecArray} */ (/^[ \t]*(\S+)[ \t]+(.*)$/.exec(line));
   if (FILE_WORDS.includes(word)) return [calls.files(rest), rest];
   const words = line.trimStart().split(/[ \t]+/);
   const begin = /** @type {string} */ (words.pop());
   const at = WORDS_AFTER[word];
   const found = ANSWER_FORMS.has(word) || word === "help" ? await (at ? at(words.length - 1, calls.ask) : []) : [];
-  return [withPrefix(found, begin), begin];
+  return [filterByPrefix(found, begin), begin];
 }

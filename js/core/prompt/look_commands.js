@@ -1,11 +1,11 @@
-// The prompt commands that show the state of the session without a change to it.
+// The prompt commands that show the state of the session and do not change it.
 
 import { LAST_ADDRESS } from "../bench/numbers.js";
-import { placeOf } from "../conditions/places.js";
-import { commandOf, helpOf } from "./prompt_commands.js";
+import { parsePlace } from "../conditions/places.js";
+import { findCommand, commandHelp } from "./prompt_commands.js";
 import { formattedValue } from "./formats.js";
-import * as looks from "./looks.js";
-import { addressIn, countIn, instructionIn, refuse } from "./words_of_line.js";
+import * as stateText from "./looks.js";
+import { parseCountArgument, findInstruction, parseAddress, rejectCommand } from "./words_of_line.js";
 import { DISASSEMBLED_FROM_ROM } from "../../words/adapter.js";
 import * as say from "../../words/prompt.js";
 import { stoppedAt } from "../../words/stops.js";
@@ -15,6 +15,7 @@ import { stoppedAt } from "../../words/stops.js";
  * @typedef {import("./debugger_prompt.js").Prompt} Prompt
  */
 
+/** The maximum count of the command `x`. */
 const MAX_EXAMINED = 4096;
 /** The number of source lines that `list` prints. */
 const LIST_LENGTH = 10;
@@ -27,14 +28,14 @@ const INFO_ABBREVIATIONS = new Map([
   ["r", "registers"], ["s", "stack"], ["f", "frame"], ["args", "locals"], ["all-registers", "registers"],
 ]);
 
-export class LookCommands {
+export class InspectCommands {
   /** @param {Prompt} prompt */
   constructor(prompt) {
     this.prompt = prompt;
     /** @type {string[]} the expressions that are printed at each stop */
     this.displays = [];
-    /** The last source line that `list` has printed since the last stop, 0 for none. */
-    this.listed = 0;
+    /** The number of the last source line that `list` has printed since the last stop, 0 for none. */
+    this.lastListedLine = 0;
   }
 
   /** @returns {Record<string, CommandHandler>} */
@@ -42,18 +43,18 @@ export class LookCommands {
     const { calls, machine, session } = this.prompt;
     return {
       lamps: () => calls.print(machine.shown.now() || say.NO_LAMPS),
-      print: (rest) => calls.print(this.value(rest || refuse(say.PRINT_FORM))),
-      display: (rest) => this.display(rest),
-      undisplay: (rest) => this.undisplay(rest),
-      x: (rest) => this.examine(rest),
-      list: (rest) => this.list(rest),
-      info: (rest) => calls.print(this.info(rest)),
-      view: (rest) => this.view(rest),
-      backtrace: () => calls.print(looks.frameLines(session)),
-      frame: () => calls.print(this.frame),
-      help: (rest) => {
-        if (rest !== "" && !commandOf(rest).command) refuse(commandOf(rest).words);
-        calls.print(helpOf(rest));
+      print: (argumentText) => calls.print(this.evaluate(argumentText || rejectCommand(say.PRINT_FORM))),
+      display: (argumentText) => this.addDisplay(argumentText),
+      undisplay: (argumentText) => this.removeDisplays(argumentText),
+      x: (argumentText) => this.printMemory(argumentText),
+      list: (argumentText) => this.listSource(argumentText),
+      info: (argumentText) => calls.print(this.infoText(argumentText)),
+      view: (argumentText) => this.switchView(argumentText),
+      backtrace: () => calls.print(stateText.frameLines(session)),
+      frame: () => calls.print(this.frameText),
+      help: (argumentText) => {
+        if (argumentText !== "" && !findCommand(argumentText).command) rejectCommand(findCommand(argumentText).words);
+        calls.print(commandHelp(argumentText));
       },
       quit: () => {
         this.prompt.isEnded = true;
@@ -61,23 +62,26 @@ export class LookCommands {
     };
   }
 
-  /** @param {string} rest the argument of `view` or of gdb's `layout` and `tui` */
-  view(rest) {
+  /**
+   * Shows or hides the view.
+   * @param {string} argumentText the argument of `view` or of gdb's `layout` and `tui`
+   */
+  switchView(argumentText) {
     const { view } = this.prompt.calls;
-    if (!/^(|on|off|enable|disable|src|regs|asm|split)$/.test(rest)) refuse(say.VIEW_FORM);
+    if (!/^(|on|off|enable|disable|src|regs|asm|split)$/.test(argumentText)) rejectCommand(say.VIEW_FORM);
     if (!view) {
-      refuse(say.VIEW_NEEDS_TERMINAL);
+      rejectCommand(say.VIEW_NEEDS_TERMINAL);
       return;
     }
-    const words = rest === "" ? view.toggle() : view.turn(!/^(off|disable)$/.test(rest));
-    if (words) refuse(words);
+    const words = argumentText === "" ? view.toggle() : view.turn(!/^(off|disable)$/.test(argumentText));
+    if (words) rejectCommand(words);
   }
 
   /**
    * Returns the current value of an expression as text.
    * @param {string} expression the expression, with an optional format before it: `/x r4`
    */
-  value(expression) {
+  evaluate(expression) {
     return formattedValue(expression, this.prompt.expressionContext);
   }
 
@@ -85,9 +89,9 @@ export class LookCommands {
    * Returns the current value of an expression as text, or the error message.
    * @param {string} expression
    */
-  valueOrFault(expression) {
+  evaluateOrExplain(expression) {
     try {
-      return this.value(expression);
+      return this.evaluate(expression);
     } catch (thrown) {
       return thrown instanceof Error ? thrown.message : String(thrown);
     }
@@ -99,90 +103,94 @@ export class LookCommands {
    */
   showDisplays(from = 0) {
     this.displays.slice(from).forEach((expression, at) => {
-      this.prompt.calls.print(`${from + at + 1}: ${expression} = ${this.valueOrFault(expression)}`);
+      this.prompt.calls.print(`${from + at + 1}: ${expression} = ${this.evaluateOrExplain(expression)}`);
     });
   }
 
-  /** @param {string} rest */
-  display(rest) {
-    if (rest === "") return this.showDisplays();
-    this.value(rest);
-    this.displays.push(rest);
+  /** @param {string} argumentText */
+  addDisplay(argumentText) {
+    if (argumentText === "") return this.showDisplays();
+    this.evaluate(argumentText);
+    this.displays.push(argumentText);
     return this.showDisplays(this.displays.length - 1);
   }
 
-  /** @param {string} rest */
-  undisplay(rest) {
-    const numbers = rest.split(/\s+/).filter(Boolean).map(Number);
-    const isWrong = numbers.some((each) => !(each >= 1 && each <= this.displays.length));
-    if (isWrong) refuse(say.NO_DISPLAY);
-    this.displays = rest === "" ? [] : this.displays.filter((_, at) => !numbers.includes(at + 1));
+  /** @param {string} argumentText */
+  removeDisplays(argumentText) {
+    const numbers = argumentText.split(/\s+/).filter(Boolean).map(Number);
+    const hasInvalidNumber = numbers.some((each) => !(each >= 1 && each <= this.displays.length));
+    if (hasInvalidNumber) rejectCommand(say.NO_DISPLAY);
+    this.displays = argumentText === "" ? [] : this.displays.filter((_, at) => !numbers.includes(at + 1));
   }
 
-  /** @param {string} rest */
-  examine(rest) {
+  /** @param {string} argumentText */
+  printMemory(argumentText) {
     const { calls, session } = this.prompt;
-    const [, count = "", place = ""] = /^(?:\/(\d*)[a-z]?)?\s*(.*)$/.exec(rest) || [];
-    const countShown = countIn(count, MAX_EXAMINED);
-    if (/^ram[. ]/i.test(place)) return calls.print(looks.characterLines(session, (placeOf(place) || { name: place }).name, countShown));
-    const address = place === "" ? session.address : addressIn(place, session);
-    if (address === undefined || address > LAST_ADDRESS) return refuse(say.noPlaceOfMemory(place));
-    return calls.print(looks.codeLines(session, address, countShown));
+    const [, count = "", place = ""] = /^(?:\/(\d*)[a-z]?)?\s*(.*)$/.exec(argumentText) || [];
+    const countShown = parseCountArgument(count, MAX_EXAMINED);
+    if (/^ram[. ]/i.test(place)) {
+      const { name } = parsePlace(place) || { name: place };
+      return calls.print(stateText.characterLines(session, name, countShown));
+    }
+    const address = place === "" ? session.address : parseAddress(place, session);
+    if (address === undefined || address > LAST_ADDRESS) return rejectCommand(say.noPlaceOfMemory(place));
+    return calls.print(stateText.codeLines(session, address, countShown));
   }
 
-  /** @param {string} rest */
-  list(rest) {
+  /** @param {string} argumentText */
+  listSource(argumentText) {
     const { calls, session } = this.prompt;
-    const count = looks.linesOfSource(session);
-    let from = this.listed + 1;
-    if (rest !== "" || this.listed === 0) {
-      const line = /^\d+$/.test(rest) ? Number(rest) : instructionIn(rest, session).line;
-      if (line === 0) refuse(say.NO_LINE_THERE);
+    const count = stateText.countSourceLines(session);
+    let from = this.lastListedLine + 1;
+    if (argumentText !== "" || this.lastListedLine === 0) {
+      const line = /^\d+$/.test(argumentText) ? Number(argumentText) : findInstruction(argumentText, session).line;
+      if (line === 0) rejectCommand(say.NO_LINE_THERE);
       from = Math.max(1, line - LIST_LENGTH / 2);
     }
-    if (from > count) refuse(say.sourceHas(count));
-    calls.print(looks.sourceLines(session, from, from + LIST_LENGTH - 1));
-    this.listed = Math.min(count, from + LIST_LENGTH - 1);
+    if (from > count) rejectCommand(say.sourceHas(count));
+    calls.print(stateText.sourceLines(session, from, from + LIST_LENGTH - 1));
+    this.lastListedLine = Math.min(count, from + LIST_LENGTH - 1);
   }
 
   /** The text of `frame`: the innermost frame and the next instruction. */
-  get frame() {
+  get frameText() {
     const { session } = this.prompt;
-    return `${looks.frameLines(session).split("\n")[0]}\n${looks.nextInstruction(session)}`;
+    return `${stateText.frameLines(session).split("\n")[0]}\n${stateText.nextInstruction(session)}`;
   }
 
-  /** @returns {Record<string, (rest: string) => string>} the functions that return the text of `info`, by the word after `info` */
+  /** @returns {Record<string, (argumentText: string) => string>} the functions that return the text of `info`, by the word after `info` */
   get infoTexts() {
     const { session, keys, launched, breakpoints, lastStop } = this.prompt;
     return {
-      registers: () => looks.registerLines(session),
-      ram: () => looks.ramLines(session),
-      ports: () => looks.portLines(session),
+      registers: () => stateText.registerLines(session),
+      ram: () => stateText.ramLines(session),
+      ports: () => stateText.portLines(session),
       keys: () => keys.infoText(),
       breakpoints: () => breakpoints.lines,
       watches: () => breakpoints.watches,
       display: () => this.displays.map((expression, at) => `${at + 1}: ${expression}`).join("\n") || say.NOTHING_DISPLAYED,
-      names: () => looks.nameLines(session),
-      source: () => say.linesOf(launched.program || DISASSEMBLED_FROM_ROM, looks.linesOfSource(session)),
+      names: () => stateText.nameLines(session),
+      source: () => say.linesOf(launched.program || DISASSEMBLED_FROM_ROM, stateText.countSourceLines(session)),
       session: () => (launched.writer ? say.SESSION_FILE : say.IN_MEMORY),
-      line: (place) => looks.lineText(session, instructionIn(place, session)),
+      line: (place) => stateText.lineText(session, findInstruction(place, session)),
       symbol: (place) => {
-        const address = addressIn(place || refuse(say.SYMBOL_FORM), session);
-        return address === undefined ? refuse(say.noPlaceOfMemory(place)) : looks.addressText(session, address);
+        const address = parseAddress(place || rejectCommand(say.SYMBOL_FORM), session);
+        return address === undefined ? rejectCommand(say.noPlaceOfMemory(place)) : stateText.addressText(session, address);
       },
-      frame: () => this.frame,
-      stack: () => looks.frameLines(session),
-      program: () => lastStop.words || stoppedAt(session.counterWords),
+      frame: () => this.frameText,
+      stack: () => stateText.frameLines(session),
+      program: () => lastStop.words || stoppedAt(session.counterText),
       locals: () => say.NO_LOCALS,
     };
   }
 
-  /** @param {string} rest */
-  info(rest) {
-    const [, word = "", more = ""] = /^(\S*)\s*(.*)$/.exec(rest) || [];
-    const found = INFO_WORDS.filter((kind) => word !== "" && kind.startsWith(word));
-    const kind = INFO_ABBREVIATIONS.get(word) || (found.length === 1 ? found[0] : refuse(say.infoShows(INFO_WORDS.join(", "))));
-    if (more !== "" && !/^(line|symbol)$/.test(kind)) refuse(say.infoTakesNoArgument(kind));
-    return this.infoTexts[kind](more);
+  /** @param {string} argumentText */
+  infoText(argumentText) {
+    const [, word = "", argument = ""] = /^(\S*)\s*(.*)$/.exec(argumentText) || [];
+    const matchingKinds = INFO_WORDS.filter((kind) => word !== "" && kind.startsWith(word));
+    const [onlyKind] = matchingKinds.length === 1 ? matchingKinds : [""];
+    const kind = INFO_ABBREVIATIONS.get(word) || onlyKind || rejectCommand(say.infoShows(INFO_WORDS.join(", ")));
+    if (argument !== "" && !/^(line|symbol)$/.test(kind)) rejectCommand(say.infoTakesNoArgument(kind));
+    return this.infoTexts[kind](argument);
   }
 }

@@ -1,13 +1,13 @@
-// Formats the state of a session for a prompt: source, registers, RAM, ports, ROM, calls and breakpoints.
+// Formats the state of a debugged session as text for a prompt: source, registers, RAM, ports, ROM, calls and breakpoints.
 
-import { counted, hex, numberOf, upTo } from "../bench/numbers.js";
-import { linesOfBreakpoints } from "../debug/breakpoint_lines.js";
-import { MachineState } from "../debug/standing.js";
-import { withoutTabs } from "../text/without_tabs.js";
+import { counted, hex, parseNumber, indices } from "../bench/numbers.js";
+import { formatBreakpoints } from "../debug/breakpoint_lines.js";
+import { MachineState } from "../debug/machine_state.js";
+import { expandTabs } from "../text/without_tabs.js";
 import { wordsOfAddress } from "../../words/stops.js";
-import { framesOf } from "../adapter/frames.js";
-import { rowsAt } from "../adapter/disassembly.js";
-import { refuse } from "./words_of_line.js";
+import { readStackFrames } from "../adapter/frames.js";
+import { listInstructionRows } from "../adapter/disassembly.js";
+import { rejectCommand } from "./words_of_line.js";
 import * as say from "../../words/prompt.js";
 
 /** @typedef {import("../debug/debug_session.js").DebugSession} DebugSession */
@@ -16,7 +16,7 @@ import * as say from "../../words/prompt.js";
  * Returns the current state of the machine.
  * @param {DebugSession} session
  */
-function stateOf(session) {
+function readState(session) {
   return new MachineState(session.debugger.session.takeSnapshot());
 }
 
@@ -30,16 +30,16 @@ export function sourceLine(session, line) {
   const address = map.addressOf(line);
   const pointer = line === session.line ? ">" : " ";
   const mark = breakpoints.all.some((each) => each.line === line && each.isOn) ? "*" : " ";
-  const written = address === undefined ? "   " : hex(address, 3);
-  const text = withoutTabs((session.program.split("\n")[line - 1] || "").replace(/\r$/, ""));
-  return `${pointer}${mark}${String(line).padStart(4)}  ${written}  ${text}`.trimEnd();
+  const addressColumn = address === undefined ? "   " : hex(address, 3);
+  const text = expandTabs((session.program.split("\n")[line - 1] || "").replace(/\r$/, ""));
+  return `${pointer}${mark}${String(line).padStart(4)}  ${addressColumn}  ${text}`.trimEnd();
 }
 
 /**
  * Returns the number of source lines.
  * @param {DebugSession} session
  */
-export function linesOfSource({ program }) {
+export function countSourceLines({ program }) {
   return program.replace(/\n$/, "").split("\n").length;
 }
 
@@ -50,9 +50,9 @@ export function linesOfSource({ program }) {
  * @param {number} to the last line, inclusive
  */
 export function sourceLines(session, from, to) {
-  const last = Math.min(to, linesOfSource(session));
-  if (from > last) refuse(say.sourceHas(linesOfSource(session)));
-  return upTo(last - from + 1).map((at) => sourceLine(session, from + at)).join("\n");
+  const last = Math.min(to, countSourceLines(session));
+  if (from > last) rejectCommand(say.sourceHas(countSourceLines(session)));
+  return indices(last - from + 1).map((at) => sourceLine(session, from + at)).join("\n");
 }
 
 /**
@@ -70,7 +70,7 @@ export function nextInstruction(session) {
  * @param {number} count
  */
 export function codeLines(session, address, count) {
-  const rows = rowsAt(session, address, 0, count).filter(({ bytes }) => bytes !== "");
+  const rows = listInstructionRows(session, address, 0, count).filter(({ bytes }) => bytes !== "");
   return rows.map((row) => {
     const label = row.name ? `${row.name}: ` : "";
     const mark = row.address === session.address ? ">" : " ";
@@ -83,11 +83,11 @@ export function codeLines(session, address, count) {
  * @param {DebugSession} session
  */
 export function registerLines(session) {
-  const { registers } = stateOf(session);
-  const pairs = upTo(8).map((at) => `P${at} ${registers.registers[2 * at]}${registers.registers[2 * at + 1]}`).join("  ");
+  const { registers } = readState(session);
+  const pairs = indices(8).map((at) => `P${at} ${registers.registers[2 * at]}${registers.registers[2 * at + 1]}`).join("  ");
   const { accumulator, carry, bank, test, owed } = registers;
   const owedText = owed === "1" ? "  owed 1" : "";
-  return `acc ${accumulator}  cy ${carry}  pc ${session.counterWords}  dcl ${bank}  test ${test}${owedText}\n${pairs}`;
+  return `acc ${accumulator}  cy ${carry}  pc ${session.counterText}  dcl ${bank}  test ${test}${owedText}\n${pairs}`;
 }
 
 /**
@@ -95,7 +95,7 @@ export function registerLines(session) {
  * @param {DebugSession} session
  */
 export function ramLines(session) {
-  const { ram } = stateOf(session);
+  const { ram } = readState(session);
   const lines = [...ram].flatMap(([bank, { registers, ports }]) => [
     ...[...registers].map(([name, { characters, status }]) => {
       const [, chip, register] = name.split(".").map(Number);
@@ -111,7 +111,7 @@ export function ramLines(session) {
  * @param {DebugSession} session
  */
 export function portLines(session) {
-  const { sources, roms, chains, keys } = stateOf(session).ports;
+  const { sources, roms, chains, keys } = readState(session).ports;
   return [
     `src ${sources.join(" ")}`,
     ...roms.map(({ chip, out, in: reads }) => `rom ${chip} out ${out} in ${reads}`),
@@ -124,16 +124,16 @@ export function portLines(session) {
  * Returns the pressed keys as `row.column`.
  * @param {DebugSession} session
  */
-export function keysDown(session) {
-  return stateOf(session).ports.keys;
+export function pressedKeys(session) {
+  return readState(session).ports.keys;
 }
 
 /**
- * Returns the number of calls that have not returned.
+ * Returns the number of open calls, which are calls that have not returned.
  * @param {DebugSession} session
  */
 export function openCallCount(session) {
-  return framesOf(session).length - 1;
+  return readStackFrames(session).length - 1;
 }
 
 /**
@@ -151,7 +151,7 @@ export function addressText(session, address) {
  * @param {{ line: number, address: number }} place
  */
 export function lineText(session, { line, address }) {
-  const [{ bytes = "" } = {}] = rowsAt(session, address, 0, 1);
+  const [{ bytes = "" } = {}] = listInstructionRows(session, address, 0, 1);
   const last = address + Math.max(1, bytes.split(" ").filter(Boolean).length) - 1;
   return say.lineIs(line, hex(address, 3), session.map.nameOf(address) || "", last > address ? hex(last, 3) : "");
 }
@@ -161,7 +161,7 @@ export function lineText(session, { line, address }) {
  * @param {DebugSession} session
  */
 export function frameLines(session) {
-  return framesOf(session).map(({ address, line, name }, at) => (
+  return readStackFrames(session).map(({ address, line, name }, at) => (
     `#${at}  ${hex(address, 3)}  ${name}${line > 0 ? `, line ${line}` : ""}${at > 0 ? say.THE_CALL : ""}`)).join("\n");
 }
 
@@ -184,25 +184,25 @@ export function nameLines({ map }) {
 export function breakpointLines({ breakpoints }, extraText) {
   const { all, kept } = breakpoints;
   if (all.length === 0) return say.NO_BREAKPOINTS;
-  const lines = linesOfBreakpoints(kept);
+  const lines = formatBreakpoints(kept);
   return all.map(({ id, hits }, at) => (
     `${id}  ${lines[at].slice("break ".length)}${hits > 0 ? `, ${counted(hits, "hit")}` : ""}${extraText(id)}`)).join("\n");
 }
 
 /**
- * Returns RAM characters, starting at a place; fails if the board does not have it.
+ * Returns RAM characters, starting at a place; fails if the board lacks this place.
  * @param {DebugSession} session
  * @param {string} text the place, such as `ram.0.0x10`
  * @param {number} count
  */
 export function characterLines(session, text, count) {
   const [, bank, at] = /^ram\.([0-7])\.(\w+)$/i.exec(text) || [];
-  const first = numberOf(at || "");
-  if (bank === undefined || !(first <= 255)) refuse(say.noPlaceOfRam(text));
-  const standing = stateOf(session);
-  const values = upTo(Math.min(count, 256 - first)).map((offset) => standing.character(Number(bank), first + offset));
+  const first = parseNumber(at || "");
+  if (bank === undefined || !(first <= 255)) rejectCommand(say.noPlaceOfRam(text));
+  const state = readState(session);
+  const values = indices(Math.min(count, 256 - first)).map((offset) => state.character(Number(bank), first + offset));
   const missing = values.findIndex((value) => value === "");
-  if (missing === 0) refuse(say.noRamAt(text));
-  const present = missing < 0 ? values : values.slice(0, missing);
-  return `ram.${bank}.0x${hex(first, 2)}  ${present.join("")}`;
+  if (missing === 0) rejectCommand(say.noRamAt(text));
+  const presentValues = missing < 0 ? values : values.slice(0, missing);
+  return `ram.${bank}.0x${hex(first, 2)}  ${presentValues.join("")}`;
 }

@@ -1,9 +1,9 @@
 // The prompt commands that move time forward or back. Each command waits for the end of its move and reports the stop.
 
-import { goalOfText } from "../debug/becoming.js";
+import { parseGoal } from "../debug/becoming.js";
 import { openCallCount } from "./looks.js";
-import { backOver, pressKey } from "./moves.js";
-import { conditionIn, countIn, cyclesIn, instructionIn, refuse } from "./words_of_line.js";
+import { pressKey, stepBackOver } from "./moves.js";
+import { parseCountArgument, parseCycles, findInstruction, parseConditionText, rejectCommand } from "./words_of_line.js";
 import * as say from "../../words/prompt.js";
 import { NO_CALL_WAITS, stoppedAt } from "../../words/stops.js";
 
@@ -14,6 +14,7 @@ import { NO_CALL_WAITS, stoppedAt } from "../../words/stops.js";
  * @typedef {import("../engine/going_back.js").BackGoal} BackGoal
  */
 
+/** The maximum count of `step` and `next`. */
 const MAX_STEPS = 1000000;
 
 export class MoveCommands {
@@ -26,103 +27,104 @@ export class MoveCommands {
   get handlers() {
     const { machine } = this.prompt;
     /** @type {(goal: BackGoal) => CommandHandler} */
-    const back = (goal) => (rest) => this.repeat(rest, () => machine.goBack(goal));
+    const backCommand = (goal) => (argumentText) => this.repeatMove(argumentText, () => machine.goBack(goal));
     return {
-      "next": (rest) => this.repeat(rest, () => machine.go({ kind: "over" })),
-      "step": (rest) => {
-        const count = countIn(rest, MAX_STEPS);
-        return this.move(() => (count === 1 ? machine.stepInto() : machine.go({ kind: "count", count })));
+      "next": (argumentText) => this.repeatMove(argumentText, () => machine.go({ kind: "over" })),
+      "step": (argumentText) => {
+        const count = parseCountArgument(argumentText, MAX_STEPS);
+        return this.moveAndShow(() => (count === 1 ? machine.stepInto() : machine.go({ kind: "count", count })));
       },
-      "finish": (rest) => this.finish(rest),
-      "until": (rest) => {
-        if (rest === "") refuse(say.UNTIL_FORM);
-        const condition = conditionIn(rest, this.prompt.session);
-        if (condition !== "") return this.move(() => machine.go({ kind: "when", condition }));
-        const { address } = instructionIn(rest, this.prompt.session);
-        return this.move(() => machine.go({ kind: "here", address }));
+      "finish": (argumentText) => this.finishSubroutine(argumentText),
+      "until": (argumentText) => {
+        if (argumentText === "") rejectCommand(say.UNTIL_FORM);
+        const condition = parseConditionText(argumentText, this.prompt.session);
+        if (condition !== "") return this.moveAndShow(() => machine.go({ kind: "when", condition }));
+        const { address } = findInstruction(argumentText, this.prompt.session);
+        return this.moveAndShow(() => machine.go({ kind: "here", address }));
       },
-      "continue": (rest) => this.continueRun(rest),
-      "run": (rest) => {
-        const cycles = cyclesIn(rest);
-        const pass = () => this.prompt.session.pass(cycles, (_, tally) => machine.betweenPieces(tally));
-        return this.move(() => machine.beginMove(pass, () => true));
+      "continue": (argumentText) => this.continueRun(argumentText),
+      "run": (argumentText) => {
+        const cycles = parseCycles(argumentText);
+        const runCycles = () => this.prompt.session.runCycles(cycles, (_, tally) => machine.finishPiece(tally));
+        return this.moveAndShow(() => machine.beginMove(runCycles, () => true));
       },
-      "reverse-step": back({ kind: "instruction" }),
-      "reverse-next": (rest) => this.repeat(rest, () => machine.beginMove(async () => (
-        machine.endOfBack(await backOver(this.prompt.session, () => machine.betweenPieces()), "goal")), () => false)),
-      "reverse-continue": (rest) => {
-        if (rest !== "") refuse(say.REVERSE_FORM);
-        return this.move(() => machine.goBack({ kind: "arrival", place: this.prompt.watched }));
+      "reverse-step": backCommand({ kind: "instruction" }),
+      "reverse-next": (argumentText) => this.repeatMove(argumentText, () => machine.beginMove(async () => (
+        machine.toRunResult(await stepBackOver(this.prompt.session, () => machine.finishPiece()), "goal")), () => false)),
+      "reverse-continue": (argumentText) => {
+        if (argumentText !== "") rejectCommand(say.REVERSE_FORM);
+        return this.moveAndShow(() => machine.goBack({ kind: "arrival", place: this.prompt.watchedPlace }));
       },
-      "back": (rest) => {
-        if (rest === "") return this.move(() => machine.goBack({ kind: "stop" }));
-        const { goal, fault } = goalOfText(rest, this.prompt.session.names);
-        return goal ? this.move(() => machine.goBack(goal)) : refuse(fault);
+      "back": (argumentText) => {
+        if (argumentText === "") return this.moveAndShow(() => machine.goBack({ kind: "stop" }));
+        const { goal, fault } = parseGoal(argumentText, this.prompt.session.names);
+        return goal ? this.moveAndShow(() => machine.goBack(goal)) : rejectCommand(fault);
       },
-      "forward": () => this.move(() => machine.goForward()),
-      "press": (rest) => this.press(rest),
+      "forward": () => this.moveAndShow(() => machine.goForward()),
+      "press": (argumentText) => this.pressKeys(argumentText),
     };
   }
 
   /**
    * Makes a move and shows the stop.
-   * @param {() => void} act starts the move
+   * @param {() => void} startMove starts the move
    */
-  async move(act) {
-    this.prompt.showStop(await this.prompt.makeMove(act));
+  async moveAndShow(startMove) {
+    this.prompt.showStop(await this.prompt.makeMove(startMove));
   }
 
   /**
-   * Repeats a move until the count is reached, or until a stop has another reason than the end of a step.
-   * @param {string} rest the count; "" means 1
-   * @param {() => void} act starts the move
+   * Repeats a move up to a count, or until it stops for another reason than the end of a step. Shows the last stop.
+   * @param {string} argumentText the count; "" means 1
+   * @param {() => void} startMove starts the move
    */
-  async repeat(rest, act) {
+  async repeatMove(argumentText, startMove) {
     const { prompt } = this;
     let words = "";
-    for (let left = countIn(rest, MAX_STEPS); left > 0; left--) {
-      words = await prompt.makeMove(act);
+    for (let left = parseCountArgument(argumentText, MAX_STEPS); left > 0; left--) {
+      words = await prompt.makeMove(startMove);
       if (prompt.lastStop.reason !== "step" || prompt.machine.mustPause) break;
     }
     prompt.showStop(words);
   }
 
-  /** @param {string} rest */
-  finish(rest) {
-    if (rest !== "") refuse(say.FINISH_FORM);
-    if (openCallCount(this.prompt.session) === 0) refuse(NO_CALL_WAITS);
-    return this.move(() => this.prompt.machine.go({ kind: "out" }));
+  /** @param {string} argumentText */
+  finishSubroutine(argumentText) {
+    if (argumentText !== "") rejectCommand(say.FINISH_FORM);
+    if (openCallCount(this.prompt.session) === 0) rejectCommand(NO_CALL_WAITS);
+    return this.moveAndShow(() => this.prompt.machine.go({ kind: "out" }));
   }
 
-  /** @param {string} rest */
-  continueRun(rest) {
-    if (rest !== "") refuse(say.CONTINUE_FORM);
-    const { session, watched, calls, machine } = this.prompt;
-    const stops = session.breakpoints.countOn > 0 || watched !== "" || session.debugger.session.ask("watches\n")[0] !== "watches -";
-    if (!stops && !calls.isByHand) refuse(say.NOTHING_STOPS);
-    return this.move(() => machine.go(watched === "" ? null : { kind: "change", place: watched }));
+  /** @param {string} argumentText */
+  continueRun(argumentText) {
+    if (argumentText !== "") rejectCommand(say.CONTINUE_FORM);
+    const { session, watchedPlace, calls, machine } = this.prompt;
+    const hasWatches = watchedPlace !== "" || session.debugger.session.ask("watches\n")[0] !== "watches -";
+    const stops = session.breakpoints.enabledCount > 0 || hasWatches;
+    if (!stops && !calls.isInteractive) rejectCommand(say.NOTHING_STOPS);
+    return this.moveAndShow(() => machine.go(watchedPlace === "" ? null : { kind: "change", place: watchedPlace }));
   }
 
   /**
    * Presses keys one after another while time passes.
-   * @param {string} rest
+   * @param {string} argumentText
    */
-  async press(rest) {
+  async pressKeys(argumentText) {
     const { prompt } = this;
     const { machine, session } = prompt;
-    const keys = prompt.keys.read(rest, "press");
+    const keys = prompt.keys.parseKeys(argumentText, "press");
     for (const [at, { key }] of keys.entries()) {
-      let why = "";
+      let stopReason = "";
       const words = await prompt.makeMove(() => machine.beginMove(async () => {
-        const stop = await pressKey(session, key, (_, tally) => machine.betweenPieces(tally));
-        ({ why } = stop);
+        const stop = await pressKey(session, key, (_, tally) => machine.finishPiece(tally));
+        ({ why: stopReason } = stop);
         return stop;
       }, () => true));
-      if (why === "passed") continue;
+      if (stopReason === "passed") continue;
       const left = keys.slice(at + 1).map(({ name }) => name).join(" ");
       prompt.showStop(left === "" ? words : say.notPressed(words, left));
       return;
     }
-    prompt.showStop(stoppedAt(session.counterWords));
+    prompt.showStop(stoppedAt(session.counterText));
   }
 }

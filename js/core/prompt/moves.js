@@ -1,4 +1,4 @@
-// Moves of the prompt in addition to those of the debugger: a step back over a subroutine, and a key press while time passes.
+// Moves that only the prompt offers: a step back over a subroutine call, and a key press while time passes.
 
 import { isCall, isReturn } from "../engine/rom_codes.js";
 import { KEY_DOWN_CYCLES, TOOL_KEY_UP_CYCLES } from "../time/mcs4_time.js";
@@ -6,7 +6,7 @@ import * as say from "../../words/prompt.js";
 
 /**
  * @typedef {import("../debug/debug_session.js").DebugSession} DebugSession
- * @typedef {import("../debug/debugger.js").GoesOn} GoesOn
+ * @typedef {import("../debug/debugger.js").ShouldContinue} ShouldContinue
  */
 
 /**
@@ -18,33 +18,33 @@ function nextOpcode(session) {
 }
 
 /**
- * Steps back over an instruction. If the instruction is the return of a subroutine, goes back to the call. Finds the call by the changes of
- * the return addresses.
+ * Steps back over an instruction. If the instruction returns from a subroutine, goes back to the call, which it finds by the changes of the
+ * return addresses.
  * @param {DebugSession} session
- * @param {GoesOn} goesOn
+ * @param {ShouldContinue} shouldContinue
  */
-export async function backOver(session, goesOn) {
-  let result = await session.back({ kind: "instruction" }, goesOn);
+export async function stepBackOver(session, shouldContinue) {
+  let result = await session.back({ kind: "instruction" }, shouldContinue);
   let depth = result.isDone && isReturn(nextOpcode(session)) ? 1 : 0;
   while (depth > 0) {
-    result = await session.back({ kind: "change", place: "ret" }, goesOn);
-    const message = say.backInSubroutine(session.counterWords);
+    result = await session.back({ kind: "change", place: "ret" }, shouldContinue);
+    const message = say.backInSubroutine(session.counterText);
     if (!result.isDone) return { ...result, words: message, isDone: true };
     const code = nextOpcode(session);
     depth += Number(isReturn(code)) - Number(isCall(code));
   }
-  return { ...result, words: result.isDone ? say.backAt(session.counterWords) : result.words };
+  return { ...result, words: result.isDone ? say.backAt(session.counterText) : result.words };
 }
 
 /**
  * Presses and releases a key while time passes. Resolves to the stop at the end.
  * @param {DebugSession} session
  * @param {import("../board/key_place.js").Key} key
- * @param {GoesOn} goesOn
+ * @param {ShouldContinue} shouldContinue
  */
-export function pressKey(session, key, goesOn) {
+export function pressKey(session, key, shouldContinue) {
   const { queue } = session.debugger.session;
   queue.press(key);
   queue.release(key);
-  return session.pass(KEY_DOWN_CYCLES + TOOL_KEY_UP_CYCLES, goesOn);
+  return session.runCycles(KEY_DOWN_CYCLES + TOOL_KEY_UP_CYCLES, shouldContinue);
 }

@@ -4,7 +4,7 @@ import { COMMAND_WORDS } from "../../words/debug_commands.js";
 import * as say from "../../words/prompt.js";
 
 /**
- * The texts of a command: its name, abbreviations, usage, effect, and further help.
+ * The texts about a command: its name, its abbreviations (`short`), its usage (`use`), its effect (`does`), and further help (`more`).
  * @typedef {{ name: string, short: string[], use: string, does: string, more: string }} CommandText
  */
 
@@ -19,7 +19,7 @@ export const COMMANDS = COMMAND_WORDS.map(({ words, use, does, more }) => {
  * @param {string} word
  * @returns {{ command: CommandText | null, words: string }}
  */
-export function commandOf(word) {
+export function findCommand(word) {
   const exact = COMMANDS.find(({ name, short }) => name === word || short.includes(word));
   if (exact) return { command: exact, words: "" };
   const matching = COMMANDS.filter(({ name }) => name.startsWith(word));
@@ -32,9 +32,9 @@ export function commandOf(word) {
  * Returns the help for a command, or the list of all commands.
  * @param {string} word the command; "" for the list
  */
-export function helpOf(word) {
+export function commandHelp(word) {
   if (word === "") return COMMANDS.map(({ use, does }) => `${use.padEnd(25)} ${does}`).join("\n");
-  const { command, words } = commandOf(word);
+  const { command, words } = findCommand(word);
   if (!command) return words;
   const { short, use, does, more } = command;
   return `${use}: ${does}.${more ? ` ${more}` : ""}${short.length > 0 ? say.otherNames(short.join(", ")) : ""}`;

@@ -1,4 +1,5 @@
-// Serves the lines of files at a prompt (`source FILE`). A file can contain `source` lines. Error messages name the file and the line.
+// Executes the command `source FILE` at a prompt: serves the lines of the file, which can also contain `source` lines. Error messages name
+// the file and the line.
 
 import * as say from "../../words/session_prompt.js";
 

@@ -1,14 +1,14 @@
-// The view above a debugger's prompt as terminal lines: the source near the next instruction, registers, lamps and displays.
+// Creates the view above the debugger's prompt, as terminal lines: the source near the next instruction, registers, lamps and displays.
 // js/node/view_on_terminal.mjs positions the lines.
 //
 //     const view = new View(prompt);
-//     view.lines(sizeOf(24, 80), { head, here, other });      sizeOf returns null if the terminal is too small
+//     view.lines(viewSize(24, 80), { head, here, other });      viewSize returns null if the terminal is too small
 
-import { upTo } from "../bench/numbers.js";
-import { MachineState } from "../debug/standing.js";
+import { indices } from "../bench/numbers.js";
+import { MachineState } from "../debug/machine_state.js";
 import { escaped } from "../text/escaped.js";
-import { wordsOfCycles } from "../time/cycles.js";
-import { codeLines, keysDown, linesOfSource, sourceLine } from "./looks.js";
+import { formatCycles } from "../time/cycles.js";
+import { codeLines, countSourceLines, pressedKeys, sourceLine } from "./looks.js";
 import * as say from "../../words/prompt.js";
 
 /**
@@ -16,7 +16,7 @@ import * as say from "../../words/prompt.js";
  * @typedef {{ rows: number, columns: number }} ViewSize the number of lines and their maximum length in characters
  * @typedef {(text: string) => string} Highlight highlights a text
  *
- * The highlighting of the header line, of the next instruction, and of values that the last move changed.
+ * The functions that highlight the header line (`head`), the next instruction (`here`), and values that the last move changed (`other`).
  * @typedef {{ head: Highlight, here: Highlight, other: Highlight }} Highlights
  */
 
@@ -38,11 +38,11 @@ const MAX_DISPLAYS = 4;
  * @param {number} columns
  * @returns {ViewSize | null}
  */
-export function sizeOf(rows, columns) {
+export function viewSize(rows, columns) {
   if (!(rows >= MIN_ROWS && columns >= MIN_COLUMNS)) return null;
-  const wanted = Math.round(rows * 0.6);
+  const wantedRows = Math.round(rows * 0.6);
   // A terminal wraps after its last column.
-  return { rows: Math.min(MAX_ROWS, wanted, rows - MIN_COMMAND_ROWS), columns: columns - 1 };
+  return { rows: Math.min(MAX_ROWS, wantedRows, rows - MIN_COMMAND_ROWS), columns: columns - 1 };
 }
 
 /**
@@ -60,11 +60,11 @@ export class View {
   constructor(prompt) {
     this.prompt = prompt;
     /** @type {Map<string, string>} the register values before the last move */
-    this.before = new Map();
+    this.previousValues = new Map();
     /** @type {Map<string, string>} the current register values */
-    this.now = new Map();
-    /** The cycle count of the values in `now`; -1 before the first reading. */
-    this.total = -1;
+    this.currentValues = new Map();
+    /** The cycle count at which `currentValues` were read; -1 before the first reading. */
+    this.valuesTime = -1;
   }
 
   /**
@@ -79,41 +79,41 @@ export class View {
     const below = [...(isWide ? [] : registers), ...this.boardLines(columns)];
     const height = Math.max(1, rows - 2 - below.length);
     const width = isWide ? columns - SIDE_COLUMNS : columns;
-    const body = this.sourceLines(height).map((line, at) => {
+    const bodyLines = this.sourceLines(height).map((line, at) => {
       const text = cutText(line, width);
       const shownText = line.startsWith(">") ? here(text) : text;
       return isWide && registers[at] ? `${shownText}${" ".repeat(width - text.length)}  ${registers[at]}` : shownText;
     });
-    return [head(this.head(columns)), ...body, ...below, "-".repeat(columns)].slice(0, rows);
+    return [head(this.headLine(columns)), ...bodyLines, ...below, "-".repeat(columns)].slice(0, rows);
   }
 
-  /** Reads the registers. Stores their values from before the last move. */
+  /** Reads the registers, and stores their values before the last move. */
   readRegisters() {
     const { session } = this.prompt;
     const { total } = session.debugger.session.count;
     const { registers, ports } = new MachineState(session.debugger.session.takeSnapshot());
     const { accumulator, carry, bank, test } = registers;
     const now = new Map([["acc", accumulator], ["cy", carry], ["test", test], ["dcl", bank], ["SRC", ports.sources[0]]]);
-    for (const at of upTo(8)) now.set(`P${at}`, `${registers.registers[2 * at]}${registers.registers[2 * at + 1]}`);
-    if (total !== this.total) this.before = this.now.size > 0 ? this.now : now;
-    this.now = now;
-    this.total = total;
+    for (const at of indices(8)) now.set(`P${at}`, `${registers.registers[2 * at]}${registers.registers[2 * at + 1]}`);
+    if (total !== this.valuesTime) this.previousValues = this.currentValues.size > 0 ? this.currentValues : now;
+    this.currentValues = now;
+    this.valuesTime = total;
   }
 
   /** @param {number} columns */
-  head(columns) {
+  headLine(columns) {
     const { session, launched } = this.prompt;
     const name = launched.program.split("/").pop() || "ROM";
-    return cutText(`${name}  ${session.counterWords}  ${wordsOfCycles(session.debugger.session.count.total)}`, columns).padEnd(columns);
+    return cutText(`${name}  ${session.counterText}  ${formatCycles(session.debugger.session.count.total)}`, columns).padEnd(columns);
   }
 
   /** @param {number} height */
   sourceLines(height) {
     const { session } = this.prompt;
     if (session.line === 0) return codeLines(session, session.address, height).split("\n");
-    const count = linesOfSource(session);
+    const count = countSourceLines(session);
     const first = Math.max(1, Math.min(session.line - Math.floor(height / 2), count - height + 1));
-    return upTo(height).map((at) => (first + at <= count ? sourceLine(session, first + at) : "~"));
+    return indices(height).map((at) => (first + at <= count ? sourceLine(session, first + at) : "~"));
   }
 
   /**
@@ -122,20 +122,20 @@ export class View {
    * @returns {string}
    */
   valueText(name, highlight) {
-    const value = this.now.get(name) || "";
+    const value = this.currentValues.get(name) || "";
     const text = `${name} ${value}`;
-    return this.before.get(name) === value ? text : highlight(text);
+    return this.previousValues.get(name) === value ? text : highlight(text);
   }
 
   /** @param {Highlight} highlight */
   sideLines(highlight) {
     const { session } = this.prompt;
-    const textOf = (/** @type {string} */ name) => this.valueText(name, highlight);
+    const formatValue = (/** @type {string} */ name) => this.valueText(name, highlight);
     const calls = session.registers.returns.join(" ");
     return [
-      `${textOf("acc")}   ${textOf("cy")}   ${textOf("test")}`,
-      `${textOf("dcl")}   ${textOf("SRC")}`,
-      ...upTo(4).map((at) => `${textOf(`P${2 * at}`)}  ${textOf(`P${2 * at + 1}`)}`),
+      `${formatValue("acc")}   ${formatValue("cy")}   ${formatValue("test")}`,
+      `${formatValue("dcl")}   ${formatValue("SRC")}`,
+      ...indices(4).map((at) => `${formatValue(`P${2 * at}`)}  ${formatValue(`P${2 * at + 1}`)}`),
       `returns ${calls}`,
     ];
   }
@@ -145,18 +145,20 @@ export class View {
    * @param {Highlight} highlight
    */
   belowLines(columns, highlight) {
-    const textsOf = (/** @type {string[]} */ names) => names.map((name) => this.valueText(name, highlight)).join(" ");
-    const pairs = upTo(8).map((at) => `P${at}`);
+    const formatValues = (/** @type {string[]} */ names) => names.map((name) => this.valueText(name, highlight)).join(" ");
+    const pairs = indices(8).map((at) => `P${at}`);
     const line = ["acc", "cy", "test", "dcl", "SRC"];
-    return columns >= 60 ? [textsOf(line), textsOf(pairs)] : [textsOf(line), textsOf(pairs.slice(0, 4)), textsOf(pairs.slice(4))];
+    if (columns >= 60) return [formatValues(line), formatValues(pairs)];
+    return [formatValues(line), formatValues(pairs.slice(0, 4)), formatValues(pairs.slice(4))];
   }
 
   /** @param {number} columns */
   boardLines(columns) {
-    const { machine, session, looks } = this.prompt;
-    const keys = keysDown(session).join(" ");
+    const { machine, session, inspectCommands } = this.prompt;
+    const keys = pressedKeys(session).join(" ");
     const shown = machine.shown.now();
-    const displays = looks.displays.slice(0, MAX_DISPLAYS).map((expression) => `${expression} = ${looks.valueOrFault(expression)}`);
+    const displays = inspectCommands.displays.slice(0, MAX_DISPLAYS)
+      .map((expression) => `${expression} = ${inspectCommands.evaluateOrExplain(expression)}`);
     return [shown, keys && say.down(keys), ...displays].filter(Boolean).map((line) => cutText(line, columns));
   }
 }

@@ -1,9 +1,9 @@
 // Parsers for the arguments of prompt commands: program locations, counts, times, conditions.
 
-import { LAST_ADDRESS, numberOf } from "../bench/numbers.js";
-import { wholeDuration } from "../conditions/durations.js";
-import { instructionOfAddress, instructionOfLine } from "../debug/breakpoints.js";
-import { searchConditionOf } from "../debug/becoming.js";
+import { LAST_ADDRESS, parseNumber } from "../bench/numbers.js";
+import { parseWholeDuration } from "../conditions/durations.js";
+import { instructionAtAddress, instructionForLine } from "../debug/breakpoints.js";
+import { compileSearchCondition } from "../debug/becoming.js";
 import { ADDRESS_RANGE } from "../../words/adapter.js";
 import * as say from "../../words/prompt.js";
 
@@ -13,14 +13,14 @@ import * as say from "../../words/prompt.js";
  */
 
 /** The error for a rejected command. */
-export class RefusedCommand extends Error {}
+export class RejectedCommand extends Error {}
 
 /**
  * @param {string} words
  * @returns {never}
  */
-export function refuse(words) {
-  throw new RefusedCommand(words);
+export function rejectCommand(words) {
+  throw new RejectedCommand(words);
 }
 
 /**
@@ -28,11 +28,11 @@ export function refuse(words) {
  * @param {string} text a label or an address, with an optional offset: `show + 3`
  * @param {DebugSession} session
  */
-export function addressIn(text, { map }) {
+export function parseAddress(text, { map }) {
   const [, word, more = "0"] = /^[@*]?\s*([A-Za-z0-9_]+)\s*(?:\+\s*(\w+))?$/.exec(text) || [];
   if (word === undefined) return undefined;
-  const begin = /^0x/i.test(word) ? numberOf(word) : map.valueInAnyCase(word);
-  const address = begin === undefined ? NaN : begin + numberOf(more);
+  const begin = /^0x/i.test(word) ? parseNumber(word) : map.valueInAnyCase(word);
+  const address = begin === undefined ? NaN : begin + parseNumber(more);
   return Number.isNaN(address) ? undefined : address;
 }
 
@@ -42,28 +42,28 @@ export function addressIn(text, { map }) {
  * @param {DebugSession} session
  * @returns {ProgramPlace}
  */
-export function instructionIn(text, session) {
+export function findInstruction(text, session) {
   const words = text.trim().replace(/^[^\s:]*\.[A-Za-z0-9]+:/, "");
   if (words === "") return { line: session.line, address: session.address };
   if (/^\d+$/.test(words)) {
-    const { line, address } = instructionOfLine(Number(words), session.map);
-    if (address < 0) refuse(say.noInstructionIn(words));
+    const { line, address } = instructionForLine(Number(words), session.map);
+    if (address < 0) rejectCommand(say.noInstructionIn(words));
     return { line, address };
   }
-  const address = addressIn(words, session);
-  if (address === undefined) refuse(say.notInProgram(words, say.FORMS_IN_PROGRAM));
-  if (address > LAST_ADDRESS) refuse(ADDRESS_RANGE);
-  return { line: instructionOfAddress(address, session.map).line, address };
+  const address = parseAddress(words, session);
+  if (address === undefined) rejectCommand(say.notInProgram(words, say.FORMS_IN_PROGRAM));
+  if (address > LAST_ADDRESS) rejectCommand(ADDRESS_RANGE);
+  return { line: instructionAtAddress(address, session.map).line, address };
 }
 
 /**
- * Parses a count; fails if it is not in the range from 1 to `most`.
+ * Parses a count; fails if it is not in the range from 1 to `maxCount`.
  * @param {string} text the count; "" means 1
- * @param {number} most
+ * @param {number} maxCount
  */
-export function countIn(text, most) {
+export function parseCountArgument(text, maxCount) {
   const count = text.trim() === "" ? 1 : Number(text);
-  if (!/^\s*\d*\s*$/.test(text) || count < 1 || count > most) refuse(say.countIs(most.toLocaleString("en"), text.trim()));
+  if (!/^\s*\d*\s*$/.test(text) || count < 1 || count > maxCount) rejectCommand(say.countIs(maxCount.toLocaleString("en"), text.trim()));
   return count;
 }
 
@@ -71,9 +71,9 @@ export function countIn(text, most) {
  * Parses a time such as `20 ms`; returns it in cycles.
  * @param {string} text
  */
-export function cyclesIn(text) {
-  const cycles = wholeDuration(text.trim().split(/\s+/));
-  return cycles > 0 ? cycles : refuse(say.noTime(text.trim() || say.NOTHING));
+export function parseCycles(text) {
+  const cycles = parseWholeDuration(text.trim().split(/\s+/));
+  return cycles > 0 ? cycles : rejectCommand(say.noTime(text.trim() || say.NOTHING));
 }
 
 /**
@@ -82,9 +82,9 @@ export function cyclesIn(text) {
  * @param {string} text
  * @param {DebugSession} session
  */
-export function conditionIn(text, session) {
-  const isPlace = /^\d+$/.test(text) || /^[^\s:]*\.[A-Za-z0-9]+:/.test(text) || addressIn(text, session) !== undefined;
+export function parseConditionText(text, session) {
+  const isPlace = /^\d+$/.test(text) || /^[^\s:]*\.[A-Za-z0-9]+:/.test(text) || parseAddress(text, session) !== undefined;
   if (isPlace || !/[\s=<>!]/.test(text)) return "";
-  const { asked, fault } = searchConditionOf(text, session.names);
-  return asked ? text : refuse(fault);
+  const { searchCondition, fault } = compileSearchCondition(text, session.names);
+  return searchCondition ? text : rejectCommand(fault);
 }

@@ -1,14 +1,14 @@
-// Proofs on the page: the module's prover is asked with a bound on the states that doubles, so that progress is known; a counterexample
-// is confirmed by its test. The page's worker calls it.
+// Proofs on the page. Asks the prover in the WebAssembly module repeatedly, with twice the bound on the number of states each time, so that
+// the page can show progress. Confirms a counterexample with its test. The page's worker uses this module.
 //
 //     const { proving, faults } = beginProving(engine, texts, 1000000, { seen: async (states) => {}, yieldToMessages: async () => {} });
 //     for (let judged = await proving.next(); judged; judged = await proving.next()) ..
 
-import { readExplored } from "../explore/exploring.js";
-import { grouped } from "../explore/report.js";
+import { parseSearchTexts } from "../explore/exploring.js";
+import { formatNumber } from "../explore/report.js";
 import { isConfirmed } from "../testing/confirming.js";
-import { Judging } from "./judging.js";
-import { MOST_SETS, boundsUpTo, questionText, readAnswer } from "./question.js";
+import { PropertyJudge } from "./judging.js";
+import { MAX_SETS, boundsUpTo, questionText, readAnswer } from "./question.js";
 import * as say from "../../words/prove.js";
 
 /**
@@ -16,63 +16,65 @@ import * as say from "../../words/prove.js";
  * @typedef {import("./question.js").Question} Question
  * @typedef {import("../engine/engine.js").Engine} Engine
  * @typedef {import("../explore/exploring.js").ExploredTexts} ExploredTexts
- * @typedef {import("../explore/exploring.js").Readable} Readable
+ * @typedef {import("../explore/exploring.js").SearchSetup} SearchSetup
  * @typedef {import("../testing/prepared.js").TextFault} TextFault
- * @typedef {import("./verdicts.js").Judged} Judged
+ * @typedef {import("./verdicts.js").JudgedProperty} JudgedProperty
  * @typedef {import("./verdicts.js").Verdict} Verdict
  *
- * A judged property, as a message to the page has it. A mistake that every program is checked for has line 0.
+ * The verdict on a property in a message to the page. `line` is 0 for a mistake that every program is checked for.
  * @typedef {{ text: string, line: number, isGoal: boolean, verdict: Verdict }} JudgedLine
  *
  * @typedef {object} ProvingCalls
- * @property {(states: number) => Promise<void>} seen receives a number of states that were searched without result so far
- * @property {() => Promise<void>} yieldToMessages yields to other work
+ * @property {(states: number) => Promise<void>} seen called with the number of states that were searched without a result so far
+ * @property {() => Promise<void>} yieldToMessages yields to other tasks
  */
 
-class Asking {
+/** Asks the prover about two texts. */
+class ProverQueries {
   /**
    * @param {Engine} engine
    * @param {ExploredTexts} texts
-   * @param {number} most states
+   * @param {number} maxStates the maximum number of states
    * @param {ProvingCalls} calls
    */
-  constructor(engine, texts, most, calls) {
+  constructor(engine, texts, maxStates, calls) {
     this.engine = engine;
     this.texts = { board: texts.boardText, program: texts.programText };
-    this.most = most;
+    this.maxStates = maxStates;
     this.calls = calls;
-    /** The states that the question before was allowed, in vain. */
-    this.searched = 0;
+    /** The number of states that were searched without a result so far. */
+    this.searchedStates = 0;
   }
 
   /**
-   * Asks the prover, with increasing bounds.
+   * Asks the prover with increasing bounds. Resolves to the first answer that decides the question, or to the last answer.
    * @param {Question} question
    * @returns {Promise<Answer>}
    */
   async ask(question) {
-    this.searched = 0;
+    this.searchedStates = 0;
     /** @type {Answer} */
     let answer = { kind: "more" };
-    for (const bound of boundsUpTo(this.most)) {
-      await this.calls.seen(this.searched);
+    for (const bound of boundsUpTo(this.maxStates)) {
+      await this.calls.seen(this.searchedStates);
       answer = this.askWithin(question, { most: bound });
       if (answer.kind !== "more") break;
-      this.searched = bound;
+      this.searchedStates = bound;
     }
     return answer;
   }
 
   /**
-   * Asks the prover by sets of states.
+   * Asks the prover for a proof by sets of states.
    * @param {Question} question
    */
   async askBySets(question) {
     await this.calls.seen(0);
-    return this.askWithin(question, { most: 0, sets: MOST_SETS });
+    return this.askWithin(question, { most: 0, sets: MAX_SETS });
   }
 
   /**
+   * Asks the prover once. Throws an error if the prover does not answer.
    * @param {Question} question
    * @param {import("./question.js").QuestionLimits} limits
    */
@@ -83,40 +85,44 @@ class Asking {
     return answer;
   }
 
-  /** @param {import("./question.js").NoAnswer} answer */
-  reason(answer) {
+  /**
+   * Returns the reason why an answer decides nothing, as text.
+   * @param {import("./question.js").NoAnswer} answer
+   */
+  explainNoAnswer(answer) {
     if (answer.kind === "lost") return say.GAVE_UP;
-    return answer.kind === "more" ? say.moreThan(grouped(this.searched)) : say.fullAfter(grouped(Math.max(answer.states, this.searched)));
+    if (answer.kind === "more") return say.moreThan(formatNumber(this.searchedStates));
+    return say.fullAfter(formatNumber(Math.max(answer.states, this.searchedStates)));
   }
 }
 
 /**
- * Reads the texts; returns the judgement of their properties, null if there is an error in a text.
+ * Parses the texts. Returns the object that judges their properties one after the other; null if a text has an error.
  * @param {Engine} engine
  * @param {ExploredTexts} texts
- * @param {number} most states
+ * @param {number} maxStates the maximum number of states of a search
  * @param {ProvingCalls} calls
- * @returns {{ proving: Judging | null, faults: TextFault[] }}
+ * @returns {{ proving: PropertyJudge | null, faults: TextFault[] }}
  */
-export function beginProving(engine, texts, most, calls) {
-  const { read, faults } = readExplored(engine, texts, false);
+export function beginProving(engine, texts, maxStates, calls) {
+  const { read, faults } = parseSearchTexts(engine, texts, false);
   if (!read) return { proving: null, faults };
-  const asking = new Asking(engine, texts, most, calls);
-  const proving = new Judging(read.subject, read.campaign, {
-    ask: (question) => asking.ask(question),
-    askBySets: (question) => asking.askBySets(question),
+  const queries = new ProverQueries(engine, texts, maxStates, calls);
+  const proving = new PropertyJudge(read.subject, read.campaign, {
+    ask: (question) => queries.ask(question),
+    askBySets: (question) => queries.askBySets(question),
     confirms: async ({ isTest, text }, isGoal) => !isTest || isConfirmed(engine, texts, text, isGoal, calls.yieldToMessages),
-    reason: (answer) => asking.reason(answer),
+    reason: (answer) => queries.explainNoAnswer(answer),
     yieldToMessages: calls.yieldToMessages,
   });
   return { proving, faults: [] };
 }
 
 /**
- * Returns a judgement as a message can carry it.
- * @param {Judged} judged
+ * Returns a verdict in the form of a message.
+ * @param {JudgedProperty} judged
  * @returns {JudgedLine}
  */
-export function judgedLine({ property: { text, line, isGoal }, verdict }) {
+export function createJudgedLine({ property: { text, line, isGoal }, verdict }) {
   return { text, line, isGoal, verdict };
 }

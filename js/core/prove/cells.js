@@ -1,86 +1,93 @@
-// The places in conditions as cells of a machine, in the words of a question to the prover (crates/mcs_prove/src/lines.rt has its lines).
+// Translates the places in conditions to the cells of the prover's machine, and comparisons to lines of a question
+// (crates/mcs_prove/src/lines.rt parses these lines). A cell is a number in one of the machine's lists, such as `register` or `counter`.
 
-import { hex, upTo } from "../bench/numbers.js";
-import { ADDRESSES, PAGE_BYTES } from "../bench/rom_bytes.js";
+import { hex, indices } from "../bench/numbers.js";
+import { ADDRESS_COUNT, PAGE_BYTES } from "../bench/rom_bytes.js";
 
 /**
  * @typedef {import("../bench/answers.js").Board} Board
  *
- * A comparison of a question, and several that hold together.
+ * A comparison of one cell with a range, as a line of a question; and a list of comparisons that must all be true (a conjunction).
  * @typedef {string} Comparison
  * @typedef {Comparison[]} Comparisons
  *
- * A place, whose values are numbers from 0 up to `count`. `texts` are the texts of `trace` for a number: several if it shows levels of
- * input lines, too. `between` returns the comparisons of the numbers from one to another: a list of which one must hold whole.
+ * A place whose values are numbers from 0 up to, but not including, `count`. `texts` returns the values in `trace` that correspond to a
+ * number; there are several if `trace` also shows the levels of input lines. `between` returns the condition that the value is in a range:
+ * at least one of the returned conjunctions must be true.
  * @typedef {{ name: string, count: number, texts: (number: number) => string[],
  *   between: (low: number, high: number) => Comparisons[] }} Field
  */
 
-/** Numbers of cells in the list `counter`. */
-export const COUNTER = { acc: 0, cy: 1, dcl: 2, owed: 3, page: 4, word: 5, src: 12 };
+/** The numbers of the cells in the list `counter`. */
+export const COUNTER_CELLS = { acc: 0, cy: 1, dcl: 2, owed: 3, page: 4, word: 5, src: 12 };
 const NIBBLES = 16;
 
-/** @type {(list: string, index: number, low: number, high: number, part?: string) => Comparison} */
-const isWithin = (list, index, low, high, part = "whole") => ["in", list, index, part, low, high].join(" ");
+/** @type {(list: string, index: number, low: number, high: number, part?: string) => Comparison} compares a cell with a range */
+const rangeComparison = (list, index, low, high, part = "whole") => ["in", list, index, part, low, high].join(" ");
 
-/** Comparisons that never hold. */
-export const NEVER_MET = [isWithin("register", 0, 1, 0)];
+/** A conjunction that is never true. */
+export const IMPOSSIBLE_COMPARISONS = [rangeComparison("register", 0, 1, 0)];
 
 /**
+ * Creates the field for a whole cell.
  * @param {string} name
  * @param {string} list
  * @param {number} index
- * @param {number} count
+ * @param {number} count the number of values
  * @param {number} [digits]
  * @returns {Field}
  */
 function cellField(name, list, index, count, digits = 1) {
-  return { name, count, texts: (number) => [hex(number, digits)], between: (low, high) => [[isWithin(list, index, low, high)]] };
+  return { name, count, texts: (number) => [hex(number, digits)], between: (low, high) => [[rangeComparison(list, index, low, high)]] };
 }
 
 /**
+ * Creates the field for one bit of a cell.
  * @param {string} name
  * @param {string} list
  * @param {number} index
- * @param {string} [part] the line of the number in that cell
+ * @param {string} [part] the bit, such as `line0`; `whole` for a cell with one bit
  * @returns {Field}
  */
 function lineField(name, list, index, part = "whole") {
-  return { name, count: 2, texts: (number) => [String(number)], between: (low, high) => [[isWithin(list, index, low, high, part)]] };
+  return { name, count: 2, texts: (number) => [String(number)], between: (low, high) => [[rangeComparison(list, index, low, high, part)]] };
 }
 
 /**
- * Returns the field of the counter, which is stored in two cells.
+ * Creates the field for the program counter, which consists of two cells.
  * @returns {Field}
  */
 function counterField() {
   return {
-    name: "pc", count: ADDRESSES, texts: (number) => [hex(number, 3)],
-    between: (low, high) => upTo(NIBBLES).flatMap((page) => {
+    name: "pc", count: ADDRESS_COUNT, texts: (number) => [hex(number, 3)],
+    between: (low, high) => indices(NIBBLES).flatMap((page) => {
       const [first, last] = [Math.max(low, page * PAGE_BYTES), Math.min(high, page * PAGE_BYTES + PAGE_BYTES - 1)];
       if (first > last) return [];
-      return [[isWithin("counter", COUNTER.page, page, page), isWithin("counter", COUNTER.word, first % PAGE_BYTES, last % PAGE_BYTES)]];
+      const { page: pageCell, word: wordCell } = COUNTER_CELLS;
+      const isInPage = rangeComparison("counter", pageCell, page, page);
+      return [[isInPage, rangeComparison("counter", wordCell, first % PAGE_BYTES, last % PAGE_BYTES)]];
     }),
   };
 }
 
 /**
- * Returns the field of a ROM's port. `trace` also shows the levels of its input lines, for which the latch has 0.
+ * Creates the field for the port of a ROM. `trace` also shows the levels of its input lines; the corresponding bits of the cell are 0.
  * @param {string} name
  * @param {Board["roms"][number]} rom
  * @returns {Field}
  */
 function romField(name, { chip, port }) {
   const inputs = [...port].reduce((sum, mark, at) => sum + (mark === "i" ? 2 ** (3 - at) : 0), 0);
-  const shown = upTo(NIBBLES).filter((levels) => (levels & ~inputs) === 0);
+  const shown = indices(NIBBLES).filter((levels) => (levels & ~inputs) === 0);
   return {
     name, count: NIBBLES,
     texts: (number) => ((number & inputs) === 0 ? shown.map((levels) => hex(number | levels, 1)) : []),
-    between: (low, high) => [[isWithin("romport", Number(chip), low, high)]],
+    between: (low, high) => [[rangeComparison("romport", Number(chip), low, high)]],
   };
 }
 
 /**
+ * Returns the field for a register or the program counter; null for any other place.
  * @param {string} place
  * @returns {Field | null}
  */
@@ -88,16 +95,17 @@ function registerField(place) {
   const [, register] = /^r(\d+)$/.exec(place) || [];
   if (register) return cellField(place, "register", Number(register), NIBBLES);
   switch (place) {
-    case "acc": return cellField(place, "counter", COUNTER.acc, NIBBLES);
-    case "cy": return cellField(place, "counter", COUNTER.cy, 2);
-    case "dcl": return cellField(place, "counter", COUNTER.dcl, 8);
-    case "src": return cellField(place, "counter", COUNTER.src, PAGE_BYTES, 2);
+    case "acc": return cellField(place, "counter", COUNTER_CELLS.acc, NIBBLES);
+    case "cy": return cellField(place, "counter", COUNTER_CELLS.cy, 2);
+    case "dcl": return cellField(place, "counter", COUNTER_CELLS.dcl, 8);
+    case "src": return cellField(place, "counter", COUNTER_CELLS.src, PAGE_BYTES, 2);
     case "pc": return counterField();
     default: return null;
   }
 }
 
 /**
+ * Returns the field for a RAM or status nibble; null for any other place.
  * @param {string} place
  * @returns {Field | null}
  */
@@ -109,8 +117,8 @@ function memoryField(place) {
 }
 
 /**
- * Returns the output line of a board as a field; null for an input line.
- * @param {string} line as the board's text writes it
+ * Returns the field for an output line of a board; null for an input line.
+ * @param {string} line the name of the line in the board text
  * @param {Board} board
  * @returns {Field | null}
  */
@@ -128,13 +136,13 @@ export function outputLine(line, { roms }) {
 }
 
 /**
- * Returns the field of a place of `trace`, except for lamps and whole chains, whose parts are fields; null for one whose value is an
- * input's.
+ * Returns the field for a `trace` place; null if the value of the place comes from an input. The places `lamps` and `chainN` have no field;
+ * each of their bits is a field (`outputLine`).
  * @param {string} place
  * @param {Board} board
  * @returns {Field | null}
  */
-export function fieldOf(place, board) {
+export function findField(place, board) {
   const simple = registerField(place) || memoryField(place) || outputLine(place, board);
   if (simple) return simple;
   const [, chip] = /^rom(\d+)$/.exec(place) || [];
@@ -144,15 +152,15 @@ export function fieldOf(place, board) {
   return bank ? cellField(place, "ramport", Number(bank) * 4 + Number(ram), NIBBLES) : null;
 }
 
-/** True if the second cycle of an instruction is pending. */
-export const OWED = lineField("owed", "counter", COUNTER.owed);
+/** The field that is 1 if the second cycle of an instruction is pending. */
+export const SECOND_CYCLE = lineField("owed", "counter", COUNTER_CELLS.owed);
 
 /**
- * Returns the comparisons that hold if the counter is at an address, between two instructions.
+ * Returns the conjunction that is true if the program counter is at an address and no second cycle is pending.
  * @param {number} address
  * @returns {Comparisons}
  */
-export function isAt(address) {
+export function counterComparisons(address) {
   const [counter] = counterField().between(address, address);
-  return [...OWED.between(0, 0)[0], ...counter];
+  return [...SECOND_CYCLE.between(0, 0)[0], ...counter];
 }

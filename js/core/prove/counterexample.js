@@ -1,85 +1,89 @@
-// A way that the prover found as a counterexample: it is run on the bench, minimised, and written as a test.
+// Converts a counterexample of the prover, which is a list of input values, to steps. Runs the steps on the bench to confirm the violation,
+// minimises the steps, and formats them as a test.
 
 import { readCounter } from "../bench/answers.js";
-import { LONGEST_RUN } from "../engine/key_queue.js";
-import { linesOfFind, testOf } from "../explore/find_test.js";
-import { addressesOf } from "../explore/properties.js";
-import { Shortening } from "../explore/shortening.js";
+import { MAX_RUN_CYCLES } from "../engine/key_queue.js";
+import { formatViolationLines, formatTest } from "../explore/find_test.js";
+import { listAddresses } from "../explore/properties.js";
+import { Minimiser } from "../explore/shortening.js";
 import { Watcher } from "../explore/watching.js";
-import { downAtFirst, isSound, linesOf } from "../explore/walks.js";
+import { initialDownInputs, areAllowed, walkLines } from "../explore/walks.js";
 import { cyclesToMistake } from "./mistakes.js";
-import { allInputs, wayOf } from "./way.js";
+import { listInputs, replayValues } from "./way.js";
 
 /**
  * @typedef {import("../explore/campaign.js").Campaign} Campaign
  * @typedef {import("../explore/explored_inputs.js").Input} Input
- * @typedef {import("../explore/search.js").Find} Find
+ * @typedef {import("../explore/search.js").Violation} Violation
  * @typedef {import("../explore/subject.js").Subject} Subject
  * @typedef {import("../explore/walks.js").WalkStep} WalkStep
  *
- * `isAllowed`: the text of properties allows these inputs; `text` is a test, or lines of a session if a pressed key has no name; `before`
- * are the lines of a session after which the next step violates the property.
+ * A counterexample. `isAllowed`: true if the properties text allows its changes of inputs. `text`: a test, or bench lines if a pressed key
+ * has no name (`isTest` is then false). `before`: the bench lines up to the instruction that violates the property.
  * @typedef {{ steps: number, cycles: number, isAllowed: boolean, isTest: boolean, text: string, before: string }} Counterexample
  */
 
-/** The cycles that minimising can use. */
-const PATIENCE = 10e6;
-/** A longer counterexample of a property with labels is not minimised: each try lists its instructions. */
-const MOST_LISTED = 1e6;
-/** Forms whose memory begins at power-on, as that of guards does. */
-const REMEMBERED = new Set(["calls", "returns", "never for", "every", "within", "only after"]);
+/** The maximum number of cycles for minimising a counterexample. */
+const MINIMISING_CYCLES = 10e6;
+/** The maximum length in cycles of a counterexample that is minimised if its property has labels; each try then lists all instructions. */
+const MAX_LISTED_CYCLES = 1e6;
+/** The property forms whose memory depends on all events since power-on. */
+const FORMS_WITH_MEMORY = new Set(["calls", "returns", "never for", "every", "within", "only after"]);
 
 /**
- * Returns a campaign in which one property is judged, and all inputs may change at any time.
+ * Returns a campaign that checks one property and allows any change of any input at any time.
  * @param {Campaign} campaign
  * @param {number} property
  * @param {Input[]} inputs
  * @returns {Campaign}
  */
-function freeCampaign(campaign, property, inputs) {
+function createFreeCampaign(campaign, property, inputs) {
   return {
-    ...campaign, inputs, properties: [campaign.properties[property]], together: Infinity, held: Infinity, apart: 0, begin: 0, shortest: 1,
-    longest: LONGEST_RUN, from: null, before: [],
+    ...campaign, inputs, properties: [campaign.properties[property]], maxKeysDown: Infinity, maxHoldTime: Infinity, minReleaseTime: 0,
+    begin: 0, minWait: 1, maxWait: MAX_RUN_CYCLES, from: null, before: [],
   };
 }
 
 /**
- * Returns steps with waits of a cycle or more, as a run needs them: changes that were made together follow each other, the first ones
- * earlier. Returns null if there is no time for that.
+ * Returns steps with waits of at least one cycle, as runs on the bench require. Moves the first of several simultaneous changes to earlier
+ * cycles. Returns null if there are not enough cycles before these changes.
  * @param {WalkStep[]} steps
  */
-function spread(steps) {
+function makeSequential(steps) {
   /** @type {WalkStep[]} */
-  const all = [];
-  let owed = 0;
+  const sequentialSteps = [];
+  let missingCycles = 0;
   for (const step of [...steps].reverse()) {
-    const wait = step.wait - owed;
-    owed = wait < 1 ? 1 - wait : 0;
-    all.unshift({ ...step, wait: Math.max(1, wait) });
+    const wait = step.wait - missingCycles;
+    missingCycles = wait < 1 ? 1 - wait : 0;
+    sequentialSteps.unshift({ ...step, wait: Math.max(1, wait) });
   }
-  return owed > 0 ? null : all.flatMap(cut);
+  return missingCycles > 0 ? null : sequentialSteps.flatMap(splitLongWait);
 }
 
 /**
- * Splits a step whose wait is too long for one run.
+ * Splits a step if its wait is too long for one run of the bench.
  * @param {WalkStep} step
  * @returns {WalkStep[]}
  */
-function cut(step) {
-  const waits = wholeRuns(step.wait);
+function splitLongWait(step) {
+  const waits = splitCycles(step.wait);
   const last = waits.pop() || 0;
   return [...waits.map((wait) => ({ wait, kind: /** @type {const} */ ("none"), input: -1 })), { ...step, wait: last }];
 }
 
-/** @param {number} cycles */
-function wholeRuns(cycles) {
+/**
+ * Splits a number of cycles into the lengths of runs.
+ * @param {number} cycles
+ */
+function splitCycles(cycles) {
   const waits = [];
-  for (let left = cycles; left > 0; left -= LONGEST_RUN) waits.push(Math.min(left, LONGEST_RUN));
+  for (let left = cycles; left > 0; left -= MAX_RUN_CYCLES) waits.push(Math.min(left, MAX_RUN_CYCLES));
   return waits;
 }
 
 /**
- * Returns the steps whose changes come before a time.
+ * Returns the steps whose changes are before a time.
  * @param {WalkStep[]} steps
  * @param {number} time
  */
@@ -91,6 +95,7 @@ function stepsBefore(steps, time) {
   });
 }
 
+/** Replays the values of the prover for one property. */
 class Replay {
   /**
    * @param {Subject} subject
@@ -101,127 +106,132 @@ class Replay {
   constructor(subject, campaign, property, mistake) {
     this.subject = subject;
     this.mistake = mistake;
-    this.allowed = campaign;
-    this.free = freeCampaign(campaign, property, allInputs(subject));
-    this.down = downAtFirst(this.free);
-    const [{ form, guards }] = this.free.properties;
-    /** True if walks receive nothing that breaks the property. */
-    this.isUnseen = form === "mistake";
-    this.isRemembered = REMEMBERED.has(form) || guards.length > 0;
+    this.allowedCampaign = campaign;
+    this.freeCampaign = createFreeCampaign(campaign, property, listInputs(subject));
+    this.down = initialDownInputs(this.freeCampaign);
+    const [{ form, guards }] = this.freeCampaign.properties;
+    /** True if the watcher cannot report a violation of the property, because the property excludes a mistake. */
+    this.isMistake = form === "mistake";
+    this.needsWholeWalk = FORMS_WITH_MEMORY.has(form) || guards.length > 0;
   }
 
   /**
-   * Returns the start of a walk.
+   * Returns the start of a walk, with initial memories.
    * @param {Uint8Array} file
-   * @returns {import("../explore/watching.js").Start}
+   * @returns {import("../explore/watching.js").WalkStart}
    */
-  start(file) {
-    return { file, time: 0, down: this.down, memories: [this.free.properties[0].from(0, this.down.length)] };
+  createStart(file) {
+    return { file, time: 0, down: this.down, memories: [this.freeCampaign.properties[0].from(0, this.down.length)] };
   }
 
   /**
-   * Returns the counterexample that some values lead to; null if the bench does not confirm the violation.
+   * Returns the violation to which input values lead; null if the bench does not confirm it.
    * @param {number[]} values
-   * @returns {Find | null}
+   * @returns {Violation | null}
    */
-  find(values) {
-    const { subject, free, isRemembered } = this;
-    const { steps, time, file, rest } = wayOf(subject, free.inputs, values);
-    if (this.isUnseen) {
-      const cycles = cyclesToMistake(subject, file, this.mistake, rest);
+  findViolation(values) {
+    const { subject, freeCampaign, needsWholeWalk } = this;
+    const { steps, time, file, rest: remainingCycles } = replayValues(subject, freeCampaign.inputs, values);
+    if (this.isMistake) {
+      const cycles = cyclesToMistake(subject, file, this.mistake, remainingCycles);
       return cycles < 0 ? null : { property: 0, steps, time: time + cycles };
     }
-    // A cycle more begins the instruction at a label there.
-    const waits = wholeRuns(rest + 1).map((wait) => ({ wait, kind: /** @type {const} */ ("none"), input: -1 }));
-    const broken = isRemembered ? this.timeBroken(subject.file, [...steps.flatMap(cut), ...waits]) : this.timeBroken(file, waits);
+    // An additional cycle starts the instruction at a label.
+    const waits = splitCycles(remainingCycles + 1).map((wait) => ({ wait, kind: /** @type {const} */ ("none"), input: -1 }));
+    const broken = needsWholeWalk ? this.findViolationTime(subject.file, [...steps.flatMap(splitLongWait), ...waits])
+      : this.findViolationTime(file, waits);
     if (broken < 0) return null;
-    return isRemembered ? { property: 0, steps: stepsBefore(steps, broken), time: broken } : { property: 0, steps, time: time + broken };
+    return needsWholeWalk ? { property: 0, steps: stepsBefore(steps, broken), time: broken } : { property: 0, steps, time: time + broken };
   }
 
   /**
-   * Returns after how many cycles of a walk the property is broken; -1 if it is not. The walk is watched step by step, because a long one
-   * has too many lines.
-   * @param {Uint8Array} begun the file at the start
+   * Returns the time of the first violation in a walk, in cycles from its start; -1 if there is none. Watches the walk step by step,
+   * because a long walk needs too many bench lines.
+   * @param {Uint8Array} startFile the session file at the start
    * @param {WalkStep[]} steps
    */
-  timeBroken(begun, steps) {
-    const { subject: { engine }, free } = this;
-    const watcher = new Watcher(this.subject, free, null);
-    let start = this.start(begun.slice());
+  findViolationTime(startFile, steps) {
+    const { subject: { engine }, freeCampaign } = this;
+    const watcher = new Watcher(this.subject, freeCampaign, null);
+    let start = this.createStart(startFile.slice());
     for (const step of steps) {
-      // Inputs can change together, but a run takes a cycle.
+      // A run takes at least one cycle, but several inputs can change in the same cycle.
       const { broken, after: [after] } = step.wait > 0 ? watcher.watch(start, [step], [0]) : watcher.watchChange(start, step, [0]);
       if (broken) return broken.time;
       if (!after) return -1;
-      engine.serve(start.file, linesOf(free, [step]), start.file);
+      engine.serve(start.file, walkLines(freeCampaign, [step]), start.file);
       start = { ...after, file: start.file };
     }
     return -1;
   }
 
   /**
-   * Minimises a counterexample, if its changes can be made one after the other.
-   * @param {Find} find
+   * Minimises a violation if its changes can happen one after another.
+   * @param {Violation} violation
    * @param {() => Promise<void>} yieldToMessages
    */
-  async short(find, yieldToMessages) {
-    const { subject, free } = this;
-    const steps = spread(find.steps);
-    const isLong = find.time > MOST_LISTED && free.properties.some((property) => addressesOf(property).length > 0);
-    if (!steps || this.isUnseen || isLong) return find;
-    return await new Shortening(subject, free, this.start(subject.file), { ...find, steps }, PATIENCE, yieldToMessages).shorten() || find;
+  async minimise(violation, yieldToMessages) {
+    const { subject, freeCampaign } = this;
+    const steps = makeSequential(violation.steps);
+    const isLong = violation.time > MAX_LISTED_CYCLES && freeCampaign.properties.some((property) => listAddresses(property).length > 0);
+    if (!steps || this.isMistake || isLong) return violation;
+    const start = this.createStart(subject.file);
+    const minimiser = new Minimiser(subject, freeCampaign, start, { ...violation, steps }, MINIMISING_CYCLES, yieldToMessages);
+    return await minimiser.minimise() || violation;
   }
 
   /**
-   * Returns whether the text of properties allows these inputs at these times.
-   * @param {Find} find
+   * Returns whether the properties text allows these changes of inputs at these times.
+   * @param {Violation} violation
    */
   isAllowed({ steps, time }) {
-    const { allowed, free } = this;
-    const numbers = free.inputs.map(({ down }) => allowed.inputs.findIndex((input) => input.down === down));
-    const own = steps.map((step) => ({ ...step, input: step.kind === "none" ? -1 : numbers[step.input] }));
-    const rest = own.reduce((left, { wait }) => left - wait, time);
-    return (time > allowed.begin || allowed.begin === 0) && own.every(({ kind, input }) => kind === "none" || input >= 0)
-      && isSound(allowed, [...own, { wait: rest, kind: "none", input: -1 }]);
+    const { allowedCampaign, freeCampaign } = this;
+    const numbers = freeCampaign.inputs.map(({ down }) => allowedCampaign.inputs.findIndex((input) => input.down === down));
+    const allowedSteps = steps.map((step) => ({ ...step, input: step.kind === "none" ? -1 : numbers[step.input] }));
+    const rest = allowedSteps.reduce((left, { wait }) => left - wait, time);
+    const isChecked = time > allowedCampaign.begin || allowedCampaign.begin === 0;
+    return isChecked && allowedSteps.every(({ kind, input }) => kind === "none" || input >= 0)
+      && areAllowed(allowedCampaign, [...allowedSteps, { wait: rest, kind: "none", input: -1 }]);
   }
 
   /**
-   * @param {Find} find
+   * @param {Violation} violation
    * @returns {Counterexample}
    */
-  written(find) {
-    const { subject, free } = this;
-    const isTest = find.steps.every(({ kind, input }) => kind === "none" || !/^press \d+ \d+$/.test(free.inputs[input].downWords));
-    const text = isTest ? testOf(subject, subject.file, free, find) : linesOfFind(free, find);
-    const steps = find.steps.filter(({ kind }) => kind !== "none").length;
-    return { steps, cycles: find.time, isAllowed: this.isAllowed(find), isTest, text, before: this.linesBefore(find) };
+  formatCounterexample(violation) {
+    const { subject, freeCampaign } = this;
+    const isNamed = (/** @type {number} */ input) => !/^press \d+ \d+$/.test(freeCampaign.inputs[input].downWords);
+    const isTest = violation.steps.every(({ kind, input }) => kind === "none" || isNamed(input));
+    const text = isTest ? formatTest(subject, subject.file, freeCampaign, violation) : formatViolationLines(freeCampaign, violation);
+    const steps = violation.steps.filter(({ kind }) => kind !== "none").length;
+    return { steps, cycles: violation.time, isAllowed: this.isAllowed(violation), isTest, text, before: this.linesBefore(violation) };
   }
 
   /**
-   * Returns the lines after which the next step violates the property: an instruction, or the rest of one if an input changes within it.
-   * @param {Find} find
+   * Returns the bench lines up to the instruction that violates the property, or up to its second cycle if an input changes before it.
+   * @param {Violation} violation
    */
-  linesBefore(find) {
-    const { subject: { engine, file }, free } = this;
-    const changed = find.steps.reduce((sum, { wait }) => sum + wait, 0);
-    const linesTo = (/** @type {number} */ time) => linesOfFind(free, { ...find, time: Math.max(changed, time) });
-    const { answers } = engine.ask(file, `${linesTo(find.time - 1)}regs\n`);
+  linesBefore(violation) {
+    const { subject: { engine, file }, freeCampaign } = this;
+    const changed = violation.steps.reduce((sum, { wait }) => sum + wait, 0);
+    const linesTo = (/** @type {number} */ time) => formatViolationLines(freeCampaign, { ...violation, time: Math.max(changed, time) });
+    const { answers } = engine.ask(file, `${linesTo(violation.time - 1)}regs\n`);
     const { owed } = readCounter(answers[answers.length - 1]);
-    return linesTo(find.time - (owed === "1" ? 2 : 1));
+    return linesTo(violation.time - (owed === "1" ? 2 : 1));
   }
 }
 
 /**
- * Returns the counterexample that some values lead to, one after the other as they are read; null if the bench does not confirm it.
+ * Returns the minimised counterexample to which input values lead; null if the bench does not confirm it.
  * @param {Subject} subject
  * @param {Campaign} campaign
- * @param {number} property its number
- * @param {number[]} values
+ * @param {number} property the number of the property
+ * @param {number[]} values the values that the program reads, in this order
  * @param {() => Promise<void>} yieldToMessages
  * @param {string} [mistake] the word of the mistake that the property excludes
  */
-export async function counterexampleOf(subject, campaign, property, values, yieldToMessages, mistake = "") {
+export async function replayCounterexample(subject, campaign, property, values, yieldToMessages, mistake = "") {
   const replay = new Replay(subject, campaign, property, mistake);
-  const find = replay.find(values);
-  return find && replay.written(await replay.short(find, yieldToMessages));
+  const violation = replay.findViolation(values);
+  return violation && replay.formatCounterexample(await replay.minimise(violation, yieldToMessages));
 }

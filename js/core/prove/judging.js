@@ -1,20 +1,19 @@
-// The judgement of properties, one after the other: the questions to the prover, and the meaning of its answers for each. Those of the text
-// come first, then the mistakes that every program is checked for. The caller provides how the prover is asked, and how a counterexample is
-// confirmed.
+// Judges properties one after the other: asks the prover and derives a verdict from its answers. The properties of the text come first,
+// then the mistakes that every program is checked for. Callbacks ask the prover and confirm counterexamples.
 
-import { stepsOf } from "../explore/report.js";
-import { counterexampleOf } from "./counterexample.js";
+import { formatSteps } from "../explore/report.js";
+import { replayCounterexample } from "./counterexample.js";
 import { allMistakes } from "./mistakes.js";
-import { askedOf, isAskedAlone, isCounting, jointQuestion, leftOutOf, mistakeQuestion } from "./question.js";
+import { createQuestion, jointQuestion, omittedGuards, mistakeQuestion, needsCounting, needsSeparateQuestion } from "./question.js";
 import * as say from "../../words/prove.js";
 
 /**
  * @typedef {import("./counterexample.js").Counterexample} Counterexample
  * @typedef {import("./question.js").Answer} Answer
  * @typedef {import("./question.js").NoAnswer} NoAnswer
- * @typedef {import("./question.js").Asked} Asked
+ * @typedef {import("./question.js").PropertyQuestion} PropertyQuestion
  * @typedef {import("./question.js").Question} Question
- * @typedef {import("./verdicts.js").Judged} Judged
+ * @typedef {import("./verdicts.js").JudgedProperty} JudgedProperty
  * @typedef {import("./verdicts.js").Verdict} Verdict
  * @typedef {import("../explore/campaign.js").Campaign} Campaign
  * @typedef {import("../explore/properties.js").Property} Property
@@ -22,36 +21,36 @@ import * as say from "../../words/prove.js";
  *
  * @typedef {object} JudgingCalls
  * @property {(question: Question) => Promise<Answer>} ask asks the prover
- * @property {(question: Question) => Promise<Answer>} askBySets asks it by sets of states, which is quick, and decides only that all is
- *   well
- * @property {(found: Counterexample, isGoal: boolean) => Promise<boolean>} confirms returns whether the test of a counterexample fails
- *   (of a goal: passes)
- * @property {(answer: NoAnswer) => string} reason returns why such an answer decides nothing
- * @property {() => Promise<void>} yieldToMessages yields to other work while a counterexample is minimised
+ * @property {(question: Question) => Promise<Answer>} askBySets asks the prover for a proof by sets of states, which is fast but never
+ *   finds a counterexample
+ * @property {(found: Counterexample, isGoal: boolean) => Promise<boolean>} confirms resolves to true if the test of a counterexample fails;
+ *   for a goal, if the test passes
+ * @property {(answer: NoAnswer) => string} reason returns the reason why an answer decides nothing, as text
+ * @property {() => Promise<void>} yieldToMessages yields to other tasks while a counterexample is minimised
  */
 
-/** Answers that stay the same if less is asked: the search finds the same states in the same order. */
-const ENDS = new Set(["more", "full"]);
+/** The answers that a question with fewer properties also gets, because its search finds the same states in the same order. */
+const FINAL_ANSWERS = new Set(["more", "full"]);
 
 /**
- * Returns the verdict that a property holds.
+ * Creates the verdict that a property is proved.
  * @param {Property} property
  * @param {number} states
  * @param {boolean} bySets
  * @returns {Verdict}
  */
-const proofOf = (property, states, bySets) => ({ kind: "proved", states, bySets, leftOut: leftOutOf(property) });
+const createProof = (property, states, bySets) => ({ kind: "proved", states, bySets, leftOut: omittedGuards(property) });
 
 /**
- * Returns why a property is not decided if the bench does not confirm the counterexample that was found.
+ * Returns the reason why a property is not decided if the bench does not confirm its counterexample.
  * @param {Property} property
  */
-function unconfirmed(property) {
-  if (property.guards.length > 0) return say.failsWithout(leftOutOf(property), property.isGoal);
+function explainUnconfirmed(property) {
+  if (property.guards.length > 0) return say.failsWithout(omittedGuards(property), property.isGoal);
   return property.form === "only after" ? say.READ_LESS : say.NOT_CONFIRMED;
 }
 
-export class Judging {
+export class PropertyJudge {
   /**
    * @param {Subject} subject
    * @param {Campaign} campaign
@@ -61,42 +60,43 @@ export class Judging {
     this.subject = subject;
     this.campaign = campaign;
     this.calls = calls;
-    /** @type {{ property: Property, asked: Asked }[]} the properties of the text, with the questions of each */
+    /** @type {{ property: Property, asked: PropertyQuestion }[]} the properties of the text, each with its question */
     this.all = campaign.properties.filter(({ line }) => line > 0)
-      .map((property) => ({ property, asked: askedOf(property, campaign, subject) }));
+      .map((property) => ({ property, asked: createQuestion(property, campaign, subject) }));
     this.mistakes = allMistakes();
-    /** The number of properties that are judged. */
+    /** The number of properties and mistakes that have a verdict. */
     this.count = 0;
-    /** @type {Answer | null} the answer about all combined properties; null before they were asked */
-    this.together = null;
-    /** @type {Verdict | null} that no mistake is made, by sets of states; null before they were asked, and if these do not show it */
-    this.noMistake = null;
-    /** @type {Answer | null} the answer about all mistakes together; null before they were asked */
-    this.anyMistake = null;
+    /** @type {Answer | null} the answer about all combined questions; null before the prover was asked */
+    this.jointAnswer = null;
+    /** @type {Verdict | null} the verdict, proved by sets of states, that no mistake can occur; null for none */
+    this.noMistakeVerdict = null;
+    /** @type {Answer | null} the answer about all mistakes together; null before the prover was asked */
+    this.anyMistakeAnswer = null;
   }
 
-  /** The number of all that is judged. */
+  /** The number of properties and mistakes. */
   get total() {
     return this.all.length + this.mistakes.length;
   }
 
   /**
-   * Returns the text of a property.
-   * @param {number} at its number, from 0
+   * Returns the text of a property or mistake.
+   * @param {number} index the number of the property, from 0
    */
-  textOf(at) {
+  textOf(index) {
     const { all, mistakes } = this;
-    return (at < all.length ? all[at] : mistakes[at - all.length]).property.text;
+    return (index < all.length ? all[index] : mistakes[index - all.length]).property.text;
   }
 
-  /** The questions that are asked together. */
-  get joint() {
-    return this.all.flatMap(({ property, asked: { question } }) => (!question || isAskedAlone(property, question) ? [] : [question]));
+  /** The questions that can be combined into one. */
+  get jointQuestions() {
+    return this.all.flatMap(({ property, asked: { question } }) => (
+      !question || needsSeparateQuestion(property, question) ? [] : [question]));
   }
 
   /**
-   * Judges the next property; returns null if all are judged.
-   * @returns {Promise<Judged | null>}
+   * Judges the next property or mistake. Resolves to null after the last one.
+   * @returns {Promise<JudgedProperty | null>}
    */
   async next() {
     const { all, mistakes, count, total } = this;
@@ -107,8 +107,8 @@ export class Judging {
   }
 
   /**
-   * @param {{ property: Property, asked: Asked }} each
-   * @returns {Promise<Judged>}
+   * @param {{ property: Property, asked: PropertyQuestion }} each
+   * @returns {Promise<JudgedProperty>}
    */
   async judgeProperty({ property, asked }) {
     if (!asked.question) return { property, verdict: { kind: "open", words: asked.words } };
@@ -116,45 +116,45 @@ export class Judging {
   }
 
   /**
-   * Judges a mistake: the prover is asked about all mistakes together, and about each alone if one of them is possible.
+   * Judges a mistake. First asks the prover about all mistakes together. If one of them is possible, asks about this mistake separately.
    * @param {import("./mistakes.js").Mistake} mistake
-   * @returns {Promise<Judged>}
+   * @returns {Promise<JudgedProperty>}
    */
   async judgeMistake({ property, word }) {
     const question = mistakeQuestion([word]);
-    const any = mistakeQuestion(this.mistakes.map((each) => each.word));
-    if (this.count === this.all.length) this.noMistake = await this.provedBySets(property, any);
-    if (this.noMistake) return { property, verdict: this.noMistake };
-    if (!this.anyMistake) this.anyMistake = await this.calls.ask(any);
-    const answer = this.anyMistake.kind === "fails" ? await this.calls.ask(question) : this.anyMistake;
-    const verdict = await this.verdictOf(property, answer, { ...this.campaign, properties: [property] }, word);
-    return { property, verdict: await this.decided(property, verdict, question) };
+    const anyMistakeQuestion = mistakeQuestion(this.mistakes.map((each) => each.word));
+    if (this.count === this.all.length) this.noMistakeVerdict = await this.proveBySets(property, anyMistakeQuestion);
+    if (this.noMistakeVerdict) return { property, verdict: this.noMistakeVerdict };
+    if (!this.anyMistakeAnswer) this.anyMistakeAnswer = await this.calls.ask(anyMistakeQuestion);
+    const answer = this.anyMistakeAnswer.kind === "fails" ? await this.calls.ask(question) : this.anyMistakeAnswer;
+    const verdict = await this.createVerdict(property, answer, { ...this.campaign, properties: [property] }, word);
+    return { property, verdict: await this.completeVerdict(property, verdict, question) };
   }
 
   /**
-   * Returns the verdict that conditions are never met and mistakes never made, if sets of states show it; else null. They show no times
-   * and no presses.
+   * Resolves to the verdict that a property is proved by sets of states, or to null. A proof by sets of states cannot count cycles or
+   * presses.
    * @param {Property} property
    * @param {Question} question
    * @returns {Promise<Verdict | null>}
    */
-  async provedBySets(property, question) {
-    if (isCounting(question)) return null;
+  async proveBySets(property, question) {
+    if (needsCounting(question)) return null;
     const answer = await this.calls.askBySets(question);
-    return answer.kind === "holds" ? proofOf(property, answer.states, true) : null;
+    return answer.kind === "holds" ? createProof(property, answer.states, true) : null;
   }
 
   /**
-   * Returns the verdict of a search; if it is open, the one by sets of states, if these decide it.
+   * Resolves to a verdict; if it is open, to the verdict by sets of states if there is one.
    * @param {Property} property
    * @param {Verdict} verdict
    * @param {Question} question
    */
-  async decided(property, verdict, question) {
-    return (verdict.kind === "open" && await this.provedBySets(property, question)) || verdict;
+  async completeVerdict(property, verdict, question) {
+    return (verdict.kind === "open" && await this.proveBySets(property, question)) || verdict;
   }
 
-  /** Judges all properties and mistakes. */
+  /** Judges all properties and mistakes. Resolves to their verdicts. */
   async judgeAll() {
     const judged = [];
     for (let each = await this.next(); each; each = await this.next()) judged.push(each);
@@ -167,39 +167,40 @@ export class Judging {
    * @returns {Promise<Verdict>}
    */
   async judge(property, question) {
-    const verdict = await this.verdictOf(property, await this.answerTo(property, question), this.campaign, "");
-    return this.decided(property, verdict, question);
+    const verdict = await this.createVerdict(property, await this.askAbout(property, question), this.campaign, "");
+    return this.completeVerdict(property, verdict, question);
   }
 
   /**
-   * Returns the verdict on a property by an answer.
+   * Resolves to the verdict on a property that follows from an answer.
    * @param {Property} property
    * @param {Answer} answer
-   * @param {Campaign} campaign that has the property
+   * @param {Campaign} campaign a campaign that contains the property
    * @param {string} mistake the word of the mistake that the property excludes; "" for other properties
    * @returns {Promise<Verdict>}
    */
-  async verdictOf(property, answer, campaign, mistake) {
-    if (answer.kind === "holds") return proofOf(property, answer.states, false);
+  async createVerdict(property, answer, campaign, mistake) {
+    if (answer.kind === "holds") return createProof(property, answer.states, false);
     if (answer.kind !== "fails") return { kind: "open", words: this.calls.reason(answer) };
     const { subject, calls } = this;
-    const found = await counterexampleOf(subject, campaign, campaign.properties.indexOf(property), answer.values, calls.yieldToMessages,
+    const found = await replayCounterexample(subject, campaign, campaign.properties.indexOf(property), answer.values, calls.yieldToMessages,
       mistake);
-    if (!found) return { kind: "open", words: unconfirmed(property) };
+    if (!found) return { kind: "open", words: explainUnconfirmed(property) };
     if (!await calls.confirms(found, property.isGoal)) return { kind: "open", words: say.NOT_CONFIRMED };
-    return found.isAllowed || property.isGoal ? { kind: "found", found } : { kind: "open", words: say.excluded(stepsOf(found.steps)) };
+    return found.isAllowed || property.isGoal ? { kind: "found", found } : { kind: "open", words: say.excluded(formatSteps(found.steps)) };
   }
 
   /**
-   * Asks about a property: together with others first if possible, and then alone if that does not decide it.
+   * Asks about a property. First asks the combined question if possible. If its answer does not decide the property, asks separately.
    * @param {Property} property
    * @param {Question} question
    */
-  async answerTo(property, question) {
-    if (isAskedAlone(property, question)) return this.calls.ask(question);
-    const { joint } = this;
-    if (!this.together) this.together = await this.calls.ask(jointQuestion(joint));
-    const { together } = this;
-    return together.kind === "holds" || ENDS.has(together.kind) || joint.length === 1 ? together : this.calls.ask(question);
+  async askAbout(property, question) {
+    if (needsSeparateQuestion(property, question)) return this.calls.ask(question);
+    const { jointQuestions } = this;
+    if (!this.jointAnswer) this.jointAnswer = await this.calls.ask(jointQuestion(jointQuestions));
+    const { jointAnswer } = this;
+    const isDecisive = jointAnswer.kind === "holds" || FINAL_ANSWERS.has(jointAnswer.kind) || jointQuestions.length === 1;
+    return isDecisive ? jointAnswer : this.calls.ask(question);
   }
 }

@@ -1,10 +1,11 @@
-// The mistakes that the prover looks for in every program, with no text that asks for them, and whether the bench makes one.
+// The mistakes that the prover searches for in every program, even without a properties text. Also checks whether a session on the bench
+// makes such a mistake.
 
-import { partsOfState, portsOf, registersOf } from "../bench/state_line.js";
-import { upTo } from "../bench/numbers.js";
-import { ADDRESSES, PAGE_BYTES } from "../bench/rom_bytes.js";
+import { parseState, parsePorts, parseRegisters } from "../bench/state_line.js";
+import { indices } from "../bench/numbers.js";
+import { ADDRESS_COUNT, PAGE_BYTES } from "../bench/rom_bytes.js";
 import { RDR, WRR } from "../engine/rom_codes.js";
-import { alwaysOn } from "../explore/properties.js";
+import { standardProperties } from "../explore/properties.js";
 import * as say from "../../words/prove.js";
 
 /**
@@ -12,59 +13,63 @@ import * as say from "../../words/prove.js";
  * @typedef {import("../explore/properties.js").Property} Property
  * @typedef {import("../explore/subject.js").Subject} Subject
  *
- * The word of a mistake in a question, and the property that excludes it.
+ * A mistake: its word in a question, and the property that excludes it.
  * @typedef {{ word: keyof typeof say.MISTAKES, property: Property }} Mistake
  *
- * The state on which a mistake depends: the board, the address of the instruction, its code, that of the next word, the registers, and the
- * SRC bytes, that of the ROMs first and then those of the banks by their numbers.
- * @typedef {{ board: Board, address: number, code: number, dcl: number, pair: number, source: number, banks: Map<number, number> }} Seen
+ * The state on which mistakes depend: the board, the address and code of the next instruction, DCL, and the value of the register pair P0.
+ * `source` is the SRC byte of the ROMs, and `banks` are the SRC bytes of the RAM banks, by bank number.
+ * @typedef {{ board: Board, address: number, code: number, dcl: number, pair: number, source: number,
+ *   banks: Map<number, number> }} MachineState
  */
 
-/** WRM, WMP, WR0 to WR3, SBM, RDM, ADM, RD0 to RD3. */
-const FOR_RAM = new Set([0xE0, 0xE1, ...upTo(4).map((k) => 0xE4 + k), 0xE8, 0xE9, 0xEB, ...upTo(4).map((k) => 0xEC + k)]);
+/** The instructions that access RAM: WRM, WMP, WR0 to WR3, SBM, RDM, ADM, RD0 to RD3. */
+const RAM_OPCODES = new Set([0xE0, 0xE1, ...indices(4).map((k) => 0xE4 + k), 0xE8, 0xE9, 0xEB, ...indices(4).map((k) => 0xEC + k)]);
+/** Returns whether an instruction is FIN. */
 const isFin = (/** @type {number} */ code) => (code & 0xF1) === 0x30;
-/** JCN, FIM, JUN, JMS and ISZ. */
+/** Returns whether an instruction has two words: JCN, FIM, JUN, JMS or ISZ. */
 const hasTwoWords = (/** @type {number} */ code) => [1, 4, 5, 7].includes(code >> 4) || (code & 0xF1) === 0x20;
-/** The cycles that are checked one by one. */
-const PATIENCE = 200000;
-const CHUNK = 500;
+/** The maximum number of cycles to check. */
+const MAX_CHECKED_CYCLES = 200000;
+/** The number of cycles to check per call of the bench. */
+const CHUNK_CYCLES = 500;
 
-/** @type {(board: Board, chip: number) => string} the marks of a ROM's port; none if the board lacks it */
-const portOf = ({ roms }, chip) => (roms.find((rom) => Number(rom.chip) === chip) || { port: "" }).port;
-/** @type {(board: Board, address: number) => boolean} */
-const lacksRom = (board, address) => portOf(board, address >> 8) === "";
+/** @type {(board: Board, chip: number) => string} returns the port of a ROM as in the board text; "" if the board lacks it */
+const portMarks = ({ roms }, chip) => (roms.find((rom) => Number(rom.chip) === chip) || { port: "" }).port;
+/** @type {(board: Board, address: number) => boolean} returns whether the board lacks the ROM with an address */
+const lacksRom = (board, address) => portMarks(board, address >> 8) === "";
 
 /**
- * Returns whether the next instruction makes a mistake. The forms of `explore` recognise the others.
- * @type {Partial<Record<keyof typeof say.MISTAKES, (seen: Seen) => boolean>>}
+ * The functions that check whether the next instruction makes a mistake. A search detects the other mistakes with its property forms.
+ * @type {Partial<Record<keyof typeof say.MISTAKES, (state: MachineState) => boolean>>}
  */
-const MADE = {
+const MISTAKE_CHECKS = {
   ram: ({ board, code, dcl, banks }) => {
     const bank = board.banks.find((each) => Number(each.bank) === dcl);
-    return FOR_RAM.has(code) && (banks.get(dcl) || 0) >> 6 >= (bank ? Number(bank.chips) : 0);
+    return RAM_OPCODES.has(code) && (banks.get(dcl) || 0) >> 6 >= (bank ? Number(bank.chips) : 0);
   },
   rom: ({ board, address, code, pair }) => {
-    const next = (address + 1) % ADDRESSES;
+    const next = (address + 1) % ADDRESS_COUNT;
     return lacksRom(board, address) || (hasTwoWords(code) && lacksRom(board, next))
       || (isFin(code) && lacksRom(board, next - next % PAGE_BYTES + pair));
   },
-  rdr: ({ board, code, source }) => code === RDR && !portOf(board, source >> 4).includes("i"),
-  wrr: ({ board, code, source }) => code === WRR && /^i*$/.test(portOf(board, source >> 4)),
+  rdr: ({ board, code, source }) => code === RDR && !portMarks(board, source >> 4).includes("i"),
+  wrr: ({ board, code, source }) => code === WRR && /^i*$/.test(portMarks(board, source >> 4)),
 };
 
 /**
+ * Returns the machine state in an answer.
  * @param {Subject} subject
- * @param {string} answer to `state`
- * @returns {Seen & { isOwed: boolean }}
+ * @param {string} answer the answer to `state`
+ * @returns {MachineState & { isSecondCyclePending: boolean }}
  */
-function seenIn({ codes, names: { board } }, answer) {
-  const { registers, ports } = partsOfState(answer);
-  const { counter, owed, bank, registers: [high, low] } = registersOf(registers);
-  const { sources: [source, ...banks] } = portsOf(ports);
+function parseMachineState({ codes, names: { board } }, answer) {
+  const { registers, ports } = parseState(answer);
+  const { counter, owed, bank, registers: [highDigit, lowDigit] } = parseRegisters(registers);
+  const { sources: [source, ...banks] } = parsePorts(ports);
   const address = parseInt(counter, 16);
   return {
-    board, address, code: codes[address], dcl: Number(bank), pair: parseInt(high + low, 16), source: parseInt(source, 16),
-    isOwed: owed === "1",
+    board, address, code: codes[address], dcl: Number(bank), pair: parseInt(highDigit + lowDigit, 16), source: parseInt(source, 16),
+    isSecondCyclePending: owed === "1",
     banks: new Map(banks.map((each) => {
       const [number, byte] = each.split(".");
       return [Number(number), parseInt(byte, 16)];
@@ -73,39 +78,39 @@ function seenIn({ codes, names: { board } }, answer) {
 }
 
 /**
- * Returns after how many cycles from a state on the bench is about to make a mistake; -1 if it does not within them.
+ * Returns the number of cycles up to the first instruction that makes a mistake; -1 if there is none within the given number of cycles.
  * @param {Subject} subject
- * @param {Uint8Array} file
- * @param {string} word of the mistake
+ * @param {Uint8Array} file the session file at the start
+ * @param {string} word the word of the mistake
  * @param {number} cycles
  */
 export function cyclesToMistake(subject, file, word, cycles) {
-  const isMade = MADE[/** @type {keyof typeof MADE} */ (word)];
-  const own = file.slice();
-  let at = 0;
-  for (let answers = subject.engine.ask(own, "state\n").answers; isMade && answers.length > 0;) {
+  const makesMistake = MISTAKE_CHECKS[/** @type {keyof typeof MISTAKE_CHECKS} */ (word)];
+  const workFile = file.slice();
+  let checkedCycles = 0;
+  for (let answers = subject.engine.ask(workFile, "state\n").answers; makesMistake && answers.length > 0;) {
     for (const answer of answers.filter((line) => line.startsWith("state"))) {
-      const { isOwed, ...seen } = seenIn(subject, answer);
-      if (!isOwed && isMade(seen)) return at;
-      at += 1;
+      const { isSecondCyclePending, ...state } = parseMachineState(subject, answer);
+      if (!isSecondCyclePending && makesMistake(state)) return checkedCycles;
+      checkedCycles += 1;
     }
-    const count = Math.min(CHUNK, Math.min(cycles, PATIENCE) + 1 - at);
-    answers = count > 0 ? subject.engine.serve(own, "run 1\nstate\n".repeat(count), own).answers : [];
+    const count = Math.min(CHUNK_CYCLES, Math.min(cycles, MAX_CHECKED_CYCLES) + 1 - checkedCycles);
+    answers = count > 0 ? subject.engine.serve(workFile, "run 1\nstate\n".repeat(count), workFile).answers : [];
   }
   return -1;
 }
 
-/** The mistakes that `explore` also finds, by its forms. */
-const EXPLORED = { code: "code", call: "calls", return: "returns" };
+/** The property forms of the mistakes that a search also detects, by word. */
+const SEARCH_FORMS = { code: "code", call: "calls", return: "returns" };
 
 /**
- * The mistakes, in the order of reports.
+ * Returns all mistakes, in report order.
  * @returns {Mistake[]}
  */
 export function allMistakes() {
-  const explored = alwaysOn();
+  const standard = standardProperties();
   return Object.entries(say.MISTAKES).map(([word, text]) => {
-    const property = explored.find(({ form }) => form === EXPLORED[/** @type {keyof typeof EXPLORED} */ (word)]);
-    return /** @type {Mistake} */ ({ word, property: { ...(property || explored[0]), ...(property ? {} : { form: "mistake" }), text } });
+    const property = standard.find(({ form }) => form === SEARCH_FORMS[/** @type {keyof typeof SEARCH_FORMS} */ (word)]);
+    return /** @type {Mistake} */ ({ word, property: { ...(property || standard[0]), ...(property ? {} : { form: "mistake" }), text } });
   });
 }

@@ -1,34 +1,35 @@
-// Proofs of properties, in a worker of their own. A question to the prover is one piece, so the worker may be silent for long.
+// Proves properties in a separate worker. The worker does not respond while it asks the prover a question, which can take long.
 
-import { OwnWorker } from "../bench/own_worker.js";
+import { TaskWorker } from "../bench/own_worker.js";
 
 /**
  * @typedef {import("../bench/bench_client.js").Bench} Bench
- * @typedef {import("../bench/own_worker.js").Ended} Ended
+ * @typedef {import("../bench/own_worker.js").TaskResult} TaskResult
  * @typedef {import("../explore/exploring.js").ExploredTexts} ExploredTexts
  * @typedef {import("./bounded_proof.js").JudgedLine} JudgedLine
  *
- * The progress: the properties that are judged, the number of all, and the states that the present question has searched without result.
+ * The progress: the verdicts so far, the number of all properties and mistakes, and the number of states that the current question has
+ * searched without a result.
  * @typedef {{ judged: JudgedLine[], count: number, states: number }} Progress
  */
 
-export class Prover extends OwnWorker {
+export class Prover extends TaskWorker {
   /** @param {() => Bench} makeBench */
   constructor(makeBench) {
     super(makeBench, true);
   }
 
   /**
-   * Proves properties, until each is judged or it is cancelled.
+   * Judges all properties, unless the user cancels. Resolves to the way in which the work ended.
    * @param {ExploredTexts} texts
-   * @param {number} most states that a question searches
+   * @param {number} maxStates the maximum number of states per question
    * @param {AbortSignal} signal
    * @param {(progress: Progress) => void} report
-   * @returns {Promise<Ended>}
+   * @returns {Promise<TaskResult>}
    */
-  prove(texts, most, signal, report) {
-    return this.during(signal, async (bench) => {
-      const { faults, count } = await bench.call("prove", [texts, most]);
+  prove(texts, maxStates, signal, report) {
+    return this.runTask(signal, async (bench) => {
+      const { faults, count } = await bench.call("prove", [texts, maxStates]);
       if (faults.length === 0) await judgeAll(bench, count, report);
       return faults;
     });
@@ -36,8 +37,9 @@ export class Prover extends OwnWorker {
 }
 
 /**
+ * Judges all properties and reports each verdict.
  * @param {Bench} bench
- * @param {number} count
+ * @param {number} count the number of all properties and mistakes
  * @param {(progress: Progress) => void} report
  */
 async function judgeAll(bench, count, report) {

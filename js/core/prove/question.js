@@ -1,12 +1,14 @@
-// A question to the prover, line by line, and its answer. The prover (crates/mcs_prove) reads board and program as a session does, and
-// searches all states that any inputs can lead to.
+// Formats questions for the prover and parses its answers. The prover (crates/mcs_prove) reads the board and the program as a session does,
+// and searches all states that the program can reach with any inputs.
+//
+// A list of conjunctions (`Comparisons[]`, cells.js) is a condition: it is true if all comparisons in at least one conjunction are true.
 
-import { NotAsked, comparisonsOf } from "./decided.js";
-import { NEVER_MET, isAt } from "./cells.js";
-import { textOfKey } from "../board/key_place.js";
+import { UnsupportedQuestion, listComparisons } from "./decided.js";
+import { IMPOSSIBLE_COMPARISONS, counterComparisons } from "./cells.js";
+import { formatKey } from "../board/key_place.js";
 import { isJin, isReturn } from "../engine/rom_codes.js";
-import { keysOf } from "../explore/explored_inputs.js";
-import { grouped } from "../explore/report.js";
+import { listKeyInputs } from "../explore/explored_inputs.js";
+import { formatNumber } from "../explore/report.js";
 import { sentText } from "../text/text_fault.js";
 import * as say from "../../words/prove.js";
 
@@ -20,217 +22,238 @@ import * as say from "../../words/prove.js";
  * @typedef {import("../board/face.js").Face} Face
  * @typedef {import("../board/key_place.js").MatrixKey} MatrixKey
  *
- * A stopwatch counts cycles. It begins at a moment at which one list of `begins` holds whole, and stops at the next one at which a list of
- * `ends` does.
+ * A stopwatch: it starts when the condition `begins` is true, stops when the condition `ends` is true, and must never exceed `within`
+ * cycles.
  * @typedef {{ begins: Comparisons[], ends: Comparisons[], within: number }} Stopwatch
  *
- * Presses that come before one list of `opens` holds whole: since one did last, the program has read each key up and then down, one key
- * after the other.
+ * Presses that are required before the condition `opens` becomes true. Since the condition was last true, the program must have read each
+ * key up and then down, one key after the other.
  * @typedef {{ opens: Comparisons[], keys: MatrixKey[] }} Presses
  *
- * A question: `nevers` are lists of comparisons that must never hold whole; `mistakes` are the words of mistakes that must never be made;
- * the stopwatch, null for none, must never run for more than `within` cycles; the presses, null for none, must come first.
+ * A question. `nevers`: the condition that must never be true; `mistakes`: the words of the mistakes that must never be made; `stopwatch`
+ * and `presses`: the time limit and the required presses, null for none.
  * @typedef {{ nevers: Comparisons[], mistakes: string[], stopwatch: Stopwatch | null, presses: Presses | null }} Question
  *
- * The question about a property, or why nothing is asked.
- * @typedef {{ question: Question, words: "" } | { question: null, words: string }} Asked
+ * The question about a property, or the reason why the prover cannot be asked.
+ * @typedef {{ question: Question, words: "" } | { question: null, words: string }} PropertyQuestion
  *
- * An answer: all states are valid, and how many there are; the values read on a way to a violation; more states than the bound; the search
- * failed; no memory for more than these states (0: before the first one). A refusal is none of these.
+ * An answer of the prover, except a refusal:
+ * - `holds`: no reachable state violates the question; `states` is the number of reachable states;
+ * - `fails`: `values` are the input values that the program reads up to a violation;
+ * - `more`: there are more states than the bound;
+ * - `lost`: the search failed;
+ * - `full`: there is no memory for more than `states` states (0 if not even for the first state).
  * @typedef {{ kind: "more" } | { kind: "lost" } | { kind: "full", states: number }} NoAnswer
  * @typedef {{ kind: "holds", states: number } | { kind: "fails", values: number[] } | NoAnswer} Answer
  *
- * The limits of a question: the most states, and the most memory for them in MB (0: all that there is). With `sets`, the most sets of
- * states, the prover does not search, but computes what each register may hold at each address; 0 if it searches. A stretch of more than
- * `pause` cycles without a read counts as several states, so a search runs at most `most` times `pause` cycles.
+ * The limits of a question:
+ * - `most`: the maximum number of states; `memory`: the maximum memory for them in MB (0 for all memory);
+ * - `sets`: the maximum number of sets of states; with 0, the prover searches single states;
+ * - `pause`: the number of cycles without a read of an input after which the prover counts another state.
+ *
+ * A search runs at most `most` times `pause` cycles. A proof by sets of states is not a search: the prover computes for each address the
+ * values that each register can have.
  * @typedef {{ most: number, memory?: number, sets?: number, pause?: number }} QuestionLimits
  */
 
-/** The usual `pause` of a question. */
+/** The default `pause` of a question, in cycles. */
 export const PAUSE = 1000000;
-/** The most sets of states for a question that is not searched. */
-export const MOST_SETS = 100000;
-/** The bound of the first question. */
-const FIRST = 10000;
-/** The most cycles that a stopwatch may run. */
+/** The maximum number of sets of states in a proof by sets. */
+export const MAX_SETS = 100000;
+/** The bound on the number of states for the first question. */
+const FIRST_BOUND = 10000;
+/** The maximum limit of a stopwatch, in cycles. */
 export const MAX_TIME = 16777214;
-/** The most presses of a property: the prover counts that each key is up, and that it is down. */
-export const MOST_PRESSES = 100;
-/** The counter at power-on. */
-const POWER_ON = 0;
-/** A question about nothing. @type {Question} */
-const NOTHING = { nevers: [], mistakes: [], stopwatch: null, presses: null };
+/** The maximum number of presses in a property. */
+export const MAX_PRESSES = 100;
+/** The program counter at power-on. */
+const POWER_ON_ADDRESS = 0;
+/** @type {Question} a question without any requirement */
+const EMPTY_QUESTION = { nevers: [], mistakes: [], stopwatch: null, presses: null };
 
 /**
- * Returns the bounds on the states, each twice the one before it, up to the last one.
- * @param {number} most
- * @param {number} [first]
+ * Returns increasing bounds on the number of states. Each bound is twice the previous one, and the last one is `maxBound`.
+ * @param {number} maxBound
+ * @param {number} [firstBound]
  */
-export function boundsUpTo(most, first = FIRST) {
+export function boundsUpTo(maxBound, firstBound = FIRST_BOUND) {
   const bounds = [];
-  for (let bound = first; bound < most; bound *= 2) bounds.push(bound);
-  return [...bounds, most];
+  for (let bound = firstBound; bound < maxBound; bound *= 2) bounds.push(bound);
+  return [...bounds, maxBound];
 }
 
 /**
- * Returns the question whether some conditions are ever met.
+ * Creates the question whether a condition is ever true.
  * @param {Comparisons[]} nevers
  * @returns {Question}
  */
-export const neverQuestion = (nevers) => ({ ...NOTHING, nevers });
+export const neverQuestion = (nevers) => ({ ...EMPTY_QUESTION, nevers });
 
 /**
- * Returns the question whether some mistakes are ever made.
- * @param {string[]} mistakes their words
+ * Creates the question whether the program ever makes certain mistakes.
+ * @param {string[]} mistakes the words of the mistakes
  * @returns {Question}
  */
-export const mistakeQuestion = (mistakes) => ({ ...NOTHING, mistakes });
+export const mistakeQuestion = (mistakes) => ({ ...EMPTY_QUESTION, mistakes });
 
 /**
- * Returns whether a question counts something: the cycles of a stopwatch, or presses.
+ * Returns whether the prover must count cycles or presses to answer a question.
  * @param {Question} question
  */
-export const isCounting = ({ stopwatch, presses }) => stopwatch !== null || presses !== null;
+export const needsCounting = ({ stopwatch, presses }) => stopwatch !== null || presses !== null;
 
 /**
- * Returns whether a property has its question alone. The others are asked together: all of them hold, or one of them fails. One that is
- * proved without its guards is more likely to fail than they are.
+ * Returns whether the question about a property must be asked separately. All other questions are combined into one question. A property
+ * with guards is not combined, because it often fails without its guards, and one failure leaves all properties undecided.
  * @param {Property} property
  * @param {Question} question
  */
-export const isAskedAlone = ({ isGoal, guards }, question) => isGoal || guards.length > 0 || isCounting(question);
+export const needsSeparateQuestion = ({ isGoal, guards }, question) => isGoal || guards.length > 0 || needsCounting(question);
 
 /**
- * Returns one question for several that count nothing.
+ * Combines several questions without a stopwatch and presses into one.
  * @param {Question[]} questions
  * @returns {Question}
  */
 export function jointQuestion(questions) {
-  return { ...NOTHING, nevers: questions.flatMap(({ nevers }) => nevers), mistakes: questions.flatMap(({ mistakes }) => mistakes) };
+  return { ...EMPTY_QUESTION, nevers: questions.flatMap(({ nevers }) => nevers), mistakes: questions.flatMap(({ mistakes }) => mistakes) };
 }
 
 /**
- * Returns lists of comparisons of which at least one is there.
+ * Returns the condition that these lists form. If there are no lists, it is an impossible condition.
  * @param {Comparisons[]} lists
  */
-const someOf = (lists) => (lists.length > 0 ? lists : [NEVER_MET]);
+const orImpossible = (lists) => (lists.length > 0 ? lists : [IMPOSSIBLE_COMPARISONS]);
 
 /**
- * Returns the question whether a stopwatch ever runs for longer than its limit; throws NotAsked if the limit is too long.
+ * Creates the question whether a stopwatch ever exceeds its limit. Throws UnsupportedQuestion if the limit is too high.
  * @param {Comparisons[]} begins
  * @param {Comparisons[]} ends
- * @param {number} within
+ * @param {number} limit
  * @returns {Question}
  */
-function timeQuestion(begins, ends, within) {
-  if (within > MAX_TIME) throw new NotAsked(say.timeIsLong(grouped(MAX_TIME)));
-  return { ...NOTHING, stopwatch: { begins: someOf(begins), ends: someOf(ends), within } };
+function timeQuestion(begins, ends, limit) {
+  if (limit > MAX_TIME) throw new UnsupportedQuestion(say.timeIsLong(formatNumber(MAX_TIME)));
+  return { ...EMPTY_QUESTION, stopwatch: { begins: orImpossible(begins), ends: orImpossible(ends), within: limit } };
 }
 
 /**
- * Returns the key of the matrix with a name; throws NotAsked for the TEST pin.
+ * Returns the key with a name; throws UnsupportedQuestion for the TEST pin, which is not in the key matrix.
  * @param {Face} face
  * @param {string} name
  */
-function keyNamed(face, name) {
-  const named = keysOf(face).find((input) => input.name === name);
-  if (!named || named.key.kind !== "matrix") throw new NotAsked(say.isNoMatrixKey(name));
+function findMatrixKey(face, name) {
+  const named = listKeyInputs(face).find((input) => input.name === name);
+  if (!named || named.key.kind !== "matrix") throw new UnsupportedQuestion(say.isNoMatrixKey(name));
   return named.key;
 }
 
 /**
- * Returns the question whether a condition becomes true only after some presses; throws NotAsked if the prover cannot count them. Between
- * the two cycles of an instruction, the condition counts as after them.
+ * Creates the question whether a condition becomes true only after certain presses. Throws UnsupportedQuestion if the prover cannot count
+ * these presses. Between the two cycles of an instruction, the condition has the value that it has after the second cycle.
  * @param {Property} property
  * @param {Subject} subject
  * @returns {Question}
  */
 function pressQuestion({ condition, address, keys }, { names: { board, face }, codes }) {
-  if (keys.length > MOST_PRESSES) throw new NotAsked(say.hasManyPresses(MOST_PRESSES));
-  // These lead from the label to itself in one cycle, so the prover would not see that the counter reaches it again.
-  if (!condition && (isJin(codes[address]) || isReturn(codes[address]))) throw new NotAsked(say.LABEL_REPEATS);
-  const opens = condition ? comparisonsOf(condition, true, board, true) : [isAt(address)];
-  return { ...NOTHING, presses: { opens: someOf(opens), keys: keys.map((name) => keyNamed(face, name)) } };
+  if (keys.length > MAX_PRESSES) throw new UnsupportedQuestion(say.hasManyPresses(MAX_PRESSES));
+  // JIN and BBL can jump from the label to itself in one cycle. The prover would not detect that the label is reached again.
+  if (!condition && (isJin(codes[address]) || isReturn(codes[address]))) throw new UnsupportedQuestion(say.LABEL_REPEATS);
+  const opens = condition ? listComparisons(condition, true, board, true) : [counterComparisons(address)];
+  return { ...EMPTY_QUESTION, presses: { opens: orImpossible(opens), keys: keys.map((name) => findMatrixKey(face, name)) } };
 }
 
 /**
- * The questions about properties, by their forms. A guard that depends on the past is left out: without it, a property says more.
+ * Creates the question whether the condition of a property is ever true, or whether its label is ever reached.
+ * @param {Property} property
+ * @param {Board} board
+ */
+function neverMet({ condition, address }, board) {
+  return neverQuestion(condition ? listComparisons(condition, true, board) : [counterComparisons(address)]);
+}
+
+/**
+ * The functions that create the question about a property, by property form. The functions omit guards that depend on earlier events. This
+ * is sound, because a property without its guards requires more.
  * @type {Record<string, (property: Property & { condition: Condition }, board: Board, subject: Subject) => Question>}
  */
-const FORMS = {
-  never: ({ condition, address }, board) => neverQuestion(condition ? comparisonsOf(condition, true, board) : [isAt(address)]),
-  always: ({ condition }, board) => neverQuestion(comparisonsOf(condition, false, board)),
+const QUESTIONS_BY_FORM = {
+  never: neverMet,
+  always: ({ condition }, board) => neverQuestion(listComparisons(condition, false, board)),
   at: ({ condition, address }, board) => (
-    neverQuestion(comparisonsOf(condition, false, board).map((comparisons) => [...isAt(address), ...comparisons]))),
+    neverQuestion(listComparisons(condition, false, board).map((comparisons) => [...counterComparisons(address), ...comparisons]))),
   "only after": (property, _board, subject) => pressQuestion(property, subject),
-  reach: ({ condition, address }, board) => neverQuestion(condition ? comparisonsOf(condition, true, board) : [isAt(address)]),
-  "reach at": ({ address }) => neverQuestion([isAt(address)]),
+  reach: neverMet,
+  "reach at": ({ address }) => neverQuestion([counterComparisons(address)]),
   "never for": ({ condition, limit }, board) => (
-    timeQuestion(comparisonsOf(condition, true, board, true), comparisonsOf(condition, false, board, true), limit)),
-  // The counter is at 000 at power-on. If it is there again, the stopwatch runs already.
-  every: ({ address, limit }) => timeQuestion([isAt(POWER_ON), isAt(address)], [isAt(address)], limit),
-  within: ({ start, address, limit }) => timeQuestion([isAt(start)], [isAt(address)], limit),
+    timeQuestion(listComparisons(condition, true, board, true), listComparisons(condition, false, board, true), limit)),
+  // The program counter is 000 at power-on, so the stopwatch starts there. If address 000 is reached again, the stopwatch already runs.
+  every: ({ address, limit }) => (
+    timeQuestion([counterComparisons(POWER_ON_ADDRESS), counterComparisons(address)], [counterComparisons(address)], limit)),
+  within: ({ start, address, limit }) => timeQuestion([counterComparisons(start)], [counterComparisons(address)], limit),
 };
 
 /**
- * Returns the question of a property to the prover. It leaves out the guards of the property.
+ * Returns the question about a property without its guards, or the reason why the prover cannot be asked.
  * @param {Property} property
  * @param {Campaign} campaign
  * @param {Subject} subject
- * @returns {Asked}
+ * @returns {PropertyQuestion}
  */
-export function askedOf(property, { from }, subject) {
-  const form = FORMS[property.form];
+export function createQuestion(property, { from }, subject) {
+  const form = QUESTIONS_BY_FORM[property.form];
   if (!form) return { question: null, words: say.otherForm(property.form) };
   if (from) return { question: null, words: say.BEGINS_LATER };
   try {
     return { question: form(/** @type {Property & { condition: Condition }} */ (property), subject.names.board, subject), words: "" };
   } catch (thrown) {
-    if (!(thrown instanceof NotAsked)) throw thrown;
+    if (!(thrown instanceof UnsupportedQuestion)) throw thrown;
     return { question: null, words: thrown.message };
   }
 }
 
 /**
- * Returns the guards that the question about a property leaves out, by their first words; "" if there are none.
+ * Returns the first words of the guards that the question about a property omits, as text; "" if there are none.
  * @param {Property} property
  */
-export const leftOutOf = ({ guards }) => say.guardsNamed(new Set(guards.map(({ kind }) => kind)));
+export const omittedGuards = ({ guards }) => say.guardsNamed(new Set(guards.map(({ kind }) => kind)));
 
 /**
- * Returns the lines of conditions, one of which is met if all comparisons of one list hold.
+ * Returns the lines for a condition: each conjunction starts with a line that contains only a word.
  * @param {string} word
  * @param {Comparisons[]} lists
  */
-const linesOf = (word, lists) => lists.flatMap((all) => [word, ...all]);
+const conditionLines = (word, lists) => lists.flatMap((all) => [word, ...all]);
 
 /**
- * Returns the lines that a key is up, and then down.
+ * Returns the lines for the requirement that a key is read up, and then down.
  * @param {MatrixKey} key
  */
-const linesOfPress = (key) => ["up", "down"].map((level) => [level, textOfKey(key)].join(" "));
+const keyPressLines = (key) => ["up", "down"].map((level) => [level, formatKey(key)].join(" "));
 
 /**
- * Returns the lines of a question.
+ * Formats a question for the prover.
  * @param {{ board: string, program: string }} texts
  * @param {Question} question
  * @param {QuestionLimits} limits
  */
 export function questionText({ board, program }, { nevers, mistakes, stopwatch, presses }, { most, memory = 0, sets = 0, pause = PAUSE }) {
-  const given = Object.entries({ memory, sets }).filter(([, number]) => number > 0);
-  const limits = [["most", most], ...given, ["pause", pause]].map((words) => words.join(" "));
+  const optionalLimits = Object.entries({ memory, sets }).filter(([, number]) => number > 0);
+  const limits = [["most", most], ...optionalLimits, ["pause", pause]].map((words) => words.join(" "));
   const texts = [`wire\n${sentText(board, "#")}.`, `asm\n${sentText(program, ";")}.`];
-  const made = mistakes.length > 0 ? ["never", ["mistake", ...mistakes].join(" ")] : [];
-  const timed = stopwatch ? [`within ${stopwatch.within}`, ...linesOf("begin", stopwatch.begins), ...linesOf("end", stopwatch.ends)] : [];
-  const pressed = presses ? [...linesOf("open", presses.opens), ...presses.keys.flatMap(linesOfPress)] : [];
-  return `${[...limits, ...texts, ...linesOf("never", nevers), ...made, ...timed, ...pressed, "prove"].join("\n")}\n`;
+  const mistakeLines = mistakes.length > 0 ? ["never", ["mistake", ...mistakes].join(" ")] : [];
+  const stopwatchLines = stopwatch
+    ? [`within ${stopwatch.within}`, ...conditionLines("begin", stopwatch.begins), ...conditionLines("end", stopwatch.ends)] : [];
+  const pressLines = presses ? [...conditionLines("open", presses.opens), ...presses.keys.flatMap(keyPressLines)] : [];
+  const neverLines = conditionLines("never", nevers);
+  return `${[...limits, ...texts, ...neverLines, ...mistakeLines, ...stopwatchLines, ...pressLines, "prove"].join("\n")}\n`;
 }
 
 /** @type {[RegExp, NoAnswer][]} */
-const OTHERS = [[/^too many$/, { kind: "more" }], [/^gave up$/, { kind: "lost" }], [/^no 90$/, { kind: "full", states: 0 }]];
+const OTHER_ANSWERS = [[/^too many$/, { kind: "more" }], [/^gave up$/, { kind: "lost" }], [/^no 90$/, { kind: "full", states: 0 }]];
 
 /**
- * Reads the answer; returns null if it is a refusal, or not an answer.
+ * Parses an answer of the prover. Returns null for a refusal and for any other text.
  * @param {string} text
  * @returns {Answer | null}
  */
@@ -240,8 +263,8 @@ export function readAnswer(text) {
   if (states) return { kind: "holds", states: Number(states) };
   const [, values] = /^may fail((?: \d+)*)$/.exec(line) || [];
   if (values !== undefined) return { kind: "fails", values: values.split(" ").slice(1).map(Number) };
-  const [, room] = /^no room (\d+)$/.exec(line) || [];
-  if (room) return { kind: "full", states: Number(room) };
-  const [, other = null] = OTHERS.find(([form]) => form.test(line)) || [];
+  const [, stateCount] = /^no room (\d+)$/.exec(line) || [];
+  if (stateCount) return { kind: "full", states: Number(stateCount) };
+  const [, other = null] = OTHER_ANSWERS.find(([form]) => form.test(line)) || [];
   return other;
 }

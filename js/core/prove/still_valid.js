@@ -1,4 +1,4 @@
-// Checks that a verdict is still valid: it depends on the texts that it was given for.
+// Checks whether a verdict remains valid after a change of the board, the program or the properties text.
 
 import { isSetting } from "../explore/campaign.js";
 
@@ -8,42 +8,42 @@ import { isSetting } from "../explore/campaign.js";
  */
 
 /**
- * Returns the lines of a text of properties, trimmed and with single blanks, as they are read.
+ * Returns the lines of a properties text, trimmed and with single blanks, as the parser reads them.
  * @param {string} text
  */
-function linesOf(text) {
+function normalizedLines(text) {
   return text.replace(/^\uFEFF/, "").split(/\r?\n/).map((line) => line.trim().replace(/\s+/g, " "));
 }
 
 /**
- * Returns the lines that a verdict depends on in addition to its property. A proof holds for all inputs, whatever the text lets change, but
- * it begins at power-on.
+ * Returns the lines on which a verdict depends, except the property itself. A proof covers all inputs and starts at power-on, so it depends
+ * only on `from` lines.
  * @param {string[]} lines
  * @param {boolean} isProof
  */
-function settingsOf(lines, isProof) {
+function relevantSettings(lines, isProof) {
   return lines.filter((line) => isSetting(line) && (!isProof || line.startsWith("from "))).join("\n");
 }
 
 /**
  * Returns whether a verdict on a property remains valid for changed texts.
  * @param {JudgedLine} judged
- * @param {ProvedTexts} then
- * @param {ProvedTexts} now
+ * @param {ProvedTexts} oldTexts the texts for which the verdict was given
+ * @param {ProvedTexts} newTexts
  */
-export function stillStands({ text, line, verdict }, then, now) {
-  if (then.boardText !== now.boardText || then.programText !== now.programText) return false;
-  if (then.propertiesText === now.propertiesText) return true;
-  const [before, lines] = [linesOf(then.propertiesText), linesOf(now.propertiesText)];
+export function isStillValid({ text, line, verdict }, oldTexts, newTexts) {
+  if (oldTexts.boardText !== newTexts.boardText || oldTexts.programText !== newTexts.programText) return false;
+  if (oldTexts.propertiesText === newTexts.propertiesText) return true;
+  const [oldLines, lines] = [normalizedLines(oldTexts.propertiesText), normalizedLines(newTexts.propertiesText)];
   const isProof = verdict.kind === "proved";
-  return (line === 0 || lines.includes(text)) && settingsOf(before, isProof) === settingsOf(lines, isProof);
+  return (line === 0 || lines.includes(text)) && relevantSettings(oldLines, isProof) === relevantSettings(lines, isProof);
 }
 
 /**
- * Returns the line of a property in a text, from 1; 0 if it is not there.
+ * Returns the line number of a property in a properties text, from 1; 0 if the text does not contain the property.
  * @param {string} property
  * @param {string} text
  */
-export function lineNow(property, text) {
-  return linesOf(text).indexOf(property) + 1;
+export function findPropertyLine(property, text) {
+  return normalizedLines(text).indexOf(property) + 1;
 }

@@ -1,14 +1,15 @@
-// The way to a violation, from the values that were read to steps of keys and TEST: the bench runs it, and each read gets its keys.
+// Converts the input values in a counterexample of the prover to steps of keys and TEST. Runs the program on the bench. Before each read of
+// an input, sets the keys or TEST so that the program reads the next value.
 
 import { readCounter, readRun } from "../bench/answers.js";
-import { upTo } from "../bench/numbers.js";
-import { ADDRESSES } from "../bench/rom_bytes.js";
-import { portsOf, partsOfState } from "../bench/state_line.js";
-import { isSameKey, lineOfKey, matrixKey, pinKey } from "../board/key_place.js";
-import { MOST_ON } from "../debug/breakpoints.js";
-import { LONGEST_RUN } from "../engine/key_queue.js";
+import { indices } from "../bench/numbers.js";
+import { ADDRESS_COUNT } from "../bench/rom_bytes.js";
+import { parsePorts, parseState } from "../bench/state_line.js";
+import { isSameKey, keyLine, matrixKey, pinKey } from "../board/key_place.js";
+import { MAX_ENABLED } from "../debug/breakpoints.js";
+import { MAX_RUN_CYCLES } from "../engine/key_queue.js";
 import { RDR } from "../engine/rom_codes.js";
-import { inputOf, keysOf, pinOf } from "../explore/explored_inputs.js";
+import { createInput, createTestInput, listKeyInputs } from "../explore/explored_inputs.js";
 import { PAUSE } from "./question.js";
 
 /**
@@ -17,25 +18,29 @@ import { PAUSE } from "./question.js";
  * @typedef {import("../explore/walks.js").WalkStep} WalkStep
  */
 
-/** @param {number} code of a JCN with TEST among its conditions */
-const looksAtTest = (code) => (code & 0xF1) === 0x11;
+/**
+ * Returns whether an instruction is a JCN with TEST among its conditions.
+ * @param {number} code
+ */
+const readsTest = (code) => (code & 0xF1) === 0x11;
 
 /**
- * Returns all inputs of a board: each key, by its name if it has one, and the TEST pin.
+ * Returns all inputs of a board: the keys, named or not, and the TEST pin last.
  * @param {Subject} subject
  * @returns {Input[]}
  */
-export function allInputs({ names: { face, board } }) {
-  const named = new Map(keysOf(face).map((input) => [input.down, input]));
-  const keys = upTo(board.rows).flatMap((row) => upTo(board.columns).map((column) => {
+export function listInputs({ names: { face, board } }) {
+  const namedInputs = new Map(listKeyInputs(face).map((input) => [input.down, input]));
+  const keys = indices(board.rows).flatMap((row) => indices(board.columns).map((column) => {
     const key = matrixKey(row, column);
-    const [down, up] = [lineOfKey("press", key), lineOfKey("release", key)];
-    return named.get(down) || inputOf(`${row},${column}`, key, [down, up]);
+    const [down, up] = [keyLine("press", key), keyLine("release", key)];
+    return namedInputs.get(down) || createInput(`${row},${column}`, key, [down, up]);
   }));
-  return [...keys, pinOf(face)];
+  return [...keys, createTestInput(face)];
 }
 
-class Way {
+/** A session that reads given input values. */
+class ValueReplay {
   /**
    * @param {Subject} subject
    * @param {Input[]} inputs
@@ -45,91 +50,91 @@ class Way {
     this.inputs = inputs;
     this.file = subject.file.slice();
     this.down = inputs.map(({ isDown }) => isDown);
-    this.waited = 0;
+    this.cyclesSinceChange = 0;
     /** @type {WalkStep[]} */
     this.steps = [];
-    this.asking = upTo(ADDRESSES).filter((address) => this.asksBy(subject.codes[address]));
+    this.readAddresses = indices(ADDRESS_COUNT).filter((address) => this.readsInput(subject.codes[address]));
   }
 
   /**
    * Returns whether an instruction reads an input.
    * @param {number} code
    */
-  asksBy(code) {
-    return code === RDR || looksAtTest(code);
+  readsInput(code) {
+    return code === RDR || readsTest(code);
   }
 
   /**
-   * Serves lines, and returns their answers.
+   * Serves bench lines and returns their answers.
    * @param {string} lines
    */
   serve(lines) {
     return this.subject.engine.serve(this.file, lines, this.file).answers;
   }
 
-  /** Returns the code of the next cycle that reads an input; -1 if it does not read. */
-  asked() {
+  /** Returns the code of the next instruction if its first cycle is next and it reads an input; otherwise -1. */
+  nextReadCode() {
     const { counter, owed } = readCounter(this.subject.engine.ask(this.file, "regs\n").answers[0]);
     const code = this.subject.codes[parseInt(counter, 16)];
-    return owed === "1" || !this.asksBy(code) ? -1 : code;
+    return owed === "1" || !this.readsInput(code) ? -1 : code;
   }
 
   /**
    * Moves an input down or up.
-   * @param {number} at
+   * @param {number} index
    * @param {boolean} isDown
    */
-  put(at, isDown) {
-    if (this.down[at] === isDown) return;
-    this.down[at] = isDown;
-    this.serve(`${isDown ? this.inputs[at].down : this.inputs[at].up}\n`);
-    this.steps.push({ wait: this.waited, kind: isDown ? "down" : "up", input: at });
-    this.waited = 0;
+  moveInput(index, isDown) {
+    if (this.down[index] === isDown) return;
+    this.down[index] = isDown;
+    this.serve(`${isDown ? this.inputs[index].down : this.inputs[index].up}\n`);
+    this.steps.push({ wait: this.cyclesSinceChange, kind: isDown ? "down" : "up", input: index });
+    this.cyclesSinceChange = 0;
   }
 
   /**
    * Sets TEST to a level.
    * @param {number} level
    */
-  putTest(level) {
+  setTest(level) {
     const pin = this.inputs.length - 1;
-    this.put(pin, isSameKey(this.inputs[pin].key, pinKey(level)));
+    this.moveInput(pin, isSameKey(this.inputs[pin].key, pinKey(level)));
   }
 
   /**
-   * Sets keys so that the selected port reads a value: for each line one key in a driven row, or none.
+   * Sets the keys so that the program reads a value at the selected port: for each 1 bit, presses a key in a driven row.
    * @param {number} value
    */
-  putKeys(value) {
+  setKeys(value) {
     const { board: { matrix, rows, columns } } = this.subject.names;
     if (!matrix) return;
-    const { sources, chains } = portsOf(partsOfState(this.subject.engine.ask(this.file, "state\n").answers[0]).ports);
+    const { sources, chains } = parsePorts(parseState(this.subject.engine.ask(this.file, "state\n").answers[0]).ports);
     const port = `rom${parseInt(sources[0][0], 16)}`;
-    const driven = upTo(rows).filter((row) => chains[matrix.chain][matrix.first + row] === "1");
-    const wanted = new Set(upTo(4).filter((line) => Math.floor(value / 2 ** line) % 2 === 1));
-    for (const column of upTo(columns)) {
+    const drivenRows = indices(rows).filter((row) => chains[matrix.chain][matrix.first + row] === "1");
+    const wantedLines = new Set(indices(4).filter((line) => Math.floor(value / 2 ** line) % 2 === 1));
+    for (const column of indices(columns)) {
       const [chip, line] = matrix.columns[column].split(".");
       if (chip !== port) continue;
-      const isWanted = wanted.delete(Number(line));
-      driven.forEach((row, at) => this.put(row * columns + column, isWanted && at === 0));
+      const isWanted = wantedLines.delete(Number(line));
+      drivenRows.forEach((row, at) => this.moveInput(row * columns + column, isWanted && at === 0));
     }
   }
 
   /**
-   * Runs some cycles, and returns why the run stopped.
+   * Runs for a number of cycles. Returns the cycles of the run and the reason for its stop.
    * @param {number} count
    */
   run(count) {
     const [answer] = this.serve(`run ${count}\n`);
     const { cycles, end } = readRun(answer) || { cycles: 0, end: "" };
-    this.waited += cycles;
+    this.cyclesSinceChange += cycles;
     return { cycles, end };
   }
 
-  /** Runs to the next cycle that reads, or to a cut; returns false if no cycle can follow. */
-  runOn() {
-    for (let left = PAUSE; left > 0 && this.asked() < 0;) {
-      const { cycles, end } = this.run(Math.min(left, this.asking.length <= MOST_ON ? LONGEST_RUN : 1));
+  /** Runs to the next read of an input, at most PAUSE cycles. Returns false if the program cannot continue. */
+  runToRead() {
+    for (let left = PAUSE; left > 0 && this.nextReadCode() < 0;) {
+      const { cycles, end } = this.run(Math.min(left, this.readAddresses.length <= MAX_ENABLED ? MAX_RUN_CYCLES : 1));
       left -= cycles;
       if (end === "code" || end === "") return false;
     }
@@ -138,34 +143,35 @@ class Way {
 
   /**
    * Sets the inputs for the next cycle.
-   * @param {number} value that this cycle reads, 0 if it reads nothing
+   * @param {number} value the value that the next cycle reads; 0 if the cycle does not read an input
    */
-  putFor(value) {
-    const code = this.asked();
-    if (code === RDR) this.putKeys(value);
-    else if (code >= 0) this.putTest(value);
+  setInputs(value) {
+    const code = this.nextReadCode();
+    if (code === RDR) this.setKeys(value);
+    else if (code >= 0) this.setTest(value);
   }
 }
 
 /**
- * Returns the steps by which these values are read, one after the other; the state after the last of them, and the cycles up to the next
- * read, in which the violation must be.
+ * Returns the steps with which the program reads given values one after the other.
  * @param {Subject} subject
- * @param {Input[]} inputs all that can change
+ * @param {Input[]} inputs all inputs of the board
  * @param {number[]} values
- * @returns {{ steps: WalkStep[], time: number, file: Uint8Array, rest: number }} `time` is the sum of the waits
+ * @returns {{ steps: WalkStep[], time: number, file: Uint8Array, rest: number }} the steps, their total wait, the session file after the
+ *   last step, and the number of cycles from there to the end, in which the violation must happen
  */
-export function wayOf(subject, inputs, values) {
-  const way = new Way(subject, inputs);
-  if (way.asking.length <= MOST_ON) way.serve(way.asking.map((address) => `break ${address}\n`).join(""));
-  let file = way.file.slice();
+export function replayValues(subject, inputs, values) {
+  const replay = new ValueReplay(subject, inputs);
+  if (replay.readAddresses.length <= MAX_ENABLED) replay.serve(replay.readAddresses.map((address) => `break ${address}\n`).join(""));
+  let file = replay.file.slice();
   values.every((value) => {
-    const { length } = way.steps;
-    way.putFor(value);
-    if (way.steps.length > length) file = way.file.slice();
-    way.run(1);
-    return way.runOn();
+    const { length } = replay.steps;
+    replay.setInputs(value);
+    if (replay.steps.length > length) file = replay.file.slice();
+    replay.run(1);
+    return replay.runToRead();
   });
-  if (way.asking.length <= MOST_ON) subject.engine.serve(file, way.asking.map((address) => `unbreak ${address}\n`).join(""), file);
-  return { steps: way.steps, time: way.steps.reduce((sum, { wait }) => sum + wait, 0), file, rest: way.waited };
+  const unbreakLines = replay.readAddresses.map((address) => `unbreak ${address}\n`).join("");
+  if (replay.readAddresses.length <= MAX_ENABLED) subject.engine.serve(file, unbreakLines, file);
+  return { steps: replay.steps, time: replay.steps.reduce((sum, { wait }) => sum + wait, 0), file, rest: replay.cyclesSinceChange };
 }

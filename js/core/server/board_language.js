@@ -1,7 +1,7 @@
 // Handlers for an editor's requests about a board text. They use the same modules as the page's editor.
 
 import { Face } from "../board/face.js";
-import { AllFaultsOfTexts, faultsOfFace } from "../text/all_faults.js";
+import { TextErrorFinder, findFrontPanelErrors } from "../text/all_faults.js";
 import { wordAt } from "../text/assembly.js";
 import { readBoardText } from "../text/board_reader.js";
 import { completeBoard } from "../text/board_completion.js";
@@ -10,8 +10,8 @@ import { commentAt } from "../text/text_fault.js";
 import { helpForBoard } from "../text/text_help.js";
 import { tomlWords } from "../text/toml_words.js";
 import { BoardReferences } from "./board_references.js";
-import { asMarkdown } from "./markdown.js";
-import { REQUEST_FAILED, ProtocolError, rangeOf } from "./lsp_protocol.js";
+import { escapeMarkdown } from "./markdown.js";
+import { REQUEST_FAILED, ProtocolError, rangeInLine } from "./lsp_protocol.js";
 import * as say from "../../words/server.js";
 
 /**
@@ -28,65 +28,65 @@ const PROPERTY_COMPLETION = 10;
 export class BoardLanguage {
   /**
    * @param {TextBench} bench
-   * @param {Map<string, Map<string, string>>} tables the manual tables
-   * @param {(number: number) => string} wordsOf returns the message of a refusal
+   * @param {Map<string, Map<string, string>>} tables the manual's descriptions of board keys, by table name
+   * @param {(number: number) => string} refusalMessage returns the message of a refusal
    */
-  constructor(bench, tables, wordsOf) {
+  constructor(bench, tables, refusalMessage) {
     this.parts = PARTS.board;
     this.tables = tables;
-    this.allFaults = new AllFaultsOfTexts(bench.queries(), { instructions: new Map(), tables }, wordsOf);
+    this.allFaults = new TextErrorFinder(bench.queries(), { instructions: new Map(), tables }, refusalMessage);
   }
 
   /**
-   * @param {OpenText} open
+   * @param {OpenText} openText
    * @param {() => boolean} isWanted
    */
   async faults({ text }, isWanted) {
-    const found = await this.allFaults.ofBoard(text, isWanted);
-    return found && { ...found, faults: [...found.faults, ...faultsOfFace(text)] };
+    const found = await this.allFaults.findInBoard(text, isWanted);
+    return found && { ...found, faults: [...found.faults, ...findFrontPanelErrors(text)] };
   }
 
   /**
-   * @param {OpenText} open
+   * @param {OpenText} openText
    * @param {Position} position
    */
   hover({ lines, text }, { line, character }) {
     if (character > commentAt(lines[line], "#")) return null;
     const words = helpForBoard(lines, line, character, this.tables);
     const word = wordAt(lines[line], character);
-    if (words && word) return { words, markdown: asMarkdown(words), range: rangeOf(line + 1, word.from, word.to) };
+    if (words && word) return { words, markdown: escapeMarkdown(words), range: rangeInLine(line + 1, word.from, word.to) };
     const references = new BoardReferences(text);
     const value = references.valueAt(line + 1, character);
-    const hoverText = value ? references.wordsOf(value, new Face(text)) : "";
-    return value && hoverText ? { words: hoverText, markdown: asMarkdown(hoverText),
-      range: rangeOf(value.line, value.from, value.to) } : null;
+    const hoverText = value ? references.describeValue(value, new Face(text)) : "";
+    return value && hoverText ? { words: hoverText, markdown: escapeMarkdown(hoverText),
+      range: rangeInLine(value.line, value.from, value.to) } : null;
   }
 
   /**
-   * Returns the range of the chip or chain for the value at a position; null if there is none.
-   * @param {OpenText} open
+   * Returns the range of the chip or chain that the value at a position refers to; null if there is none.
+   * @param {OpenText} openText
    * @param {Position} position
    */
   definition({ text }, { line, character }) {
     const references = new BoardReferences(text);
     const value = references.valueAt(line + 1, character);
-    const part = value && references.partOf(value);
-    return part ? rangeOf(part.line, part.from, part.to) : null;
+    const part = value && references.findPart(value);
+    return part ? rangeInLine(part.line, part.from, part.to) : null;
   }
 
   /**
    * Returns the ranges of all values that refer to the chip or chain at a position.
-   * @param {OpenText} open
+   * @param {OpenText} openText
    * @param {Position} position
    * @param {boolean} withDefinition
    */
   references({ text }, { line, character }, withDefinition) {
     const references = new BoardReferences(text);
     const value = references.valueAt(line + 1, character);
-    const part = (value && references.partOf(value)) || references.partAt(line + 1);
+    const part = (value && references.findPart(value)) || references.partAtLine(line + 1);
     if (!part) return [];
-    const found = references.values.filter((each) => references.partOf(each) === part);
-    return [...(withDefinition ? [part] : []), ...found].map((each) => rangeOf(each.line, each.from, each.to));
+    const found = references.values.filter((each) => references.findPart(each) === part);
+    return [...(withDefinition ? [part] : []), ...found].map((each) => rangeInLine(each.line, each.from, each.to));
   }
 
   /** @returns {import("./lsp_protocol.js").TextEdit[]} */
@@ -95,7 +95,7 @@ export class BoardLanguage {
   }
 
   /**
-   * @param {OpenText} open
+   * @param {OpenText} openText
    * @param {Position} position
    * @param {string} trigger
    */
@@ -108,23 +108,23 @@ export class BoardLanguage {
   }
 
   /**
-   * Returns the parts of the board with their table ranges.
-   * @param {OpenText} open
+   * Returns the chips, chains, keys and lamps of the board as symbols, with the ranges of their tables.
+   * @param {OpenText} openText
    */
   symbols({ lines, text }) {
-    const { entries, lamps, nameOf } = new BoardReferences(text);
+    const { entries, lamps, partName } = new BoardReferences(text);
     const face = new Face(text);
     return entries.map((entry) => {
       const faceText = face.lamps.get(lamps.indexOf(entry));
-      const last = entry.keys.reduce((most, { line, value }) => Math.max(most, line, value.line), entry.line);
-      const range = { start: rangeOf(entry.line, entry.from, 0).start, end: rangeOf(last, 0, lines[last - 1].length).end };
-      const selectionRange = rangeOf(entry.line, entry.from, entry.to);
-      return { name: nameOf(entry), kind: OBJECT, detail: faceText ? faceText.text : "", range, selectionRange };
+      const lastLine = entry.keys.reduce((most, { line, value }) => Math.max(most, line, value.line), entry.line);
+      const range = { start: rangeInLine(entry.line, entry.from, 0).start, end: rangeInLine(lastLine, 0, lines[lastLine - 1].length).end };
+      const selectionRange = rangeInLine(entry.line, entry.from, entry.to);
+      return { name: partName(entry), kind: OBJECT, detail: faceText ? faceText.text : "", range, selectionRange };
     });
   }
 
   /**
-   * @param {OpenText} open
+   * @param {OpenText} openText
    * @returns {ColouredWord[]}
    */
   colours({ lines, text }) {
@@ -134,8 +134,8 @@ export class BoardLanguage {
     const words = tomlWords(lines);
     return [...comments, ...words.flatMap(({ kind, text: word, line, from, to }, at) => {
       if (kind !== "bare" && kind !== "string") return [];
-      const before = words[at - 1] ? words[at - 1].text : "";
-      const isHeader = headers.has(line) && before === "[" && /^\s*\[/.test(lines[line - 1]);
+      const previousWord = words[at - 1] ? words[at - 1].text : "";
+      const isHeader = headers.has(line) && previousWord === "[" && /^\s*\[/.test(lines[line - 1]);
       const isKey = words[at + 1] && words[at + 1].text === "=" && words[at + 1].kind === "mark";
       const valueType = kind === "string" ? "string" : /^[+-]?\d/.test(word) ? "number" : "";
       const type = isHeader ? "class" : isKey ? "property" : valueType;

@@ -1,4 +1,4 @@
-// Finds the parts of a board in its text (chips and chains), and the values that refer to them, such as the line of a lamp.
+// Finds the tables of a board text that define chips and chains, and the values that refer to these, such as the port line of a lamp.
 
 import { readBoardText } from "../text/board_reader.js";
 import * as say from "../../words/server.js";
@@ -6,7 +6,7 @@ import * as say from "../../words/server.js";
 /**
  * @typedef {import("../text/board_reader.js").Entry} Entry
  * @typedef {import("../text/board_reader.js").Value} Value
- * @typedef {Value & { key: string, entry: Entry }} KeyedValue a value that is not an array, with its key and its table
+ * @typedef {Value & { key: string, entry: Entry }} KeyedValue a value or an array element, with its key and its table
  */
 
 /** Matches the name of a port line or a chain bit, such as `rom0.2`, `ram0.1.3` or `chain0.5`. */
@@ -19,7 +19,7 @@ const NUMBER_KEYS = { rom: "chip", ram: "bank" };
  * @param {Entry} entry
  * @param {string} name
  */
-function valueOf({ keys }, name) {
+function keyValue({ keys }, name) {
   const key = keys.find((each) => each.name === name);
   return key && key.value.inner;
 }
@@ -37,20 +37,20 @@ export class BoardReferences {
       return inner.map((each) => ({ ...each, key: name, entry }));
     }));
     /** @type {Map<Entry, number>} the index of each table among tables with the same name */
-    this.numbers = new Map();
+    this.tableIndexes = new Map();
     /** @type {Map<string, Entry>} the first table of each chip, by chip name (`rom 3`, `ram 0`) */
     this.chips = new Map();
     /** @type {Map<string, number>} */
     const counts = new Map();
     for (const entry of entries) {
       const { table } = entry;
-      const before = counts.get(table) || 0;
-      const chip = `${table} ${valueOf(entry, NUMBER_KEYS[table])}`;
-      this.numbers.set(entry, before);
-      counts.set(table, before + 1);
+      const index = counts.get(table) || 0;
+      const chip = `${table} ${keyValue(entry, NUMBER_KEYS[table])}`;
+      this.tableIndexes.set(entry, index);
+      counts.set(table, index + 1);
       if (!this.chips.has(chip)) this.chips.set(chip, entry);
     }
-    this.nameOf = this.nameOf.bind(this);
+    this.partName = this.partName.bind(this);
   }
 
   /**
@@ -63,11 +63,11 @@ export class BoardReferences {
   }
 
   /**
-   * Returns the chip or chain that a value refers to; null if there is none.
+   * Returns the table of the chip or chain that a value refers to; null if there is none.
    * @param {KeyedValue} value
    * @returns {Entry | null}
    */
-  partOf({ inner, key, entry }) {
+  findPart({ inner, key, entry }) {
     if (entry.table === "[keys]" && key === "chain") return this.chains[Number(inner)] || null;
     const found = LINE_NAME.exec(String(inner));
     if (!found || key === "port") return null;
@@ -77,33 +77,33 @@ export class BoardReferences {
   }
 
   /**
-   * Returns the chip or chain whose table contains a line; null if there is none.
+   * Returns the table of a chip or chain that contains a line; null if there is none.
    * @param {number} line the line number from 1
    */
-  partAt(line) {
+  partAtLine(line) {
     const contains = (/** @type {Entry} */ entry) => line >= entry.line && entry.keys.some((key) => line <= key.line);
     return this.entries.filter((entry) => ["rom", "ram", "chain"].includes(entry.table) && contains(entry)).pop() || null;
   }
 
   /**
-   * Returns the name of a part with its number, such as `rom 3` or `lamp 0`.
+   * Returns the name of a table with its number, such as `rom 3` or `lamp 0`.
    * @param {Entry} entry
    */
-  nameOf(entry) {
+  partName(entry) {
     const kind = entry.table.replace(/[[\]]/g, "");
-    const number = NUMBER_KEYS[kind] && valueOf(entry, NUMBER_KEYS[kind]);
+    const number = NUMBER_KEYS[kind] && keyValue(entry, NUMBER_KEYS[kind]);
     if (number !== undefined) return `${kind} ${kind === "ram" ? "bank " : ""}${number}`;
     if (entry.table === "[keys]") return "keys";
-    return `${kind} ${this.numbers.get(entry)}`;
+    return `${kind} ${this.tableIndexes.get(entry)}`;
   }
 
   /**
-   * Returns the hover text for a value that is a line name: the line, its lamp, and the location of its chip. Returns "" for any other
-   * value.
+   * Returns the hover text for a value that names a port line or a chain bit: a description of the line, its lamp, and the line number of
+   * the chip in the text. Returns "" for any other value.
    * @param {KeyedValue} value
    * @param {import("../board/face.js").Face} face
    */
-  wordsOf(value, face) {
+  describeValue(value, face) {
     const found = LINE_NAME.exec(String(value.inner));
     if (!found || value.key === "port") return "";
     const [name, kind, first, second, third] = found;
@@ -113,7 +113,7 @@ export class BoardReferences {
     const lamp = this.lamps.indexOf(value.entry);
     const faceText = face.lamps.get(lamp);
     const lampText = lamp < 0 ? "" : `, lamp ${lamp}${faceText ? ` (${faceText.text})` : ""}`;
-    const part = this.partOf(value);
+    const part = this.findPart(value);
     return `${name}: ${lineText}${lampText}${part ? say.definedIn(kind === "chain", part.line) : ""}.`;
   }
 }

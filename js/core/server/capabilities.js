@@ -1,22 +1,23 @@
-// The capabilities of the server, and the client capabilities that the server uses.
+// Defines the capabilities of the server, and reads the client capabilities that the server uses.
 
-import { fieldOf } from "./framing.js";
+import { getField } from "./framing.js";
 import { MODIFIERS, TYPES } from "./token_codes.js";
 
 /**
  * The capabilities of a client:
- * - `showsMarkdown`: true if a hover can be Markdown;
- * - `pulls`: true if the client requests diagnostics itself;
- * - `refreshesDiagnostics`: true if it requests diagnostics again on demand;
+ * - `showsMarkdown`: true if the client shows hovers in Markdown;
+ * - `pullsDiagnostics`: true if the client requests diagnostics itself;
+ * - `refreshesDiagnostics`: true if the client requests diagnostics again when the server asks for that;
  * - `commands`: the client's commands for code lenses;
  * - `folders`: the URIs of the open folders.
- * @typedef {{ showsMarkdown: boolean, pulls: boolean, refreshesDiagnostics: boolean, commands: Set<string>, folders: string[] }} Client
+ * @typedef {{ showsMarkdown: boolean, pullsDiagnostics: boolean, refreshesDiagnostics: boolean, commands: Set<string>,
+ *   folders: string[] }} Client
  */
 
 const INCREMENTAL = 2;
-/** The client's command that shows references. */
+/** The name of the client's command that shows references. */
 export const SHOW_REFERENCES = "editor.action.showReferences";
-/** The server's command that runs a test. */
+/** The name of the server's command that runs a test. */
 export const RUN_TEST = "mcs4.runTest";
 
 /**
@@ -25,7 +26,7 @@ export const RUN_TEST = "mcs4.runTest";
  * @param {string[]} path the names of the nested fields
  */
 function fieldAt(value, ...path) {
-  return path.reduce((inner, name) => fieldOf(inner, name), value);
+  return path.reduce((inner, name) => getField(inner, name), value);
 }
 
 /**
@@ -33,7 +34,7 @@ function fieldAt(value, ...path) {
  * @param {any} value
  * @returns {any[]}
  */
-function listOf(value) {
+function asList(value) {
   return Array.isArray(value) ? value : [];
 }
 
@@ -42,15 +43,15 @@ function listOf(value) {
  * @param {any} params
  * @returns {Client}
  */
-export function clientOf(params) {
-  const capabilities = fieldOf(params, "capabilities");
-  const folders = listOf(fieldOf(params, "workspaceFolders")).map((each) => fieldOf(each, "uri"));
+export function readClient(params) {
+  const capabilities = getField(params, "capabilities");
+  const folders = asList(getField(params, "workspaceFolders")).map((each) => getField(each, "uri"));
   return {
-    showsMarkdown: listOf(fieldAt(capabilities, "textDocument", "hover", "contentFormat")).includes("markdown"),
-    pulls: fieldAt(capabilities, "textDocument", "diagnostic") !== undefined,
+    showsMarkdown: asList(fieldAt(capabilities, "textDocument", "hover", "contentFormat")).includes("markdown"),
+    pullsDiagnostics: fieldAt(capabilities, "textDocument", "diagnostic") !== undefined,
     refreshesDiagnostics: fieldAt(capabilities, "workspace", "diagnostics", "refreshSupport") === true,
-    commands: new Set(listOf(fieldAt(capabilities, "experimental", "commands", "commands"))),
-    folders: [...folders, fieldOf(params, "rootUri")].filter((each) => typeof each === "string"),
+    commands: new Set(asList(fieldAt(capabilities, "experimental", "commands", "commands"))),
+    folders: [...folders, getField(params, "rootUri")].filter((each) => typeof each === "string"),
   };
 }
 
@@ -59,7 +60,7 @@ export function clientOf(params) {
  * @param {Client} client
  * @returns {object}
  */
-export function capabilitiesFor({ pulls }) {
+export function capabilitiesFor({ pullsDiagnostics }) {
   const diagnostics = { identifier: "mcs4", interFileDependencies: true, workspaceDiagnostics: false };
   return {
     positionEncoding: "utf-16",
@@ -84,6 +85,6 @@ export function capabilitiesFor({ pulls }) {
     inlayHintProvider: true,
     callHierarchyProvider: true,
     semanticTokensProvider: { legend: { tokenTypes: TYPES, tokenModifiers: MODIFIERS }, full: { delta: true }, range: true },
-    ...(pulls ? { diagnosticProvider: diagnostics } : {}),
+    ...(pullsDiagnostics ? { diagnosticProvider: diagnostics } : {}),
   };
 }

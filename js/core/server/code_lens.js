@@ -1,4 +1,5 @@
-// Code lenses: commands above a line. A click runs a test on the server, or shows references if the client has a command for them.
+// Converts code lenses to the protocol's format. A code lens is a command above a line. A click on it runs a test on the server, or shows
+// references if the client has a command for references.
 
 import { RUN_TEST, SHOW_REFERENCES } from "./capabilities.js";
 
@@ -10,7 +11,7 @@ import { RUN_TEST, SHOW_REFERENCES } from "./capabilities.js";
  * @param {string} uri
  * @param {Set<string>} commands the commands of the client
  */
-export function codeLensOf({ range, title, references, test }, uri, commands) {
+export function toCodeLens({ range, title, references, test }, uri, commands) {
   if (test !== null) return { range, command: { title, command: RUN_TEST, arguments: [uri, test] } };
   if (!references || references.length === 0 || !commands.has(SHOW_REFERENCES)) return { range, command: { title, command: "" } };
   const places = references.map((each) => ({ uri, range: each }));

@@ -1,21 +1,22 @@
-// A connection in the language server protocol (LSP): requests, responses and notifications. `initialize` must be first, `shutdown` and
-// `exit` last.
+// A connection in the language server protocol (LSP): serves requests and notifications, and sends responses. The client must send
+// `initialize` first, and `shutdown` and `exit` last.
 
-import { fieldOf } from "./framing.js";
+import { getField } from "./framing.js";
 import { MessageStream } from "./message_stream.js";
 import {
-  CANCELLED, INTERNAL_ERROR, INVALID_REQUEST, METHOD_NOT_FOUND, NOT_INITIALIZED, PARSE_ERROR, ProtocolError,
+  REQUEST_CANCELLED, INTERNAL_ERROR, INVALID_REQUEST, METHOD_NOT_FOUND, NOT_INITIALIZED, PARSE_ERROR, ProtocolError,
 } from "./lsp_protocol.js";
 import { IT_WAS_CANCELLED } from "../../words/bench.js";
 import * as say from "../../words/server.js";
 
 /**
- * @typedef {number | string | null} Id
+ * @typedef {number | string | null} Id the id of a request
  *
- * A request without a response. If the client cancels it, the response is sent at once; long work checks `isCancelled` and ends.
+ * A request that has no response yet. If the client cancels the request, the server responds at once. Long work checks `isCancelled` and
+ * ends.
  * @typedef {{ isCancelled: boolean }} PendingRequest
  *
- * A request handler: returns the result, or a promise of it.
+ * A request handler. It returns the result, or a promise of the result.
  * @typedef {(params: any, pending: PendingRequest) => unknown} RequestHandler
  *
  * The handlers of requests and notifications, by method name.
@@ -32,7 +33,7 @@ function isId(id) {
 }
 
 /** @type {PendingRequest} for notification handlers; notifications cannot be cancelled */
-const NOT_CANCELLABLE = { isCancelled: false };
+const UNCANCELLABLE_REQUEST = { isCancelled: false };
 
 export class Connection extends MessageStream {
   /**
@@ -43,18 +44,18 @@ export class Connection extends MessageStream {
     super(write);
     this.end = end;
     /** @type {Handlers} */
-    this.served = { requests: {}, notifications: {} };
+    this.handlers = { requests: {}, notifications: {} };
     /** @type {"new" | "open" | "shut"} */
     this.state = "new";
     /** @type {Map<Id, PendingRequest>} the requests without a response */
-    this.unanswered = new Map();
+    this.pendingRequests = new Map();
     /** The number of requests sent to the client. */
     this.sentRequests = 0;
   }
 
   /** @param {string} words */
   reportStreamError(words) {
-    this.refuse(null, new ProtocolError(INVALID_REQUEST, words));
+    this.rejectRequest(null, new ProtocolError(INVALID_REQUEST, words));
   }
 
   /** @param {string} text */
@@ -63,15 +64,15 @@ export class Connection extends MessageStream {
     try {
       message = JSON.parse(text);
     } catch {
-      this.refuse(null, new ProtocolError(PARSE_ERROR, say.NOT_JSON));
+      this.rejectRequest(null, new ProtocolError(PARSE_ERROR, say.NOT_JSON));
       return;
     }
-    const [id, method] = [fieldOf(message, "id"), fieldOf(message, "method")];
+    const [id, method] = [getField(message, "id"), getField(message, "method")];
     // The server ignores responses to its own requests.
     if (method === undefined && isId(id) && ("result" in message || "error" in message)) return;
-    if (typeof method !== "string" || fieldOf(message, "jsonrpc") !== "2.0" || !(id === undefined || isId(id))) {
+    if (typeof method !== "string" || getField(message, "jsonrpc") !== "2.0" || !(id === undefined || isId(id))) {
       const words = say.MESSAGE_FORM;
-      this.refuse(isId(id) ? id : null, new ProtocolError(INVALID_REQUEST, words));
+      this.rejectRequest(isId(id) ? id : null, new ProtocolError(INVALID_REQUEST, words));
     } else if (id === undefined) this.serveNotification(method, message.params);
     else this.serveRequest(id, method, message.params);
   }
@@ -80,7 +81,7 @@ export class Connection extends MessageStream {
    * Returns the error for a request that is not allowed in the current state; null if it is allowed.
    * @param {string} method
    */
-  orderError(method) {
+  lifecycleError(method) {
     if (this.state === "shut") return new ProtocolError(INVALID_REQUEST, say.EXIT_AFTER_SHUTDOWN);
     if (this.state === "new" && method !== "initialize") return new ProtocolError(NOT_INITIALIZED, say.INITIALIZE_FIRST);
     if (this.state === "open" && method === "initialize") return new ProtocolError(INVALID_REQUEST, say.INITIALIZE_ONCE);
@@ -93,24 +94,24 @@ export class Connection extends MessageStream {
    * @param {any} params
    */
   async serveRequest(id, method, params) {
-    const fault = this.orderError(method);
-    const handler = Object.prototype.hasOwnProperty.call(this.served.requests, method) && this.served.requests[method];
-    if (fault || !handler || this.unanswered.has(id)) {
+    const fault = this.lifecycleError(method);
+    const handler = Object.prototype.hasOwnProperty.call(this.handlers.requests, method) && this.handlers.requests[method];
+    if (fault || !handler || this.pendingRequests.has(id)) {
       const notServed = handler ? new ProtocolError(INVALID_REQUEST, say.idWaits(id))
         : new ProtocolError(METHOD_NOT_FOUND, say.noMethod(method));
-      this.refuse(id, fault || notServed);
+      this.rejectRequest(id, fault || notServed);
       return;
     }
     const pending = { isCancelled: false };
-    this.unanswered.set(id, pending);
-    // Messages in the same chunk are served in order, so the state changes before the first `await`.
+    this.pendingRequests.set(id, pending);
+    // The connection handles the messages of a chunk in their order, so the state must change before the first `await`.
     if (method === "initialize") this.state = "open";
     if (method === "shutdown") this.state = "shut";
     try {
       const result = await handler(params, pending);
-      if (this.takeUnanswered(id, pending)) this.send({ id, result: result === undefined ? null : result });
+      if (this.removePending(id, pending)) this.send({ id, result: result === undefined ? null : result });
     } catch (thrown) {
-      if (this.takeUnanswered(id, pending)) this.refuse(id, thrown);
+      if (this.removePending(id, pending)) this.rejectRequest(id, thrown);
     }
   }
 
@@ -119,18 +120,18 @@ export class Connection extends MessageStream {
    * @param {Id} id
    * @param {PendingRequest} pending
    */
-  takeUnanswered(id, pending) {
+  removePending(id, pending) {
     if (pending.isCancelled) return false;
-    return this.unanswered.delete(id);
+    return this.pendingRequests.delete(id);
   }
 
   /** @param {Id} id the id of the request that the client cancels */
   cancel(id) {
-    const pending = this.unanswered.get(id);
+    const pending = this.pendingRequests.get(id);
     if (!pending) return;
     pending.isCancelled = true;
-    this.unanswered.delete(id);
-    this.refuse(id, new ProtocolError(CANCELLED, IT_WAS_CANCELLED));
+    this.pendingRequests.delete(id);
+    this.rejectRequest(id, new ProtocolError(REQUEST_CANCELLED, IT_WAS_CANCELLED));
   }
 
   /**
@@ -140,25 +141,25 @@ export class Connection extends MessageStream {
   async serveNotification(method, params) {
     if (method === "exit") {
       // The response to a `shutdown` in the same chunk is written first.
-      if (this.unanswered.size > 0) await null;
+      if (this.pendingRequests.size > 0) await null;
       this.end(this.state === "shut" ? 0 : 1);
       return;
     }
     if (method === "$/cancelRequest") {
-      this.cancel(fieldOf(params, "id"));
+      this.cancel(getField(params, "id"));
       return;
     }
-    const handler = Object.prototype.hasOwnProperty.call(this.served.notifications, method) && this.served.notifications[method];
+    const handler = Object.prototype.hasOwnProperty.call(this.handlers.notifications, method) && this.handlers.notifications[method];
     if (this.state !== "open" || !handler) return;
     try {
-      await handler(params, NOT_CANCELLABLE);
+      await handler(params, UNCANCELLABLE_REQUEST);
     } catch (thrown) {
       this.logMessage(`${method}: ${thrown instanceof Error ? thrown.message : String(thrown)}`);
     }
   }
 
   /**
-   * Logs an error that does not belong to a request.
+   * Sends the message of an error that does not belong to a request to the client's log.
    * @param {string} words
    */
   logMessage(words) {
@@ -196,7 +197,7 @@ export class Connection extends MessageStream {
    * @param {Id} id
    * @param {unknown} thrown
    */
-  refuse(id, thrown) {
+  rejectRequest(id, thrown) {
     const code = thrown instanceof ProtocolError ? thrown.code : INTERNAL_ERROR;
     this.send({ id, error: { code, message: thrown instanceof Error ? thrown.message : String(thrown) } });
   }

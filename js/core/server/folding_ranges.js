@@ -1,6 +1,6 @@
-// The folding ranges of a text, in the protocol's format.
+// Finds the folding ranges of a text, in the protocol's format.
 
-import { lastFolded } from "../text/folding.js";
+import { findFoldEnd } from "../text/folding.js";
 
 /**
  * @typedef {import("../text/folding.js").Parts} Parts
@@ -13,10 +13,10 @@ import { lastFolded } from "../text/folding.js";
  * @param {Parts} parts
  * @returns {Fold[]}
  */
-export function foldsOf(lines, parts) {
+export function findFolds(lines, parts) {
   const lineAt = (/** @type {number} */ line) => lines[line];
   return lines.flatMap((text, startLine) => {
-    const endLine = lastFolded(lineAt, startLine, parts);
+    const endLine = findFoldEnd(lineAt, startLine, parts);
     if (endLine === startLine) return [];
     const isComment = text.trimStart().startsWith(parts.mark);
     return [isComment ? { startLine, endLine, kind: /** @type {const} */ ("comment") } : { startLine, endLine }];

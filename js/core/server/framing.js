@@ -1,10 +1,10 @@
-// The framing of messages in a stream: a header with the length of the body in bytes, followed by the JSON body.
+// Reads and writes messages in a stream. A message is a header with the length of the body in bytes, followed by the JSON body.
 
 import * as say from "../../words/server.js";
 
-/** The maximum message length in bytes. A longer message is skipped. */
+/** The maximum length of a message body in bytes. The reader skips a longer message. */
 export const MAX_MESSAGE = 16777216;
-/** The maximum length of a skipped message in bytes. A longer message ends the stream. */
+/** The maximum length of a skipped message body in bytes. A longer message ends the stream with an error. */
 export const MAX_SKIPPED = 16 * MAX_MESSAGE;
 /** The maximum header length in bytes. */
 const MAX_HEADER = 4096;
@@ -12,22 +12,22 @@ const MAX_HEADER = 4096;
 const CONTENT_LENGTH = /^content-length[ \t]*:[ \t]*(\d{1,12})[ \t]*$/i;
 
 /**
- * A received message, or the size of a message that was skipped because of its length.
- * @typedef {{ text: string } | { tooLong: number }} Received
+ * The text of a received message; or the size, in bytes, of a message that was skipped because it was too long.
+ * @typedef {{ text: string } | { tooLong: number }} ReceivedMessage
  */
 
-/** The error for a malformed stream. The start of the next message is unknown. */
-export class StreamLost extends Error {}
+/** The error for a malformed stream, in which the reader cannot find the next message. */
+export class StreamError extends Error {}
 
 /**
- * Returns the length of the body in bytes; throws StreamLost if the header does not contain exactly one length.
+ * Returns the length of the body in bytes; throws StreamError if the header does not contain exactly one length.
  * @param {string} header
  */
 function contentLength(header) {
   const sizes = header.split("\r\n").map((line) => CONTENT_LENGTH.exec(line)).filter((each) => each !== null);
-  if (sizes.length !== 1) throw new StreamLost(say.HEAD_FORM);
+  if (sizes.length !== 1) throw new StreamError(say.HEAD_FORM);
   const size = Number(/** @type {RegExpExecArray} */ (sizes[0])[1]);
-  if (size > MAX_SKIPPED) throw new StreamLost(say.sizeTooLarge(size, MAX_SKIPPED));
+  if (size > MAX_SKIPPED) throw new StreamError(say.sizeTooLarge(size, MAX_SKIPPED));
   return size;
 }
 
@@ -36,33 +36,33 @@ export class MessageReader {
   constructor() {
     this.decoder = new TextDecoder();
     this.header = "";
-    /** The number of missing bytes in the body; -1 during the header. */
-    this.missing = -1;
-    /** @type {Uint8Array | null} the buffer for the body; null if the body is skipped */
+    /** The number of bytes of the body that are still missing; -1 while the reader reads a header. */
+    this.missingBytes = -1;
+    /** @type {Uint8Array | null} the buffer for the body; null while the reader skips a body */
     this.body = null;
     this.size = 0;
   }
 
-  /** An error message if a message is incomplete at the end of the stream; "" between messages. */
+  /** An error message if the received bytes end within a message; "" if they end between messages. */
   get incomplete() {
-    if (this.missing > 0) return say.messageIncomplete(this.size - this.missing, this.size);
+    if (this.missingBytes > 0) return say.messageIncomplete(this.size - this.missingBytes, this.size);
     return this.header === "" ? "" : say.HEAD_INCOMPLETE;
   }
 
   /**
-   * Reads bytes and yields the completed messages. Throws StreamLost at bytes that violate the protocol.
+   * Reads bytes and yields the completed messages. Throws StreamError at bytes that violate the protocol.
    * @param {Uint8Array} bytes
-   * @returns {Generator<Received, void>}
+   * @returns {Generator<ReceivedMessage, void>}
    */
   * take(bytes) {
     for (let at = 0; at < bytes.length;) {
-      if (this.missing < 0) at = this.readHeader(bytes, at);
-      const count = Math.min(Math.max(this.missing, 0), bytes.length - at);
-      if (this.body && count > 0) this.body.set(bytes.subarray(at, at + count), this.size - this.missing);
+      if (this.missingBytes < 0) at = this.readHeader(bytes, at);
+      const count = Math.min(Math.max(this.missingBytes, 0), bytes.length - at);
+      if (this.body && count > 0) this.body.set(bytes.subarray(at, at + count), this.size - this.missingBytes);
       at += count;
-      if (this.missing < 0) break;
-      this.missing -= count;
-      if (this.missing === 0) yield this.end();
+      if (this.missingBytes < 0) break;
+      this.missingBytes -= count;
+      if (this.missingBytes === 0) yield this.end();
     }
   }
 
@@ -76,23 +76,23 @@ export class MessageReader {
       this.header += String.fromCharCode(bytes[at]);
       if (this.header.endsWith("\r\n\r\n")) {
         this.size = contentLength(this.header);
-        this.missing = this.size;
+        this.missingBytes = this.size;
         this.body = this.size <= MAX_MESSAGE ? new Uint8Array(this.size) : null;
         this.header = "";
         return at + 1;
       }
-      if (this.header.length > MAX_HEADER) throw new StreamLost(say.headTooLong(MAX_HEADER));
+      if (this.header.length > MAX_HEADER) throw new StreamError(say.headTooLong(MAX_HEADER));
     }
     return bytes.length;
   }
 
   /**
    * Ends a message and returns it.
-   * @returns {Received}
+   * @returns {ReceivedMessage}
    */
   end() {
     const { body, size } = this;
-    this.missing = -1;
+    this.missingBytes = -1;
     this.body = null;
     return body ? { text: this.decoder.decode(body) } : { tooLong: size };
   }
@@ -102,7 +102,7 @@ export class MessageReader {
  * Returns a message as bytes, with its header.
  * @param {object} message
  */
-export function framed(message) {
+export function frameMessage(message) {
   const encoder = new TextEncoder();
   const body = encoder.encode(JSON.stringify(message));
   const header = encoder.encode(`Content-Length: ${body.length}\r\n\r\n`);
@@ -117,6 +117,6 @@ export function framed(message) {
  * @param {any} value
  * @param {string} name
  */
-export function fieldOf(value, name) {
+export function getField(value, name) {
   return typeof value === "object" && value !== null && !Array.isArray(value) ? value[name] : undefined;
 }

@@ -1,7 +1,7 @@
-// Inlay hints for a program: the address and cycles at the end of a line, and the values after names.
+// Creates the inlay hints for a program: the address and the cycles at the end of a line, and the values after names.
 
 import { hex } from "../bench/numbers.js";
-import { partsOf } from "../text/assembly.js";
+import { splitStatement } from "../text/assembly.js";
 import * as say from "../../words/server.js";
 
 /**
@@ -11,11 +11,11 @@ import * as say from "../../words/server.js";
  */
 
 /**
- * Returns the hint for a program name; "" for any other word.
+ * Returns the hint with the value of a program name; "" for any other word.
  * @param {SourceMap} map
  * @param {string} word
  */
-function valueOf(map, word) {
+function nameHint(map, word) {
   const name = map.names.get(word);
   if (!name) return "";
   return `= ${name.isLabel ? `0x${hex(name.value, 3)}` : name.value}`;
@@ -29,17 +29,17 @@ function valueOf(map, word) {
  * @param {(mnemonic: string) => string} cyclesOf returns the cycles of an instruction, "" for any other word
  * @returns {InlayHint[]}
  */
-function hintsOfLine(text, line, map, cyclesOf) {
-  const { head, operands, defines } = partsOf(text);
+function lineHints(text, line, map, cyclesOf) {
+  const { head, operands, defines } = splitStatement(text);
   if (defines) return [];
   const hintAt = (/** @type {number} */ character, /** @type {string} */ label) => (
     { position: { line, character }, label, paddingLeft: true });
-  const values = operands.map(({ text: word, to }) => hintAt(to, valueOf(map, word))).filter(({ label }) => label !== "");
+  const valueHints = operands.map(({ text: word, to }) => hintAt(to, nameHint(map, word))).filter(({ label }) => label !== "");
   const address = map.addressOf(line + 1);
-  if (address === undefined || !head) return values;
+  if (address === undefined || !head) return valueHints;
   const cycles = cyclesOf(head.text.toUpperCase());
   const hintText = cycles ? say.hintOfInstruction(hex(address, 3), cycles) : say.hintOfData(hex(address, 3), map.sizes[line + 1]);
-  return [...values, hintAt(text.length, hintText)];
+  return [...valueHints, hintAt(text.length, hintText)];
 }
 
 /**
@@ -50,6 +50,6 @@ function hintsOfLine(text, line, map, cyclesOf) {
  * @param {Range} range
  * @returns {InlayHint[]}
  */
-export function hintsOf(lines, map, cyclesOf, { start, end }) {
-  return lines.slice(start.line, end.line + 1).flatMap((text, at) => hintsOfLine(text, start.line + at, map, cyclesOf));
+export function createHints(lines, map, cyclesOf, { start, end }) {
+  return lines.slice(start.line, end.line + 1).flatMap((text, at) => lineHints(text, start.line + at, map, cyclesOf));
 }

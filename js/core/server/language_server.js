@@ -2,13 +2,13 @@
 // reports their errors after each edit.
 
 import { boardTables } from "../text/text_help.js";
-import { Words } from "../bench/words.js";
+import { ErrorMessages } from "../bench/words.js";
 import { BoardLanguage } from "./board_language.js";
-import { clientOf } from "./capabilities.js";
-import { diagnosticsOf, faultOfLength } from "./diagnostics.js";
-import { fieldOf } from "./framing.js";
+import { readClient } from "./capabilities.js";
+import { toDiagnostics, lengthError } from "./diagnostics.js";
+import { getField } from "./framing.js";
 import {
-  NOT_BOARDS, boardFor, dependenciesOf, isBoard, isProgram, isProjectFile, isProperties, isTests, projectFor, projectIn,
+  NON_BOARD_FILES, findBoard, findDependencies, isBoard, isProgram, isProjectFile, isPropertyFile, isTestFile, findProject, projectInFolder,
 } from "./kinds.js";
 import { OpenText } from "./open_text.js";
 import { ProgramLanguage } from "./program_language.js";
@@ -30,10 +30,10 @@ import * as say from "../../words/server.js";
  * @typedef {import("./language.js").Language} Language
  *
  * The functions of the host: `readFile` returns the text of a file, `pause` yields to other tasks.
- * @typedef {{ readFile: import("./kinds.js").TextOf, pause: () => Promise<void> }} Host
+ * @typedef {{ readFile: import("./kinds.js").ReadText, pause: () => Promise<void> }} Host
  *
- * An open text with its errors and diagnostics. `checkedEdits` is the number of edits at the last completed check, -1 for none. `check`
- * resolves at the end of the last check.
+ * An open text with its errors and diagnostics. `checkedEdits` is the number of edits before the last completed check, -1 before the first
+ * check. `check` resolves at the end of the current check.
  * @typedef {{ open: OpenText, faults: ShownFault[], diagnostics: Diagnostic[], checkedEdits: number, check: Promise<void> }} CheckedText
  */
 
@@ -50,26 +50,26 @@ export class LanguageServer {
     this.host = host;
     /** @type {Map<string, CheckedText>} */
     this.texts = new Map();
-    const words = new Words(refusals);
-    const wordsOf = (/** @type {number} */ number) => words.ofRefusal(number);
+    const words = new ErrorMessages(refusals);
+    const refusalMessage = (/** @type {number} */ number) => words.refusalMeaning(number);
     const bench = new TextBench(engine);
-    const textOf = (/** @type {string} */ uri, /** @type {string} */ folder) => this.textOf(uri, folder);
-    const dependencies = (/** @type {string} */ uri) => this.dependenciesOf(uri);
-    this.program = new ProgramLanguage(bench, manual, wordsOf, (uri) => this.boardOf(uri), host.pause);
-    this.board = new BoardLanguage(bench, boardTables(manual), wordsOf);
+    const readText = (/** @type {string} */ uri, /** @type {string} */ folder) => this.readText(uri, folder);
+    const dependencies = (/** @type {string} */ uri) => this.findDependencies(uri);
+    this.program = new ProgramLanguage(bench, manual, refusalMessage, (uri) => this.findBoardText(uri), host.pause);
+    this.board = new BoardLanguage(bench, boardTables(manual), refusalMessage);
     this.tests = new TestLanguage(engine, manual, dependencies);
-    this.properties = new PropertyLanguage(engine, manual, dependencies, textOf);
-    this.project = new ProjectLanguage(textOf);
-    this.runs = new TestRuns(engine, wordsOf, dependencies, host.pause);
+    this.properties = new PropertyLanguage(engine, manual, dependencies, readText);
+    this.project = new ProjectLanguage(readText);
+    this.runs = new TestRuns(engine, refusalMessage, dependencies, host.pause);
     /** @type {Client} the client; it has no capabilities before `initialize` */
-    this.client = clientOf({});
-    connection.served = { requests: new Requests(this).table(), notifications: this.notifications() };
+    this.client = readClient({});
+    connection.handlers = { requests: new Requests(this).allHandlers(), notifications: this.notifications() };
   }
 
   /** @returns {Record<string, RequestHandler>} */
   notifications() {
     return {
-      "textDocument/didOpen": (params) => this.didOpen(fieldOf(params, "textDocument")),
+      "textDocument/didOpen": (params) => this.didOpen(getField(params, "textDocument")),
       "textDocument/didChange": (params) => this.didChange(params),
       "textDocument/didClose": (params) => this.didClose(params),
       "workspace/didChangeWatchedFiles": () => this.checkDependents(() => true),
@@ -83,35 +83,35 @@ export class LanguageServer {
    * @param {any} params
    * @returns {CheckedText}
    */
-  textIn(params) {
-    const uri = needText(fieldOf(fieldOf(params, "textDocument"), "uri"), "textDocument.uri");
+  requestedText(params) {
+    const uri = needText(getField(getField(params, "textDocument"), "uri"), "textDocument.uri");
     const text = this.texts.get(uri);
     if (!text) throw new ProtocolError(INVALID_PARAMS, say.notOpen(uri));
     return text;
   }
 
   /**
-   * Returns a text as shown in the editor, or as stored in its file if it is not open. Returns null if it cannot be read.
+   * Returns the text with a URI: from the editor if the text is open, or else from its file. Returns null if the file cannot be read.
    * @param {string} uri
    * @param {string} folder the folder of the project that names the text, "" for none
    */
-  textOf(uri, folder) {
+  readText(uri, folder) {
     const text = this.texts.get(uri);
     return text ? text.open.text : this.host.readFile(uri, folder);
   }
 
   /**
    * Returns the language of a text; null if the language is unknown or the text is too long.
-   * @param {OpenText} open
+   * @param {OpenText} openText
    * @returns {Language | null}
    */
-  languageOf(open) {
-    if (faultOfLength(open)) return null;
-    if (isProjectFile(open.uri)) return this.project;
-    if (isBoard(open)) return this.board;
-    if (isTests(open)) return this.tests;
-    if (isProperties(open)) return this.properties;
-    return isProgram(open) ? this.program : null;
+  findLanguage(openText) {
+    if (lengthError(openText)) return null;
+    if (isProjectFile(openText.uri)) return this.project;
+    if (isBoard(openText)) return this.board;
+    if (isTestFile(openText)) return this.tests;
+    if (isPropertyFile(openText)) return this.properties;
+    return isProgram(openText) ? this.program : null;
   }
 
   /**
@@ -119,10 +119,10 @@ export class LanguageServer {
    * @param {string} uri
    * @returns {import("./beside_language.js").DependencyTexts}
    */
-  dependenciesOf(uri) {
-    const { folder, board, program, tests } = dependenciesOf(uri, (each, inside) => this.textOf(each, inside));
-    const named = (/** @type {string} */ each) => ({ uri: each, text: this.textOf(each, folder) });
-    return { board: named(board), program: named(program), tests: tests.map(named) };
+  findDependencies(uri) {
+    const { folder, board, program, tests } = findDependencies(uri, (each, inside) => this.readText(each, inside));
+    const namedText = (/** @type {string} */ each) => ({ uri: each, text: this.readText(each, folder) });
+    return { board: namedText(board), program: namedText(program), tests: tests.map(namedText) };
   }
 
   /**
@@ -130,67 +130,67 @@ export class LanguageServer {
    * @returns {OpenText[]}
    */
   allTexts() {
-    const textOf = (/** @type {string} */ uri, /** @type {string} */ folder) => this.textOf(uri, folder);
+    const readText = (/** @type {string} */ uri, /** @type {string} */ folder) => this.readText(uri, folder);
     const found = new Map([...this.texts].map(([uri, { open }]) => [uri, open]));
     const projects = [
-      ...this.client.folders.map((uri) => projectIn(`${uri.replace(/\/$/, "")}/`, textOf)),
-      ...[...this.texts.keys()].map((uri) => projectFor(uri, textOf)),
+      ...this.client.folders.map((uri) => projectInFolder(`${uri.replace(/\/$/, "")}/`, readText)),
+      ...[...this.texts.keys()].map((uri) => findProject(uri, readText)),
     ];
     for (const project of projects) {
       if (!project) continue;
       for (const uri of [project.program, project.board, ...project.tests, ...project.properties]) {
-        const text = found.has(uri) ? null : textOf(uri, project.folder);
+        const text = found.has(uri) ? null : readText(uri, project.folder);
         if (text !== null) found.set(uri, new OpenText(uri, "", text, null));
       }
     }
     return [...found.values()];
   }
 
-  /** @param {any} given */
-  didOpen(given) {
-    const uri = needText(fieldOf(given, "uri"), "textDocument.uri");
-    const text = needText(fieldOf(given, "text"), "textDocument.text");
-    const open = new OpenText(uri, String(fieldOf(given, "languageId")), text, fieldOf(given, "version"));
-    const checked = { open, faults: [], diagnostics: [], checkedEdits: -1, check: Promise.resolve() };
+  /** @param {any} document the `textDocument` of the notification */
+  didOpen(document) {
+    const uri = needText(getField(document, "uri"), "textDocument.uri");
+    const text = needText(getField(document, "text"), "textDocument.text");
+    const openText = new OpenText(uri, String(getField(document, "languageId")), text, getField(document, "version"));
+    const checked = { open: openText, faults: [], diagnostics: [], checkedEdits: -1, check: Promise.resolve() };
     this.texts.set(uri, checked);
     this.checkWithDependents(checked);
   }
 
   /** @param {any} params */
   didChange(params) {
-    const text = this.textIn(params);
-    const changes = fieldOf(params, "contentChanges");
+    const text = this.requestedText(params);
+    const changes = getField(params, "contentChanges");
     if (!Array.isArray(changes)) throw new ProtocolError(INVALID_PARAMS, say.CHANGES_ARE);
-    // All changes are checked before the first one is applied.
+    // All changes are checked before the first change is applied.
     const edits = changes.map((change) => {
-      const range = fieldOf(change, "range");
-      return { range: range ? needRange(range) : null, text: needText(fieldOf(change, "text"), say.TEXT_OF_CHANGE) };
+      const range = getField(change, "range");
+      return { range: range ? needRange(range) : null, text: needText(getField(change, "text"), say.TEXT_OF_CHANGE) };
     });
     for (const edit of edits) text.open.edit(edit.range, edit.text);
-    text.open.version = fieldOf(fieldOf(params, "textDocument"), "version");
+    text.open.version = getField(getField(params, "textDocument"), "version");
     this.checkWithDependents(text);
   }
 
   /** @param {any} params */
   didClose(params) {
-    const { open } = this.textIn(params);
-    this.texts.delete(open.uri);
-    if (!this.client.pulls) this.connection.notify("textDocument/publishDiagnostics", { uri: open.uri, diagnostics: [] });
-    this.checkDependents((uri) => this.isAffectedBy(open.uri, uri));
+    const { open: openText } = this.requestedText(params);
+    this.texts.delete(openText.uri);
+    if (!this.client.pullsDiagnostics) this.connection.notify("textDocument/publishDiagnostics", { uri: openText.uri, diagnostics: [] });
+    this.checkDependents((uri) => this.isAffectedBy(openText.uri, uri));
   }
 
   /** @param {string} uri the URI of a program */
-  boardFor(uri) {
-    return boardFor(uri, (each, folder) => this.textOf(each, folder));
+  findBoard(uri) {
+    return findBoard(uri, (each, folder) => this.readText(each, folder));
   }
 
   /**
    * Returns the board text of a program; null if it cannot be read.
    * @param {string} program the URI of the program
    */
-  boardOf(program) {
-    const { uri, folder } = this.boardFor(program);
-    return this.textOf(uri, folder);
+  findBoardText(program) {
+    const { uri, folder } = this.findBoard(program);
+    return this.readText(uri, folder);
   }
 
   // --- errors
@@ -205,10 +205,10 @@ export class LanguageServer {
     if (isProjectFile(uri)) return true;
     const text = this.texts.get(other);
     if (!text || uri === other) return false;
-    // Projects are searched only if necessary, because a program does not depend on another program.
-    const isOfBoth = isTests(text.open) || isProperties(text.open);
-    if (!isOfBoth) return !NOT_BOARDS.test(uri) && this.boardFor(other).uri === uri;
-    const { board, program, tests } = dependenciesOf(other, (each, folder) => this.textOf(each, folder));
+    // A program does not depend on another program, so this search for projects is often unnecessary.
+    const dependsOnProgram = isTestFile(text.open) || isPropertyFile(text.open);
+    if (!dependsOnProgram) return !NON_BOARD_FILES.test(uri) && this.findBoard(other).uri === uri;
+    const { board, program, tests } = findDependencies(other, (each, folder) => this.readText(each, folder));
     return [board, program, ...tests].includes(uri);
   }
 
@@ -239,7 +239,7 @@ export class LanguageServer {
    * Waits until a text is checked with all its edits, including edits that arrive during the wait.
    * @param {CheckedText} text
    */
-  async untilChecked(text) {
+  async waitForCheck(text) {
     while (text.checkedEdits !== text.open.edits && this.texts.get(text.open.uri) === text) await text.check;
   }
 
@@ -248,19 +248,19 @@ export class LanguageServer {
    * @param {CheckedText} text
    */
   async checkText(text) {
-    const { open } = text;
-    const { edits, uri } = open;
-    const isWanted = () => open.edits === edits && this.texts.get(uri) === text;
-    // The pause combines edits that arrive together into one check.
+    const { open: openText } = text;
+    const { edits, uri } = openText;
+    const isWanted = () => openText.edits === edits && this.texts.get(uri) === text;
+    // During the pause, more edits can arrive. One check then covers all of them.
     await this.host.pause();
     if (!isWanted()) return;
     try {
-      const found = await this.faultsOf(open, isWanted);
+      const found = await this.findErrors(openText, isWanted);
       if (!found || !isWanted()) return;
-      Object.assign(text, { faults: found.faults, diagnostics: diagnosticsOf(found.faults, found.areAll), checkedEdits: edits });
+      Object.assign(text, { faults: found.faults, diagnostics: toDiagnostics(found.faults, found.isWhole), checkedEdits: edits });
       this.publish(text);
-      // The program is assembled now, so that the first hover is fast.
-      if (found.faults.length === 0 && this.languageOf(open) === this.program) this.program.assembled(open);
+      // The assembler runs now, so that the first hover is fast.
+      if (found.faults.length === 0 && this.findLanguage(openText) === this.program) this.program.assembleProgram(openText);
     } catch (thrown) {
       Object.assign(text, { faults: [], diagnostics: [], checkedEdits: edits });
       this.connection.logMessage(say.faultsOf(uri, thrown instanceof Error ? thrown.message : String(thrown)));
@@ -272,19 +272,19 @@ export class LanguageServer {
    * @param {CheckedText} text
    */
   publish({ open: { uri, version }, diagnostics }) {
-    if (!this.client.pulls) this.connection.notify("textDocument/publishDiagnostics", { uri, version, diagnostics });
+    if (!this.client.pullsDiagnostics) this.connection.notify("textDocument/publishDiagnostics", { uri, version, diagnostics });
   }
 
   /**
-   * @param {OpenText} open
+   * @param {OpenText} openText
    * @param {() => boolean} isWanted
    */
-  async faultsOf(open, isWanted) {
-    const tooLong = faultOfLength(open);
-    const isKnown = isProgram(open) || isBoard(open) || isTests(open) || isProperties(open);
-    if (tooLong) return { faults: isKnown ? [tooLong] : [], areAll: true };
-    const language = this.languageOf(open);
-    return language ? language.faults(open, isWanted) : { faults: [], areAll: true };
+  async findErrors(openText, isWanted) {
+    const tooLong = lengthError(openText);
+    const isKnown = isProgram(openText) || isBoard(openText) || isTestFile(openText) || isPropertyFile(openText);
+    if (tooLong) return { faults: isKnown ? [tooLong] : [], isWhole: true };
+    const language = this.findLanguage(openText);
+    return language ? language.faults(openText, isWanted) : { faults: [], isWhole: true };
   }
 
   // --- tests
@@ -296,12 +296,12 @@ export class LanguageServer {
    * @param {import("./connection.js").PendingRequest} pending
    */
   async runTest(uri, name, pending) {
-    const text = this.textIn({ textDocument: { uri } });
+    const text = this.requestedText({ textDocument: { uri } });
     const { edits } = text.open;
     const { words, hasPassed, failure } = await this.runs.run(text.open, name, pending);
     this.connection.show(words, !hasPassed);
     if (failure && text.open.edits === edits && failure.uri === uri) {
-      text.diagnostics = [...text.diagnostics, ...diagnosticsOf([failure.fault], true)];
+      text.diagnostics = [...text.diagnostics, ...toDiagnostics([failure.fault], true)];
       this.publish(text);
       if (this.client.refreshesDiagnostics) this.connection.ask("workspace/diagnostic/refresh");
     }

@@ -1,6 +1,6 @@
-// Types, error codes and parameter readers of the language server protocol.
+// Defines types and error codes of the language server protocol, and reads parameters of requests.
 
-import { fieldOf } from "./framing.js";
+import { getField } from "./framing.js";
 import * as say from "../../words/server.js";
 
 /**
@@ -19,7 +19,7 @@ export const INTERNAL_ERROR = -32603;
 export const NOT_INITIALIZED = -32002;
 export const REQUEST_FAILED = -32803;
 export const CONTENT_MODIFIED = -32801;
-export const CANCELLED = -32800;
+export const REQUEST_CANCELLED = -32800;
 
 /** An error that rejects a request. */
 export class ProtocolError extends Error {
@@ -40,18 +40,18 @@ export class ProtocolError extends Error {
  * @param {number} to the column after the range
  * @returns {Range}
  */
-export function rangeOf(line, from, to) {
+export function rangeInLine(line, from, to) {
   return { start: { line: line - 1, character: from }, end: { line: line - 1, character: to } };
 }
 
 /**
  * Checks that a value is a string; throws ProtocolError for any other value.
  * @param {any} value
- * @param {string} what the name of the parameter
+ * @param {string} parameterName the name of the parameter
  * @returns {string}
  */
-export function needText(value, what) {
-  if (typeof value !== "string") throw new ProtocolError(INVALID_PARAMS, say.isText(what));
+export function needText(value, parameterName) {
+  if (typeof value !== "string") throw new ProtocolError(INVALID_PARAMS, say.isText(parameterName));
   return value;
 }
 
@@ -60,7 +60,7 @@ export function needText(value, what) {
  * @returns {Position}
  */
 export function needPosition(value) {
-  const [line, character] = [fieldOf(value, "line"), fieldOf(value, "character")];
+  const [line, character] = [getField(value, "line"), getField(value, "character")];
   if (![line, character].every((each) => Number.isSafeInteger(each) && each >= 0)) {
     throw new ProtocolError(INVALID_PARAMS, say.POSITION_IS);
   }
@@ -72,5 +72,5 @@ export function needPosition(value) {
  * @returns {Range}
  */
 export function needRange(value) {
-  return { start: needPosition(fieldOf(value, "start")), end: needPosition(fieldOf(value, "end")) };
+  return { start: needPosition(getField(value, "start")), end: needPosition(getField(value, "end")) };
 }

@@ -1,10 +1,10 @@
-// Converts text to Markdown. Special characters in the text are escaped, so that it cannot contain links, images or headings.
+// Converts text to Markdown. Escapes special characters, so that the text cannot contain links, images or headings.
 
 /**
  * Returns Markdown that shows a text unchanged.
  * @param {string} text
  */
-export function asMarkdown(text) {
+export function escapeMarkdown(text) {
   return text.replace(/[\\`*_[\]<|~]|&(?=[#\w])|^[#>+-]/gm, "\\$&");
 }
 
@@ -12,7 +12,7 @@ export function asMarkdown(text) {
  * Returns Markdown that shows a text as inline code.
  * @param {string} text
  */
-export function asCode(text) {
+export function formatCode(text) {
   return `\`${text.replace(/[`|]/g, " ")}\``;
 }
 
@@ -20,7 +20,7 @@ export function asCode(text) {
  * Returns Markdown that shows lines in a code block.
  * @param {string[]} lines
  */
-export function asBlock(lines) {
+export function formatBlock(lines) {
   return `~~~text\n${lines.map((line) => line.replace(/~~~/g, "~ ~")).join("\n")}\n~~~`;
 }
 
@@ -29,6 +29,6 @@ export function asBlock(lines) {
  * @param {string[]} head
  * @param {string[][]} rows the rows; their cells are Markdown
  */
-export function asTable(head, rows) {
+export function formatTable(head, rows) {
   return [head, head.map(() => "---"), ...rows].map((cells) => `| ${cells.join(" | ")} |`).join("\n");
 }

@@ -1,7 +1,7 @@
-// The base class for the connections of the language server and the debug adapter. It splits the stream into messages, and reports stream
-// errors to the client. Subclasses serve the messages.
+// The base class for the connections of the language server and the debug adapter. The class splits the stream into messages, and reports
+// stream errors to the client. Subclasses serve the messages.
 
-import { MessageReader, StreamLost, framed } from "./framing.js";
+import { MessageReader, StreamError, frameMessage } from "./framing.js";
 import { messageTooLong } from "../../words/server.js";
 
 export class MessageStream {
@@ -12,7 +12,7 @@ export class MessageStream {
   }
 
   /**
-   * Reads bytes of the stream. If the stream is malformed, reports the error to the client and throws StreamLost.
+   * Reads bytes of the stream. If the stream is malformed, reports the error to the client and throws StreamError.
    * @param {Uint8Array} bytes
    */
   take(bytes) {
@@ -22,16 +22,16 @@ export class MessageStream {
         else this.reportStreamError(messageTooLong(received.tooLong));
       }
     } catch (thrown) {
-      if (thrown instanceof StreamLost) this.reportStreamError(thrown.message);
+      if (thrown instanceof StreamError) this.reportStreamError(thrown.message);
       throw thrown;
     }
   }
 
   /**
-   * Reports an incomplete message at the end of the stream. Returns the error message, or "" if no message is incomplete.
+   * Reports a message that is cut off at the end of the stream. Returns the error message, "" if no message is cut off.
    * @returns {string}
    */
-  refuseIncomplete() {
+  reportIncomplete() {
     const { incomplete } = this.reader;
     if (incomplete !== "") this.reportStreamError(incomplete);
     return incomplete;
@@ -39,7 +39,7 @@ export class MessageStream {
 
   /** @param {object} message */
   writeMessage(message) {
-    this.write(framed(message));
+    this.write(frameMessage(message));
   }
 
   /**

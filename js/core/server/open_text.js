@@ -22,7 +22,7 @@ export class OpenText {
     this.lines = text.split(LINE_END);
     /** The number of edits. */
     this.edits = 0;
-    /** @type {{ text: string, edits: number } | null} a cache of `text`, with the number of edits at the time of caching */
+    /** @type {{ text: string, edits: number } | null} the last result of the getter `text`, and the number of edits at that time */
     this.cachedText = null;
   }
 
@@ -42,29 +42,29 @@ export class OpenText {
    * @param {Position} position
    * @returns {Position}
    */
-  inside({ line, character }) {
+  clampPosition({ line, character }) {
     const last = this.lines.length - 1;
     if (line > last) return { line: last, character: this.lines[last].length };
     return { line, character: Math.min(character, this.lines[line].length) };
   }
 
   /**
-   * Replaces a range.
+   * Replaces the text in a range.
    * @param {Range | null} range null for the whole text
    * @param {string} text the new text
    */
   edit(range, text) {
-    const added = text.split(LINE_END);
+    const addedLines = text.split(LINE_END);
     this.edits += 1;
     if (!range) {
-      this.lines = added;
+      this.lines = addedLines;
       return;
     }
-    const [start, end] = [this.inside(range.start), this.inside(range.end)];
+    const [start, end] = [this.clampPosition(range.start), this.clampPosition(range.end)];
     const isReversed = end.line < start.line || (end.line === start.line && end.character < start.character);
     const [first, last] = isReversed ? [end, start] : [start, end];
-    added[0] = this.lines[first.line].slice(0, first.character) + added[0];
-    added[added.length - 1] += this.lines[last.line].slice(last.character);
-    this.lines = [...this.lines.slice(0, first.line), ...added, ...this.lines.slice(last.line + 1)];
+    addedLines[0] = this.lines[first.line].slice(0, first.character) + addedLines[0];
+    addedLines[addedLines.length - 1] += this.lines[last.line].slice(last.character);
+    this.lines = [...this.lines.slice(0, first.line), ...addedLines, ...this.lines.slice(last.line + 1)];
   }
 }

@@ -1,7 +1,7 @@
-// The call hierarchy of a program, and the code lenses with call counts above its labels.
+// Finds the call hierarchy of a program, and creates the code lenses with call counts above labels.
 
 import { Routines } from "../text/routines.js";
-import { rangeOf } from "./lsp_protocol.js";
+import { rangeInLine } from "./lsp_protocol.js";
 import * as say from "../../words/server.js";
 
 /**
@@ -13,8 +13,8 @@ import * as say from "../../words/server.js";
  * @typedef {import("./lsp_protocol.js").Range} Range
  */
 
-/** @type {(place: CallPlace) => Range} */
-const rangeOfPlace = ({ line, from, to }) => rangeOf(line + 1, from, to);
+/** @type {(place: CallPlace) => Range} returns the range of a call */
+const placeRange = ({ line, from, to }) => rangeInLine(line + 1, from, to);
 
 export class ProgramCalls {
   /**
@@ -32,8 +32,8 @@ export class ProgramCalls {
    * @param {import("../text/routines.js").Routine} routine
    * @returns {Routine}
    */
-  itemOf({ name, line, from, to, last }) {
-    const selectionRange = rangeOf(line + 1, from, to);
+  toRoutine({ name, line, from, to, last }) {
+    const selectionRange = rangeInLine(line + 1, from, to);
     const range = { start: { line, character: 0 }, end: { line: last, character: this.lines[last].length } };
     return { name: name || say.PROGRAM_BEGIN, detail: name && this.map ? this.map.meaningOf(name) : "", range, selectionRange };
   }
@@ -43,17 +43,17 @@ export class ProgramCalls {
    * @param {{ routine: import("../text/routines.js").Routine, places: CallPlace[] }[]} calls
    * @returns {Call[]}
    */
-  callsOf(calls) {
-    return calls.map(({ routine, places }) => ({ routine: this.itemOf(routine), ranges: places.map(rangeOfPlace) }));
+  toCalls(calls) {
+    return calls.map(({ routine, places }) => ({ routine: this.toRoutine(routine), ranges: places.map(placeRange) }));
   }
 
   /**
-   * Returns the routine with a name. If there is none, returns the routine that contains a line; null if there is none either.
+   * Returns the routine with a name, or else the routine that contains a line; null if neither exists.
    * @param {string} name the name, "" for none
    * @param {number} line the line number from 0
    */
-  find(name, line) {
-    return this.routines.routineOf(name) || this.routines.routineAt(line);
+  findRoutine(name, line) {
+    return this.routines.getByName(name) || this.routines.routineAt(line);
   }
 
   /**
@@ -61,41 +61,41 @@ export class ProgramCalls {
    * @param {number} line
    */
   routine(name, line) {
-    const found = this.find(name, line);
-    return found && this.itemOf(found);
+    const found = this.findRoutine(name, line);
+    return found && this.toRoutine(found);
   }
 
   /**
-   * Returns the calls of a routine from other routines.
+   * Returns the routines that call a routine.
    * @param {string} name
    * @param {number} line
    */
   callers(name, line) {
-    const found = this.find(name, line);
-    return found ? this.callsOf(this.routines.callers(found)) : [];
+    const found = this.findRoutine(name, line);
+    return found ? this.toCalls(this.routines.callers(found)) : [];
   }
 
   /**
-   * Returns the calls in a routine.
+   * Returns the routines that a routine calls.
    * @param {string} name
    * @param {number} line
    */
   callees(name, line) {
-    const found = this.find(name, line);
-    return found ? this.callsOf(this.routines.called(found)) : [];
+    const found = this.findRoutine(name, line);
+    return found ? this.toCalls(this.routines.called(found)) : [];
   }
 
   /**
    * Returns a code lens for each label, with the numbers of calls and other uses.
-   * @param {(name: string) => Range[]} usesOf returns the ranges of a name, except its definition
+   * @param {(name: string) => Range[]} findUses returns the ranges of a name, except its definition
    * @returns {Lens[]}
    */
-  lenses(usesOf) {
+  lenses(findUses) {
     return [...this.routines.uses()].map(([name, { calls, others }]) => {
       const line = /** @type {number} */ (this.routines.names.get(name));
       const { label } = this.routines.parts[line - 1];
       const { from, to } = label || { from: 0, to: 0 };
-      return { range: rangeOf(line, from, to), title: say.usesOf(calls, others), references: usesOf(name), test: null };
+      return { range: rangeInLine(line, from, to), title: say.usesOf(calls, others), references: findUses(name), test: null };
     });
   }
 }

@@ -1,16 +1,16 @@
-// Completion in a program.
+// Completes words in a program: mnemonics, directives, registers, names and JCN conditions.
 
-import { DIRECTIVES, namesOf, partsOf } from "../text/assembly.js";
+import { DIRECTIVES, findDefinedNames, splitStatement } from "../text/assembly.js";
 import { completeProgram } from "../text/completion.js";
-import { operandsOfForm } from "../text/program_words.js";
-import { wordsOfDirective, wordsOfInstruction, wordsOfRegister } from "../text/text_help.js";
+import { parseOperandKinds } from "../text/program_words.js";
+import { describeDirective, describeInstruction, describeRegister } from "../text/text_help.js";
 
 /**
  * @typedef {import("../help/manual.js").Instruction} Instruction
  * @typedef {import("./language.js").CompletedWord} CompletedWord
  * @typedef {import("./lsp_protocol.js").Position} Position
  *
- * The manual's instructions and JCN conditions, and the meanings of program names.
+ * The context of a completion: the manual's instructions and JCN conditions, and the meanings of program names.
  * @typedef {{ instructions: Map<string, Instruction>, conditions: Map<number, string>,
  *   meaningOf: (name: string) => string }} CompletionContext
  */
@@ -23,18 +23,18 @@ const CONSTANT_COMPLETION = 21;
 const VALUE_COMPLETION = 12;
 
 /**
- * Returns the condition numbers that match the typed text; an empty list if the operand is not a condition.
+ * Returns completions for the numbers of JCN conditions; an empty list if the operand at the caret is not a condition.
  * @param {string} before the line up to the caret
  * @param {CompletionContext} context
  * @returns {CompletedWord[]}
  */
-function conditionsFor(before, { instructions, conditions }) {
-  const { head } = partsOf(before);
+function matchingConditions(before, { instructions, conditions }) {
+  const { head } = splitStatement(before);
   const instruction = head && head.to < before.length && instructions.get(head.text.toUpperCase());
-  if (!instruction || operandsOfForm(instruction.form)[0] !== "c" || before.slice(head.to).includes(",")) return [];
-  const typed = before.slice(head.to).trimStart();
+  if (!instruction || parseOperandKinds(instruction.form)[0] !== "c" || before.slice(head.to).includes(",")) return [];
+  const typedText = before.slice(head.to).trimStart();
   const all = [...conditions].map(([number, what]) => ({ text: String(number), what, kind: VALUE_COMPLETION }));
-  return all.filter(({ text }) => text.startsWith(typed));
+  return all.filter(({ text }) => text.startsWith(typedText));
 }
 
 /**
@@ -43,7 +43,7 @@ function conditionsFor(before, { instructions, conditions }) {
  * @param {string} before the line up to the caret
  */
 function isInOperands(before) {
-  const { head, comment } = partsOf(before);
+  const { head, comment } = splitStatement(before);
   return head !== null && head.to < before.length && comment === before.length;
 }
 
@@ -54,20 +54,20 @@ function isInOperands(before) {
  * @param {string} trigger the typed character that triggered the request, "" for none
  * @param {CompletionContext} context
  */
-export function completionOfProgram(lines, { line, character }, trigger, context) {
+export function programCompletion(lines, { line, character }, trigger, context) {
   const before = lines[line].slice(0, character);
   if (trigger !== "" && !isInOperands(before)) return { from: character, to: character, list: [] };
   const found = completeProgram(lines, line, character, context.instructions);
-  const names = namesOf(lines);
+  const names = findDefinedNames(lines);
   /** @type {(text: string) => CompletedWord} */
   const completedWord = (text) => {
     const instruction = context.instructions.get(text);
-    if (instruction) return { text, what: "", kind: KEYWORD_COMPLETION, documentation: wordsOfInstruction(instruction) };
-    if (DIRECTIVES.includes(text)) return { text, what: "", kind: KEYWORD_COMPLETION, documentation: wordsOfDirective(text) };
-    if (/^[PR]\d+$/.test(text)) return { text, what: wordsOfRegister(text), kind: VARIABLE_COMPLETION };
-    const isLabel = !partsOf(lines[(names.get(text) || 1) - 1]).defines;
+    if (instruction) return { text, what: "", kind: KEYWORD_COMPLETION, documentation: describeInstruction(instruction) };
+    if (DIRECTIVES.includes(text)) return { text, what: "", kind: KEYWORD_COMPLETION, documentation: describeDirective(text) };
+    if (/^[PR]\d+$/.test(text)) return { text, what: describeRegister(text), kind: VARIABLE_COMPLETION };
+    const isLabel = !splitStatement(lines[(names.get(text) || 1) - 1]).defines;
     return { text, what: context.meaningOf(text), kind: isLabel ? FUNCTION_COMPLETION : CONSTANT_COMPLETION };
   };
   const list = found.list.map((each) => ({ ...completedWord(each.text), ...(each.what ? { what: each.what } : {}) }));
-  return { ...found, list: [...conditionsFor(before, context), ...list] };
+  return { ...found, list: [...matchingConditions(before, context), ...list] };
 }

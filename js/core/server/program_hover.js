@@ -1,10 +1,11 @@
-// The hover for a program: the manual's table for an instruction, or the meaning of a name with its comment; and the address of the line.
+// Creates the hover for a program: the manual's description of an instruction, or the meaning and the comment of a name; and the address of
+// the line.
 
-import { NUMBER, namesOf, partsOf, wordAt } from "../text/assembly.js";
-import { operandsOfForm } from "../text/program_words.js";
-import { doesOf, helpForProgram } from "../text/text_help.js";
-import { asBlock, asCode, asMarkdown, asTable } from "./markdown.js";
-import { rangeOf } from "./lsp_protocol.js";
+import { NUMBER, findDefinedNames, splitStatement, wordAt } from "../text/assembly.js";
+import { parseOperandKinds } from "../text/program_words.js";
+import { describeEffect, helpForProgram } from "../text/text_help.js";
+import { formatBlock, formatCode, escapeMarkdown, formatTable } from "./markdown.js";
+import { rangeInLine } from "./lsp_protocol.js";
 import * as say from "../../words/server.js";
 
 /**
@@ -13,13 +14,13 @@ import * as say from "../../words/server.js";
  * @typedef {import("./language.js").Hover} Hover
  * @typedef {import("./lsp_protocol.js").Position} Position
  *
- * The context of a hover: the manual's instructions and JCN conditions, the meanings and values of names, and the address of a line as text
- * ("" if unknown).
+ * The context of a hover: the manual's instructions and JCN conditions, functions for the meaning and the value of a name, and a function
+ * that describes the address of a line ("" if unknown).
  * @typedef {{ instructions: Map<string, Instruction>, conditions: Map<number, string>, meaningOf: (name: string) => string,
- *   valueOf: (name: string) => number | undefined, wordsOfLine: (line: number) => string }} HoverContext
+ *   valueOf: (name: string) => number | undefined, describeLine: (line: number) => string }} HoverContext
  */
 
-/** The maximum number of lines in the comment of a name. */
+/** The maximum number of comment lines that a hover shows for a name. */
 const MAX_LINES = 12;
 
 /**
@@ -28,10 +29,10 @@ const MAX_LINES = 12;
  * @param {string} name
  * @returns {string[]}
  */
-export function commentOf(lines, name) {
-  const line = namesOf(lines).get(name);
+export function findNameComment(lines, name) {
+  const line = findDefinedNames(lines).get(name);
   if (line === undefined) return [];
-  const { comment, defines } = partsOf(lines[line - 1]);
+  const { comment, defines } = splitStatement(lines[line - 1]);
   let begin = line - 1;
   while (!defines && begin > 0 && line - begin <= MAX_LINES && lines[begin - 1].trimStart().startsWith(";")) begin -= 1;
   const commentLines = [...lines.slice(begin, line - 1), lines[line - 1].slice(comment)].map((each) => each.trim().replace(/^;+ ?/, ""));
@@ -44,11 +45,11 @@ export function commentOf(lines, name) {
  * @param {Word} word
  * @param {HoverContext} context
  */
-function wordsOfCondition(text, word, { instructions, conditions, valueOf }) {
-  const { head, operands } = partsOf(text);
+function describeCondition(text, word, { instructions, conditions, valueOf }) {
+  const { head, operands } = splitStatement(text);
   const instruction = head && instructions.get(head.text.toUpperCase());
   const place = operands.findIndex(({ from }) => from === word.from);
-  if (!instruction || operandsOfForm(instruction.form)[place] !== "c") return "";
+  if (!instruction || parseOperandKinds(instruction.form)[place] !== "c") return "";
   const value = NUMBER.test(word.text) ? Number(word.text) : valueOf(word.text);
   const words = value === undefined ? undefined : conditions.get(value);
   return words && value !== undefined ? say.conditionIs(value, words) : "";
@@ -58,9 +59,10 @@ function wordsOfCondition(text, word, { instructions, conditions, valueOf }) {
  * Returns a Markdown table with the manual's description of an instruction.
  * @param {Instruction} instruction
  */
-function tableOf(instruction) {
+function instructionTable(instruction) {
   const { form, code, words, cycles } = instruction;
-  return asTable(say.HEAD_OF_INSTRUCTIONS, [[asCode(form), asCode(code), words, cycles, asMarkdown(doesOf(instruction))]]);
+  const effect = escapeMarkdown(describeEffect(instruction));
+  return formatTable(say.HEAD_OF_INSTRUCTIONS, [[formatCode(form), formatCode(code), words, cycles, effect]]);
 }
 
 /**
@@ -70,20 +72,20 @@ function tableOf(instruction) {
  * @param {HoverContext} context
  * @returns {Hover | null}
  */
-export function hoverOfProgram(lines, { line, character }, context) {
+export function programHover(lines, { line, character }, context) {
   const text = lines[line];
-  if (character > partsOf(text).comment) return null;
+  if (character > splitStatement(text).comment) return null;
   const words = helpForProgram(lines, line, character, context.instructions, context.meaningOf);
   const word = wordAt(text, character);
-  const condition = word ? wordsOfCondition(text, word, context) : "";
-  const place = context.wordsOfLine(line + 1);
+  const condition = word ? describeCondition(text, word, context) : "";
+  const place = context.describeLine(line + 1);
   const instruction = word && context.instructions.get(word.text.toUpperCase());
-  const comment = word && !instruction ? commentOf(lines, word.text) : [];
+  const comment = word && !instruction ? findNameComment(lines, word.text) : [];
   const markdown = [
-    instruction ? tableOf(instruction) : asMarkdown(words), asMarkdown(condition), comment.length > 0 ? asBlock(comment) : "",
-    asMarkdown(place),
+    instruction ? instructionTable(instruction) : escapeMarkdown(words), escapeMarkdown(condition),
+    comment.length > 0 ? formatBlock(comment) : "", escapeMarkdown(place),
   ].filter((each) => each !== "").join("\n\n");
-  const range = word && (words !== "" || condition !== "") ? { range: rangeOf(line + 1, word.from, word.to) } : {};
-  const plain = [words, condition, comment.join("\n"), place].filter((each) => each !== "");
-  return plain.length === 0 ? null : { words: plain.join("\n\n"), markdown, ...range };
+  const range = word && (words !== "" || condition !== "") ? { range: rangeInLine(line + 1, word.from, word.to) } : {};
+  const plainTexts = [words, condition, comment.join("\n"), place].filter((each) => each !== "");
+  return plainTexts.length === 0 ? null : { words: plainTexts.join("\n\n"), markdown, ...range };
 }

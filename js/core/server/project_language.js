@@ -1,12 +1,12 @@
 // Handlers for an editor's requests about a project file: errors, and links to the named files.
 
-import { filesNamed } from "../project/project_toml.js";
+import { listNamedFiles } from "../project/project_toml.js";
 import { PARTS } from "../text/folding.js";
-import { faultsOfProject, folderOf, readProject, uriIn } from "./kinds.js";
-import { rangeOf } from "./lsp_protocol.js";
+import { findProjectErrors, parentFolder, readProject, uriInFolder } from "./kinds.js";
+import { rangeInLine } from "./lsp_protocol.js";
 
 /**
- * @typedef {import("./kinds.js").TextOf} TextOf
+ * @typedef {import("./kinds.js").ReadText} ReadText
  * @typedef {import("./language.js").DocumentLink} DocumentLink
  * @typedef {import("./open_text.js").OpenText} OpenText
  */
@@ -14,42 +14,43 @@ import { rangeOf } from "./lsp_protocol.js";
 const FILE = 1;
 
 export class ProjectLanguage {
-  /** @param {TextOf} textOf */
-  constructor(textOf) {
+  /** @param {ReadText} readText */
+  constructor(readText) {
     this.parts = PARTS.board;
-    this.textOf = textOf;
+    this.readText = readText;
   }
 
-  /** @param {OpenText} open */
+  /** @param {OpenText} openText */
   async faults({ uri, text }) {
-    return { faults: faultsOfProject(uri, text, this.textOf), areAll: true };
+    return { faults: findProjectErrors(uri, text, this.readText), isWhole: true };
   }
 
   /**
    * Returns the files that a project names; an empty list if the project file has errors.
-   * @param {OpenText} open
+   * @param {OpenText} openText
    */
   namedFiles({ text }) {
     const { names } = readProject(text);
-    return names ? filesNamed(names) : [];
+    return names ? listNamedFiles(names) : [];
   }
 
-  /** @param {OpenText} open */
-  symbols(open) {
-    return this.namedFiles(open).map(({ path, key, line, from, to }) => {
-      const range = rangeOf(line, from, to);
+  /** @param {OpenText} openText */
+  symbols(openText) {
+    return this.namedFiles(openText).map(({ path, key, line, from, to }) => {
+      const range = rangeInLine(line, from, to);
       return { name: path, kind: FILE, detail: key, range, selectionRange: range };
     });
   }
 
   /**
    * Returns links to the named files that exist and are inside the folder.
-   * @param {OpenText} open
+   * @param {OpenText} openText
    * @returns {DocumentLink[]}
    */
-  links(open) {
-    const folder = folderOf(open.uri);
-    return this.namedFiles(open).filter(({ path }) => this.textOf(uriIn(folder, path), folder) !== null).map(({ path, line, from, to }) => (
-      { range: rangeOf(line, from, to), target: uriIn(folder, path), tooltip: path }));
+  links(openText) {
+    const folder = parentFolder(openText.uri);
+    const existingFiles = this.namedFiles(openText).filter(({ path }) => this.readText(uriInFolder(folder, path), folder) !== null);
+    return existingFiles.map(({ path, line, from, to }) => (
+      { range: rangeInLine(line, from, to), target: uriInFolder(folder, path), tooltip: path }));
   }
 }

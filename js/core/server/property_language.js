@@ -1,13 +1,13 @@
 // Handlers for an editor's requests about a property file. Its parser (explore/campaign.js) uses the names of the board and the program.
 
 import { readCampaign } from "../explore/campaign.js";
-import { subjectOf } from "../explore/subject.js";
+import { createSubject } from "../explore/subject.js";
 import { COLOURS } from "../text/test_colours.js";
 import { PARTS } from "../text/folding.js";
 import { completeProperty, helpForProperty, propertyForms } from "../text/property_words.js";
-import { DependentLanguage, faultInLine } from "./beside_language.js";
-import { folderOf, uriIn } from "./kinds.js";
-import { rangeOf } from "./lsp_protocol.js";
+import { DependentLanguage, locateError } from "./beside_language.js";
+import { parentFolder, uriInFolder } from "./kinds.js";
+import { rangeInLine } from "./lsp_protocol.js";
 import { colouredWords } from "./token_codes.js";
 
 /**
@@ -27,92 +27,93 @@ export class PropertyLanguage extends DependentLanguage {
   /**
    * @param {import("../engine/engine_host.js").EngineHost} engine
    * @param {import("../help/manual.js").ManualSection[]} manual
-   * @param {(uri: string) => import("./beside_language.js").DependencyTexts} dependenciesOf
-   * @param {(uri: string, folder: string) => string | null} textOf
+   * @param {(uri: string) => import("./beside_language.js").DependencyTexts} findDependencies
+   * @param {(uri: string, folder: string) => string | null} readText
    */
-  constructor(engine, manual, dependenciesOf, textOf) {
-    super(engine, dependenciesOf);
+  constructor(engine, manual, findDependencies, readText) {
+    super(engine, findDependencies);
     this.parts = { ...PARTS.tests, head: /(?!)/ };
     this.forms = propertyForms(manual);
-    this.textOf = textOf;
+    this.readText = readText;
   }
 
-  /** @param {OpenText} open */
+  /** @param {OpenText} openText */
   async faults({ uri, lines, text }) {
-    const dependencies = this.dependenciesOf(uri);
+    const dependencies = this.findDependencies(uri);
     const dependencyError = this.dependencyError(dependencies);
-    if (dependencyError) return { faults: [dependencyError], areAll: true };
-    if (text.trim() === "") return { faults: [], areAll: true };
+    if (dependencyError) return { faults: [dependencyError], isWhole: true };
+    if (text.trim() === "") return { faults: [], isWhole: true };
     const { faults } = readCampaign(text, this.subject(dependencies.board.text || "", dependencies.program.text || ""));
-    return { faults: faults.map((fault) => faultInLine(lines, fault)), areAll: true };
+    return { faults: faults.map((fault) => locateError(lines, fault)), isWhole: true };
   }
 
   /**
-   * Returns the board and program as the search uses them. For the same texts, returns the last result again.
+   * Returns the board and the program in the form that a search for counterexamples uses. If both texts are those of the previous call,
+   * returns its result again.
    * @param {string} boardText
    * @param {string} programText
    */
   subject(boardText, programText) {
     if (!this.lastSubject || this.lastSubject.boardText !== boardText || this.lastSubject.programText !== programText) {
-      this.lastSubject = { boardText, programText, subject: subjectOf(this.engine, boardText, programText) };
+      this.lastSubject = { boardText, programText, subject: createSubject(this.engine, boardText, programText) };
     }
     return this.lastSubject.subject;
   }
 
   /**
-   * @param {OpenText} open
+   * @param {OpenText} openText
    * @param {Position} position
    */
   hover({ lines }, position) {
-    return this.helpAt(helpForProperty(lines, position.line, position.character, this.forms), lines, position);
+    return this.hoverWithHelp(helpForProperty(lines, position.line, position.character, this.forms), lines, position);
   }
 
   /**
-   * @param {OpenText} open
+   * @param {OpenText} openText
    * @param {Position} position
    * @param {string} trigger
    */
-  completion(open, { line, character }, trigger) {
-    if (trigger !== "" && open.lines[line].slice(0, character).trim() === "") return { from: character, to: character, list: [] };
-    return this.withKinds(completeProperty(open.lines, line, character, this.names(open), this.forms));
+  completion(openText, { line, character }, trigger) {
+    if (trigger !== "" && openText.lines[line].slice(0, character).trim() === "") return { from: character, to: character, list: [] };
+    return this.addKinds(completeProperty(openText.lines, line, character, this.names(openText), this.forms));
   }
 
   /**
    * Returns the location of the program label at a position; null if there is none.
-   * @param {OpenText} open
+   * @param {OpenText} openText
    * @param {Position} position
    */
-  definition(open, position) {
-    return this.labelAt(open, position);
+  definition(openText, position) {
+    return this.labelAt(openText, position);
   }
 
-  /** @param {OpenText} open */
+  /** @param {OpenText} openText */
   symbols({ lines }) {
     return lines.flatMap((text, line) => {
       if (!PROPERTY_LINE.test(text.trim())) return [];
-      const range = rangeOf(line + 1, text.length - text.trimStart().length, text.trimEnd().length);
+      const range = rangeInLine(line + 1, text.length - text.trimStart().length, text.trimEnd().length);
       return [{ name: text.trim(), kind: PROPERTY, detail: "", range, selectionRange: range }];
     });
   }
 
-  /** @param {OpenText} open */
+  /** @param {OpenText} openText */
   colours({ lines }) {
     return colouredWords(lines, COLOURS.properties);
   }
 
   /**
    * Returns links to the files in `from STATE of FILE` lines, if the files exist and are inside the folder.
-   * @param {OpenText} open
+   * @param {OpenText} openText
    * @returns {DocumentLink[]}
    */
   links({ uri, lines }) {
-    const folder = folderOf(uri);
+    const folder = parentFolder(uri);
     return lines.flatMap((text, line) => {
       const [, before, path] = STATE_OF_FILE.exec(text.trimEnd()) || [];
       const isInside = path !== undefined && !path.startsWith("/") && !path.split("/").includes("..");
-      const target = isInside ? uriIn(folder, path) : "";
-      if (target === "" || this.textOf(target, folder) === null) return [];
-      return [{ range: rangeOf(line + 1, before.length, before.length + path.length), target, tooltip: path }];
+      const target = isInside ? uriInFolder(folder, path) : "";
+      if (target === "" || this.readText(target, folder) === null) return [];
+      return [{ range: rangeInLine(line + 1, before.length, before.length + path.length), target, tooltip: path }];
     });
   }
 }

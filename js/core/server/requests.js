@@ -1,13 +1,13 @@
-// The handlers of all requests, by method name. They check the parameters, call the language of the text, and convert its answer to the
-// protocol's format.
+// The handlers of all requests, by method name. A handler checks the parameters, calls the language of the text (language.js), and converts
+// the answer to the protocol's format.
 
-import { capabilitiesFor, clientOf, RUN_TEST } from "./capabilities.js";
-import { codeLensOf } from "./code_lens.js";
+import { capabilitiesFor, readClient, RUN_TEST } from "./capabilities.js";
+import { toCodeLens } from "./code_lens.js";
 import { quickFixes } from "./diagnostics.js";
-import { foldsOf } from "./folding_ranges.js";
-import { fieldOf } from "./framing.js";
+import { findFolds } from "./folding_ranges.js";
+import { getField } from "./framing.js";
 import { INVALID_PARAMS, ProtocolError, needPosition, needRange, needText } from "./lsp_protocol.js";
-import { selectionAt } from "./selection_ranges.js";
+import { selectionRangeAt } from "./selection_ranges.js";
 import { TokenMemory } from "./token_memory.js";
 import { workspaceSymbols } from "./workspace_symbols.js";
 import * as say from "../../words/server.js";
@@ -26,23 +26,23 @@ const WHOLE_TEXT = { start: { line: 0, character: 0 }, end: { line: Number.MAX_S
 const MAX_TAB_SIZE = 16;
 
 /**
- * Reads the formatting options: the tab size, and whether blanks fill the gaps.
+ * Reads the formatting options: the tab size, and whether to indent with blanks instead of tabs.
  * @param {any} options the options of the request
  */
-function layoutOf(options) {
-  const tabSize = fieldOf(options, "tabSize");
+function readLayout(options) {
+  const tabSize = getField(options, "tabSize");
   const isSize = Number.isInteger(tabSize) && tabSize >= 1 && tabSize <= MAX_TAB_SIZE;
-  return { tabSize: isSize ? tabSize : 8, insertSpaces: fieldOf(options, "insertSpaces") !== false };
+  return { tabSize: isSize ? tabSize : 8, insertSpaces: getField(options, "insertSpaces") !== false };
 }
 
 /**
  * Checks that a value is a list; throws ProtocolError for any other value.
  * @param {any} value
- * @param {string} what the name of the parameter
+ * @param {string} parameterName the name of the parameter
  * @returns {any[]}
  */
-function needList(value, what) {
-  if (!Array.isArray(value)) throw new ProtocolError(INVALID_PARAMS, say.isList(what));
+function needList(value, parameterName) {
+  if (!Array.isArray(value)) throw new ProtocolError(INVALID_PARAMS, say.isList(parameterName));
   return value;
 }
 
@@ -54,7 +54,7 @@ export class Requests {
   }
 
   /** @returns {Record<string, RequestHandler>} */
-  table() {
+  allHandlers() {
     return { ...this.serverRequests(), ...this.positionRequests(), ...this.textRequests(), ...this.callRequests() };
   }
 
@@ -65,14 +65,14 @@ export class Requests {
     return {
       "initialize": (params) => this.initialize(params),
       "shutdown": () => null,
-      "workspace/symbol": (params) => workspaceSymbols(this.server, needText(fieldOf(params, "query"), "query")),
+      "workspace/symbol": (params) => workspaceSymbols(this.server, needText(getField(params, "query"), "query")),
       "workspace/executeCommand": (params, pending) => this.execute(params, pending),
     };
   }
 
   /** @param {any} params */
   initialize(params) {
-    this.server.client = clientOf(params);
+    this.server.client = readClient(params);
     return { capabilities: capabilitiesFor(this.server.client), serverInfo: { name: "mcs4 lsp" } };
   }
 
@@ -81,9 +81,9 @@ export class Requests {
    * @param {import("./connection.js").PendingRequest} pending
    */
   execute(params, pending) {
-    const command = needText(fieldOf(params, "command"), "command");
+    const command = needText(getField(params, "command"), "command");
     if (command !== RUN_TEST) throw new ProtocolError(INVALID_PARAMS, say.noCommand(command));
-    const [uri, test] = needList(fieldOf(params, "arguments"), "arguments");
+    const [uri, test] = needList(getField(params, "arguments"), "arguments");
     return this.server.runTest(needText(uri, "arguments[0]"), needText(test, "arguments[1]"), pending);
   }
 
@@ -93,33 +93,34 @@ export class Requests {
    * Calls the language of the requested text.
    * @template Result
    * @param {any} params
-   * @param {(language: Language, open: OpenText) => Result} ask
+   * @param {(language: Language, openText: OpenText) => Result} ask
    * @returns {Result | null} null for a text in an unknown language
    */
   askLanguage(params, ask) {
-    const { open } = this.server.textIn(params);
-    const language = this.server.languageOf(open);
-    return language && ask(language, open);
+    const { open: openText } = this.server.requestedText(params);
+    const language = this.server.findLanguage(openText);
+    return language && ask(language, openText);
   }
 
   /** @returns {Record<string, RequestHandler>} */
   textRequests() {
     return {
-      "textDocument/documentSymbol": (params) => this.askLanguage(params, (language, open) => (
-        language.symbols ? language.symbols(open) : [])),
+      "textDocument/documentSymbol": (params) => this.askLanguage(params, (language, openText) => (
+        language.symbols ? language.symbols(openText) : [])),
       "textDocument/codeAction": (params) => this.codeAction(params),
-      "textDocument/codeLens": (params) => this.askLanguage(params, (language, open) => (
-        (language.lenses ? language.lenses(open) : []).map((lens) => codeLensOf(lens, open.uri, this.server.client.commands)))),
+      "textDocument/codeLens": (params) => this.askLanguage(params, (language, openText) => (
+        (language.lenses ? language.lenses(openText) : []).map((lens) => toCodeLens(lens, openText.uri, this.server.client.commands)))),
       "textDocument/formatting": (params) => this.format(params, WHOLE_TEXT),
-      "textDocument/rangeFormatting": (params) => this.format(params, needRange(fieldOf(params, "range"))),
-      "textDocument/documentLink": (params) => this.askLanguage(params, (language, open) => (language.links ? language.links(open) : [])),
-      "textDocument/foldingRange": (params) => this.askLanguage(params, (language, open) => foldsOf(open.lines, language.parts)),
+      "textDocument/rangeFormatting": (params) => this.format(params, needRange(getField(params, "range"))),
+      "textDocument/documentLink": (params) => this.askLanguage(params, (language, openText) => (
+        language.links ? language.links(openText) : [])),
+      "textDocument/foldingRange": (params) => this.askLanguage(params, (language, openText) => findFolds(openText.lines, language.parts)),
       "textDocument/inlayHint": (params) => this.hints(params),
-      "textDocument/semanticTokens/full": (params) => this.colours(params, (open, words) => this.tokens.allTokens(open, words)),
-      "textDocument/semanticTokens/full/delta": (params) => this.colours(params, (open, words) => (
-        this.tokens.changedTokens(open, words, fieldOf(params, "previousResultId")))),
-      "textDocument/semanticTokens/range": (params) => this.colours(params, (open, words) => (
-        this.tokens.tokensIn(words, needRange(fieldOf(params, "range"))))),
+      "textDocument/semanticTokens/full": (params) => this.colours(params, (openText, words) => this.tokens.allTokens(openText, words)),
+      "textDocument/semanticTokens/full/delta": (params) => this.colours(params, (openText, words) => (
+        this.tokens.changedTokens(openText, words, getField(params, "previousResultId")))),
+      "textDocument/semanticTokens/range": (params) => this.colours(params, (openText, words) => (
+        this.tokens.tokensInRange(words, needRange(getField(params, "range"))))),
       "textDocument/diagnostic": (params) => this.diagnostic(params),
     };
   }
@@ -127,10 +128,10 @@ export class Requests {
   /**
    * Serves a request for semantic tokens.
    * @param {any} params
-   * @param {(open: OpenText, words: import("./token_codes.js").ColouredWord[]) => object} ask
+   * @param {(openText: OpenText, words: import("./token_codes.js").ColouredWord[]) => object} ask
    */
   colours(params, ask) {
-    return this.askLanguage(params, (language, open) => ask(open, language.colours ? language.colours(open) : []));
+    return this.askLanguage(params, (language, openText) => ask(openText, language.colours ? language.colours(openText) : []));
   }
 
   /**
@@ -138,30 +139,30 @@ export class Requests {
    * @param {import("./lsp_protocol.js").Range} range
    */
   format(params, range) {
-    const layout = layoutOf(fieldOf(params, "options"));
-    return this.askLanguage(params, (language, open) => (language.format ? language.format(open, range, layout) : null));
+    const layout = readLayout(getField(params, "options"));
+    return this.askLanguage(params, (language, openText) => (language.format ? language.format(openText, range, layout) : null));
   }
 
   /** @param {any} params */
   hints(params) {
-    const range = needRange(fieldOf(params, "range"));
-    return this.askLanguage(params, (language, open) => (language.hints ? language.hints(open, range) : []));
+    const range = needRange(getField(params, "range"));
+    return this.askLanguage(params, (language, openText) => (language.hints ? language.hints(openText, range) : []));
   }
 
   /** @param {any} params */
   async codeAction(params) {
-    const text = this.server.textIn(params);
-    const range = needRange(fieldOf(params, "range"));
-    await this.server.untilChecked(text);
+    const text = this.server.requestedText(params);
+    const range = needRange(getField(params, "range"));
+    await this.server.waitForCheck(text);
     return quickFixes(text.open.uri, text.faults, range);
   }
 
   /** @param {any} params */
   async diagnostic(params) {
-    const text = this.server.textIn(params);
-    await this.server.untilChecked(text);
+    const text = this.server.requestedText(params);
+    await this.server.waitForCheck(text);
     const resultId = JSON.stringify(text.diagnostics);
-    if (fieldOf(params, "previousResultId") === resultId) return { kind: "unchanged", resultId };
+    if (getField(params, "previousResultId") === resultId) return { kind: "unchanged", resultId };
     return { kind: "full", resultId, items: text.diagnostics };
   }
 
@@ -171,63 +172,64 @@ export class Requests {
    * Calls the language of a text with the requested position.
    * @template Result
    * @param {any} params
-   * @param {(language: Language, open: OpenText, position: Position) => Result} ask
+   * @param {(language: Language, openText: OpenText, position: Position) => Result} ask
    */
-  askAt(params, ask) {
-    const position = needPosition(fieldOf(params, "position"));
-    return this.askLanguage(params, (language, open) => ask(language, open, open.inside(position)));
+  askAtPosition(params, ask) {
+    const position = needPosition(getField(params, "position"));
+    return this.askLanguage(params, (language, openText) => ask(language, openText, openText.clampPosition(position)));
   }
 
   /** @returns {Record<string, RequestHandler>} */
   positionRequests() {
     return {
       "textDocument/hover": (params) => this.hover(params),
-      "textDocument/definition": (params) => this.askAt(params, (language, open, position) => {
-        const found = language.definition ? language.definition(open, position) : null;
-        return found && ("uri" in found ? found : { uri: open.uri, range: found });
+      "textDocument/definition": (params) => this.askAtPosition(params, (language, openText, position) => {
+        const found = language.definition ? language.definition(openText, position) : null;
+        return found && ("uri" in found ? found : { uri: openText.uri, range: found });
       }),
       "textDocument/references": (params) => this.references(params),
-      "textDocument/documentHighlight": (params) => this.askAt(params, (language, open, position) => (
-        (language.references ? language.references(open, position, true) : []).map((range) => ({ range })))),
-      "textDocument/prepareRename": (params) => this.askAt(params, (language, open, position) => (
-        language.renameTarget ? language.renameTarget(open, position) : null)),
+      "textDocument/documentHighlight": (params) => this.askAtPosition(params, (language, openText, position) => (
+        (language.references ? language.references(openText, position, true) : []).map((range) => ({ range })))),
+      "textDocument/prepareRename": (params) => this.askAtPosition(params, (language, openText, position) => (
+        language.renameTarget ? language.renameTarget(openText, position) : null)),
       "textDocument/rename": (params) => this.rename(params),
       "textDocument/completion": (params) => this.completion(params),
-      "textDocument/signatureHelp": (params) => this.askAt(params, (language, open, position) => (
-        language.signature ? language.signature(open, position) : null)),
+      "textDocument/signatureHelp": (params) => this.askAtPosition(params, (language, openText, position) => (
+        language.signature ? language.signature(openText, position) : null)),
       "textDocument/selectionRange": (params) => this.selections(params),
     };
   }
 
   /** @param {any} params */
   hover(params) {
-    const found = this.askAt(params, (language, open, position) => (language.hover ? language.hover(open, position) : null));
+    const found = this.askAtPosition(params, (language, openText, position) => (
+      language.hover ? language.hover(openText, position) : null));
     if (!found) return null;
-    const { words, markdown, ...rest } = found;
+    const { words, markdown, ...range } = found;
     const contents = this.server.client.showsMarkdown ? { kind: "markdown", value: markdown } : { kind: "plaintext", value: words };
-    return { contents, ...rest };
+    return { contents, ...range };
   }
 
   /** @param {any} params */
   references(params) {
-    const withDefinition = fieldOf(fieldOf(params, "context"), "includeDeclaration") !== false;
-    return this.askAt(params, (language, open, position) => (
-      (language.references ? language.references(open, position, withDefinition) : []).map((range) => ({ uri: open.uri, range }))));
+    const withDefinition = getField(getField(params, "context"), "includeDeclaration") !== false;
+    return this.askAtPosition(params, (language, openText, position) => (
+      (language.references ? language.references(openText, position, withDefinition) : []).map((range) => ({ uri: openText.uri, range }))));
   }
 
   /** @param {any} params */
   rename(params) {
-    const wanted = needText(fieldOf(params, "newName"), "newName");
-    return this.askAt(params, (language, open, position) => (
-      language.rename ? { changes: { [open.uri]: language.rename(open, position, wanted) } } : null));
+    const newName = needText(getField(params, "newName"), "newName");
+    return this.askAtPosition(params, (language, openText, position) => (
+      language.rename ? { changes: { [openText.uri]: language.rename(openText, position, newName) } } : null));
   }
 
   /** @param {any} params */
   completion(params) {
-    const trigger = String(fieldOf(fieldOf(params, "context"), "triggerCharacter") || "");
-    return this.askAt(params, (language, open, position) => {
+    const trigger = String(getField(getField(params, "context"), "triggerCharacter") || "");
+    return this.askAtPosition(params, (language, openText, position) => {
       if (!language.completion) return [];
-      const { from, to, list } = language.completion(open, position, trigger);
+      const { from, to, list } = language.completion(openText, position, trigger);
       const range = { start: { ...position, character: from }, end: { ...position, character: to } };
       return list.map(({ text, what, kind, documentation }) => (
         { label: text.split("\n")[0], kind, ...(what ? { detail: what.trim() } : {}), ...(documentation ? { documentation } : {}),
@@ -237,10 +239,11 @@ export class Requests {
 
   /** @param {any} params */
   selections(params) {
-    const positions = needList(fieldOf(params, "positions"), "positions").map(needPosition);
-    return this.askLanguage(params, (language, open) => positions.map((position) => {
-      const inside = open.inside(position);
-      return selectionAt(open.lines, inside, language.selectionColumns ? language.selectionColumns(open, inside) : [], language.parts);
+    const positions = needList(getField(params, "positions"), "positions").map(needPosition);
+    return this.askLanguage(params, (language, openText) => positions.map((position) => {
+      const clamped = openText.clampPosition(position);
+      const columnRanges = language.selectionColumns ? language.selectionColumns(openText, clamped) : [];
+      return selectionRangeAt(openText.lines, clamped, columnRanges, language.parts);
     }));
   }
 
@@ -249,21 +252,21 @@ export class Requests {
   /** @returns {Record<string, RequestHandler>} */
   callRequests() {
     return {
-      "textDocument/prepareCallHierarchy": (params) => this.askAt(params, (language, open, position) => {
-        const routine = language.routine ? language.routine(open, position) : null;
-        return routine && [this.item(routine, open.uri)];
+      "textDocument/prepareCallHierarchy": (params) => this.askAtPosition(params, (language, openText, position) => {
+        const routine = language.routine ? language.routine(openText, position) : null;
+        return routine && [this.item(routine, openText.uri)];
       }),
-      "callHierarchy/incomingCalls": (params) => this.askAtItem(params, (language, open, position) => (
-        (language.callers ? language.callers(open, position) : []).map(({ routine, ranges }) => (
-          { from: this.item(routine, open.uri), fromRanges: ranges })))),
-      "callHierarchy/outgoingCalls": (params) => this.askAtItem(params, (language, open, position) => (
-        (language.callees ? language.callees(open, position) : []).map(({ routine, ranges }) => (
-          { to: this.item(routine, open.uri), fromRanges: ranges })))),
+      "callHierarchy/incomingCalls": (params) => this.askAtItem(params, (language, openText, position) => (
+        (language.callers ? language.callers(openText, position) : []).map(({ routine, ranges }) => (
+          { from: this.item(routine, openText.uri), fromRanges: ranges })))),
+      "callHierarchy/outgoingCalls": (params) => this.askAtItem(params, (language, openText, position) => (
+        (language.callees ? language.callees(openText, position) : []).map(({ routine, ranges }) => (
+          { to: this.item(routine, openText.uri), fromRanges: ranges })))),
     };
   }
 
   /**
-   * Returns a call hierarchy item.
+   * Returns a routine as a call hierarchy item of the protocol.
    * @param {Routine} routine
    * @param {string} uri
    */
@@ -272,14 +275,14 @@ export class Requests {
   }
 
   /**
-   * Calls the language of a text with a call hierarchy item.
+   * Calls the language of a text with the position of a call hierarchy item.
    * @template Result
    * @param {any} params
-   * @param {(language: Language, open: OpenText, position: Position) => Result} ask
+   * @param {(language: Language, openText: OpenText, position: Position) => Result} ask
    */
   askAtItem(params, ask) {
-    const item = fieldOf(params, "item");
-    const { start } = needRange(fieldOf(item, "selectionRange"));
-    return this.askAt({ textDocument: { uri: fieldOf(item, "uri") }, position: start }, ask);
+    const item = getField(params, "item");
+    const { start } = needRange(getField(item, "selectionRange"));
+    return this.askAtPosition({ textDocument: { uri: getField(item, "uri") }, position: start }, ask);
   }
 }

@@ -1,8 +1,8 @@
-// Signature help: the form of a statement during the typing of its operands, and the current operand.
+// Creates signature help: while the user types operands, the form of the statement and the current operand.
 
-import { partsOf } from "../text/assembly.js";
-import { operandsOfForm, wordsOfOperand } from "../text/program_words.js";
-import { wordsOfDirective, wordsOfInstruction } from "../text/text_help.js";
+import { splitStatement } from "../text/assembly.js";
+import { parseOperandKinds, describeOperand } from "../text/program_words.js";
+import { describeDirective, describeInstruction } from "../text/text_help.js";
 
 /**
  * @typedef {import("../help/manual.js").Instruction} Instruction
@@ -17,7 +17,7 @@ import { wordsOfDirective, wordsOfInstruction } from "../text/text_help.js";
  * @param {{ operand: string, words: string }[]} operands
  * @returns {Signature}
  */
-function signatureOf(label, documentation, operands) {
+function createSignature(label, documentation, operands) {
   let column = label.indexOf(" ");
   const parameters = operands.map(({ operand, words }) => {
     const from = label.indexOf(operand, column + 1);
@@ -30,11 +30,11 @@ function signatureOf(label, documentation, operands) {
 /**
  * Returns the signature of a directive.
  * @param {string} words the description; it starts with the form and a colon
- * @param {string} kind the manual's letter for the operand kind
+ * @param {string} kind the letter that the manual uses for the kind of operand
  */
-function signatureOfDirective(words, kind) {
+function directiveSignature(words, kind) {
   const form = words.split(":")[0];
-  return signatureOf(form, words, [{ operand: form.slice(form.indexOf(" ") + 1), words: wordsOfOperand(kind) }]);
+  return createSignature(form, words, [{ operand: form.slice(form.indexOf(" ") + 1), words: describeOperand(kind) }]);
 }
 
 /**
@@ -42,13 +42,13 @@ function signatureOfDirective(words, kind) {
  * @param {string} head the upper-case mnemonic or directive
  * @param {Map<string, Instruction>} instructions
  */
-function signatureOfHead(head, instructions) {
-  if (wordsOfDirective(head)) return signatureOfDirective(wordsOfDirective(head), head === "ORG" ? "t" : "b");
+function statementSignature(head, instructions) {
+  if (describeDirective(head)) return directiveSignature(describeDirective(head), head === "ORG" ? "t" : "b");
   const instruction = instructions.get(head);
-  const kinds = instruction ? operandsOfForm(instruction.form) : [];
+  const kinds = instruction ? parseOperandKinds(instruction.form) : [];
   if (!instruction || kinds.length === 0) return null;
-  const operands = kinds.map((operand) => ({ operand, words: wordsOfOperand(operand) }));
-  return signatureOf(instruction.form, wordsOfInstruction(instruction), operands);
+  const operands = kinds.map((operand) => ({ operand, words: describeOperand(operand) }));
+  return createSignature(instruction.form, describeInstruction(instruction), operands);
 }
 
 /**
@@ -60,9 +60,9 @@ function signatureOfHead(head, instructions) {
  */
 export function signatureAt(line, column, instructions) {
   const before = line.slice(0, column);
-  const { head, comment } = partsOf(before);
+  const { head, comment } = splitStatement(before);
   if (!head || head.to === column || comment < before.length) return null;
-  const signature = signatureOfHead(head.text.toUpperCase(), instructions);
+  const signature = statementSignature(head.text.toUpperCase(), instructions);
   if (!signature) return null;
   const commas = before.slice(head.to).split(",").length - 1;
   const isList = head.text.toUpperCase() === "DB";

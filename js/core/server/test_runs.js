@@ -1,9 +1,9 @@
-// Runs a test from an editor. The tests that save its start states run first. Board and program come from the editor.
+// Runs a test on request of an editor. The tests that save its start states run first. Open texts are used as the editor shows them.
 
-import { Cancelled } from "../bench/faults.js";
+import { CancelledError } from "../bench/faults.js";
 import { runTests } from "../testing/test_suite.js";
-import { faultInLine, fileNameOf } from "./beside_language.js";
-import { CANCELLED, ProtocolError } from "./lsp_protocol.js";
+import { locateError, decodeFileName } from "./beside_language.js";
+import { REQUEST_CANCELLED, ProtocolError } from "./lsp_protocol.js";
 import { IT_WAS_CANCELLED } from "../../words/bench.js";
 import * as say from "../../words/server.js";
 
@@ -21,27 +21,27 @@ import * as say from "../../words/server.js";
  * @param {string} words the reason
  * @returns {TestResult}
  */
-const notRun = (words) => ({ words, hasPassed: false, failure: null });
+const notRunResult = (words) => ({ words, hasPassed: false, failure: null });
 
 export class TestRuns {
   /**
    * @param {import("../engine/engine_host.js").EngineHost} engine
-   * @param {(number: number) => string} wordsOf returns the message of a refusal
-   * @param {(uri: string) => DependencyTexts} dependenciesOf
+   * @param {(number: number) => string} refusalMessage returns the message of a refusal
+   * @param {(uri: string) => DependencyTexts} findDependencies
    * @param {() => Promise<void>} pause yields to other tasks
    */
-  constructor(engine, wordsOf, dependenciesOf, pause) {
+  constructor(engine, refusalMessage, findDependencies, pause) {
     this.engine = engine;
-    this.wordsOf = wordsOf;
-    this.dependenciesOf = dependenciesOf;
+    this.refusalMessage = refusalMessage;
+    this.findDependencies = findDependencies;
     this.pause = pause;
-    /** The number of the current run. A new run cancels the previous one. */
+    /** The number of the current run. A new run cancels the previous run. */
     this.runNumber = 0;
   }
 
   /**
    * Runs a test; throws ProtocolError if the run is cancelled.
-   * @param {OpenText} open
+   * @param {OpenText} openText
    * @param {string} name the name of the test
    * @param {import("./connection.js").PendingRequest} pending the request; the client can cancel it
    * @returns {Promise<TestResult>}
@@ -49,23 +49,23 @@ export class TestRuns {
   async run({ uri, lines, text }, name, pending) {
     this.runNumber += 1;
     const { runNumber } = this;
-    const { board, program, tests } = this.dependenciesOf(uri);
-    const missing = [board, program].find((each) => each.text === null);
-    if (missing) return notRun(say.noFileBeside(fileNameOf(missing.uri)));
+    const { board, program, tests } = this.findDependencies(uri);
+    const missingFile = [board, program].find((each) => each.text === null);
+    if (missingFile) return notRunResult(say.noFileBeside(decodeFileName(missingFile.uri)));
     const sources = tests.map((each) => ({ name: each.uri, text: each.uri === uri ? text : each.text || "" }));
     const mayContinue = async () => {
       await this.pause();
       return runNumber === this.runNumber && !pending.isCancelled;
     };
     const texts = { boardText: board.text || "", programText: program.text || "", sources };
-    const { faults, outcomes } = await this.outcomesOf(texts, mayContinue, { name, source: uri });
-    if (faults.length > 0) return notRun(this.wordsOfFault(faults[0], { board, program, tests }));
-    const failed = outcomes.find(({ failure }) => failure !== null);
-    if (outcomes.length === 0) return notRun(say.noTest(name));
-    if (!failed || !failed.failure) return { words: say.testPassed(name), hasPassed: true, failure: null };
-    const { source, line, words } = failed.failure;
-    const shown = say.testFailed(failed.name, line, words);
-    return { words: shown, hasPassed: false, failure: { uri: source, fault: faultInLine(lines, { line, column: -1, words: shown }) } };
+    const { faults, outcomes } = await this.runOneTest(texts, mayContinue, { name, source: uri });
+    if (faults.length > 0) return notRunResult(this.describeError(faults[0], { board, program, tests }));
+    const failedTest = outcomes.find(({ failure }) => failure !== null);
+    if (outcomes.length === 0) return notRunResult(say.noTest(name));
+    if (!failedTest || !failedTest.failure) return { words: say.testPassed(name), hasPassed: true, failure: null };
+    const { source, line, words } = failedTest.failure;
+    const message = say.testFailed(failedTest.name, line, words);
+    return { words: message, hasPassed: false, failure: { uri: source, fault: locateError(lines, { line, column: -1, words: message }) } };
   }
 
   /**
@@ -74,11 +74,11 @@ export class TestRuns {
    * @param {() => Promise<boolean>} mayContinue
    * @param {{ name: string, source: string }} only
    */
-  async outcomesOf(texts, mayContinue, only) {
+  async runOneTest(texts, mayContinue, only) {
     try {
       return await runTests(this.engine, texts, mayContinue, { only });
     } catch (thrown) {
-      throw thrown instanceof Cancelled ? new ProtocolError(CANCELLED, IT_WAS_CANCELLED) : thrown;
+      throw thrown instanceof CancelledError ? new ProtocolError(REQUEST_CANCELLED, IT_WAS_CANCELLED) : thrown;
     }
   }
 
@@ -86,8 +86,8 @@ export class TestRuns {
    * @param {import("../testing/prepared.js").TextFault} fault
    * @param {DependencyTexts} dependencies
    */
-  wordsOfFault({ text, file = "", line, number, words }, { board, program }) {
+  describeError({ text, file = "", line, number, words }, { board, program }) {
     const name = text === "board" ? board.uri : text === "program" ? program.uri : file;
-    return say.notRun(fileNameOf(name), line, words || this.wordsOf(number));
+    return say.notRun(decodeFileName(name), line, words || this.refusalMessage(number));
   }
 }

@@ -1,9 +1,9 @@
-// Queries the bench about texts, in temporary sessions in memory.
+// Queries the bench about the texts of boards and programs, in temporary sessions in memory.
 
-import { readBoard, refusalOf } from "../bench/answers.js";
+import { readBoard, parseRefusal } from "../bench/answers.js";
 import { readErrors, readWiring } from "../bench/text_judgement.js";
 import { sentText } from "../text/text_fault.js";
-import { ALL_ROMS, faultOfText, readProgram } from "../engine/program_check.js";
+import { ALL_ROMS, textRefusal, readProgram } from "../engine/program_check.js";
 
 /**
  * @typedef {import("../bench/answers.js").Refusal} Refusal
@@ -18,27 +18,27 @@ export class TextBench {
   /** @param {Engine} engine */
   constructor(engine) {
     this.engine = engine;
-    this.empty = engine.begin();
+    this.emptySession = engine.begin();
     this.boardSession = this.beginSession(null);
     /** @type {Program | null} the last assembled program */
     this.program = null;
   }
 
   /**
-   * Returns a session with a board. If the text is null, or if the bench rejects it, the board has all ROMs.
+   * Creates a session with a board. If the board text is null, or if the bench rejects the text, the board has all ROMs.
    * @param {string | null} text
    * @returns {BoardSession}
    */
   beginSession(text) {
     const file = this.engine.begin();
-    const isRefused = text === null || this.engine.serve(file, `wire\n${sentText(text, "#")}.\n`, file).answers.some(refusalOf);
+    const isRefused = text === null || this.engine.serve(file, `wire\n${sentText(text, "#")}.\n`, file).answers.some(parseRefusal);
     if (isRefused) this.engine.serve(file, ALL_ROMS, file);
     const roms = new Set(readBoard(this.engine.ask(file, "board\n").answers).roms.map(({ chip }) => chip));
     return { text, file, roms };
   }
 
   /**
-   * Sets the board for the programs that follow.
+   * Sets the board for later calls about programs.
    * @param {string | null} text
    */
   setBoard(text) {
@@ -46,12 +46,12 @@ export class TextBench {
   }
 
   /**
-   * Returns the refusal of the lines; null if the bench accepts them.
+   * Returns the refusal of bench lines; null if the bench accepts the lines.
    * @param {Uint8Array} file the session file
    * @param {string} lines
    */
   refusal(file, lines) {
-    return refusalOf(this.engine.ask(file, lines).answers[0]);
+    return parseRefusal(this.engine.ask(file, lines).answers[0]);
   }
 
   /**
@@ -59,7 +59,7 @@ export class TextBench {
    * @param {string} text the result of `sentText`
    */
   wiring(text) {
-    return readWiring(this.engine.ask(this.empty, `wiring\n${text}.\n`).answers[0]);
+    return readWiring(this.engine.ask(this.emptySession, `wiring\n${text}.\n`).answers[0]);
   }
 
   /**
@@ -67,7 +67,7 @@ export class TextBench {
    * @param {string} text the result of `sentText`
    */
   errors(text) {
-    return readErrors(this.engine.ask(this.empty, `errors\n${text}.\n`).answers);
+    return readErrors(this.engine.ask(this.emptySession, `errors\n${text}.\n`).answers);
   }
 
   /**
@@ -80,7 +80,7 @@ export class TextBench {
 
   /**
    * Returns the queries of this bench as callbacks for AllFaultsOfTexts.
-   * @returns {import("../text/all_faults.js").Asked}
+   * @returns {import("../text/all_faults.js").FaultQueries}
    */
   queries() {
     return {
@@ -97,13 +97,13 @@ export class TextBench {
    * @param {string} sent the result of `sentText`
    */
   map(sent) {
-    if (faultOfText(sent)) return null;
-    const { answers } = this.engine.ask(this.empty, `map\n${sent}.\n`);
-    return refusalOf(answers[0]) ? null : answers;
+    if (textRefusal(sent)) return null;
+    const { answers } = this.engine.ask(this.emptySession, `map\n${sent}.\n`);
+    return parseRefusal(answers[0]) ? null : answers;
   }
 
   /**
-   * Returns the `map` answers and bytes of a program. For the same text, returns the last result again.
+   * Returns the `map` answers and the bytes of a program. For the text of the last call, returns the last result again.
    * @param {string} sent the result of `sentText`
    * @returns {Program}
    */

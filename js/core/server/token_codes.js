@@ -1,4 +1,4 @@
-// Semantic tokens: the kinds of words that editors colour, and their encoding in the protocol.
+// Encodes semantic tokens: the words that editors colour, with their kinds.
 
 /**
  * A word to colour: its line and columns (from 0), its token type, and whether it is a definition or a constant.
@@ -30,7 +30,7 @@ export function colouredWords(lines, colours) {
  * @param {ColouredWord[]} words
  * @returns {number[]}
  */
-export function tokenCodes(words) {
+export function encodeTokens(words) {
   const inOrder = [...words].sort((one, other) => one.line - other.line || one.from - other.from);
   let [line, from] = [0, 0];
   return inOrder.filter((word) => word.to > word.from).flatMap((word) => {
@@ -43,7 +43,7 @@ export function tokenCodes(words) {
 }
 
 /**
- * Returns the edits from one encoding to another: no edit, or one edit that replaces a range.
+ * Returns the edits that change an encoding into another one: no edit if they are equal, or else one edit that replaces a range.
  * @param {number[]} before
  * @param {number[]} after
  * @returns {{ start: number, deleteCount: number, data: number[] }[]}

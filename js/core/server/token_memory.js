@@ -1,6 +1,6 @@
-// The last semantic tokens sent for each text. With them, an editor can request only the changes.
+// Stores the last semantic tokens that were sent for each text, so that an editor can request only the changes.
 
-import { codeEdits, tokenCodes } from "./token_codes.js";
+import { codeEdits, encodeTokens } from "./token_codes.js";
 
 /**
  * @typedef {import("./open_text.js").OpenText} OpenText
@@ -14,7 +14,7 @@ const MAX_TEXTS = 32;
 export class TokenMemory {
   constructor() {
     /** @type {Map<string, { resultId: string, data: number[] }>} the last responses, by text URI */
-    this.sent = new Map();
+    this.sentTokens = new Map();
     this.count = 0;
   }
 
@@ -26,33 +26,33 @@ export class TokenMemory {
   store(uri, data) {
     this.count += 1;
     const resultId = String(this.count);
-    this.sent.delete(uri);
-    this.sent.set(uri, { resultId, data });
-    if (this.sent.size > MAX_TEXTS) this.sent.delete([...this.sent.keys()][0]);
+    this.sentTokens.delete(uri);
+    this.sentTokens.set(uri, { resultId, data });
+    if (this.sentTokens.size > MAX_TEXTS) this.sentTokens.delete([...this.sentTokens.keys()][0]);
     return resultId;
   }
 
   /**
    * Returns all tokens of a text.
-   * @param {OpenText} open
+   * @param {OpenText} openText
    * @param {ColouredWord[]} words
    */
   allTokens({ uri }, words) {
-    const data = tokenCodes(words);
+    const data = encodeTokens(words);
     return { resultId: this.store(uri, data), data };
   }
 
   /**
-   * Returns the changes since a result. If that is not the last result for the text, returns all tokens.
-   * @param {OpenText} open
+   * Returns the changes since the last result. If `previousId` is not the id of the last result for the text, returns all tokens.
+   * @param {OpenText} openText
    * @param {ColouredWord[]} words
-   * @param {unknown} previous the result id
+   * @param {unknown} previousId the result id
    */
-  changedTokens(open, words, previous) {
-    const before = this.sent.get(open.uri);
-    if (!before || before.resultId !== previous) return this.allTokens(open, words);
-    const data = tokenCodes(words);
-    return { resultId: this.store(open.uri, data), edits: codeEdits(before.data, data) };
+  changedTokens(openText, words, previousId) {
+    const lastResponse = this.sentTokens.get(openText.uri);
+    if (!lastResponse || lastResponse.resultId !== previousId) return this.allTokens(openText, words);
+    const data = encodeTokens(words);
+    return { resultId: this.store(openText.uri, data), edits: codeEdits(lastResponse.data, data) };
   }
 
   /**
@@ -60,7 +60,7 @@ export class TokenMemory {
    * @param {ColouredWord[]} words
    * @param {Range} range
    */
-  tokensIn(words, { start, end }) {
-    return { data: tokenCodes(words.filter(({ line }) => start.line <= line && line <= end.line)) };
+  tokensInRange(words, { start, end }) {
+    return { data: encodeTokens(words.filter(({ line }) => start.line <= line && line <= end.line)) };
   }
 }

@@ -1,6 +1,6 @@
 // Workspace symbols: finds the names that match a query, in the open texts and their projects.
 
-import { fileNameOf } from "./beside_language.js";
+import { decodeFileName } from "./beside_language.js";
 
 /**
  * @typedef {import("./language_server.js").LanguageServer} LanguageServer
@@ -11,12 +11,12 @@ import { fileNameOf } from "./beside_language.js";
 const MAX_NAMES = 512;
 
 /**
- * Returns whether a name matches a query; the case is ignored. A one-word name must contain the letters of the query in order. A name with
- * several words must contain the whole query.
+ * Compares a name with a query, ignoring the case of letters. Returns true if a name of one word contains the letters of the query in
+ * order, or if a name of several words contains the query as a whole.
  * @param {string} name
  * @param {string} query
  */
-export function matches(name, query) {
+export function matchesQuery(name, query) {
   const lowerCase = name.toLowerCase();
   if (lowerCase.includes(" ")) return lowerCase.includes(query.toLowerCase());
   let at = 0;
@@ -33,11 +33,11 @@ export function matches(name, query) {
  * @param {string} query
  */
 export function workspaceSymbols(server, query) {
-  return server.allTexts().flatMap((open) => {
-    const language = server.languageOf(open);
-    const symbols = language && language.symbols ? language.symbols(open) : [];
-    const containerName = fileNameOf(open.uri);
-    return symbols.filter(({ name }) => matches(name, query)).map(({ name, kind, selectionRange }) => (
-      { name, kind, containerName, location: { uri: open.uri, range: selectionRange } }));
+  return server.allTexts().flatMap((openText) => {
+    const language = server.findLanguage(openText);
+    const symbols = language && language.symbols ? language.symbols(openText) : [];
+    const containerName = decodeFileName(openText.uri);
+    return symbols.filter(({ name }) => matchesQuery(name, query)).map(({ name, kind, selectionRange }) => (
+      { name, kind, containerName, location: { uri: openText.uri, range: selectionRange } }));
   }).slice(0, MAX_NAMES);
 }

@@ -1,12 +1,15 @@
 // Converts bytes to base64 and back.
 
-/** The number of bytes that are converted in one call. */
-const PIECE = 8192;
+/** The maximum number of bytes in one call of String.fromCharCode. */
+const PIECE_BYTES = 8192;
 
-/** @param {Uint8Array} bytes */
+/**
+ * Returns bytes as a base64 text.
+ * @param {Uint8Array} bytes
+ */
 export function toBase64(bytes) {
   let letters = "";
-  for (let at = 0; at < bytes.length; at += PIECE) letters += String.fromCharCode(...bytes.subarray(at, at + PIECE));
+  for (let at = 0; at < bytes.length; at += PIECE_BYTES) letters += String.fromCharCode(...bytes.subarray(at, at + PIECE_BYTES));
   return btoa(letters);
 }
 

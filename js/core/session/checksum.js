@@ -1,17 +1,17 @@
-// Computes the checksum of the POSIX command `cksum`, so that a system command can verify a file.
+// Computes checksums like the POSIX command `cksum`, so that users can verify a file with this command.
 
 const POLYNOMIAL = 0x04c11db7;
 
-/** The effect of each byte value on the CRC remainder. */
+/** The CRC remainder of each byte value. */
 const REMAINDERS = Uint32Array.from({ length: 256 }, (_, value) => {
-  let left = value << 24;
-  for (let bit = 0; bit < 8; bit++) left = left < 0 ? (left << 1) ^ POLYNOMIAL : left << 1;
-  return left;
+  let remainder = value << 24;
+  for (let bit = 0; bit < 8; bit++) remainder = remainder < 0 ? (remainder << 1) ^ POLYNOMIAL : remainder << 1;
+  return remainder;
 });
 
 /**
- * Returns the CRC remainder after another byte.
- * @param {number} sum
+ * Returns the CRC remainder after one more byte.
+ * @param {number} sum the CRC remainder before the byte
  * @param {number} byte
  */
 function addByte(sum, byte) {
@@ -19,7 +19,7 @@ function addByte(sum, byte) {
 }
 
 /**
- * Returns the checksum of bytes and their count, as an unsigned number.
+ * Returns the checksum of bytes as an unsigned 32-bit number. Like `cksum`, includes the number of bytes.
  * @param {Uint8Array} bytes
  */
 export function checksum(bytes) {

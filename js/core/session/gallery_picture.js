@@ -1,10 +1,10 @@
-// The picture of an example in the gallery: a small front panel, drawn from the board text. Only the program determines which lamps are on.
-// The picture shows the first lamp of each colour as on, and sample digits on a display.
+// Draws the picture of an example in the gallery: a small front panel, from the board text. The program does not run for the picture, so
+// the picture shows the first lamp of each colour as on, and sample digits on a display.
 
 import { partLines } from "../bench/part_lines.js";
 import { Face } from "../board/face.js";
-import { endOfGroup, isScanned, lampsOfGroup } from "../board/face_board.js";
-import { upTo } from "../bench/numbers.js";
+import { groupEnd, isScanned, groupLamps } from "../board/face_board.js";
+import { indices } from "../bench/numbers.js";
 
 /**
  * A shape in the picture: a lamp, a key with its legend, or a display with its digits. Sizes are in picture units.
@@ -16,6 +16,7 @@ import { upTo } from "../bench/numbers.js";
  * @typedef {{ width: number, height: number, shapes: Shape[] }} GalleryPicture
  */
 
+/** The width of the picture, and the distance between shapes, in picture units. */
 const WIDTH = 120;
 const GAP = 4;
 /** The positions of the pips of a die, in lamp order: column and row, from 0 to 2. */
@@ -29,10 +30,10 @@ class Drawing {
     /** @type {Shape[]} */
     this.shapes = [];
     this.bottom = GAP;
-    /** @type {Set<string>} the colours of which a lamp is already on */
+    /** @type {Set<string>} the colours in which the picture already shows a lamp as on */
     this.litColours = new Set();
-    /** @type {Set<number>} the lamps that are already drawn */
-    this.drawn = new Set();
+    /** @type {Set<number>} the numbers of the lamps that are already drawn */
+    this.drawnLamps = new Set();
   }
 
   get lampCount() {
@@ -51,21 +52,21 @@ class Drawing {
     const colour = faceText ? faceText.text : "red";
     const isLit = !this.litColours.has(colour);
     this.litColours.add(colour);
-    this.drawn.add(lamp);
+    this.drawnLamps.add(lamp);
     this.shapes.push({ kind: "lamp", x, y, size, colour, isLit });
   }
 
   drawGroups() {
-    for (const group of this.face.groups.filter((each) => endOfGroup(each) <= this.lampCount)) {
-      for (const lamp of lampsOfGroup(group)) this.drawn.add(lamp);
+    for (const group of this.face.groups.filter((each) => groupEnd(each) <= this.lampCount)) {
+      for (const lamp of groupLamps(group)) this.drawnLamps.add(lamp);
       if (group.kind === "display") this.drawDisplay(group);
       else if (group.kind === "die") {
-        this.drawGrid(upTo(7).map((at) => ({ lamp: group.first + at, column: PIPS[at][0], row: PIPS[at][1] })));
+        this.drawGrid(indices(7).map((at) => ({ lamp: group.first + at, column: PIPS[at][0], row: PIPS[at][1] })));
       } else {
         const { first, rows, columns } = group;
-        // The lamps of a multiplexed group have the colours of its columns.
+        // All rows of a multiplexed group use the colours of its columns.
         const lampAt = (/** @type {number} */ at) => first + (isScanned(group) ? at % columns : at);
-        this.drawGrid(upTo(rows * columns).map((at) => ({ lamp: lampAt(at), column: at % columns, row: Math.floor(at / columns) })));
+        this.drawGrid(indices(rows * columns).map((at) => ({ lamp: lampAt(at), column: at % columns, row: Math.floor(at / columns) })));
       }
     }
   }
@@ -74,7 +75,7 @@ class Drawing {
   drawDisplay({ rows, first }) {
     const height = 24;
     const colour = (this.face.colours.get(first) || { text: "red" }).text;
-    const text = upTo(rows).map((at) => String((at + 1) % 10)).join("");
+    const text = indices(rows).map((at) => String((at + 1) % 10)).join("");
     this.shapes.push({ kind: "display", x: GAP, y: this.bottom, width: WIDTH - 2 * GAP, height, digits: text, colour });
     this.bottom += height + GAP;
   }
@@ -97,8 +98,9 @@ class Drawing {
 
   drawOtherLamps() {
     const columns = 8;
-    const others = upTo(this.lampCount).filter((lamp) => !this.drawn.has(lamp));
-    this.drawGrid(others.map((lamp, at) => ({ lamp, column: at % Math.min(columns, others.length), row: Math.floor(at / columns) })));
+    const otherLamps = indices(this.lampCount).filter((lamp) => !this.drawnLamps.has(lamp));
+    const width = Math.min(columns, otherLamps.length);
+    this.drawGrid(otherLamps.map((lamp, at) => ({ lamp, column: at % width, row: Math.floor(at / columns) })));
   }
 
   drawKeys() {
@@ -118,6 +120,7 @@ class Drawing {
 }
 
 /**
+ * Returns the picture of a board.
  * @param {string} boardText
  * @returns {GalleryPicture}
  */

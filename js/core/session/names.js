@@ -1,4 +1,4 @@
-// Makes names from other people safe to show. A name in a link must not imitate texts of the page.
+// Makes names from other people safe to show, so that a name in a link cannot imitate texts of the page.
 
 /** The maximum length of a name, in characters. */
 const MAX_NAME_LENGTH = 60;
@@ -6,7 +6,7 @@ const MAX_NAME_LENGTH = 60;
 const UNSAFE_CHARACTERS = /[\p{Cc}\p{Bidi_Control}\u200b\u2028\u2029\u2060\ufeff]/gu;
 
 /**
- * Returns a name as one line without unsafe characters, cut to the maximum length.
+ * Returns a name as one line without unsafe characters, shortened to the maximum length.
  * @param {string} text
  */
 export function shortName(text) {

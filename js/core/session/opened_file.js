@@ -1,25 +1,26 @@
 // Determines the contents of a file that the user chooses or drops: a project, a session, a board, a program, tests, properties, bench
-// lines, or a ROM image. The first bytes decide, then the file name, then the text.
+// lines, or a ROM image. Checks the first bytes, then the file name, then the text.
 
 import { readInputs } from "../bench/inputs.js";
 import { PROJECT_FILE } from "../project/project_toml.js";
 import { readSRecords } from "../bench/rom_formats.js";
 import { readBytes, readHex } from "../bench/rom_image.js";
-import { LONGEST_KEPT } from "../text/text_fault.js";
+import { STORED_LIMIT } from "../text/text_fault.js";
 import { isProject } from "./project_file.js";
 import * as say from "../../words/session.js";
 
 /**
- * The texts in a file; null for a missing kind. `lines` are the other bench lines. `isGuess` is true if neither the name nor the text shows
- * that the file is a program.
+ * The texts in a file, null for each kind of text that the file lacks. `lines` are the bench lines that define no text. `isGuess` is true
+ * if the file counts as a program only because neither its name nor its text shows another kind.
  * @typedef {{ board: string | null, program: string | null, tests: string | null, properties: string | null, lines: string,
  *   isGuess?: boolean }} FileTexts
  *
- * @typedef {{ kind: "project" } | { kind: "session" } | { kind: "texts", texts: FileTexts } | { kind: "image", bytes: Int16Array }} Opened
+ * @typedef {{ kind: "project" } | { kind: "session" } | { kind: "texts", texts: FileTexts } | { kind: "image", bytes: Int16Array }}
+ *   FileContents
  */
 
 /** The error for a file that the bench cannot use. The message gives the reason. */
-export class NotForTheBench extends Error {}
+export class UnusableFile extends Error {}
 
 /** The first bytes of a session file. */
 const SESSION_MAGIC = "MCS4BEN1";
@@ -29,23 +30,23 @@ const BOARD_FILES = /\.toml$/i;
 const TEST_FILES = /\.test$/i;
 const PROPERTY_FILES = /\.props$/i;
 const PROGRAM_FILES = /\.(asm|s|src|a4|4004)$/i;
-/** Matches names that do not determine the kind of text. */
+/** Matches file names that do not determine the kind of text. */
 const TEXT_FILES = /(^[^.]*|\.(txt|text))$/i;
 
 /**
  * Returns the error for a file that the bench cannot use.
- * @param {string} why
- * @returns {NotForTheBench}
+ * @param {string} reason
+ * @returns {UnusableFile}
  */
-function refusal(why) {
-  return new NotForTheBench(say.opens(why));
+function unusableFile(reason) {
+  return new UnusableFile(say.opens(reason));
 }
 
 /**
  * Decodes a text as UTF-8, or else as Windows-1252. Returns null if the bytes are no text.
  * @param {Uint8Array} bytes
  */
-function textOf(bytes) {
+function decodeText(bytes) {
   // A text contains no control characters except tab, line feed, form feed, carriage return and Ctrl-Z.
   if (bytes.some((byte) => byte < 32 && ![9, 10, 12, 13, 26].includes(byte))) return null;
   try {
@@ -56,20 +57,20 @@ function textOf(bytes) {
 }
 
 /**
- * Returns the texts in bench lines (the last one of each kind), and the other lines.
+ * Returns the texts in bench lines (the last text of each kind), and the other lines.
  * @param {string} script
  * @returns {FileTexts}
  */
-function textsOfLines(script) {
+function textsInLines(script) {
   const inputs = readInputs(script);
   /** @type {(kind: string) => string | null} */
-  const last = (kind) => {
+  const lastText = (kind) => {
     const found = inputs.filter((input) => input.kind === kind).pop();
     return found ? found.text.map((line) => `${line}\n`).join("") : null;
   };
   const otherInputs = inputs.filter(({ kind }) => kind !== "wire" && kind !== "asm");
   const lines = otherInputs.map(({ line, text }) => [line, ...text, ...(text.length > 0 ? ["."] : [])].map((each) => `${each}\n`).join(""));
-  return { board: last("wire"), program: last("asm"), tests: null, properties: null, lines: lines.join("") };
+  return { board: lastText("wire"), program: lastText("asm"), tests: null, properties: null, lines: lines.join("") };
 }
 
 /**
@@ -84,7 +85,7 @@ function readTexts(name, text) {
   if (TEST_FILES.test(name)) return { ...noTexts, tests: text };
   if (PROPERTY_FILES.test(name)) return { ...noTexts, properties: text };
   if (PROGRAM_FILES.test(name)) return { ...noTexts, program: text };
-  if (/^[ \t]*(wire|asm)[ \t]*\r?$/m.test(text)) return textsOfLines(text);
+  if (/^[ \t]*(wire|asm)[ \t]*\r?$/m.test(text)) return textsInLines(text);
   if (/^([ \t]*([#;].*)?\r?\n)*[ \t]*test[ \t]+[^01\s]/.test(text)) return { ...noTexts, tests: text };
   if (/^[ \t]*\[\[?(rom|ram|chain|keys|lamp)\]\]?/m.test(text)) return { ...noTexts, board: text };
   return { ...noTexts, program: text, isGuess: true };
@@ -94,21 +95,21 @@ function readTexts(name, text) {
  * Returns the contents of a text file. Throws if the bench cannot use the file.
  * @param {string} name the name of the file
  * @param {string} text
- * @returns {Opened}
+ * @returns {FileContents}
  */
 function openText(name, text) {
-  if (name === PROJECT_FILE) throw new NotForTheBench(say.NAMES_FILES);
+  if (name === PROJECT_FILE) throw new UnusableFile(say.NAMES_FILES);
   const kinds = [HEX_FILES, BOARD_FILES, PROGRAM_FILES, TEST_FILES, PROPERTY_FILES, TEXT_FILES];
   if (!kinds.some((ending) => ending.test(name)) && !/^\s*(:|S)[0-9A-F]{9}/i.test(text)) {
-    throw refusal(say.NOT_A_KIND);
+    throw unusableFile(say.NOT_A_KIND);
   }
   if (HEX_FILES.test(name) || /^\s*:[0-9A-F]{10}/i.test(text)) return { kind: "image", bytes: readHex(text) };
   if (/^\s*S[0-9][0-9A-F]{8}/.test(text)) return { kind: "image", bytes: readSRecords(text) };
   const texts = readTexts(name, text);
   for (const each of [texts.board, texts.program, texts.tests, texts.properties]) {
-    if (each === null || each.length <= LONGEST_KEPT) continue;
-    const [size, most] = [each.length, LONGEST_KEPT].map((count) => count.toLocaleString("en"));
-    throw new NotForTheBench(say.tooLong(size, most));
+    if (each === null || each.length <= STORED_LIMIT) continue;
+    const [size, most] = [each.length, STORED_LIMIT].map((count) => count.toLocaleString("en"));
+    throw new UnusableFile(say.tooLong(size, most));
   }
   return { kind: "texts", texts };
 }
@@ -117,14 +118,14 @@ function openText(name, text) {
  * Returns the contents of a file. Throws if the bench cannot use the file.
  * @param {string} name the name of the file
  * @param {Uint8Array} bytes
- * @returns {Opened}
+ * @returns {FileContents}
  */
-export function openedFile(name, bytes) {
+export function readOpenedFile(name, bytes) {
   if (isProject(bytes)) return { kind: "project" };
   const magic = new TextDecoder("latin1").decode(bytes.subarray(0, SESSION_MAGIC.length));
   if (magic === SESSION_MAGIC || /\.mcs$/i.test(name)) return { kind: "session" };
   if (IMAGE_FILES.test(name)) return { kind: "image", bytes: readBytes(bytes) };
-  const text = textOf(bytes);
+  const text = decodeText(bytes);
   if (text !== null && text.trim() !== "") return openText(name, text);
-  throw refusal(text === null ? say.NOT_A_TEXT : say.EMPTY);
+  throw unusableFile(text === null ? say.NOT_A_TEXT : say.EMPTY);
 }

@@ -1,69 +1,69 @@
-// Reads and writes project files. A project file is one text file with the session file, its name and the editor texts. The manual ("A
-// project file") describes its lines. project_parts.js writes the same parts as files in a folder.
+// Reads and writes project files. A project file is a text file that contains a session file, its name, and the texts in the editors. The
+// manual ("A project file") describes its lines. project_parts.js writes the same contents as files in a folder.
 
 import { checksum } from "./checksum.js";
 import { shortName } from "./names.js";
 import { hex } from "../bench/numbers.js";
-import { breakpointOfLine, limitBreakpoints, linesOfBreakpoints } from "../debug/breakpoint_lines.js";
-import { LONGEST_KEPT } from "../text/text_fault.js";
+import { parseBreakpoint, limitBreakpoints, formatBreakpoints } from "../debug/breakpoint_lines.js";
+import { STORED_LIMIT } from "../text/text_fault.js";
 import * as say from "../../words/session.js";
 
 /**
  * The name and the texts of a project. Empty tests and properties are omitted in the file.
  * @typedef {{ name: string, boardText: string, programText: string, testText?: string, propertiesText?: string }} Texts
- * @typedef {import("../debug/breakpoints.js").KeptBreakpoint} KeptBreakpoint
+ * @typedef {import("../debug/breakpoints.js").SavedBreakpoint} SavedBreakpoint
  *
- * The name and texts with breakpoints and watch expressions, as they are stored.
- * @typedef {Texts & { breakpoints?: KeptBreakpoint[], watched?: string[] }} DebuggedTexts
+ * The name and the texts of a project, with the breakpoints and watch expressions in their stored form.
+ * @typedef {Texts & { breakpoints?: SavedBreakpoint[], watched?: string[] }} DebuggedTexts
  * @typedef {DebuggedTexts & { file: Uint8Array }} Project
  *
- * The word on the line before a text.
+ * The word that introduces a text, on a line of its own.
  * @typedef {"wire" | "asm" | "test" | "properties"} Word
  */
 
 const FIRST_LINE = "fethsaim project 1";
-/** The line that ends a text, as in bench lines. */
+/** The line that ends a text in a project file. Bench lines use the same line. */
 const DOT = ".";
 const LAST_LINE = "end";
 const CHECKSUM_LINE = /^cksum \d+$/;
-/** The number of bytes per line of the session file. Lines of zeros are omitted. */
-const BYTES_OF_LINE = 16;
-/** The maximum size of a project file in bytes, much more than the largest texts and sessions need. */
+/** The number of session file bytes in each line. A project file omits lines with only zeros. */
+const BYTES_PER_LINE = 16;
+/** The maximum size of a project file in bytes. The largest texts and sessions need much less. */
 export const MAX_PROJECT_BYTES = 4 << 20;
 
 /** The error for bytes that are not a project. The message gives the reason. */
-export class NotAProject extends Error {}
+export class InvalidProject extends Error {}
 
 /** The error for a project text that is longer than the editors accept. */
-export class TextTooLong extends NotAProject {}
+export class TextTooLong extends InvalidProject {}
 
 /**
- * Returns a message if one of the texts is too long for a project and for a link; otherwise "".
+ * Returns an error message if a text is too long for a project and for a link; "" if no text is too long.
  * @param {{ boardText: string, programText: string, testText?: string, propertiesText?: string }} texts
  */
-export function wordsOfLength({ boardText, programText, testText = "", propertiesText = "" }) {
-  const named = [[say.BOARD_TEXT, boardText], [say.SOURCE_TEXT, programText], [say.TESTS_TEXT, testText],
+export function tooLongMessage({ boardText, programText, testText = "", propertiesText = "" }) {
+  const namedTexts = [[say.BOARD_TEXT, boardText], [say.SOURCE_TEXT, programText], [say.TESTS_TEXT, testText],
     [say.PROPERTIES_TEXT, propertiesText]];
-  const [what, text] = named.find(([, each]) => each.length > LONGEST_KEPT) || named[0];
-  const [size, most] = [text.length, LONGEST_KEPT].map((count) => count.toLocaleString("en"));
-  return text.length > LONGEST_KEPT ? say.textTooLong(what, size, most) : "";
+  const [what, text] = namedTexts.find(([, each]) => each.length > STORED_LIMIT) || namedTexts[0];
+  const [size, most] = [text.length, STORED_LIMIT].map((count) => count.toLocaleString("en"));
+  return text.length > STORED_LIMIT ? say.textTooLong(what, size, most) : "";
 }
 
 // --- writing ---
 
 /**
- * Returns the lines of a text. A line that consists only of dots gets an additional dot, so that it does not end the text.
+ * Returns the project lines of a text. Adds a dot to each line that consists of dots, so that this line does not end the text.
  * @param {Word} word
  * @param {string} text
  */
-function linesOfText(word, text) {
+function textLines(word, text) {
   const lines = text.split("\n");
   if (lines[lines.length - 1] === "") lines.pop();
   return [word, ...lines.map((line) => (/^\.+$/.test(line) ? `.${line}` : line)), DOT];
 }
 
 /**
- * Returns an `unended` line if a text does not end with a line feed; otherwise an empty list.
+ * Returns a list with the line `unended WORD` if a text does not end with a line feed; an empty list for any other text.
  * @param {Word} word
  * @param {string} text
  */
@@ -71,11 +71,14 @@ function unendedLine(word, text) {
   return text === "" || text.endsWith("\n") ? [] : [`unended ${word}`];
 }
 
-/** @param {Uint8Array} file */
-function linesOfFile(file) {
+/**
+ * Returns the project lines of a session file.
+ * @param {Uint8Array} file
+ */
+function sessionLines(file) {
   const lines = [];
-  for (let at = 0; at < file.length; at += BYTES_OF_LINE) {
-    const bytes = file.subarray(at, at + BYTES_OF_LINE);
+  for (let at = 0; at < file.length; at += BYTES_PER_LINE) {
+    const bytes = file.subarray(at, at + BYTES_PER_LINE);
     if (bytes.some((byte) => byte !== 0)) {
       const digits = Array.from(bytes, (byte) => byte.toString(16).padStart(2, "0")).join("");
       lines.push(`${hex(at, 5).toLowerCase()} ${digits}`);
@@ -85,15 +88,18 @@ function linesOfFile(file) {
 }
 
 /**
- * Returns a text without carriage returns at line ends; the bench also ignores them.
+ * Returns a text without carriage returns at line ends. The bench ignores such carriage returns.
  * @param {string} text
  */
-function plainLines(text) {
+function removeCarriageReturns(text) {
   return text.replace(/\r(?=\n|$)/g, "");
 }
 
-/** @param {string} text */
-function oneLine(text) {
+/**
+ * Returns a text with each sequence of blanks and line ends replaced by one blank.
+ * @param {string} text
+ */
+function toOneLine(text) {
   return text.replace(/\s+/g, " ").trim();
 }
 
@@ -101,13 +107,13 @@ function oneLine(text) {
  * Returns the lines for the name, the breakpoints, the watch expressions and the texts.
  * @param {DebuggedTexts} texts
  */
-export function linesOfTexts({ name, boardText, programText, testText = "", propertiesText = "", breakpoints = [], watched = [] }) {
-  const [board, program, tests, properties] = [boardText, programText, testText, propertiesText].map(plainLines);
-  const head = [`name ${oneLine(name)}`, ...unendedLine("wire", board), ...unendedLine("asm", program), ...unendedLine("test", tests),
-    ...unendedLine("properties", properties), ...linesOfBreakpoints(breakpoints),
-    ...watched.map((text) => ["value", oneLine(text)].join(" "))];
-  return [...head, ...linesOfText("wire", board), ...linesOfText("asm", program), ...(tests === "" ? [] : linesOfText("test", tests)),
-    ...(properties === "" ? [] : linesOfText("properties", properties))];
+export function projectLines({ name, boardText, programText, testText = "", propertiesText = "", breakpoints = [], watched = [] }) {
+  const [board, program, tests, properties] = [boardText, programText, testText, propertiesText].map(removeCarriageReturns);
+  const head = [`name ${toOneLine(name)}`, ...unendedLine("wire", board), ...unendedLine("asm", program), ...unendedLine("test", tests),
+    ...unendedLine("properties", properties), ...formatBreakpoints(breakpoints),
+    ...watched.map((text) => ["value", toOneLine(text)].join(" "))];
+  return [...head, ...textLines("wire", board), ...textLines("asm", program), ...(tests === "" ? [] : textLines("test", tests)),
+    ...(properties === "" ? [] : textLines("properties", properties))];
 }
 
 /**
@@ -115,8 +121,8 @@ export function linesOfTexts({ name, boardText, programText, testText = "", prop
  * @param {Project} project
  */
 export function projectText(project) {
-  const rest = `${[say.ABOUT_PROJECT, ...linesOfTexts(project), ...linesOfFile(project.file), LAST_LINE].join("\n")}\n`;
-  return `${FIRST_LINE}\ncksum ${checksum(new TextEncoder().encode(rest))}\n${rest}`;
+  const body = `${[say.ABOUT_PROJECT, ...projectLines(project), ...sessionLines(project.file), LAST_LINE].join("\n")}\n`;
+  return `${FIRST_LINE}\ncksum ${checksum(new TextEncoder().encode(body))}\n${body}`;
 }
 
 // --- reading ---
@@ -149,21 +155,21 @@ export class Lines {
 
   /**
    * Returns the error for an unexpected line.
-   * @param {string} wanted the expected line, as text
-   * @returns {NotAProject}
+   * @param {string} expected the expected line, as text
+   * @returns {InvalidProject}
    */
-  fault(wanted) {
-    return new NotAProject(say.lineMustBe(this.at + 1, wanted));
+  fault(expected) {
+    return new InvalidProject(say.lineMustBe(this.at + 1, expected));
   }
 
   /**
-   * Reads a text: the lines after `word` up to a dot. Throws if the next line is not `word`.
+   * Reads the lines after the line `word`, up to a line with a dot. Throws InvalidProject if the next line is not `word`.
    * @param {string} word
    */
-  upToDot(word) {
+  readUpToDot(word) {
     if (this.next !== word) throw this.fault(`\`${word}\``);
     const end = this.lines.indexOf(DOT, this.at + 1);
-    if (end < 0) throw new NotAProject(say.noEnd(word));
+    if (end < 0) throw new InvalidProject(say.noEnd(word));
     const lines = this.lines.slice(this.at + 1, end);
     this.at = end + 1;
     return lines;
@@ -171,43 +177,43 @@ export class Lines {
 }
 
 /**
- * Checks the first line, the last line, and the checksum if there is one. Throws if one of them is wrong.
+ * Checks the first line, the last line, and the checksum, if the text has one. Throws InvalidProject if a check fails.
  * @param {string} text
  */
-function checkWhole(text) {
-  const first = text.slice(0, text.indexOf("\n"));
-  const version = /^fethsaim project (\d+)$/.exec(first);
-  if (!version) throw new NotAProject(say.NO_PROJECT);
-  if (first !== FIRST_LINE) throw new NotAProject(say.otherVersion(version[1]));
-  if (!text.endsWith(`\n${LAST_LINE}\n`)) throw new NotAProject(say.cutOff(LAST_LINE));
+function checkEnvelope(text) {
+  const firstLine = text.slice(0, text.indexOf("\n"));
+  const version = /^fethsaim project (\d+)$/.exec(firstLine);
+  if (!version) throw new InvalidProject(say.NO_PROJECT);
+  if (firstLine !== FIRST_LINE) throw new InvalidProject(say.otherVersion(version[1]));
+  if (!text.endsWith(`\n${LAST_LINE}\n`)) throw new InvalidProject(say.cutOff(LAST_LINE));
   const found = /^[^\n]*\ncksum (\d+)\n/.exec(text);
   if (!found) return;
   const sum = checksum(new TextEncoder().encode(text.slice(found[0].length)));
   if (sum !== Number(found[1])) {
-    throw new NotAProject(say.OTHER_CHECKSUM);
+    throw new InvalidProject(say.OTHER_CHECKSUM);
   }
 }
 
 /**
- * Reads the lines before the first text: the name, the breakpoints and the watch expressions. `unended` are the texts that do not end with
- * a line feed.
+ * Reads the lines before the first text: the name, the breakpoints and the watch expressions. `unended` contains the words of the texts
+ * that do not end with a line feed.
  * @param {Lines} lines
  */
 function readHead(lines) {
   let name = "";
   const unended = new Set();
-  /** @type {KeptBreakpoint[]} */
+  /** @type {SavedBreakpoint[]} */
   const breakpoints = [];
   /** @type {string[]} */
   const watched = [];
   while (lines.next !== "wire") {
-    const [isOfHead, word, rest] = /^(name|unended|value) (.+)$|^#/.exec(lines.next) || [];
-    const breakpoint = breakpointOfLine(lines.next || "");
+    const [match, word, value] = /^(name|unended|value) (.+)$|^#/.exec(lines.next) || [];
+    const breakpoint = parseBreakpoint(lines.next || "");
     if (breakpoint) breakpoints.push(breakpoint);
-    else if (isOfHead === undefined) throw lines.fault(say.ONE_OF_HEAD);
-    if (word === "name") name = shortName(rest);
-    if (word === "unended") unended.add(rest);
-    if (word === "value") watched.push(rest);
+    else if (match === undefined) throw lines.fault(say.ONE_OF_HEAD);
+    if (word === "name") name = shortName(value);
+    if (word === "unended") unended.add(value);
+    if (word === "value") watched.push(value);
     lines.take();
   }
   return { name, unended, breakpoints, watched };
@@ -217,10 +223,10 @@ function readHead(lines) {
  * Reads a text of a project.
  * @param {Lines} lines
  * @param {Word} word
- * @param {Set<string>} unended the texts that do not end with a line feed
+ * @param {Set<string>} unended the words of the texts that do not end with a line feed
  */
 function readText(lines, word, unended) {
-  const text = lines.upToDot(word).map((line) => `${/^\.\.+$/.test(line) ? line.slice(1) : line}\n`).join("");
+  const text = lines.readUpToDot(word).map((line) => `${/^\.\.+$/.test(line) ? line.slice(1) : line}\n`).join("");
   return unended.has(word) ? text.slice(0, -1) : text;
 }
 
@@ -236,7 +242,7 @@ export function readTexts(lines, acceptsLong = false) {
   const [testText, propertiesText] = (/** @type {Word[]} */ (["test", "properties"])).map((word) => (
     lines.next === word ? readText(lines, word, unended) : ""));
   const texts = { name, boardText, programText, testText, propertiesText };
-  const words = wordsOfLength(texts);
+  const words = tooLongMessage(texts);
   if (words && !acceptsLong) throw new TextTooLong(words);
   const withBreakpoints = breakpoints.length > 0 ? { ...texts, breakpoints: limitBreakpoints(breakpoints) } : texts;
   return watched.length > 0 ? { ...withBreakpoints, watched } : withBreakpoints;
@@ -248,17 +254,17 @@ export function readTexts(lines, acceptsLong = false) {
  * @param {number} size the size of a session file in bytes
  */
 function readFile(lines, size) {
-  const first = lines.at + 2;
+  const firstNumber = lines.at + 2;
   const file = new Uint8Array(size);
   let end = 0;
-  lines.upToDot(`session ${size}`).forEach((line, at) => {
+  lines.readUpToDot(`session ${size}`).forEach((line, at) => {
     const found = /^([0-9a-f]{5}) ([0-9a-f]{32})$/.exec(line);
     const address = found ? parseInt(found[1], 16) : 0;
-    if (!found || address % BYTES_OF_LINE !== 0 || address < end || address >= size) {
-      throw new NotAProject(say.notOfSession(first + at));
+    if (!found || address % BYTES_PER_LINE !== 0 || address < end || address >= size) {
+      throw new InvalidProject(say.notOfSession(firstNumber + at));
     }
     file.set((found[2].match(/../g) || []).map((digits) => parseInt(digits, 16)), address);
-    end = address + BYTES_OF_LINE;
+    end = address + BYTES_PER_LINE;
   });
   return file;
 }
@@ -271,10 +277,10 @@ function readFile(lines, size) {
  * @returns {Project}
  */
 export function readProject(bytes, size, acceptsLong = false) {
-  if (bytes.length > MAX_PROJECT_BYTES) throw new NotAProject(say.TOO_MANY_BYTES);
-  if (bytes.includes(0)) throw new NotAProject(say.HAS_ZERO_BYTES);
-  const text = decode(bytes);
-  checkWhole(text);
+  if (bytes.length > MAX_PROJECT_BYTES) throw new InvalidProject(say.TOO_MANY_BYTES);
+  if (bytes.includes(0)) throw new InvalidProject(say.HAS_ZERO_BYTES);
+  const text = decodeUtf8(bytes);
+  checkEnvelope(text);
   const lines = new Lines(text);
   lines.take();
   if (CHECKSUM_LINE.test(lines.next)) lines.take();
@@ -286,11 +292,14 @@ export function readProject(bytes, size, acceptsLong = false) {
   return { ...texts, file };
 }
 
-/** @param {Uint8Array} bytes */
-function decode(bytes) {
+/**
+ * Returns the text in UTF-8 bytes, without carriage returns at line ends. Throws InvalidProject if the bytes are not UTF-8.
+ * @param {Uint8Array} bytes
+ */
+function decodeUtf8(bytes) {
   try {
-    return plainLines(new TextDecoder("utf-8", { fatal: true }).decode(bytes));
+    return removeCarriageReturns(new TextDecoder("utf-8", { fatal: true }).decode(bytes));
   } catch {
-    throw new NotAProject(say.NOT_UTF8);
+    throw new InvalidProject(say.NOT_UTF8);
   }
 }

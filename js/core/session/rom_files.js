@@ -2,13 +2,13 @@
 
 import { readBoard } from "../bench/answers.js";
 import { counted, hex } from "../bench/numbers.js";
-import { NO_BYTE, PAGES, PAGE_BYTES, bytesOf, listQueries } from "../bench/rom_bytes.js";
+import { NO_BYTE, PAGE_NUMBERS, PAGE_BYTES, parseRomBytes, listQueries } from "../bench/rom_bytes.js";
 import { writeHex } from "../bench/rom_image.js";
-import { textsOfBytes } from "../text/assembling.js";
+import { createByteTexts } from "../text/assembling.js";
 import * as say from "../../words/session.js";
 
 /**
- * The callbacks of RomFiles.
+ * The callbacks that RomFiles needs.
  * @typedef {object} RomCalls
  * @property {(lines: string) => Promise<string[]>} ask Resolves to the bench's answers to queries.
  * @property {(lines: string) => Promise<string | null>} act Serves lines that change the session. Resolves to the first answer. If the call
@@ -16,8 +16,8 @@ import * as say from "../../words/session.js";
  * @property {() => Promise<void>} stop Pauses time; resolves after time is paused.
  */
 
-/** The error for a missing ROM on the board. The message names the ROM. */
-export class LacksRom extends Error {}
+/** The error for a ROM image that needs a ROM that the board lacks. The message names this ROM. */
+export class MissingRom extends Error {}
 
 export class RomFiles {
   /** @param {RomCalls} calls */
@@ -31,28 +31,29 @@ export class RomFiles {
   }
 
   /**
-   * Loads an image into ROM; nothing else changes. Resolves to a message; to "" if the call fails, because `act` reports the error.
+   * Loads an image into ROM and changes nothing else. Resolves to a message. Resolves to "" if the call fails, because `act` reports the
+   * error. Throws MissingRom if the board lacks a ROM that the image needs.
    * @param {string} name the name of the file
    * @param {Int16Array} bytes
    */
   async load(name, bytes) {
     const chips = await this.chips();
-    const missing = bytes.findIndex((byte, at) => byte !== NO_BYTE && !chips.includes(Math.floor(at / PAGE_BYTES)));
-    if (missing >= 0) {
-      const chip = Math.floor(missing / PAGE_BYTES);
-      throw new LacksRom(say.lacksRom(chip, hex(missing, 3)));
+    const missingAddress = bytes.findIndex((byte, at) => byte !== NO_BYTE && !chips.includes(Math.floor(at / PAGE_BYTES)));
+    if (missingAddress >= 0) {
+      const chip = Math.floor(missingAddress / PAGE_BYTES);
+      throw new MissingRom(say.lacksRom(chip, hex(missingAddress, 3)));
     }
     await this.calls.stop();
-    const answer = await this.calls.act(textsOfBytes(bytes).map((text) => `asm\n${text}.\n`).join(""));
-    const first = bytes.findIndex((byte) => byte !== NO_BYTE);
+    const answer = await this.calls.act(createByteTexts(bytes).map((text) => `asm\n${text}.\n`).join(""));
+    const firstAddress = bytes.findIndex((byte) => byte !== NO_BYTE);
     const count = bytes.filter((byte) => byte !== NO_BYTE).length;
-    return answer === null ? "" : say.bytesInRom(counted(count, "byte"), name, count === 1, hex(first, 3));
+    return answer === null ? "" : say.bytesInRom(counted(count, "byte"), name, count === 1, hex(firstAddress, 3));
   }
 
   /** Resolves to the bytes of all ROMs on the board. The answer to `list` can extend beyond a ROM; such bytes are removed. */
   async bytes() {
     const chips = await this.chips();
-    const allBytes = bytesOf(await this.calls.ask(listQueries(PAGES.filter((page) => chips.includes(page)))));
+    const allBytes = parseRomBytes(await this.calls.ask(listQueries(PAGE_NUMBERS.filter((page) => chips.includes(page)))));
     return allBytes.map((byte, at) => (chips.includes(Math.floor(at / PAGE_BYTES)) ? byte : NO_BYTE));
   }
 

@@ -1,14 +1,15 @@
-// Summarises a board and a program for someone who does not know them yet.
+// Summarises a board and a program: a title, and the numbers of chips, lamps and keys.
 
 import { counted } from "../bench/numbers.js";
 import { Face } from "../board/face.js";
-import { headOf } from "../board/face_words.js";
+import { parseFaceLine } from "../board/face_words.js";
 import * as say from "../../words/session.js";
 
 /** @typedef {import("../bench/answers.js").Board} Board */
 
 /**
- * Returns the first sentence of the comment at the start of a text, or "". The comment ends at the first front-panel line.
+ * Returns the first sentence of the comment at the start of a text; "" for none. The comment ends before the first comment line that
+ * describes the front panel.
  * @param {string} text
  * @param {string} mark the character that starts a comment
  */
@@ -16,7 +17,7 @@ function firstSentence(text, mark) {
   const comment = [];
   for (const line of text.split("\n")) {
     const words = line.startsWith(mark) ? line.replace(/^[#; ]+|[#; ]+$/g, "") : "";
-    if (words === "" || headOf(line)) break;
+    if (words === "" || parseFaceLine(line)) break;
     comment.push(words);
   }
   const [sentence] = comment.join(" ").split(/[.:](?: |$)/);
@@ -24,11 +25,11 @@ function firstSentence(text, mark) {
 }
 
 /**
- * Returns the board title, or else the first sentence of a comment.
+ * Returns the title in the board text, or else the first sentence of the board's or the program's comment.
  * @param {string} boardText
  * @param {string} programText
  */
-export function titleOf(boardText, programText) {
+export function sessionTitle(boardText, programText) {
   return new Face(boardText).title || firstSentence(boardText, "#") || firstSentence(programText, ";");
 }
 
@@ -36,7 +37,7 @@ export function titleOf(boardText, programText) {
  * Describes the parts of a board: `2 ROMs, 1 RAM chip, 3 lamps`.
  * @param {Board} board
  */
-export function wordsOfBoard({ roms, banks, chains, lamps, rows, columns }) {
+export function describeBoard({ roms, banks, chains, lamps, rows, columns }) {
   const chips = banks.reduce((sum, bank) => sum + bank.chips, 0);
   const shifts = chains.reduce((sum, chain) => sum + chain.chips, 0);
   const counts = [roms.length, chips, shifts, lamps.length, rows * columns];

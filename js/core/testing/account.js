@@ -1,66 +1,67 @@
-// Counts the work of test runs, with the bench's forecasts (`count`, `trace`) before each run: how often each instruction starts and jumps,
-// its cycles, the duration of each call, and the time from a key press to a lamp change. The subclasses count less, for tools that print no
-// profile.
+// Records the execution of test runs: how often each instruction starts and jumps, its cycles, the duration of each call, and the time from
+// a key press to a lamp change. The numbers come from the queries `count` and `trace`, which predict a run before it is executed. The
+// subclasses record less, for tools that print no profile.
 
-import { ADDRESSES } from "../bench/rom_bytes.js";
-import { readTraced } from "../engine/tracing.js";
-import { cyclesOf, isCall, isReturn, targetOf } from "../engine/rom_codes.js";
+import { ADDRESS_COUNT } from "../bench/rom_bytes.js";
+import { parseTraceLine } from "../engine/tracing.js";
+import { instructionCycles, isCall, isReturn, jumpTarget } from "../engine/rom_codes.js";
 
 /**
  * @typedef {import("../engine/tracing.js").Answers} Answers
- * @typedef {import("../engine/tracing.js").Counted} Counted
+ * @typedef {import("../engine/tracing.js").InstructionCount} InstructionCount
  *
  * The calls of a routine: their number, their cycles including nested calls, and the length of the longest call in cycles.
- * @typedef {{ times: number, withCalls: number, longest: number }} Calls
+ * @typedef {{ times: number, withCalls: number, longest: number }} CallCounts
  *
- * The presses of a key: their number, and the number of presses that changed a lamp. `first` is the longest time from a press to the first
- * lamp change. `last` is the longest time to the last lamp change before the next press. Times are in cycles.
+ * The presses of a key: their number, and the number of presses after which a lamp changed (`answered`). `first` and `last`
+ * are the longest times from a press to the first lamp change, and to the last lamp change before the next press, in cycles.
  * @typedef {{ presses: number, answered: number, first: number, last: number }} KeyTimes
  *
  * A call in progress: the address of the routine, and the time of the call in cycles.
- * @typedef {{ at: number, entered: number }} Entered
+ * @typedef {{ at: number, startTime: number }} OpenCall
  */
 
-/** The number of return addresses in a 4004. */
+/** The maximum number of open calls: a 4004 stores three return addresses. */
 export const MOST_LEVELS = 3;
 
-export class Account {
+export class ExecutionRecorder {
   /** @param {Uint8Array} codes the contents of ROM */
   constructor(codes) {
     this.codes = codes;
-    /** For each address: how often its instruction started, how often it jumped, and its cycles. */
-    this.runs = new Float64Array(ADDRESSES);
-    this.taken = new Float64Array(ADDRESSES);
-    this.own = new Float64Array(ADDRESSES);
-    /** The cycles of instructions that started before a test. */
-    this.begunBefore = 0;
+    /** The number of starts and jumps of the instruction at each address, and its cycles. */
+    this.startCounts = new Float64Array(ADDRESS_COUNT);
+    this.jumpCounts = new Float64Array(ADDRESS_COUNT);
+    this.cycleCounts = new Float64Array(ADDRESS_COUNT);
+    /** The number of cycles of instructions that started before a test. */
+    this.incompleteCycles = 0;
     this.total = 0;
-    /** @type {Map<number, Calls>} the calls, by routine address */
+    /** @type {Map<number, CallCounts>} the calls, by routine address */
     this.calls = new Map();
     /** @type {Map<string, KeyTimes>} the key times, by key name, in the order of first presses */
     this.keys = new Map();
-    /** @type {Entered[]} the calls in progress, innermost last */
-    this.open = [];
+    /** @type {OpenCall[]} the calls in progress, innermost last */
+    this.openCalls = [];
     /** The last key press, and the times of the first and last lamp change since the press (0 for none). */
-    this.waiting = { key: "", pressed: 0, first: 0, last: 0 };
+    this.lastPress = { key: "", pressed: 0, first: 0, last: 0 };
   }
 
-  /** True if this account records the times of instructions, calls and keys. */
+  /** True if the recorder records cycles, calls and key times. */
   get keepsTimes() {
     return true;
   }
 
+  /** Starts a test. */
   begin() {
-    this.open = [];
-    this.waiting.key = "";
+    this.openCalls = [];
+    this.lastPress.key = "";
   }
 
   /**
-   * Returns the queries before a run.
+   * Returns the queries that the bench must answer before a run.
    * @param {number} cycles the length of the run
    */
   queries(cycles) {
-    return `count ${cycles}\ntrace ${cycles} ret\n${this.waiting.key === "" ? "" : `trace ${cycles} lamps\n`}`;
+    return `count ${cycles}\ntrace ${cycles} ret\n${this.lastPress.key === "" ? "" : `trace ${cycles} lamps\n`}`;
   }
 
   /**
@@ -70,67 +71,67 @@ export class Account {
    * @param {() => Answers} askAll returns a trace of all instructions in the run
    */
   take(answers, elapsed, askAll) {
-    const links = this.count(answers.takeCounts());
+    const callCount = this.count(answers.takeCounts());
     const lines = answers.takeTrace().lines;
-    if (this.waiting.key !== "") this.followLamps(answers.takeTrace().lines, elapsed);
+    if (this.lastPress.key !== "") this.followLamps(answers.takeTrace().lines, elapsed);
     // The short trace omits a JMS or BBL that does not change the return addresses.
-    this.followCalls(lines.length === links ? lines : askAll().takeTrace().lines, elapsed);
+    this.followCalls(lines.length === callCount ? lines : askAll().takeTrace().lines, elapsed);
   }
 
   /**
-   * Counts the instructions in a run. Returns the number of JMS and BBL instructions.
-   * @param {Counted[]} counts
+   * Counts the instructions in a run. Returns how often JMS and BBL instructions started.
+   * @param {InstructionCount[]} counts
    */
   count(counts) {
-    let links = 0;
+    let callCount = 0;
     for (const { address, begun, jumped } of counts) {
       const code = this.codes[address];
-      this.runs[address] += begun;
-      this.taken[address] += Math.max(0, jumped);
-      this.own[address] += cyclesOf(code) * begun;
-      if (isCall(code)) this.callsOf(targetOf(this.codes, address)).times += begun;
-      if (isCall(code) || isReturn(code)) links += begun;
+      this.startCounts[address] += begun;
+      this.jumpCounts[address] += Math.max(0, jumped);
+      this.cycleCounts[address] += instructionCycles(code) * begun;
+      if (isCall(code)) this.findCalls(jumpTarget(this.codes, address)).times += begun;
+      if (isCall(code) || isReturn(code)) callCount += begun;
     }
-    return links;
+    return callCount;
   }
 
   /**
    * Returns the calls of a routine.
-   * @param {number} at
-   * @returns {Calls}
+   * @param {number} address
+   * @returns {CallCounts}
    */
-  callsOf(at) {
-    const found = this.calls.get(at) || { times: 0, withCalls: 0, longest: 0 };
-    this.calls.set(at, found);
+  findCalls(address) {
+    const found = this.calls.get(address) || { times: 0, withCalls: 0, longest: 0 };
+    this.calls.set(address, found);
     return found;
   }
 
   /**
-   * Tracks calls and returns. The stack has three entries, so after a fourth nested call the first call can no longer return.
+   * Tracks calls and returns. The stack has three entries, so a fourth nested call overwrites the return address of the first call.
    * @param {string[]} lines
    * @param {number} elapsed
    */
   followCalls(lines, elapsed) {
     for (const line of lines) {
-      const { cycles, address } = readTraced(line);
+      const { cycles, address } = parseTraceLine(line);
       const code = this.codes[address];
       if (isCall(code)) {
-        if (this.open.length === MOST_LEVELS) this.open.shift();
-        this.open.push({ at: targetOf(this.codes, address), entered: elapsed + cycles + 2 });
-      } else if (isReturn(code) && this.open.length > 0) this.leave(elapsed + cycles + 1);
+        if (this.openCalls.length === MOST_LEVELS) this.openCalls.shift();
+        this.openCalls.push({ at: jumpTarget(this.codes, address), startTime: elapsed + cycles + 2 });
+      } else if (isReturn(code) && this.openCalls.length > 0) this.endInnermostCall(elapsed + cycles + 1);
     }
   }
 
   /**
-   * Counts the end of the innermost call. Of recursive calls, only the outermost one counts. If the test ends during the JMS, the call
-   * counts 0 cycles.
+   * Counts the innermost call, which ends now. Does not count a recursive call within an open call of the same routine. If the test ends
+   * during the JMS, the call has 0 cycles.
    * @param {number} time
    */
-  leave(time) {
-    const left = this.open.pop();
-    if (!left || this.open.some(({ at }) => at === left.at)) return;
-    const cycles = Math.max(0, time - left.entered);
-    const calls = this.callsOf(left.at);
+  endInnermostCall(time) {
+    const endedCall = this.openCalls.pop();
+    if (!endedCall || this.openCalls.some(({ at }) => at === endedCall.at)) return;
+    const cycles = Math.max(0, time - endedCall.startTime);
+    const calls = this.findCalls(endedCall.at);
     calls.withCalls += cycles;
     calls.longest = Math.max(calls.longest, cycles);
   }
@@ -142,9 +143,9 @@ export class Account {
    */
   followLamps(lines, elapsed) {
     if (lines.length === 0) return;
-    const [first, last] = [lines[0], lines[lines.length - 1]].map((line) => elapsed + readTraced(line).cycles + 1);
-    if (this.waiting.first === 0) this.waiting.first = first;
-    this.waiting.last = last;
+    const [first, last] = [lines[0], lines[lines.length - 1]].map((line) => elapsed + parseTraceLine(line).cycles + 1);
+    if (this.lastPress.first === 0) this.lastPress.first = first;
+    this.lastPress.last = last;
   }
 
   /**
@@ -152,14 +153,14 @@ export class Account {
    * @param {string} key
    * @param {number} elapsed
    */
-  pressed(key, elapsed) {
+  recordPress(key, elapsed) {
     this.endKey();
-    this.waiting = { key, pressed: elapsed, first: 0, last: 0 };
+    this.lastPress = { key, pressed: elapsed, first: 0, last: 0 };
   }
 
   /** Adds the last key press to the key times. */
   endKey() {
-    const { key, pressed, first, last } = this.waiting;
+    const { key, pressed, first, last } = this.lastPress;
     if (key === "") return;
     const times = this.keys.get(key) || { presses: 0, answered: 0, first: 0, last: 0 };
     this.keys.set(key, times);
@@ -169,27 +170,30 @@ export class Account {
       times.first = Math.max(times.first, first - pressed);
       times.last = Math.max(times.last, last - pressed);
     }
-    this.waiting.key = "";
+    this.lastPress.key = "";
   }
 
   /**
-   * Subtracts the last cycle of an instruction that the test did not complete.
+   * Subtracts the second cycle of an instruction that the test did not complete.
    * @param {number} address
    */
-  cutShort(address) {
-    this.own[address] -= 1;
+  subtractLastCycle(address) {
+    this.cycleCounts[address] -= 1;
   }
 
-  /** @param {number} elapsed the cycles of the whole test */
+  /**
+   * Ends a test.
+   * @param {number} elapsed the cycles of the whole test
+   */
   end(elapsed) {
-    while (this.open.length > 0) this.leave(elapsed);
+    while (this.openCalls.length > 0) this.endInnermostCall(elapsed);
     this.endKey();
     this.total += elapsed;
   }
 }
 
-/** Counts how often each instruction starts and jumps, for coverage. It records no times. */
-export class LineAccount extends Account {
+/** Records only how often each instruction starts and jumps, for coverage. */
+export class LineRecorder extends ExecutionRecorder {
   get keepsTimes() {
     return false;
   }
@@ -205,8 +209,8 @@ export class LineAccount extends Account {
   }
 }
 
-/** Counts nothing and sends no queries. */
-export class NoAccount extends Account {
+/** Records nothing and sends no queries. */
+export class NullRecorder extends ExecutionRecorder {
   get keepsTimes() {
     return false;
   }

@@ -3,7 +3,7 @@
 import { runTests } from "./test_suite.js";
 
 /**
- * Resolves to true if a test fails on a board and a program; for a goal, if it passes.
+ * Runs a test on a board and a program. Resolves to true if the test fails; for a goal, if the test passes.
  * @param {import("../engine/engine_host.js").EngineHost} engine
  * @param {import("./prepared.js").Texts} texts
  * @param {string} test

@@ -1,18 +1,18 @@
-// Formats coverage as text: the source with line counts for a terminal, and the LCOV format for other programs.
+// Formats coverage: as source text with a count before each line, for a terminal, and in the LCOV format, for other programs.
 
-import { wordsOfCoverage } from "./coverage.js";
+import { formatCoverageSummary } from "./coverage.js";
 import * as say from "../../words/testing.js";
 
 /**
  * @typedef {import("./coverage.js").Coverage} Coverage
- * @typedef {import("./coverage.js").Covered} Covered
+ * @typedef {import("./coverage.js").LineCoverage} LineCoverage
  *
  * The source of a program, and the number of lines before it in its file.
  * @typedef {{ text: string, before: number }} ProgramText
  */
 
 /** Widths in characters. */
-const TAB = 8;
+const TAB_WIDTH = 8;
 const COUNT_WIDTH = 10;
 const WAYS_WIDTH = 13;
 
@@ -22,21 +22,21 @@ const WAYS_WIDTH = 13;
  */
 function expandTabs(text) {
   let line = "";
-  for (const letter of text) line = letter === "\t" ? line.padEnd(line.length + TAB - (line.length % TAB)) : line + letter;
+  for (const letter of text) line = letter === "\t" ? line.padEnd(line.length + TAB_WIDTH - (line.length % TAB_WIDTH)) : line + letter;
   return line;
 }
 
-/** @type {(jump: Covered) => boolean} returns whether a conditional jump ran and always took the same direction */
+/** @type {(jump: LineCoverage) => boolean} returns whether a conditional jump ran and always took the same direction */
 const isOneDirection = ({ isJump, count, taken }) => isJump && count > 0 && (taken === 0 || taken === count);
 
 /**
- * Returns a row of the report.
+ * Returns the report row for a source line.
  * @param {string} source
- * @param {Covered | undefined} covered undefined if the line has no instruction
+ * @param {LineCoverage | undefined} lineCoverage undefined if the line has no instruction
  */
-function rowOf(source, covered) {
-  const count = covered ? covered.count || say.NEVER : "";
-  const ways = covered && covered.isJump ? `${covered.taken}/${covered.count - covered.taken}` : "";
+function formatRow(source, lineCoverage) {
+  const count = lineCoverage ? lineCoverage.count || say.NEVER : "";
+  const ways = lineCoverage && lineCoverage.isJump ? `${lineCoverage.taken}/${lineCoverage.count - lineCoverage.taken}` : "";
   return `${String(count).padStart(COUNT_WIDTH)} ${ways.padEnd(WAYS_WIDTH)}  ${expandTabs(source)}`.replace(/ +$/, "");
 }
 
@@ -46,36 +46,36 @@ function rowOf(source, covered) {
  * @param {ProgramText} program
  */
 export function coverageText(coverage, { text, before }) {
-  const covered = new Map(coverage.lines.map((each) => [each.line, each]));
-  const rows = text.replace(/\n$/, "").split("\n").map((source, at) => rowOf(source, covered.get(at + 1)));
+  const lineCoverage = new Map(coverage.lines.map((each) => [each.line, each]));
+  const rows = text.replace(/\n$/, "").split("\n").map((source, at) => formatRow(source, lineCoverage.get(at + 1)));
   const never = coverage.never.map(({ from, to }) => (from === to ? `${from + before}` : say.fromTo(from + before, to + before)));
   const oneDirection = coverage.lines.filter(isOneDirection).map(({ line, taken }) => say.wayOf(line + before, taken > 0));
-  const ends = [
-    "", wordsOfCoverage(coverage),
+  const summaryLines = [
+    "", formatCoverageSummary(coverage),
     ...(never.length > 0 ? [say.neverRun(never.join(", "), never.length > 1 || never[0].includes(" "))] : []),
     ...(oneDirection.length > 0 ? [say.oneDirectionOnly(oneDirection.join(", "), oneDirection.length > 1)] : []),
   ];
-  return `${[...rows, ...ends].join("\n")}\n`;
+  return `${[...rows, ...summaryLines].join("\n")}\n`;
 }
 
 /** @type {(name: string, values: (string | number)[]) => string} returns a line in the LCOV format */
-const record = (name, values) => `${name}:${values.join(",")}`;
+const formatRecord = (name, values) => `${name}:${values.join(",")}`;
 
 /**
  * Returns the coverage in the LCOV format. Its functions are the labels that JMS instructions call.
  * @param {Coverage} coverage
  * @param {{ name: string, before: number }} program the file name, and the number of lines before the program in the file
  */
-export function lcovOf({ lines, subroutines, instructions, run, ways, waysRun }, { name, before }) {
+export function lcovText({ lines, subroutines, instructions, run, ways, waysRun }, { name, before }) {
   const branches = lines.filter(({ isJump }) => isJump).flatMap(({ line, count, taken }) => (
-    [taken, count - taken].map((times, way) => record("BRDA", [line + before, 0, way, count > 0 ? times : "-"]))));
+    [taken, count - taken].map((times, way) => formatRecord("BRDA", [line + before, 0, way, count > 0 ? times : "-"]))));
   return `${[
     "TN:", `SF:${name}`,
-    ...subroutines.map(({ line, label }) => record("FN", [line + before, label])),
-    ...subroutines.map(({ count, label }) => record("FNDA", [count, label])),
-    record("FNF", [subroutines.length]), record("FNH", [subroutines.filter(({ count }) => count > 0).length]),
-    ...branches, record("BRF", [ways]), record("BRH", [waysRun]),
-    ...lines.map(({ line, count }) => record("DA", [line + before, count])),
-    record("LF", [instructions]), record("LH", [run]), "end_of_record",
+    ...subroutines.map(({ line, label }) => formatRecord("FN", [line + before, label])),
+    ...subroutines.map(({ count, label }) => formatRecord("FNDA", [count, label])),
+    formatRecord("FNF", [subroutines.length]), formatRecord("FNH", [subroutines.filter(({ count }) => count > 0).length]),
+    ...branches, formatRecord("BRF", [ways]), formatRecord("BRH", [waysRun]),
+    ...lines.map(({ line, count }) => formatRecord("DA", [line + before, count])),
+    formatRecord("LF", [instructions]), formatRecord("LH", [run]), "end_of_record",
   ].join("\n")}\n`;
 }

@@ -1,5 +1,4 @@
-// The last instructions of a session under test, one line each, as in a trace. For this, a copy of an earlier state runs the last cycles
-// again.
+// Lists the last instructions of a session under test, one line each, as in a trace. Repeats the last cycles on a copy of an earlier state.
 
 import { runLines } from "../engine/key_queue.js";
 import { InstructionTexts } from "../trace/instruction_texts.js";
@@ -10,7 +9,7 @@ import * as say from "../../words/testing.js";
 /**
  * @typedef {import("../bench/answers.js").Board} Board
  * @typedef {import("../machine/source_map.js").SourceMap} SourceMap
- * @typedef {import("./test_session.js").Done} Done
+ * @typedef {import("./test_session.js").TestAction} TestAction
  * @typedef {import("./test_session.js").TestSession} TestSession
  */
 
@@ -18,18 +17,18 @@ import * as say from "../../words/testing.js";
 const MAX_INSTRUCTIONS = 12;
 
 /**
- * Returns the start of the listed part: the number of actions before it, and the skipped cycles of its first run.
- * @param {Done[]} actions
+ * Returns the start of the listed cycles: the index of the first listed action (`at`), and the number of its cycles to skip (`from`).
+ * @param {TestAction[]} actions
  */
-function listedPart(actions) {
-  let left = SHOWN_CYCLES;
-  let begin = { at: actions.length, from: 0 };
-  for (let at = actions.length - 1; at >= 0 && left > 0; at--) {
+function findListedPart(actions) {
+  let cyclesLeft = SHOWN_CYCLES;
+  let listedPart = { at: actions.length, from: 0 };
+  for (let at = actions.length - 1; at >= 0 && cyclesLeft > 0; at--) {
     const { cycles } = actions[at];
-    begin = { at, from: Math.max(0, cycles - left) };
-    left -= cycles - begin.from;
+    listedPart = { at, from: Math.max(0, cycles - cyclesLeft) };
+    cyclesLeft -= cycles - listedPart.from;
   }
-  return begin;
+  return listedPart;
 }
 
 /**
@@ -39,22 +38,22 @@ function listedPart(actions) {
  * @returns {string[]}
  */
 export function lastInstructions(session, { board, map }) {
-  const { engine, kept } = session;
-  const { done } = kept;
-  if (done.length === 0) return [];
-  const { at: begin, from } = listedPart(done);
-  const file = kept.file.slice();
-  const linesOfAction = (/** @type {Done} */ { line, cycles }) => (line === "run" ? runLines(cycles) : `${line}\n`);
-  engine.serve(file, done.slice(0, begin).map(linesOfAction).join("") + (from > 0 ? runLines(from) : ""), file);
-  let elapsed = kept.elapsed + done.slice(0, begin).reduce((sum, { cycles }) => sum + cycles, from);
+  const { engine, storedState } = session;
+  const { laterActions } = storedState;
+  if (laterActions.length === 0) return [];
+  const { at: firstAction, from } = findListedPart(laterActions);
+  const file = storedState.file.slice();
+  const formatActionLines = (/** @type {TestAction} */ { line, cycles }) => (line === "run" ? runLines(cycles) : `${line}\n`);
+  engine.serve(file, laterActions.slice(0, firstAction).map(formatActionLines).join("") + (from > 0 ? runLines(from) : ""), file);
+  let elapsed = storedState.elapsed + laterActions.slice(0, firstAction).reduce((sum, { cycles }) => sum + cycles, from);
   const trace = new TraceLines(engine, board, new InstructionTexts({ map, source: null }));
   const lines = trace.secondCycle(file, elapsed);
-  done.slice(begin).forEach(({ line, cycles }, at) => {
-    const left = at === 0 ? cycles - from : cycles;
-    if (line === "run") lines.push(...trace.runLines(file, left, elapsed));
+  laterActions.slice(firstAction).forEach(({ line, cycles }, at) => {
+    const actionCycles = at === 0 ? cycles - from : cycles;
+    if (line === "run") lines.push(...trace.runLines(file, actionCycles, elapsed));
     else lines.push(`          ${line}`);
-    engine.serve(file, line === "run" ? runLines(left) : `${line}\n`, file);
-    elapsed += left;
+    engine.serve(file, line === "run" ? runLines(actionCycles) : `${line}\n`, file);
+    elapsed += actionCycles;
   });
   const last = [...lines.slice(-MAX_INSTRUCTIONS), say.isNext(trace.next(session.file, elapsed))];
   return last.flatMap((each) => each.split("\n"));

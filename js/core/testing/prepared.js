@@ -1,11 +1,11 @@
-// Prepares tests: loads a board and a program into a new session and collects their names. Returns the errors in the texts.
+// Prepares tests: loads a board and a program into a new session, and collects the names in both texts. Reports errors in the texts.
 
-import { readBoard, refusalOf } from "../bench/answers.js";
+import { readBoard, parseRefusal } from "../bench/answers.js";
 import { matchAnswers, readInputs } from "../bench/inputs.js";
 import { Face } from "../board/face.js";
 import { missingParts } from "../board/face_board.js";
 import { SourceMap } from "../machine/source_map.js";
-import { faultsOfLines, sentText } from "../text/text_fault.js";
+import { findLineFaults, sentText } from "../text/text_fault.js";
 import { romCodes } from "../engine/rom_codes.js";
 
 /**
@@ -13,33 +13,33 @@ import { romCodes } from "../engine/rom_codes.js";
  * @typedef {import("../engine/engine_host.js").EngineHost} Engine
  * @typedef {{ boardText: string, programText: string }} Texts
  *
- * An error in a text: its line (0 if unknown) and its message. `number` is the refusal number, 0 for an error that is not a refusal. `file`
- * is the file name of a test text.
+ * An error in a text: the line number (0 if unknown) and the message. `number` is the refusal number, or 0 if the bench did not reject the
+ * text. `file` is the file name of a test text.
  * @typedef {{ text: "board" | "program" | "tests" | "properties", file?: string, line: number, number: number, words: string }} TextFault
  *
- * The session, the names, and the bytes in ROM.
- * @typedef {{ file: Uint8Array, names: Names & { map: SourceMap }, codes: Uint8Array }} Prepared
+ * Everything that a test run needs: the session file, the names in the texts, and the bytes in ROM.
+ * @typedef {{ file: Uint8Array, names: Names & { map: SourceMap }, codes: Uint8Array }} PreparedTests
  */
 
 /**
- * Returns the errors in key names, lamp names and displays.
+ * Returns the errors in the front-panel comments of a board text that prevent tests.
  * @param {Face} face
  * @param {import("../bench/answers.js").Board} board
  * @returns {TextFault[]}
  */
-export function faultsOfNames(face, board) {
-  const found = [...face.faults, ...missingParts(face, board)].filter(({ isRefused }) => isRefused);
-  return found.map(({ line, words }) => ({ text: "board", line, number: 0, words }));
+export function findNameErrors(face, board) {
+  const nameErrors = [...face.faults, ...missingParts(face, board)].filter(({ isRefused }) => isRefused);
+  return nameErrors.map(({ line, words }) => ({ text: "board", line, number: 0, words }));
 }
 
 /**
- * Returns the errors that prevent the sending of a text to the bench.
+ * Returns the errors that prevent the bench from receiving a text.
  * @param {"board" | "program"} name
  * @param {string} text
  * @returns {TextFault[]}
  */
-export function faultsOfText(name, text) {
-  return faultsOfLines(text, name === "board" ? "#" : ";").map(({ line, number, words }) => ({ text: name, line, number, words }));
+export function findTextErrors(name, text) {
+  return findLineFaults(text, name === "board" ? "#" : ";").map(({ line, number, words }) => ({ text: name, line, number, words }));
 }
 
 /**
@@ -49,18 +49,18 @@ export function faultsOfText(name, text) {
  * @returns {TextFault[]}
  */
 function refusalFaults(name, answer) {
-  const refusal = refusalOf(answer);
+  const refusal = parseRefusal(answer);
   return refusal ? [{ text: name, line: refusal.line, number: refusal.number, words: "" }] : [];
 }
 
 /**
- * Wires a board in a new session. Returns the answer to `board`, or the error.
+ * Wires a board in a new session. Returns the answers to `board`, or the errors in the board text.
  * @param {Engine} engine
  * @param {string} text
  * @returns {{ faults: TextFault[], answers: string[] }}
  */
-export function wiredBoard(engine, text) {
-  const textFaults = faultsOfText("board", text);
+export function wireBoard(engine, text) {
+  const textFaults = findTextErrors("board", text);
   if (textFaults.length > 0) return { faults: textFaults, answers: [] };
   const [wired, ...answers] = engine.ask(engine.begin(), `wire\n${sentText(text, "#")}.\nboard\n`).answers;
   return { faults: refusalFaults("board", wired), answers };
@@ -74,7 +74,7 @@ export function wiredBoard(engine, text) {
  */
 export function newSession(engine, { boardText, programText }) {
   const file = engine.begin();
-  const textFaults = [...faultsOfText("board", boardText), ...faultsOfText("program", programText)];
+  const textFaults = [...findTextErrors("board", boardText), ...findTextErrors("program", programText)];
   if (textFaults.length > 0) return { file, faults: textFaults };
   const texts = [
     ...(boardText === "" ? [] : [{ name: /** @type {const} */ ("board"), lines: `wire\n${sentText(boardText, "#")}.\n` }]),
@@ -86,18 +86,18 @@ export function newSession(engine, { boardText, programText }) {
 }
 
 /**
- * Prepares tests of a board and a program.
+ * Prepares the tests of a program on a board. Returns the errors if a text cannot be used.
  * @param {Engine} engine
  * @param {Texts} texts
- * @returns {{ prepared: Prepared | null, faults: TextFault[] }}
+ * @returns {{ prepared: PreparedTests | null, faults: TextFault[] }}
  */
-export function prepare(engine, { boardText, programText }) {
+export function prepareTests(engine, { boardText, programText }) {
   const { file, faults: refused } = newSession(engine, { boardText, programText });
   if (refused.length > 0) return { prepared: null, faults: refused };
   const program = sentText(programText, ";");
   const queries = `board\nmap\n${program}.\n`;
   const [board, map] = matchAnswers(readInputs(queries), engine.ask(file, queries).answers);
   const names = { face: new Face(boardText), board: readBoard(board), map: new SourceMap(map, program) };
-  const faults = faultsOfNames(names.face, names.board);
+  const faults = findNameErrors(names.face, names.board);
   return { prepared: faults.length > 0 ? null : { file, names, codes: romCodes(engine, file) }, faults };
 }

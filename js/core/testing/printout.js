@@ -1,7 +1,8 @@
-// The printout of a test: the codes that the program sent to the printer during the test, and before its start state was saved.
+// Collects the printout of a test: the codes that the program sends to the printer during the test. If the test starts at a saved state,
+// the printout begins with the earlier codes.
 
 import { printoutLines } from "../board/strip.js";
-import { Printing } from "../engine/printing.js";
+import { PrinterCodes } from "../engine/printing.js";
 
 /**
  * @typedef {import("../board/face.js").Printer} Printer
@@ -15,10 +16,13 @@ export class Printout {
    */
   constructor(printer, codes) {
     this.printer = printer;
-    this.printing = new Printing({ ...printer, codes: codes.map((code) => [0, code]) });
+    this.printing = new PrinterCodes({ ...printer, codes: codes.map((code) => [0, code]) });
   }
 
-  /** @param {number} cycles */
+  /**
+   * Returns the queries that the bench must answer before a run.
+   * @param {number} cycles the length of the run
+   */
   queries(cycles) {
     return this.printing.queries(cycles);
   }
@@ -34,6 +38,7 @@ export class Printout {
     this.printing.take([answers.answers.slice(from, answers.at)], elapsed);
   }
 
+  /** All codes so far. */
   get codes() {
     return this.printing.codes.map(([, code]) => code);
   }

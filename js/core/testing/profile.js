@@ -1,16 +1,16 @@
-// A profile: the cycles of tests by label, and the response times of keys, from the counts of an account.
+// Computes a profile from recorded counts: the cycles of tests by label, and the response times of keys.
 
 /**
  * @typedef {import("../machine/source_map.js").SourceMap} SourceMap
- * @typedef {import("./account.js").Account} Account
- * @typedef {import("./account.js").Calls} Calls
+ * @typedef {import("./account.js").ExecutionRecorder} ExecutionRecorder
+ * @typedef {import("./account.js").CallCounts} CallCounts
  * @typedef {import("./account.js").KeyTimes} KeyTimes
  *
- * A row for a label: the cycles from the label to the next label (`own`), and the calls of its routine. The code before all labels has a
- * row with the label "" and the address -1.
- * @typedef {{ label: string, address: number, own: number, calls: Calls | null }} ProfileRow
+ * A row for a label: `own` is the number of cycles in the code between the label and the next label, `calls` are the calls of its routine.
+ * The code before the first label has a row with the label "" and the address -1.
+ * @typedef {{ label: string, address: number, own: number, calls: CallCounts | null }} ProfileRow
  *
- * The rows for labels, and the rows for pressed keys. `begunBefore`: the cycles of instructions that started before a test.
+ * A profile: the rows for labels and for pressed keys. `begunBefore` is the number of cycles of instructions that started before a test.
  * @typedef {{ total: number, rows: ProfileRow[], begunBefore: number, keys: (KeyTimes & { key: string })[] }} Profile
  */
 
@@ -18,23 +18,24 @@
  * Returns the first label at each address, in ascending address order.
  * @param {SourceMap} map
  */
-function labelsOf(map) {
+function sortedLabels(map) {
   return [...map.labels].map(([address, [label]]) => ({ address, label })).sort((one, other) => one.address - other.address);
 }
 
 /**
  * Returns the profile of tests. Rows without cycles are omitted.
- * @param {Account} account
+ * @param {ExecutionRecorder} recorder
  * @param {SourceMap} map
  * @returns {Profile}
  */
-export function profileOf({ own, calls, keys, total, begunBefore }, map) {
-  const rows = [{ address: -1, label: "" }, ...labelsOf(map)].map((each) => ({ ...each, own: 0, calls: calls.get(each.address) || null }));
+export function computeProfile({ cycleCounts, calls, keys, total, incompleteCycles }, map) {
+  const labels = [{ address: -1, label: "" }, ...sortedLabels(map)];
+  const rows = labels.map((each) => ({ ...each, own: 0, calls: calls.get(each.address) || null }));
   let at = 0;
-  own.forEach((cycles, address) => {
+  cycleCounts.forEach((cycles, address) => {
     while (at + 1 < rows.length && rows[at + 1].address <= address) at += 1;
     rows[at].own += cycles;
   });
   const shown = rows.filter((row) => row.own > 0).sort((one, other) => other.own - one.own);
-  return { total, rows: shown, begunBefore, keys: [...keys].map(([key, times]) => ({ key, ...times })) };
+  return { total, rows: shown, begunBefore: incompleteCycles, keys: [...keys].map(([key, times]) => ({ key, ...times })) };
 }

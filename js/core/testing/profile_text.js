@@ -13,45 +13,45 @@ const LABEL_WIDTH = 17;
 /** The width of a label and its address. */
 const PLACE_WIDTH = 22;
 
-/** @type {(value: string | number, width: number) => string} returns a right-aligned value */
-const right = (value, width) => String(value).padStart(width);
+/** @type {(value: string | number, width: number) => string} returns a right-aligned table cell */
+const cell = (value, width) => String(value).padStart(width);
 
 /** @param {number} cycles */
-const milliseconds = (cycles) => say.inMilliseconds(formatTenths(cycles * CYCLE_MS));
+const formatMilliseconds = (cycles) => say.inMilliseconds(formatTenths(cycles * CYCLE_MS));
 
 /** @type {(own: number, total: number) => string} returns cycles and their percentage */
-const share = (own, total) => `${right(own, 10)} ${right(formatTenths((100 * own) / total), 6)}`;
+const formatShare = (own, total) => `${cell(own, 10)} ${cell(formatTenths((100 * own) / total), 6)}`;
 
 /**
  * Returns the row of a label.
  * @param {ProfileRow} row
  * @param {number} total
  */
-function rowOf({ label, address, own, calls }, total) {
+function formatLabelRow({ label, address, own, calls }, total) {
   const place = `${(label || say.NO_LABEL).padEnd(LABEL_WIDTH)} ${(address < 0 ? "" : hex(address, 3)).padEnd(4)}`;
-  const callColumns = calls && calls.times > 0 ? ` ${right(calls.times, 9)} ${right(calls.withCalls, 10)} ${right(calls.longest, 10)}` : "";
-  return `${place} ${share(own, total)}${callColumns}`;
+  const callColumns = calls && calls.times > 0 ? ` ${cell(calls.times, 9)} ${cell(calls.withCalls, 10)} ${cell(calls.longest, 10)}` : "";
+  return `${place} ${formatShare(own, total)}${callColumns}`;
 }
 
 /**
  * Returns the row of a key.
  * @param {Profile["keys"][number]} times
  */
-function keyRow({ key, presses, answered, first, last }) {
-  const times = [first, last].map((cycles) => ` ${right(cycles, 10)}, ${right(milliseconds(cycles), 12)}`).join("");
-  return `${key.padEnd(LABEL_WIDTH)} ${right(presses, 9)} ${right(answered, 9)}${answered > 0 ? times : ""}`;
+function formatKeyRow({ key, presses, answered, first, last }) {
+  const times = [first, last].map((cycles) => ` ${cell(cycles, 10)}, ${cell(formatMilliseconds(cycles), 12)}`).join("");
+  return `${key.padEnd(LABEL_WIDTH)} ${cell(presses, 9)} ${cell(answered, 9)}${answered > 0 ? times : ""}`;
 }
 
 /** @param {Profile} profile */
 export function profileText({ total, rows, begunBefore, keys }) {
   const [label, at, own, percent, calls, withCalls, longest] = say.PROFILE_HEAD;
-  const head = [label.padEnd(LABEL_WIDTH), at.padEnd(4), right(own, 10), right(percent, 6), right(calls, 9), right(withCalls, 10),
-    right(longest, 10)].join(" ");
+  const head = [label.padEnd(LABEL_WIDTH), at.padEnd(4), cell(own, 10), cell(percent, 6), cell(calls, 9), cell(withCalls, 10),
+    cell(longest, 10)].join(" ");
   const [key, presses, answered, first, last] = say.KEYS_HEAD;
-  const keysHead = `${key.padEnd(LABEL_WIDTH)} ${right(presses, 9)} ${right(answered, 9)} ${right(first, 24)} ${right(last, 24)}`;
+  const keysHead = `${key.padEnd(LABEL_WIDTH)} ${cell(presses, 9)} ${cell(answered, 9)} ${cell(first, 24)} ${cell(last, 24)}`;
   return `${[
-    say.cyclesInTime(total, milliseconds(total)), "", head, ...rows.map((row) => rowOf(row, total)),
-    ...(begunBefore > 0 ? [`${say.BEGUN_BEFORE.padEnd(PLACE_WIDTH)} ${share(begunBefore, total)}`] : []),
-    ...(keys.length > 0 ? ["", keysHead, ...keys.map(keyRow)] : []),
+    say.cyclesInTime(total, formatMilliseconds(total)), "", head, ...rows.map((row) => formatLabelRow(row, total)),
+    ...(begunBefore > 0 ? [`${say.BEGUN_BEFORE.padEnd(PLACE_WIDTH)} ${formatShare(begunBefore, total)}`] : []),
+    ...(keys.length > 0 ? ["", keysHead, ...keys.map(formatKeyRow)] : []),
   ].join("\n")}\n`;
 }

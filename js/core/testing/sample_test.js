@@ -1,19 +1,19 @@
 // Creates a sample test for a board without tests. The test presses the first key of the board, if there is one, and expects the result:
 // the display text, or a lamp that is on.
 
-import { shownAnswers } from "../board/shown_answers.js";
-import { SEEN_QUERY, hasScannedDisplay } from "../engine/seen_text.js";
-import { cyclesOfMs } from "../time/mcs4_time.js";
+import { convertLampAnswers } from "../board/shown_answers.js";
+import { LAMPS_FORECAST_QUERY, hasScannedDisplay } from "../engine/seen_text.js";
+import { cyclesFromMilliseconds } from "../time/mcs4_time.js";
 import * as say from "../../words/text.js";
-import { NoAccount } from "./account.js";
-import { prepare } from "./prepared.js";
+import { NullRecorder } from "./account.js";
+import { prepareTests } from "./prepared.js";
 import { TestSession } from "./test_session.js";
 import { runTests } from "./test_suite.js";
-import { keysOf } from "./test_text.js";
+import { listNamedKeys } from "./test_text.js";
 
 /**
  * @typedef {import("../engine/engine_host.js").EngineHost} Engine
- * @typedef {import("./prepared.js").Prepared} Prepared
+ * @typedef {import("./prepared.js").PreparedTests} PreparedTests
  * @typedef {import("./prepared.js").Texts} Texts
  */
 
@@ -21,16 +21,16 @@ import { keysOf } from "./test_text.js";
 const HOLD_MS = 50;
 
 /**
- * Resolves to test conditions that are true after the key was held, best first.
+ * Resolves to test conditions that are true while a key is down, the most specific ones first.
  * @param {Engine} engine
- * @param {Prepared} prepared
+ * @param {PreparedTests} prepared
  * @param {string} press the command that presses the key; "" for no key
  */
-async function conditionsAfter(engine, { file, names: { face, board }, codes }, press) {
-  const session = new TestSession(engine, file, new NoAccount(codes), async () => {});
+async function findConditions(engine, { file, names: { face, board }, codes }, press) {
+  const session = new TestSession(engine, file, new NullRecorder(codes), async () => {});
   if (press !== "") session.command(press);
-  await session.run(cyclesOfMs(HOLD_MS));
-  const [display] = shownAnswers(face, board, "", session.ask(hasScannedDisplay(face) ? SEEN_QUERY : "lamps\n")).lines;
+  await session.run(cyclesFromMilliseconds(HOLD_MS));
+  const [display] = convertLampAnswers(face, board, "", session.ask(hasScannedDisplay(face) ? LAMPS_FORECAST_QUERY : "lamps\n")).lines;
   const [marks] = session.ask("lamps\n");
   const lit = [...face.lampNumbers].find(([, at]) => marks.slice("lamps ".length)[at] === "*");
   return [...(display ? [`display ${display}`] : []), ...(lit ? [`lamp ${lit[0]} on`] : []), ...say.OTHER_CONDITIONS];
@@ -42,12 +42,12 @@ async function conditionsAfter(engine, { file, names: { face, board }, codes }, 
  * @param {Texts} texts
  */
 export async function sampleTest(engine, texts) {
-  const { prepared } = prepare(engine, texts);
+  const { prepared } = prepareTests(engine, texts);
   if (!prepared) return say.SAMPLE_OF_CYCLES;
-  const [key = null] = keysOf(prepared.names.face).values();
-  for (const condition of await conditionsAfter(engine, prepared, key ? key.press : "")) {
+  const [key = null] = listNamedKeys(prepared.names.face).values();
+  for (const condition of await findConditions(engine, prepared, key ? key.press : "")) {
     const testText = say.sampleTest(key ? key.name : "", HOLD_MS, condition);
-    const { outcomes: [outcome] } = await runTests(engine, { ...texts, testText }, async () => true, { Counting: NoAccount });
+    const { outcomes: [outcome] } = await runTests(engine, { ...texts, testText }, async () => true, { Counting: NullRecorder });
     if (outcome && !outcome.failure) return testText;
   }
   return say.SAMPLE_OF_CYCLES;

@@ -2,10 +2,10 @@
 
 import { romCodes } from "../engine/rom_codes.js";
 import { sessionProgram } from "../engine/session_program.js";
-import { withoutStops } from "../engine/without_stops.js";
-import { Account } from "./account.js";
-import { coverageOf } from "./coverage.js";
-import { profileOf } from "./profile.js";
+import { copyWithoutStops } from "../engine/without_stops.js";
+import { ExecutionRecorder } from "./account.js";
+import { computeCoverage } from "./coverage.js";
+import { computeProfile } from "./profile.js";
 import { TestSession } from "./test_session.js";
 
 /**
@@ -17,30 +17,30 @@ import { TestSession } from "./test_session.js";
  * @typedef {import("./profile.js").Profile} Profile
  *
  * The counts, the number of cycles that ran, and the reason for the stop ("end" if nothing stopped the run).
- * @typedef {{ coverage: Coverage, profile: Profile, elapsed: number, stop: string }} Counted
+ * @typedef {{ coverage: Coverage, profile: Profile, elapsed: number, stop: string }} SessionCounts
  *
- * The result. If the program has errors or differs from ROM, nothing runs and `counted` is null.
- * @typedef {{ faults: TextFault[], other: OtherByte | null, counted: Counted | null }} SessionCount
+ * The result. If the program has errors (`faults`) or ROM contains another byte (`other`), nothing runs and `counted` is null.
+ * @typedef {{ faults: TextFault[], other: OtherByte | null, counted: SessionCounts | null }} SessionCount
  */
 
 /**
- * Counts the next cycles of a session without a stop at breakpoints and watches. The state does not change.
+ * Counts the next cycles of a session. Ignores breakpoints and watches, and does not change the state.
  * @param {EngineHost} engine
  * @param {State} state
  * @param {string} programText
  * @param {number} cycles
- * @param {typeof Account} [Counting]
+ * @param {typeof ExecutionRecorder} [Counting]
  * @returns {Promise<SessionCount>}
  */
-export async function countSession(engine, state, programText, cycles, Counting = Account) {
-  const startState = withoutStops(engine, state);
+export async function countSession(engine, state, programText, cycles, Counting = ExecutionRecorder) {
+  const startState = copyWithoutStops(engine, state);
   const codes = romCodes(engine, startState);
-  const { faults, other, map } = sessionProgram(engine, codes, programText);
-  if (faults.length > 0 || other) return { faults, other, counted: null };
-  const account = new Counting(codes);
-  const session = new TestSession(engine, startState, account, async () => {});
+  const { faults, other: otherByte, map } = sessionProgram(engine, codes, programText);
+  if (faults.length > 0 || otherByte) return { faults, other: otherByte, counted: null };
+  const recorder = new Counting(codes);
+  const session = new TestSession(engine, startState, recorder, async () => {});
   const stop = await session.run(cycles);
   session.end();
-  const { elapsed } = session;
-  return { faults: [], other, counted: { coverage: coverageOf(account, map), profile: profileOf(account, map), elapsed, stop } };
+  const counted = { coverage: computeCoverage(recorder, map), profile: computeProfile(recorder, map), elapsed: session.elapsed, stop };
+  return { faults: [], other: otherByte, counted };
 }

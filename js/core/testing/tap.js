@@ -11,7 +11,7 @@ export const TAP_HEAD = "TAP version 13";
  * Returns a text as a YAML string.
  * @param {string} text
  */
-export function quoted(text) {
+export function yamlString(text) {
   return `"${text.replace(/\\/g, "\\\\").replace(/"/g, '\\"')}"`;
 }
 
@@ -19,12 +19,12 @@ export function quoted(text) {
  * Returns the description of a test. `#` is escaped because it would start a directive.
  * @param {string} name
  */
-export function described(name) {
+export function tapDescription(name) {
   return name.replace(/\\/g, "\\\\").replace(/#/g, "\\#");
 }
 
-/** @param {Failure} failure */
-const placeOf = ({ source, line }) => `${source}:${line}`;
+/** @type {(failure: Failure) => string} returns the location of the failed step: the name of the test text, and the line */
+const stepLocation = ({ source, line }) => `${source}:${line}`;
 
 /**
  * Returns the lines below `not ok`: the error, its location, and the session state at the error.
@@ -32,9 +32,9 @@ const placeOf = ({ source, line }) => `${source}:${line}`;
  */
 function diagnosis(failure) {
   const { text, words, file, cycles, lamps, registers, trace } = failure;
-  const lines = [say.tapMessage(quoted(words)), say.tapPlace(quoted(placeOf(failure))), say.tapLine(quoted(text))];
+  const lines = [say.tapMessage(yamlString(words)), say.tapPlace(yamlString(stepLocation(failure))), say.tapLine(yamlString(text))];
   if (file) {
-    lines.push(say.tapCycles(cycles), say.tapLamps(quoted(lamps)), say.tapRegisters(quoted(registers)));
+    lines.push(say.tapCycles(cycles), say.tapLamps(yamlString(lamps)), say.tapRegisters(yamlString(registers)));
     if (trace.length > 0) lines.push(say.TAP_TRACE, ...trace.map((line) => `  ${line}`));
   }
   return ["---", ...lines, "..."].map((line) => `  ${line}`);
@@ -46,9 +46,9 @@ function diagnosis(failure) {
  * @param {number} number the number of the test, from 1
  * @param {number} total
  */
-export function tapOfTest({ name, failure }, number, total) {
+export function testTap({ name, failure }, number, total) {
   const head = number === 1 ? [TAP_HEAD, `1..${total}`] : [];
-  const result = `${failure ? "not ok" : "ok"} ${number} - ${described(name)}`;
+  const result = `${failure ? "not ok" : "ok"} ${number} - ${tapDescription(name)}`;
   return `${[...head, result, ...(failure ? diagnosis(failure) : [])].join("\n")}\n`;
 }
 
@@ -56,8 +56,8 @@ export function tapOfTest({ name, failure }, number, total) {
  * Returns the results of all tests.
  * @param {Outcome[]} outcomes
  */
-export function tapOfTests(outcomes) {
-  return outcomes.map((outcome, at) => tapOfTest(outcome, at + 1, outcomes.length)).join("");
+export function testsTap(outcomes) {
+  return outcomes.map((outcome, at) => testTap(outcome, at + 1, outcomes.length)).join("");
 }
 
 /**
@@ -65,5 +65,5 @@ export function tapOfTests(outcomes) {
  * @param {Outcome} outcome
  */
 export function failureLine({ name, failure }) {
-  return failure ? `# ${placeOf(failure)}: ${name}: ${failure.words}\n` : "";
+  return failure ? `# ${stepLocation(failure)}: ${name}: ${failure.words}\n` : "";
 }

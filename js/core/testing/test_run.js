@@ -1,33 +1,33 @@
 // Runs tests, each in a new session in memory. The page's worker and Node use this module.
 
 import { counted, hex } from "../bench/numbers.js";
-import { itemsOf, valueIn } from "../bench/state_line.js";
-import { LONGEST_RUN } from "../engine/key_queue.js";
-import { Answers, readTraced, valuesOf } from "../engine/tracing.js";
-import { cyclesOf } from "../engine/rom_codes.js";
+import { parseItems, stateValue } from "../bench/state_line.js";
+import { MAX_RUN_CYCLES } from "../engine/key_queue.js";
+import { Answers, parseTraceLine, rowValues } from "../engine/tracing.js";
+import { instructionCycles } from "../engine/rom_codes.js";
 import { TOOL_KEY_DOWN_CYCLES, TOOL_KEY_UP_CYCLES } from "../time/mcs4_time.js";
 import { lastInstructions } from "./last_instructions.js";
-import { wordsOfPassed } from "./last_passed.js";
+import { describeLastLabel } from "./last_passed.js";
 import { Printout } from "./printout.js";
 import { TestSession } from "./test_session.js";
-import { keysOf } from "./test_text.js";
+import { listNamedKeys } from "./test_text.js";
 import * as say from "../../words/testing.js";
 
 /**
- * @typedef {import("./account.js").Account} Account
- * @typedef {import("../conditions/condition_language.js").Beside} Beside
+ * @typedef {import("./account.js").ExecutionRecorder} ExecutionRecorder
+ * @typedef {import("../conditions/condition_language.js").ExtraValues} ExtraValues
  * @typedef {import("../conditions/condition_language.js").Condition} Condition
  * @typedef {import("../engine/engine_host.js").EngineHost} Engine
- * @typedef {import("./prepared.js").Prepared} Prepared
+ * @typedef {import("./prepared.js").PreparedTests} PreparedTests
  * @typedef {import("./test_text.js").Action} Action
  * @typedef {import("./test_text.js").ChosenKey} ChosenKey
  * @typedef {import("./test_text.js").Key} Key
  * @typedef {import("./test_text.js").Step} Step
  * @typedef {import("./test_text.js").Test} Test
  *
- * A failed test. `source`, `line`, `text`: the name of the test text, and the failed step. `words`: the message. The other fields describe
- * the session at that step: the cycles of the test, lamps and registers as in `state`, the last instructions (`trace`), and the session
- * file. `file` is null if the test did not start.
+ * The failure of a test. `source`, `line` and `text` are the name of the test text, and the failed step. `words` is the message. The other
+ * members describe the session at this step. `lamps` and `registers` are formatted as in `state`, and `trace` lists the last instructions.
+ * `file` is null if the test did not start.
  * @typedef {{ source: string, line: number, text: string, words: string, cycles: number, lamps: string, registers: string, trace: string[],
  *   file: Uint8Array | null }} Failure
  * @typedef {{ name: string, line: number, cycles: number, failure: Failure | null }} Outcome
@@ -36,8 +36,11 @@ import * as say from "../../words/testing.js";
 /** The interval between checks of perceived lamps and the printout, in cycles. */
 const CHECK_INTERVAL = 1000;
 
-/** @param {Step} step */
-function placeOf({ source, line, text }) {
+/**
+ * Returns the location of a step in the form of a Failure.
+ * @param {Step} step
+ */
+function stepLocation({ source, line, text }) {
   return { source: source.name, line, text };
 }
 
@@ -45,15 +48,15 @@ function placeOf({ source, line, text }) {
 export class TestRun {
   /**
    * @param {Engine} engine
-   * @param {Prepared} prepared
-   * @param {Account} account
+   * @param {PreparedTests} prepared
+   * @param {ExecutionRecorder} recorder
    * @param {() => Promise<void>} yieldToMessages
    * @param {import("../board/face.js").Printer | null} [printer] the printer, if a test has a condition on the printout
    */
-  constructor(engine, prepared, account, yieldToMessages, printer = null) {
+  constructor(engine, prepared, recorder, yieldToMessages, printer = null) {
     this.engine = engine;
     this.prepared = prepared;
-    this.account = account;
+    this.recorder = recorder;
     this.yieldToMessages = yieldToMessages;
     this.printer = printer;
     /** @type {Map<string, { file: Uint8Array, codes: number[] }>} the saved states with their printouts, by name */
@@ -62,7 +65,7 @@ export class TestRun {
     this.textNumber = 1;
     this.down = TOOL_KEY_DOWN_CYCLES;
     this.up = TOOL_KEY_UP_CYCLES;
-    /** True if a test can change ROM; each test then reads the bytes in ROM again. */
+    /** True if a test can change ROM. A test that starts at a saved state then reads the bytes in ROM again. */
     this.changesRom = true;
     /** @type {(session: TestSession) => void} called with the session of each test at its end */
     this.ran = () => {};
@@ -81,12 +84,12 @@ export class TestRun {
     if (!startState) {
       const message = say.stateMissing(from, savedBy);
       const [step] = steps;
-      const failure = { ...placeOf(step), words: message, cycles: 0, lamps: "", registers: "", trace: [], file: null };
+      const failure = { ...stepLocation(step), words: message, cycles: 0, lamps: "", registers: "", trace: [], file: null };
       return { name, line, cycles: 0, failure };
     }
-    this.account.codes = this.prepared.codes;
+    this.recorder.codes = this.prepared.codes;
     const printout = this.printer && new Printout(this.printer, startState.codes);
-    const session = new TestSession(this.engine, startState.file, this.account, this.yieldToMessages, printout);
+    const session = new TestSession(this.engine, startState.file, this.recorder, this.yieldToMessages, printout);
     // The test that saved the state can have changed ROM.
     if (from !== "" && this.changesRom) session.readCodes();
     this.down = TOOL_KEY_DOWN_CYCLES;
@@ -101,20 +104,20 @@ export class TestRun {
    * Runs steps. Resolves to the failure, or to null.
    * @param {TestSession} session
    * @param {Step[]} steps
-   * @param {string[]} within descriptions of the enclosing repeated and shared steps, innermost first
+   * @param {string[]} enclosing descriptions of the enclosing repeated and shared steps, innermost first
    * @returns {Promise<Failure | null>}
    */
-  async runSteps(session, steps, within) {
+  async runSteps(session, steps, enclosing) {
     for (const step of steps) {
       const { action } = step;
       if ("steps" in action) {
-        const failure = await this.runInner(session, action, step, within);
+        const failure = await this.runNestedSteps(session, action, step, enclosing);
         if (failure) return failure;
         continue;
       }
       const words = await this.execute(session, action);
-      const where = within.length > 0 ? `; in ${within.join(", in ")}` : "";
-      if (words !== "") return { ...placeOf(step), words: words + where, ...this.reportOf(session) };
+      const context = enclosing.length > 0 ? `; in ${enclosing.join(", in ")}` : "";
+      if (words !== "") return { ...stepLocation(step), words: words + context, ...this.describeState(session) };
     }
     return null;
   }
@@ -124,16 +127,16 @@ export class TestRun {
    * @param {TestSession} session
    * @param {Extract<Action, { steps: Step[] }>} action
    * @param {Step} step
-   * @param {string[]} within
+   * @param {string[]} enclosing
    */
-  async runInner(session, action, { source, line }, within) {
+  async runNestedSteps(session, action, { source, line }, enclosing) {
     if (action.kind === "do") {
       const [first] = action.steps;
       const file = !first || first.source.name === source.name ? "" : source.name;
-      return this.runSteps(session, action.steps, [say.stepsOfLine(action.name, line, file), ...within]);
+      return this.runSteps(session, action.steps, [say.stepsOfLine(action.name, line, file), ...enclosing]);
     }
     for (let turn = 1; turn <= action.times; turn++) {
-      const failure = await this.runSteps(session, action.steps, [say.turnOf(turn, action.times, line), ...within]);
+      const failure = await this.runSteps(session, action.steps, [say.turnOf(turn, action.times, line), ...enclosing]);
       if (failure) return failure;
       await this.yieldToMessages();
     }
@@ -144,12 +147,12 @@ export class TestRun {
    * Describes the session state for a failure.
    * @param {TestSession} session
    */
-  reportOf(session) {
+  describeState(session) {
     const [state] = session.ask("state\n");
-    const registers = ["acc", "cy", "pc", "dcl", "test", "r"].map((key) => `${key} ${valueIn(state, key)}`).join(" ");
+    const registers = ["acc", "cy", "pc", "dcl", "test", "r"].map((key) => `${key} ${stateValue(state, key)}`).join(" ");
     return {
-      cycles: session.elapsed, lamps: itemsOf(valueIn(state, "lamps")).join(""), file: session.file.slice(),
-      registers: `${registers} ret ${itemsOf(valueIn(state, "ret")).join(" ")}`,
+      cycles: session.elapsed, lamps: parseItems(stateValue(state, "lamps")).join(""), file: session.file.slice(),
+      registers: `${registers} ret ${parseItems(stateValue(state, "ret")).join(" ")}`,
       trace: lastInstructions(session, this.prepared.names),
     };
   }
@@ -161,8 +164,8 @@ export class TestRun {
    * @returns {Promise<string>}
    */
   async execute(session, action) {
-    if (action.kind === "run") return this.advance(session, action.cycles);
-    if (action.kind === "until") return this.until(session, action.condition, action.cycles);
+    if (action.kind === "run") return this.runCycles(session, action.cycles);
+    if (action.kind === "until") return this.runUntil(session, action.condition, action.cycles);
     if (action.kind === "expect") return session.check(action.condition).message;
     if ("keys" in action) return this.operateKeys(session, action.keys, action.kind);
     if (action.kind === "set") {
@@ -170,7 +173,7 @@ export class TestRun {
       if (action.changesRom) session.readCodes();
     }
     if (action.kind === "reset") session.command("reset");
-    if (action.kind === "mark") session.marked = session.elapsed;
+    if (action.kind === "mark") session.markedCycles = session.elapsed;
     if (action.kind === "pace") [this.down, this.up] = [action.down, action.up];
     if (action.kind === "save") this.save(session, action.state);
     return "";
@@ -191,36 +194,42 @@ export class TestRun {
    * @param {TestSession} session
    * @param {number} cycles
    */
-  async advance(session, cycles) {
+  async runCycles(session, cycles) {
     const stop = await session.run(cycles);
-    return stop === "code" ? say.runStopped(session.elapsed, this.wordsOfCode(session)) : "";
+    return stop === "code" ? say.runStopped(session.elapsed, this.describeStop(session)) : "";
   }
 
-  /** @param {TestSession} session a session that has reached an opcode that is not an instruction */
-  wordsOfCode({ counter }) {
+  /**
+   * Describes the place at which a session stopped because the next opcode is not an instruction.
+   * @param {TestSession} session
+   */
+  describeStop({ counter }) {
     return say.beforeCode(this.addressText(counter));
   }
 
-  /** @param {number} address */
+  /**
+   * Formats an address with its name.
+   * @param {number} address
+   */
   addressText(address) {
     const name = this.prepared.names.map.nameOf(address);
     return `${hex(address, 3)}${name && ` (${name})`}`;
   }
 
   /**
-   * Returns the key that a value currently selects. If there is none, `words` is the error message.
+   * Returns the key that a value selects at this moment. If the value selects no key, `words` is the error message.
    * @param {TestSession} session
    * @param {ChosenKey} chosen
    * @returns {{ key: Key | undefined, words: string }}
    */
   chooseKey(session, { word, place, probe, keys }) {
-    const value = parseInt(valuesOf(new Answers(session.ask(`trace 1 ${probe}\n`)).takeTrace().row)[0], 16);
-    const what = say.isAnd(place, value);
-    if (keys.length > 0) return { key: keys[value], words: say.hasKeys(what, word, counted(keys.length, "key")) };
-    const boardKeys = keysOf(this.prepared.names.face);
+    const value = parseInt(rowValues(new Answers(session.ask(`trace 1 ${probe}\n`)).takeTrace().row)[0], 16);
+    const valueText = say.isAnd(place, value);
+    if (keys.length > 0) return { key: keys[value], words: say.hasKeys(valueText, word, counted(keys.length, "key")) };
+    const boardKeys = listNamedKeys(this.prepared.names.face);
     const digit = hex(value, 1);
     const key = boardKeys.get(String(value)) || boardKeys.get(digit);
-    return { key, words: say.hasNoKey(what, value, value > 9 ? say.norKey(digit) : "") };
+    return { key, words: say.hasNoKey(valueText, value, value > 9 ? say.norKey(digit) : "") };
   }
 
   /**
@@ -236,34 +245,34 @@ export class TestRun {
       const { name, press, release } = key;
       if (kind !== "release") {
         session.command(press);
-        this.account.pressed(name, session.elapsed);
+        this.recorder.recordPress(name, session.elapsed);
       }
-      const down = kind === "keys" ? await this.advance(session, this.down) : "";
+      const down = kind === "keys" ? await this.runCycles(session, this.down) : "";
       if (down !== "") return down;
       if (kind !== "press") session.command(release);
-      const up = kind === "keys" ? await this.advance(session, this.up) : "";
+      const up = kind === "keys" ? await this.runCycles(session, this.up) : "";
       if (up !== "") return up;
     }
     return "";
   }
 
   /**
-   * Runs until a condition is true at the end of an instruction. For a label, it always runs to the next arrival at the label. Resolves to
-   * the error message, or to "".
+   * Runs until a condition is true at the end of an instruction. If the condition is a label, always runs to the next arrival at the label.
+   * Resolves to the error message, or to "".
    * @param {TestSession} session
    * @param {Condition} condition
-   * @param {number} within the maximum number of cycles
+   * @param {number} maxCycles the maximum number of cycles
    */
-  async until(session, condition, within) {
+  async runUntil(session, condition, maxCycles) {
     const startCycles = session.elapsed;
     const isLabel = condition.address >= 0;
     if (!isLabel && session.check(condition).holds) return "";
-    const end = startCycles + within;
-    const stop = isLabel ? await this.untilLabel(session, condition, end) : await this.untilChange(session, condition, end);
+    const end = startCycles + maxCycles;
+    const stop = isLabel ? await this.runToLabel(session, condition, end) : await this.runToChange(session, condition, end);
     const { holds, message } = session.check(condition);
     if (holds) return "";
-    if (stop === "code") return say.runStoppedAt(session.elapsed - startCycles, this.wordsOfCode(session), message);
-    return say.notReached(within, message, wordsOfPassed(session, this.prepared.names.map, condition));
+    if (stop === "code") return say.runStoppedAt(session.elapsed - startCycles, this.describeStop(session), message);
+    return say.notReached(maxCycles, message, describeLastLabel(session, this.prepared.names.map, condition));
   }
 
   /**
@@ -272,33 +281,34 @@ export class TestRun {
    * @param {Condition} condition
    * @param {number} end
    */
-  async untilLabel(session, { address }, end) {
-    const set = (/** @type {string} */ word) => this.engine.serve(session.file, `${word} ${address}\n`, session.file);
+  async runToLabel(session, { address }, end) {
+    const serveBreakpoint = (/** @type {string} */ word) => this.engine.serve(session.file, `${word} ${address}\n`, session.file);
     let stop = "end";
-    set("break");
+    serveBreakpoint("break");
     while (session.elapsed < end && stop === "end") {
-      stop = await session.run(Math.min(end - session.elapsed, LONGEST_RUN));
+      stop = await session.run(Math.min(end - session.elapsed, MAX_RUN_CYCLES));
     }
-    set("unbreak");
+    serveBreakpoint("unbreak");
     return stop;
   }
 
   /**
-   * Runs until a condition becomes true, with traces of its places. The first traces are short because the condition can become true soon.
+   * Runs until a condition becomes true. Finds this moment with traces of the places in the condition; the first traces are short, in case
+   * the condition becomes true soon. Resolves to the reason for the stop.
    * @param {TestSession} session
    * @param {Condition} condition
    * @param {number} end
    */
-  async untilChange(session, condition, end) {
-    if (condition.needs.includes("seen") || condition.needs.includes("printed")) return this.untilSeen(session, condition, end);
+  async runToChange(session, condition, end) {
+    if (condition.needs.includes("seen") || condition.needs.includes("printed")) return this.runToPerceived(session, condition, end);
     let stop = "end";
-    // Traces do not report TEST and a pending second cycle. During a run, these can only change in the first cycle.
+    // A trace does not report TEST or a pending second cycle. During a run, they can change only in the first cycle.
     let piece = condition.places.length > 0 ? 1000 : 1;
-    const beside = { ...session.readCondition(condition).beside, owed: "0" };
-    for (; session.elapsed < end && stop === "end"; piece = piece < 10000 ? piece * 10 : LONGEST_RUN) {
+    const extraValues = { ...session.readCondition(condition).extraValues, owed: "0" };
+    for (; session.elapsed < end && stop === "end"; piece = piece < 10000 ? piece * 10 : MAX_RUN_CYCLES) {
       const most = end - session.elapsed;
       piece = Math.min(piece, most);
-      const cycles = condition.places.length > 0 ? this.cyclesToChange(session, condition, beside, piece, most) : 0;
+      const cycles = condition.places.length > 0 ? this.cyclesToChange(session, condition, extraValues, piece, most) : 0;
       stop = await session.run(cycles || piece);
       if (cycles > 0 || (piece === 1 && session.check(condition).holds)) break;
     }
@@ -306,12 +316,13 @@ export class TestRun {
   }
 
   /**
-   * Runs until a condition on a perceived display or the printout is true. Checks the condition at a fixed interval.
+   * Runs until a condition on a perceived display or on the printout is true. Checks the condition at a fixed interval. Resolves to the
+   * reason for the stop.
    * @param {TestSession} session
    * @param {Condition} condition
    * @param {number} end
    */
-  async untilSeen(session, condition, end) {
+  async runToPerceived(session, condition, end) {
     let stop = "end";
     while (session.elapsed < end && stop === "end") {
       stop = await session.run(Math.min(CHECK_INTERVAL, end - session.elapsed));
@@ -324,15 +335,16 @@ export class TestRun {
    * Returns the number of cycles until a condition becomes true within a piece; 0 if it does not.
    * @param {TestSession} session
    * @param {Condition} condition
-   * @param {Beside} beside the values that do not change during a run
+   * @param {ExtraValues} extraValues the values that do not change during a run
    * @param {number} piece
-   * @param {number} most the largest possible result
+   * @param {number} maxResult the largest possible result
    */
-  cyclesToChange(session, condition, beside, piece, most) {
+  cyclesToChange(session, condition, extraValues, piece, maxResult) {
     const { lines } = new Answers(session.ask(`trace ${piece} ${condition.places.join(" ")}\n`)).takeTrace();
     for (const line of lines) {
-      const { cycles, address, row } = readTraced(line);
-      if (condition.holds(valuesOf(row), beside)) return Math.min(most, cycles + cyclesOf(this.account.codes[address]));
+      const { cycles, address, row } = parseTraceLine(line);
+      if (!condition.holds(rowValues(row), extraValues)) continue;
+      return Math.min(maxResult, cycles + instructionCycles(this.recorder.codes[address]));
     }
     return 0;
   }

@@ -1,61 +1,61 @@
-// A session under test in memory. It stores an earlier state and the later actions, so that it can report the last instructions. Each run
-// is counted before it is executed.
+// A session under test, in memory. Stores an earlier state and the later actions, so that the last instructions can be listed. Records the
+// execution of each run.
 
-import { SEEN_QUERY } from "../engine/seen_text.js";
+import { LAMPS_FORECAST_QUERY } from "../engine/seen_text.js";
 import { readCounter, readRegisters } from "../bench/answers.js";
-import { valueIn } from "../bench/state_line.js";
+import { stateValue } from "../bench/state_line.js";
 import { romCodes } from "../engine/rom_codes.js";
-import { LONGEST_RUN } from "../engine/key_queue.js";
-import { Answers, readTraced, valuesOf } from "../engine/tracing.js";
+import { MAX_RUN_CYCLES } from "../engine/key_queue.js";
+import { Answers, parseTraceLine, rowValues } from "../engine/tracing.js";
 
 /**
- * @typedef {import("./account.js").Account} Account
- * @typedef {import("../conditions/condition_language.js").Beside} Beside
+ * @typedef {import("./account.js").ExecutionRecorder} ExecutionRecorder
+ * @typedef {import("../conditions/condition_language.js").ExtraValues} ExtraValues
  * @typedef {import("../conditions/condition_language.js").Condition} Condition
  * @typedef {import("../engine/engine_host.js").EngineHost} Engine
  * @typedef {import("./printout.js").Printout} Printout
  *
- * A command; or a run ("run") with its number of cycles.
- * @typedef {{ line: string, cycles: number }} Done
+ * An action: a bench command, or `run` with its number of cycles.
+ * @typedef {{ line: string, cycles: number }} TestAction
  *
- * A stored state, and the actions after it.
- * @typedef {{ file: Uint8Array, elapsed: number, done: Done[] }} Kept
+ * A stored state: the session file, the cycles of the test up to this state, and the later actions.
+ * @typedef {{ file: Uint8Array, elapsed: number, laterActions: TestAction[] }} StoredState
  */
 
-/** The number of last cycles whose instructions can be listed. */
+/** The number of cycles at the end of a test whose instructions can be listed. */
 export const SHOWN_CYCLES = 26;
 
 export class TestSession {
   /**
    * @param {Engine} engine
    * @param {Uint8Array} file the initial state
-   * @param {Account} account
+   * @param {ExecutionRecorder} recorder
    * @param {() => Promise<void>} yieldToMessages called between pieces of long work; throws if the work is cancelled
    * @param {Printout | null} printout the printout, if a test needs it
    */
-  constructor(engine, file, account, yieldToMessages, printout = null) {
+  constructor(engine, file, recorder, yieldToMessages, printout = null) {
     this.engine = engine;
     this.file = file.slice();
-    /** The session file before the last run. The next run reuses its buffer. */
-    this.previous = file.slice();
-    this.account = account;
+    /** The session file before the last run. The next run overwrites this buffer. */
+    this.previousFile = file.slice();
+    this.recorder = recorder;
     this.yieldToMessages = yieldToMessages;
     this.printout = printout;
+    /** The cycles of the test so far, and at the last `mark`. */
     this.elapsed = 0;
-    this.marked = 0;
+    this.markedCycles = 0;
     /** The number of cycles of the last run; 0 if there was none. */
-    this.ran = 0;
-    /** @type {Kept} */
-    this.kept = { file: file.slice(), elapsed: 0, done: [] };
-    /** The initial state. `actions` are all later actions, with consecutive runs joined. */
-    this.begun = file;
-    /** @type {Done[]} */
+    this.lastRunCycles = 0;
+    /** @type {StoredState} */
+    this.storedState = { file: file.slice(), elapsed: 0, laterActions: [] };
+    this.initialFile = file;
+    /** @type {TestAction[]} all actions since the initial state, with consecutive runs joined */
     this.actions = [];
-    this.spare = new Uint8Array(file.length);
+    this.spareBuffer = new Uint8Array(file.length);
     this.counter = 0;
     this.owed = "0";
-    this.takeRegisters(this.ask("regs\n")[0]);
-    account.begin();
+    this.readRegistersFrom(this.ask("regs\n")[0]);
+    recorder.begin();
     this.beginsInSecondCycle = this.owed === "1";
   }
 
@@ -69,8 +69,11 @@ export class TestSession {
     return this.engine.ask(this.file, lines).answers;
   }
 
-  /** @param {string} regs */
-  takeRegisters(regs) {
+  /**
+   * Stores the program counter, and whether a second cycle is pending.
+   * @param {string} regs the answer to `regs`
+   */
+  readRegistersFrom(regs) {
     const { counter, owed } = readCounter(regs);
     this.counter = parseInt(counter, 16);
     this.owed = owed;
@@ -81,17 +84,17 @@ export class TestSession {
    * @param {string} line
    */
   command(line) {
-    if (line === "reset" && this.owed === "1") this.cutShort();
+    if (line === "reset" && this.owed === "1") this.subtractLastCycle();
     const [answer, regs] = this.engine.serve(this.file, `${line}\nregs\n`, this.file).answers;
     if (!answer.startsWith("ok ")) throw new Error(`the bench answered ${answer} to: ${line}`);
-    this.takeRegisters(regs);
-    this.kept.done.push({ line, cycles: 0 });
+    this.readRegistersFrom(regs);
+    this.storedState.laterActions.push({ line, cycles: 0 });
     this.actions.push({ line, cycles: 0 });
   }
 
   /** Reads the bytes in ROM again after they have changed. */
   readCodes() {
-    this.account.codes = romCodes(this.engine, this.file);
+    this.recorder.codes = romCodes(this.engine, this.file);
   }
 
   /**
@@ -100,7 +103,7 @@ export class TestSession {
    */
   async run(cycles) {
     for (let left = cycles; left > 0;) {
-      const piece = Math.min(left, LONGEST_RUN);
+      const piece = Math.min(left, MAX_RUN_CYCLES);
       const { cycles: done, end } = this.runPiece(piece);
       left -= done;
       if (end !== "end") return end;
@@ -109,34 +112,41 @@ export class TestSession {
     return "end";
   }
 
-  /** @param {number} cycles the length of the piece, at most LONGEST_RUN */
+  /**
+   * Runs once and updates the recorder, the printout and the actions.
+   * @param {number} cycles the number of cycles, at most MAX_RUN_CYCLES
+   */
   runPiece(cycles) {
-    if (cycles >= SHOWN_CYCLES) this.spare.set(this.file);
-    const { account, engine, file, printout, previous } = this;
+    if (cycles >= SHOWN_CYCLES) this.spareBuffer.set(this.file);
+    const { recorder, engine, file, printout, previousFile } = this;
     const printoutQueries = printout ? printout.queries(cycles) : "";
-    const answers = new Answers(engine.serve(file, `${printoutQueries}${account.queries(cycles)}run ${cycles}\nregs\n`, previous).answers);
+    const lines = `${printoutQueries}${recorder.queries(cycles)}run ${cycles}\nregs\n`;
+    const answers = new Answers(engine.serve(file, lines, previousFile).answers);
     if (printout) printout.take(answers, this.elapsed);
-    account.take(answers, this.elapsed, () => new Answers(engine.ask(file, `trace ${cycles}\n`).answers));
+    recorder.take(answers, this.elapsed, () => new Answers(engine.ask(file, `trace ${cycles}\n`).answers));
     const run = answers.takeRun();
     if (this.beginsInSecondCycle && run.cycles > 0) {
       this.beginsInSecondCycle = false;
-      account.begunBefore += 1;
+      recorder.incompleteCycles += 1;
     }
-    [this.file, this.previous] = [previous, file];
-    this.takeRegisters(answers.take());
-    this.ran = run.cycles;
+    [this.file, this.previousFile] = [previousFile, file];
+    this.readRegistersFrom(answers.take());
+    this.lastRunCycles = run.cycles;
     if (run.cycles >= SHOWN_CYCLES) {
-      const { file: old } = this.kept;
-      this.kept = { file: this.spare, elapsed: this.elapsed, done: [] };
-      this.spare = old;
+      const { file: old } = this.storedState;
+      this.storedState = { file: this.spareBuffer, elapsed: this.elapsed, laterActions: [] };
+      this.spareBuffer = old;
     }
-    if (run.cycles > 0) this.kept.done.push({ line: "run", cycles: run.cycles });
+    if (run.cycles > 0) this.storedState.laterActions.push({ line: "run", cycles: run.cycles });
     this.addRun(run.cycles);
     this.elapsed += run.cycles;
     return run;
   }
 
-  /** @param {number} cycles the length of a run to add to `actions` */
+  /**
+   * Adds a run to `actions`.
+   * @param {number} cycles
+   */
   addRun(cycles) {
     const last = this.actions[this.actions.length - 1];
     if (last && last.line === "run") last.cycles += cycles;
@@ -144,29 +154,29 @@ export class TestSession {
   }
 
   /** Subtracts the last cycle of the last instruction, because the instruction will not be completed. */
-  cutShort() {
-    if (this.ran === 0 || !this.account.keepsTimes) return;
-    const before = this.ran > 1 ? `run ${this.ran - 1}\n` : "";
-    const answers = this.engine.ask(this.previous, `${before}trace 1\n`).answers.slice(before === "" ? 0 : 1);
+  subtractLastCycle() {
+    if (this.lastRunCycles === 0 || !this.recorder.keepsTimes) return;
+    const before = this.lastRunCycles > 1 ? `run ${this.lastRunCycles - 1}\n` : "";
+    const answers = this.engine.ask(this.previousFile, `${before}trace 1\n`).answers.slice(before === "" ? 0 : 1);
     const [line] = new Answers(answers).takeTrace().lines;
-    if (line) this.account.cutShort(readTraced(line).address);
+    if (line) this.recorder.subtractLastCycle(parseTraceLine(line).address);
   }
 
   /**
    * Returns the values of the places in a condition, and the other values that it needs.
    * @param {Condition} condition
-   * @returns {{ values: string[], beside: Beside }}
+   * @returns {{ values: string[], extraValues: ExtraValues }}
    */
   readCondition({ places, needs }) {
-    const seen = needs.includes("seen") ? this.ask(SEEN_QUERY) : [];
+    const seen = needs.includes("seen") ? this.ask(LAMPS_FORECAST_QUERY) : [];
     const asksKeys = needs.includes("keys");
     const trace = places.length > 0 ? `trace 1 ${places.join(" ")}\n` : "";
     const answers = new Answers(this.ask(`${trace}regs\n${asksKeys ? "state\n" : ""}`));
-    const values = places.length > 0 ? valuesOf(answers.takeTrace().row) : [];
+    const values = places.length > 0 ? rowValues(answers.takeTrace().row) : [];
     const { owed, test } = readRegisters(answers.take());
-    const keys = asksKeys ? valueIn(answers.take(), "keys") : "";
+    const keys = asksKeys ? stateValue(answers.take(), "keys") : "";
     const printed = this.printout ? this.printout.words : [];
-    return { values, beside: { test, owed, keys, cycles: this.elapsed - this.marked, seen, printed } };
+    return { values, extraValues: { test, owed, keys, cycles: this.elapsed - this.markedCycles, seen, printed } };
   }
 
   /**
@@ -174,13 +184,13 @@ export class TestSession {
    * @param {Condition} condition
    */
   check(condition) {
-    const { values, beside } = this.readCondition(condition);
-    return { holds: condition.holds(values, beside), message: condition.explain(values, beside) };
+    const { values, extraValues } = this.readCondition(condition);
+    return { holds: condition.holds(values, extraValues), message: condition.explain(values, extraValues) };
   }
 
   /** Ends the test. */
   end() {
-    if (this.owed === "1") this.cutShort();
-    this.account.end(this.elapsed);
+    if (this.owed === "1") this.subtractLastCycle();
+    this.recorder.end(this.elapsed);
   }
 }

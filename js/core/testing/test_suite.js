@@ -1,13 +1,13 @@
-// Reads the tests of a program, runs them, and counts their coverage. The page's worker and the commands `mcs4 test`, `mcs4 cover` and
-// `mcs4 profile` use this module.
+// Parses and runs the tests of a program, and computes their coverage and profile. The page's worker and the commands `mcs4 test`,
+// `mcs4 cover` and `mcs4 profile` use this module.
 //
 //     const report = await runTests(engine, { boardText, programText, testText }, async (done, total) => true);
 
-import { Cancelled } from "../bench/faults.js";
-import { Account } from "./account.js";
-import { coverageOf } from "./coverage.js";
-import { prepare } from "./prepared.js";
-import { profileOf } from "./profile.js";
+import { CancelledError } from "../bench/faults.js";
+import { ExecutionRecorder } from "./account.js";
+import { computeCoverage } from "./coverage.js";
+import { prepareTests } from "./prepared.js";
+import { computeProfile } from "./profile.js";
 import { TestRun } from "./test_run.js";
 import { readSources } from "./test_text.js";
 
@@ -25,18 +25,18 @@ import { readSources } from "./test_text.js";
  * @typedef {{ boardText: string, programText: string, testText?: string, sources?: Source[] }} TestedTexts
  *
  * The options of a test run:
- * - `Counting`: the class of the account; if it counts less than Account, the coverage or the profile is empty;
+ * - `Counting`: the class of the recorder; with a subclass of ExecutionRecorder, the profile or the coverage is empty;
  * - `ended`: called with each outcome when its test ends;
- * - `ran`: called with the session of each test;
+ * - `ran`: called with the session of each test at its end;
  * - `only`: the only test to run, after the tests that save its start states.
- * @typedef {{ Counting?: typeof Account, ended?: (outcome: Outcome, number: number, total: number) => void,
+ * @typedef {{ Counting?: typeof ExecutionRecorder, ended?: (outcome: Outcome, number: number, total: number) => void,
  *   ran?: (session: import("./test_session.js").TestSession) => void, only?: { name: string, source: string } | null }} Options
  *
  * The results of tests. If the texts have errors, no test runs.
  * @typedef {{ faults: TextFault[], outcomes: Outcome[], coverage: Coverage | null, profile: Profile | null }} Report
  */
 
-/** The minimum time between two calls of `goesOn`, in milliseconds. */
+/** The minimum time between two calls of `shouldContinue`, in milliseconds. */
 const YIELD_INTERVAL = 40;
 
 /**
@@ -44,18 +44,18 @@ const YIELD_INTERVAL = 40;
  * @param {Engine} engine
  * @param {TestedTexts} texts
  */
-export function readTested(engine, texts) {
-  const { prepared, faults } = prepare(engine, texts);
+export function parseTestedTexts(engine, texts) {
+  const { prepared, faults } = prepareTests(engine, texts);
   if (!prepared) return { prepared, faults, tests: [] };
   const { testText = "", sources = [{ name: "", text: testText }] } = texts;
-  const read = readSources(sources, prepared.names);
+  const parsedTests = readSources(sources, prepared.names);
   /** @type {TextFault[]} */
-  const wrong = read.faults.map((fault) => ({ text: "tests", number: 0, ...fault }));
-  return { prepared: wrong.length > 0 ? null : prepared, faults: wrong, tests: read.tests };
+  const testFaults = parsedTests.faults.map((fault) => ({ text: "tests", number: 0, ...fault }));
+  return { prepared: testFaults.length > 0 ? null : prepared, faults: testFaults, tests: parsedTests.tests };
 }
 
 /**
- * Returns whether a step or a nested step has a wanted action.
+ * Returns whether a step, or a step in its repetition or shared steps, has a wanted action.
  * @param {import("./test_text.js").Step[]} steps
  * @param {(action: Action) => boolean} isWanted
  * @returns {boolean}
@@ -69,7 +69,7 @@ function hasStep(steps, isWanted) {
  * @param {Test[]} tests
  * @param {Test} test
  */
-function testThatSaves(tests, { textNumber, from }) {
+function findSavingTest(tests, { textNumber, from }) {
   return tests.find((each) => each.textNumber === textNumber
     && each.steps.some(({ action }) => action.kind === "save" && action.state === from));
 }
@@ -79,56 +79,57 @@ function testThatSaves(tests, { textNumber, from }) {
  * @param {Test[]} tests
  * @param {(test: Test) => boolean} isWanted
  */
-function withPrerequisites(tests, isWanted) {
+function addPrerequisites(tests, isWanted) {
   /** @type {Set<Test>} */
   const wanted = new Set();
-  for (let test = tests.find(isWanted); test && !wanted.has(test); test = testThatSaves(tests, test)) wanted.add(test);
+  for (let test = tests.find(isWanted); test && !wanted.has(test); test = findSavingTest(tests, test)) wanted.add(test);
   return tests.filter((test) => wanted.has(test));
 }
 
 /** @type {(action: Action) => boolean} returns whether the condition of a step depends on the printout */
 const needsPrintout = (action) => "condition" in action && action.condition.needs.includes("printed");
 
-/** @type {(action: Action) => boolean} */
+/** @type {(action: Action) => boolean} returns whether a step changes ROM */
 const changesRom = (action) => action.kind === "set" && action.changesRom;
 
 /**
- * Runs all tests of the texts, or one test and its prerequisites. Throws `Cancelled` if `goesOn` resolves to false.
+ * Runs all tests of the texts, or one test and its prerequisites. Throws `CancelledError` if `shouldContinue` resolves to false.
  * @param {Engine} engine
  * @param {TestedTexts} texts
- * @param {(done: number, total: number) => Promise<boolean>} goesOn called with the number of completed tests; resolves to true to continue
+ * @param {(done: number, total: number) => Promise<boolean>} shouldContinue called with the number of completed tests; resolves to true to
+ *   continue
  * @param {Options} [options]
  * @returns {Promise<Report>}
  */
-export async function runTests(engine, texts, goesOn, options = {}) {
-  const { Counting = Account, ended = () => {}, ran = () => {}, only = null } = options;
-  const { prepared, faults, tests: all } = readTested(engine, texts);
+export async function runTests(engine, texts, shouldContinue, options = {}) {
+  const { Counting = ExecutionRecorder, ended = () => {}, ran = () => {}, only = null } = options;
+  const { prepared, faults, tests: allTests } = parseTestedTexts(engine, texts);
   const { sources = [] } = texts;
   const isOnly = only
     && ((/** @type {Test} */ { name, textNumber }) => name === only.name && sources[textNumber - 1].name === only.source);
-  const tests = isOnly ? withPrerequisites(all, isOnly) : all;
+  const tests = isOnly ? addPrerequisites(allTests, isOnly) : allTests;
   if (!prepared) return { faults, outcomes: [], coverage: null, profile: null };
-  const account = new Counting(prepared.codes);
+  const recorder = new Counting(prepared.codes);
   /** @type {Outcome[]} */
   const outcomes = [];
   let lastYield = performance.now();
   const yieldToMessages = async () => {
     if (performance.now() - lastYield < YIELD_INTERVAL) return;
-    if (!(await goesOn(outcomes.length, tests.length))) throw new Cancelled();
+    if (!(await shouldContinue(outcomes.length, tests.length))) throw new CancelledError();
     lastYield = performance.now();
   };
   const printer = tests.some(({ steps }) => hasStep(steps, needsPrintout)) ? prepared.names.face.printer : null;
-  const run = new TestRun(engine, prepared, account, yieldToMessages, printer);
+  const run = new TestRun(engine, prepared, recorder, yieldToMessages, printer);
   run.ran = ran;
   run.changesRom = tests.some(({ steps }) => hasStep(steps, changesRom));
   if (tests.length > 1) engine.keep(prepared.file);
   for (const test of tests) {
-    const saving = testThatSaves(tests, test);
-    outcomes.push(await run.run(test, saving ? saving.name : ""));
+    const savingTest = findSavingTest(tests, test);
+    outcomes.push(await run.run(test, savingTest ? savingTest.name : ""));
     ended(outcomes[outcomes.length - 1], outcomes.length, tests.length);
     await yieldToMessages();
   }
-  account.codes = prepared.codes;
+  recorder.codes = prepared.codes;
   const { map } = prepared.names;
-  return { faults: [], outcomes, coverage: coverageOf(account, map), profile: profileOf(account, map) };
+  return { faults: [], outcomes, coverage: computeCoverage(recorder, map), profile: computeProfile(recorder, map) };
 }

@@ -1,12 +1,12 @@
-// Parses test texts into tests with steps, and reports the errors. Later texts can use the shared steps of earlier texts. Saved states
-// belong to one text. The manual ("The lines of a test") describes the language.
+// Parses test texts into tests with steps, and reports errors. A text can use the shared steps of earlier texts, but only its own saved
+// states. The manual ("The lines of a test") describes the language.
 
-import { durationOf, wholeDuration } from "../conditions/durations.js";
-import { expressionOf, testConditionOf } from "../conditions/condition_language.js";
-import { placeOf } from "../conditions/places.js";
+import { parseDuration, parseWholeDuration } from "../conditions/durations.js";
+import { compileExpression, compileTestCondition } from "../conditions/condition_language.js";
+import { parsePlace } from "../conditions/places.js";
 import { readSetting } from "../conditions/setting.js";
-import { numberOf } from "../bench/numbers.js";
-import { lineOfKey, pinKey } from "../board/key_place.js";
+import { parseNumber } from "../bench/numbers.js";
+import { keyLine, pinKey } from "../board/key_place.js";
 import { inColumn } from "../../words/conditions.js";
 import * as say from "../../words/testing.js";
 
@@ -23,8 +23,8 @@ import * as say from "../../words/testing.js";
  * A key with its name and the commands that press and release it.
  * @typedef {{ name: string, key: import("../board/key_place.js").Key, press: string, release: string }} Key
  *
- * A key that a value selects during the execution of the step: the word in the line, the place of the value, the `trace` place, and the
- * keys for the values 0, 1 and so on. If there are no keys, the value is the key name.
+ * A key that the value of a place selects when the step is executed. `word` is the word in the line, `place` the name of the place, and
+ * `probe` its name in `trace`. `keys` are the keys for the values 0, 1 and so on. If `keys` is empty, the value is the key name.
  * @typedef {{ word: string, place: string, probe: string, keys: Key[] }} ChosenKey
  *
  * The action of a step.
@@ -36,7 +36,7 @@ import * as say from "../../words/testing.js";
  * @typedef {{ source: Source, line: number, text: string, action: Action }} Step
  *
  * Shared steps. `lines` is the number of lines that they execute, including all repetitions.
- * @typedef {{ source: Source, name: string, line: number, steps: Step[], lines: number }} Shared
+ * @typedef {{ source: Source, name: string, line: number, steps: Step[], lines: number }} SharedSteps
  *
  * A test. `textNumber` is the number of its text, from 1. `from` is the name of its start state, "" for power-on.
  * @typedef {{ textNumber: number, name: string, line: number, from: string, steps: Step[] }} Test
@@ -73,7 +73,7 @@ function fail(words, column = -1) {
  * Returns the address of a ROM place; NaN for any other place.
  * @param {string} place
  */
-const romAddress = (place) => (place.startsWith("rom.") ? numberOf(place.slice("rom.".length)) : NaN);
+const romAddress = (place) => (place.startsWith("rom.") ? parseNumber(place.slice("rom.".length)) : NaN);
 
 /**
  * Creates a key with its name and its commands.
@@ -81,8 +81,8 @@ const romAddress = (place) => (place.startsWith("rom.") ? numberOf(place.slice("
  * @param {Key["key"]} key
  * @returns {Key}
  */
-export function namedKey(name, key) {
-  return { name, key, press: lineOfKey("press", key), release: lineOfKey("release", key) };
+export function createKey(name, key) {
+  return { name, key, press: keyLine("press", key), release: keyLine("release", key) };
 }
 
 /**
@@ -90,11 +90,11 @@ export function namedKey(name, key) {
  * @param {import("../board/face.js").Face} face
  * @returns {Map<string, Key>}
  */
-export function keysOf(face) {
+export function listNamedKeys(face) {
   /** @type {Map<string, Key>} */
   const keys = new Map();
-  for (const { text: name, key } of face.keys.values()) if (name !== "") keys.set(name, namedKey(name, key));
-  if (face.test && !keys.has(face.test.name)) keys.set(face.test.name, namedKey(face.test.name, pinKey(face.test.level)));
+  for (const { text: name, key } of face.keys.values()) if (name !== "") keys.set(name, createKey(name, key));
+  if (face.test && !keys.has(face.test.name)) keys.set(face.test.name, createKey(face.test.name, pinKey(face.test.level)));
   return keys;
 }
 
@@ -102,7 +102,7 @@ class TestReader {
   /** @param {Names} names */
   constructor(names) {
     this.names = names;
-    this.keys = keysOf(names.face);
+    this.keys = listNamedKeys(names.face);
     /** @type {Source} the current text */
     this.source = { name: "", text: "" };
     /** The number of the current text, from 1. */
@@ -113,14 +113,14 @@ class TestReader {
     this.faults = [];
     /** @type {Map<string, Test>} the tests that save states, by state name, in the current text */
     this.savedBy = new Map();
-    /** @type {Map<string, Shared>} */
-    this.shared = new Map();
-    /** @type {Shared | null} the current shared steps; null in a test */
-    this.sharing = null;
+    /** @type {Map<string, SharedSteps>} */
+    this.sharedSteps = new Map();
+    /** @type {SharedSteps | null} the current shared steps; null in a test */
+    this.currentShared = null;
     /** @type {Step[]} the list that receives the next step */
     this.steps = [];
     /** @type {{ line: number, times: number, outer: Step[] }[]} the open repetitions, outermost first */
-    this.repeats = [];
+    this.openRepeats = [];
     /** The number of executed lines in the current test or shared steps so far. */
     this.lines = 0;
     this.hasBegun = false;
@@ -131,24 +131,27 @@ class TestReader {
     return this.tests[this.tests.length - 1];
   }
 
-  /** @param {Source} source */
-  read(source) {
+  /**
+   * Parses a text.
+   * @param {Source} source
+   */
+  readSource(source) {
     this.source = source;
     this.textNumber += 1;
     this.savedBy.clear();
     this.hasBegun = false;
     const plain = source.text.replace(/^\uFEFF/, "").replace(/\r(?=\n|$)/g, "");
-    const whole = plain.split("\n");
-    const lines = whole.map((line) => line.replace(/^[ \t]+|[ \t]+$/g, ""));
+    const originalLines = plain.split("\n");
+    const lines = originalLines.map((line) => line.replace(/^[ \t]+|[ \t]+$/g, ""));
     for (let at = 0; at < lines.length; at++) {
-      const line = this.withoutComment(lines[at]);
+      const line = this.removeComment(lines[at]);
       if (line === "") continue;
       try {
         this.readLine(line, at + 1);
       } catch (fault) {
         if (!(fault instanceof BadLine)) throw fault;
-        const column = fault.column < 0 ? -1 : fault.column + whole[at].length - whole[at].trimStart().length;
-        this.addFault(at + 1, fault.message, Math.min(column, whole[at].trimEnd().length - 1));
+        const column = fault.column < 0 ? -1 : fault.column + originalLines[at].length - originalLines[at].trimStart().length;
+        this.addFault(at + 1, fault.message, Math.min(column, originalLines[at].trimEnd().length - 1));
         // If a text does not start like a test text, one error is sufficient.
         if (!this.hasBegun && /^[\t -~]*$/.test(lines[at])) return;
       }
@@ -158,7 +161,7 @@ class TestReader {
   }
 
   /** Reports an error if the texts contain no test. */
-  end() {
+  finish() {
     if (this.tests.length === 0 && this.faults.length === 0) this.addFault(1, say.NO_TEST);
   }
 
@@ -172,11 +175,11 @@ class TestReader {
   }
 
   /**
-   * Returns a line without its comment. A comment mark needs blanks around it. A mark in the name of a test is part of the name. A mark
-   * that is the name of a key stands for that key.
+   * Returns a line without its comment. A comment mark has blanks around it. In the name of a test, the character is part of the name. In a
+   * line with keys, a mark that is a key name means the key.
    * @param {string} line
    */
-  withoutComment(line) {
+  removeComment(line) {
     if (/^[#;]/.test(line)) return "";
     if (/^test[ \t]/.test(line)) return line;
     const hasKeys = /^(press|release|keys)[ \t]/.test(line);
@@ -195,7 +198,7 @@ class TestReader {
     if (/[^\t -~]/.test(text)) fail(say.NOT_ASCII);
     const words = text.split(/[ \t]+/);
     if (words[0] === "test" || words[0] === "steps") {
-      this.begin();
+      this.beginPart();
       if (words[0] === "steps") this.beginShared(words, line);
       else this.beginTest(text.replace(/^test[ \t]*/, ""), line);
     } else if (!this.hasBegun) {
@@ -208,7 +211,7 @@ class TestReader {
   }
 
   /** Starts a test or shared steps, and ends the previous ones. */
-  begin() {
+  beginPart() {
     this.closeRepeats();
     this.hasBegun = true;
     this.lines = 0;
@@ -219,7 +222,7 @@ class TestReader {
    * @param {number} line
    */
   beginTest(name, line) {
-    this.sharing = null;
+    this.currentShared = null;
     this.steps = [];
     this.tests.push({ textNumber: this.textNumber, name, line, from: "", steps: this.steps });
     if (name === "") fail(say.TEST_NAME);
@@ -231,38 +234,38 @@ class TestReader {
    */
   beginShared(words, line) {
     const name = words.length === 2 ? words[1] : "";
-    const before = this.shared.get(name);
+    const previous = this.sharedSteps.get(name);
     this.steps = [];
     const { source } = this;
-    this.sharing = { source, name, line, steps: this.steps, lines: 0 };
-    this.shared.set(name, this.sharing);
+    this.currentShared = { source, name, line, steps: this.steps, lines: 0 };
+    this.sharedSteps.set(name, this.currentShared);
     if (name === "") fail(say.STEPS_NAME);
-    if (before) fail(say.stepsDefinedTwice(name, before.line, before.source.name === source.name ? "" : before.source.name));
+    if (previous) fail(say.stepsDefinedTwice(name, previous.line, previous.source.name === source.name ? "" : previous.source.name));
   }
 
   // --- repetitions ---
 
   /** Reports an error for each repetition without an end. */
   closeRepeats() {
-    for (const { line } of this.repeats.splice(0)) this.addFault(line, say.NO_END);
+    for (const { line } of this.openRepeats.splice(0)) this.addFault(line, say.NO_END);
   }
 
   /** @param {string[]} words */
   endRepeat(words) {
-    const open = this.repeats.pop();
+    const open = this.openRepeats.pop();
     if (open) this.steps = open.outer;
     if (words.length > 1) fail(say.END_FORM);
     if (!open) fail(say.NO_REPEAT);
   }
 
   /**
-   * Adds to the number of executed lines, multiplied by the open repetitions. Fails if there are too many lines.
-   * @param {number} more
+   * Adds lines to the number of executed lines, once for each turn of the open repetitions. Fails if there are too many lines.
+   * @param {number} lineCount the number of lines in the text
    */
-  addLines(more) {
+  addLines(lineCount) {
     const before = this.lines;
-    this.lines += this.repeats.reduce((product, { times }) => product * times, more);
-    if (this.sharing) this.sharing.lines = this.lines;
+    this.lines += this.openRepeats.reduce((product, { times }) => product * times, lineCount);
+    if (this.currentShared) this.currentShared.lines = this.lines;
     if (before <= MAX_LINES && this.lines > MAX_LINES) fail(say.TOO_MANY_LINES);
   }
 
@@ -282,7 +285,7 @@ class TestReader {
       const outer = this.steps;
       this.steps = [];
       step.action = { kind: "repeat", times, steps: this.steps };
-      this.repeats.push({ line, times, outer });
+      this.openRepeats.push({ line, times, outer });
       if (!isCount) fail(say.REPEAT_FORM);
     } else if (words[0] === "do") {
       step.action = this.readDo(words);
@@ -300,15 +303,16 @@ class TestReader {
   readDo(words) {
     if (words.length !== 2) fail(say.DO_FORM);
     const [, name] = words;
-    if (this.sharing && this.sharing.name === name) fail(say.stepsUseThemselves(name));
-    const knownNames = [...this.shared.keys()].filter((each) => each !== "" && (!this.sharing || each !== this.sharing.name));
-    const found = this.shared.get(name);
-    if (!found) {
+    const { currentShared } = this;
+    if (currentShared && currentShared.name === name) fail(say.stepsUseThemselves(name));
+    const knownNames = [...this.sharedSteps.keys()].filter((each) => each !== "" && (!currentShared || each !== currentShared.name));
+    const shared = this.sharedSteps.get(name);
+    if (!shared) {
       const which = say.knownSteps(knownNames.join(" "), name);
       return fail(say.noSteps(name, which));
     }
-    this.addLines(found.lines);
-    return { kind: "do", name, steps: found.steps };
+    this.addLines(shared.lines);
+    return { kind: "do", name, steps: shared.steps };
   }
 
   /**
@@ -318,16 +322,16 @@ class TestReader {
    * @returns {Action}
    */
   readAction(words, text) {
-    const [kind, ...rest] = words;
-    const begin = kind.length;
-    if (kind === "from" || kind === "save") return this.readState(kind, rest);
-    if (kind === "press" || kind === "release" || kind === "keys") return this.readKeys(kind, rest);
-    if (kind === "pace") return readPace(rest);
-    if (kind === "run") return { kind, cycles: wholeDuration(rest) || fail(say.RUN_FORM) };
-    if (kind === "until") return this.readUntil(text, begin);
-    if (kind === "expect") return { kind, condition: this.readCondition(text.slice(begin), begin) };
-    if (kind === "set") return { kind, ...this.readSet(text.slice(begin), begin) };
-    if (kind === "mark" || kind === "reset") return rest.length === 0 ? { kind } : fail(say.takesNoArgument(kind));
+    const [kind, ...operands] = words;
+    const startColumn = kind.length;
+    if (kind === "from" || kind === "save") return this.readState(kind, operands);
+    if (kind === "press" || kind === "release" || kind === "keys") return this.readKeys(kind, operands);
+    if (kind === "pace") return parsePace(operands);
+    if (kind === "run") return { kind, cycles: parseWholeDuration(operands) || fail(say.RUN_FORM) };
+    if (kind === "until") return this.readUntil(text, startColumn);
+    if (kind === "expect") return { kind, condition: this.readCondition(text.slice(startColumn), startColumn) };
+    if (kind === "set") return { kind, ...this.readSet(text.slice(startColumn), startColumn) };
+    if (kind === "mark" || kind === "reset") return operands.length === 0 ? { kind } : fail(say.takesNoArgument(kind));
     return fail(say.noForm(kind.slice(0, 30), say.FIRST_WORDS));
   }
 
@@ -339,18 +343,18 @@ class TestReader {
   readState(kind, words) {
     const [state] = words;
     if (words.length !== 1) fail(say.stateForm(kind));
-    if (kind === "save" && this.repeats.length > 0) fail(say.SAVED_ONCE);
-    if (this.sharing) fail(say.noStates(kind));
-    const before = this.savedBy.get(state);
+    if (kind === "save" && this.openRepeats.length > 0) fail(say.SAVED_ONCE);
+    if (this.currentShared) fail(say.noStates(kind));
+    const savingTest = this.savedBy.get(state);
     if (kind === "save") {
-      if (before) fail(say.savedBefore(state, before.name));
+      if (savingTest) fail(say.savedBefore(state, savingTest.name));
       this.savedBy.set(state, this.test);
       return { kind, state };
     }
-    if (this.test.steps.length > 1 || this.repeats.length > 0) fail(say.FROM_FORM);
+    if (this.test.steps.length > 1 || this.openRepeats.length > 0) fail(say.FROM_FORM);
     const knownStates = this.savedBy.size > 0 ? say.knownStates([...this.savedBy.keys()].join(" ")) : "";
-    if (!before) fail(say.noSuchState(state, knownStates));
-    if (before === this.test) fail(say.OWN_STATE);
+    if (!savingTest) fail(say.noSuchState(state, knownStates));
+    if (savingTest === this.test) fail(say.OWN_STATE);
     this.test.from = state;
     return { kind, state };
   }
@@ -364,9 +368,10 @@ class TestReader {
   readKeys(kind, words) {
     if (words.length === 0) fail(say.keysForm(kind, kind === "keys"));
     const keys = words.flatMap((word) => {
-      const key = this.keys.get(word) || this.chosenKey(word);
+      const key = this.keys.get(word) || this.parseChosenKey(word);
       if (key) return [key];
-      return kind === "keys" ? [...word].map((letter) => this.keys.get(letter) || this.noKey(letter, word)) : [this.noKey(word, word)];
+      if (kind !== "keys") return [this.failForKey(word, word)];
+      return [...word].map((letter) => this.keys.get(letter) || this.failForKey(letter, word));
     });
     return { kind, keys };
   }
@@ -377,15 +382,15 @@ class TestReader {
    * @param {string} word
    * @returns {ChosenKey | null}
    */
-  chosenKey(word) {
+  parseChosenKey(word) {
     const [, inner] = /^\{([^{}]+)\}$/.exec(word) || [];
     if (inner === undefined) return null;
     const [, place, list] = /^([^:]*)(?::(.*))?$/.exec(inner) || ["", ""];
-    const found = placeOf(place);
+    const found = parsePlace(place);
     const placeName = found ? found.name : place.toLowerCase();
     if (!/^(acc|cy|dcl|r\d+|(ram|st)\..+)$/.test(placeName) || list === "") return fail(say.CHOICE_FORM);
-    const keys = list === undefined ? [] : list.split(",").map((name) => this.keys.get(name) || this.noKey(name, name));
-    const { expression, fault } = expressionOf(place, this.names);
+    const keys = list === undefined ? [] : list.split(",").map((name) => this.keys.get(name) || this.failForKey(name, name));
+    const { expression, fault } = compileExpression(place, this.names);
     const { places: [probe] } = expression || fail(fault);
     return { word, place: placeName, probe, keys };
   }
@@ -396,7 +401,7 @@ class TestReader {
    * @param {string} word the word that contains the name
    * @returns {never}
    */
-  noKey(name, word) {
+  failForKey(name, word) {
     const keyNames = [...this.keys.keys()].join(" ");
     const what = word.length > name.length ? say.nor(name, word) : name;
     return fail(say.noKey(what, keyNames));
@@ -405,25 +410,25 @@ class TestReader {
   /**
    * Parses a condition.
    * @param {string} text
-   * @param {number} begin the column of the condition in the line
+   * @param {number} startColumn the column of the condition in the line
    */
-  readCondition(text, begin) {
-    const { condition, fault, column } = testConditionOf(text, this.names);
-    return condition || fail(fault, begin + column);
+  readCondition(text, startColumn) {
+    const { condition, fault, column } = compileTestCondition(text, this.names);
+    return condition || fail(fault, startColumn + column);
   }
 
   /**
    * Parses `until`.
    * @param {string} text the line
-   * @param {number} begin the column of the condition
+   * @param {number} startColumn the column of the condition
    * @returns {Action}
    */
-  readUntil(text, begin) {
-    const [, whole, time] = /^(.*\S)[ \t]+within[ \t]+(.*)$/.exec(text) || [];
-    if (whole === undefined || whole.length <= begin) return fail(say.UNTIL_FORM);
-    const cycles = wholeDuration(time.split(/[ \t]+/));
+  readUntil(text, startColumn) {
+    const [, conditionText, time] = /^(.*\S)[ \t]+within[ \t]+(.*)$/.exec(text) || [];
+    if (conditionText === undefined || conditionText.length <= startColumn) return fail(say.UNTIL_FORM);
+    const cycles = parseWholeDuration(time.split(/[ \t]+/));
     if (cycles < 1) fail(say.WITHIN_FORM);
-    const condition = this.readCondition(whole.slice(begin), begin);
+    const condition = this.readCondition(conditionText.slice(startColumn), startColumn);
     if (condition.needs.includes("cycles")) fail(say.NO_CYCLES);
     return { kind: "until", condition, cycles };
   }
@@ -431,15 +436,15 @@ class TestReader {
   /**
    * Parses `set`. Fails if the board has no ROM at the address.
    * @param {string} text the text after `set`
-   * @param {number} begin the column of that text in the line
+   * @param {number} startColumn the column of that text in the line
    */
-  readSet(text, begin) {
+  readSet(text, startColumn) {
     const { board, map } = this.names;
     const { place, lines, fault, column } = readSetting(text, map, board);
-    if (fault) fail(fault, begin + column);
+    if (fault) fail(fault, startColumn + column);
     const address = romAddress(place);
     const hasRom = Number.isNaN(address) || board.roms.some(({ chip }) => Number(chip) === Math.floor(address / 256));
-    if (!hasRom) fail(say.noRomAt(text.trim().split(/[ \t=]+/)[0].slice("rom.".length)), begin + 1);
+    if (!hasRom) fail(say.noRomAt(text.trim().split(/[ \t=]+/)[0].slice("rom.".length)), startColumn + 1);
     return { commands: lines.trimEnd().split("\n"), changesRom: !Number.isNaN(address) };
   }
 }
@@ -448,9 +453,9 @@ class TestReader {
  * @param {string[]} words
  * @returns {Action}
  */
-function readPace(words) {
-  const down = durationOf(words, 0);
-  const up = durationOf(words, down.words);
+function parsePace(words) {
+  const down = parseDuration(words, 0);
+  const up = parseDuration(words, down.words);
   const isWhole = down.cycles > 0 && up.cycles > 0 && down.words + up.words === words.length;
   return isWhole ? { kind: "pace", down: down.cycles, up: up.cycles }
     : fail(say.PACE_FORM);
@@ -461,11 +466,11 @@ function readPace(words) {
  * @param {Step[]} steps
  * @returns {{ text: string, action: Action }[]}
  */
-export function ownLines(steps) {
+export function expandSteps(steps) {
   return steps.flatMap(({ text, action }) => {
-    if (action.kind === "do") return ownLines(action.steps);
+    if (action.kind === "do") return expandSteps(action.steps);
     if (action.kind !== "repeat") return [{ text, action }];
-    return [{ text, action }, ...ownLines(action.steps), { text: "end", action }];
+    return [{ text, action }, ...expandSteps(action.steps), { text: "end", action }];
   });
 }
 
@@ -477,8 +482,8 @@ export function ownLines(steps) {
  */
 export function readSources(sources, names) {
   const reader = new TestReader(names);
-  for (const source of sources) reader.read(source);
-  reader.end();
+  for (const source of sources) reader.readSource(source);
+  reader.finish();
   return { tests: reader.tests, faults: reader.faults };
 }
 

@@ -1,11 +1,11 @@
-// Finds all errors in the texts of a board and a program, with their positions and messages. The page's editors and the language server
-// show them.
+// Finds all errors in the texts of a board and a program, with their positions and messages. The page's editors and the language server use
+// this module.
 
-import { faceFaults } from "../board/face.js";
+import { findFaceErrors } from "../board/face.js";
 import { SourceMap } from "../machine/source_map.js";
-import { errorOfBoard } from "./board_error.js";
-import { LACKS_ROM, findProgramFaults, lacksOfRom } from "./program_faults.js";
-import { alignedText, faultsOfLines, sentText } from "./text_fault.js";
+import { createBoardError } from "./board_error.js";
+import { MISSING_ROM, findProgramFaults, findMissingRoms } from "./program_faults.js";
+import { alignedText, findLineFaults, sentText } from "./text_fault.js";
 
 /**
  * @typedef {import("../bench/answers.js").Refusal} Refusal
@@ -13,8 +13,8 @@ import { alignedText, faultsOfLines, sentText } from "./text_fault.js";
  * @typedef {import("./program_faults.js").AllFaults} AllFaults
  * @typedef {import("./text_fault.js").Fault} Fault
  *
- * The queries to the bench.
- * @typedef {object} Asked
+ * The callbacks that query the bench.
+ * @typedef {object} FaultQueries
  * @property {(sent: string) => Promise<import("../bench/text_judgement.js").BoardError | null>} wiring resolves to the error in a board
  *   text, or to null
  * @property {(sent: string) => Promise<import("../bench/text_judgement.js").LineError[]>} errors resolves to the errors in program lines
@@ -30,61 +30,61 @@ const LAST_TEXT_REFUSAL = 42;
  * Returns a refusal if it concerns a text, otherwise null.
  * @param {Refusal | null} refusal
  */
-export function refusalOfText(refusal) {
+export function keepTextRefusal(refusal) {
   return refusal && refusal.number <= LAST_TEXT_REFUSAL ? refusal : null;
 }
 
-export class AllFaultsOfTexts {
+export class TextErrorFinder {
   /**
-   * @param {Asked} queries
+   * @param {FaultQueries} queries
    * @param {{ instructions: Map<string, Instruction>, tables: Map<string, Map<string, string>> }} manual the instructions, and the
    *   descriptions of board text values, by table and key
    * @param {(number: number) => string} wordsOf returns the message of a refusal
    */
   constructor(queries, { instructions, tables }, wordsOf) {
-    this.asked = queries;
+    this.queries = queries;
     this.instructions = instructions;
     this.tables = tables;
     this.wordsOf = wordsOf;
   }
 
   /**
-   * Resolves to the errors in a program; to undefined if `isWanted` returns false meanwhile.
+   * Resolves to the errors in a program. Resolves to undefined as soon as `isWanted` returns false.
    * @param {string} text
    * @param {() => boolean} isWanted
    * @returns {Promise<AllFaults | undefined>}
    */
-  async ofProgram(text, isWanted) {
-    const found = await findProgramFaults(text, this.instructions, this.wordsOf, this.asked);
+  async findInProgram(text, isWanted) {
+    const found = await findProgramFaults(text, this.instructions, this.wordsOf, this.queries);
     if (!isWanted()) return undefined;
-    if (!found || !found.rest || found.rest.number !== LACKS_ROM || found.faults.length > 0) return found;
+    if (!found || !found.rest || found.rest.number !== MISSING_ROM || found.faults.length > 0) return found;
     const sent = sentText(text, ";");
-    const map = new SourceMap(await this.asked.map(sent), sent);
-    return { ...found, faults: lacksOfRom(alignedText(text, ";").split("\n"), map, await this.asked.roms()) };
+    const map = new SourceMap(await this.queries.map(sent), sent);
+    return { ...found, faults: findMissingRoms(alignedText(text, ";").split("\n"), map, await this.queries.roms()) };
   }
 
   /**
-   * Resolves to the errors in a board text; to undefined if `isWanted` returns false meanwhile.
+   * Resolves to the errors in a board text. Resolves to undefined as soon as `isWanted` returns false.
    * @param {string} text
    * @param {() => boolean} isWanted
    * @returns {Promise<AllFaults | undefined>}
    */
-  async ofBoard(text, isWanted) {
-    const textFaults = faultsOfLines(text, "#");
-    if (textFaults.length > 0) return { faults: textFaults, areAll: true, rest: null };
-    const error = await this.asked.wiring(sentText(text, "#"));
+  async findInBoard(text, isWanted) {
+    const textFaults = findLineFaults(text, "#");
+    if (textFaults.length > 0) return { faults: textFaults, isWhole: true, rest: null };
+    const error = await this.queries.wiring(sentText(text, "#"));
     if (!isWanted()) return undefined;
-    if (!error) return { faults: [], areAll: true, rest: null };
-    return { faults: [errorOfBoard(alignedText(text, "#"), error, this.tables, this.wordsOf)], areAll: false, rest: null };
+    if (!error) return { faults: [], isWhole: true, rest: null };
+    return { faults: [createBoardError(alignedText(text, "#"), error, this.tables, this.wordsOf)], isWhole: false, rest: null };
   }
 }
 
 /**
- * Returns the errors in the comments that describe the front panel. These errors do not prevent applying the board.
+ * Returns the errors in the front-panel comments of a board text. The board can be applied in spite of these errors.
  * @param {string} text
  * @returns {Fault[]}
  */
-export function faultsOfFace(text) {
+export function findFrontPanelErrors(text) {
   const lines = text.split("\n");
-  return faceFaults(text).map(({ line, words }) => ({ number: 0, line, from: 0, to: (lines[line - 1] || "").length, words }));
+  return findFaceErrors(text).map(({ line, words }) => ({ number: 0, line, from: 0, to: (lines[line - 1] || "").length, words }));
 }

@@ -1,7 +1,7 @@
-// Creates the texts that load bytes or a program into ROM with as few commands as possible. Nothing else changes.
+// Creates the `asm` texts that load bytes or a program into ROM. A text is as long as possible, so that few commands are necessary.
 
-import { counted, hex, upTo } from "../bench/numbers.js";
-import { PAGES, PAGE_BYTES } from "../bench/rom_bytes.js";
+import { counted, hex, indices } from "../bench/numbers.js";
+import { PAGE_NUMBERS, PAGE_BYTES } from "../bench/rom_bytes.js";
 import { LONGEST_TEXT } from "./text_fault.js";
 import * as say from "../../words/text.js";
 
@@ -16,14 +16,14 @@ const MAX_BYTES_IN_LINE = 60;
 const MAX_ZEROS_IN_LINE = 126;
 
 /** @type {(address: number) => number} returns the ROM number for an address */
-const pageOf = (address) => Math.floor(address / PAGE_BYTES);
+const romNumber = (address) => Math.floor(address / PAGE_BYTES);
 
 /**
  * Returns addresses as ranges of consecutive addresses.
  * @param {number[]} addresses the addresses in ascending order
  * @returns {{ from: number, count: number }[]}
  */
-function rangesOf(addresses) {
+function groupIntoRanges(addresses) {
   /** @type {{ from: number, count: number }[]} */
   const ranges = [];
   for (const address of addresses) {
@@ -40,7 +40,7 @@ function rangesOf(addresses) {
  * @param {number[]} bytes
  * @param {number} maxInLine the maximum number of bytes per line
  */
-function statementsOf(from, bytes, maxInLine) {
+function formatStatements(from, bytes, maxInLine) {
   const lines = [`ORG 0x${hex(from, 3)}\n`];
   for (let done = 0; done < bytes.length; done += maxInLine) lines.push(`DB ${bytes.slice(done, done + maxInLine).join(",")}\n`);
   return lines.join("");
@@ -52,54 +52,57 @@ function statementsOf(from, bytes, maxInLine) {
  * @returns {string[]}
  */
 function clearingTexts(addresses) {
-  return rangesOf(addresses).map(({ from, count }) => statementsOf(from, Array(count).fill(0), MAX_ZEROS_IN_LINE));
+  return groupIntoRanges(addresses).map(({ from, count }) => formatStatements(from, Array(count).fill(0), MAX_ZEROS_IN_LINE));
 }
 
-/** The number of characters that each of several texts reserves for one byte in each ROM. */
-const ROOM_FOR_ROMS = PAGES.length * statementsOf(0, [255], 1).length;
+/** The number of characters that a text reserves for one additional byte in each ROM. */
+const RESERVED_LENGTH = PAGE_NUMBERS.length * formatStatements(0, [255], 1).length;
 
 /**
- * Returns statements for one byte (the last one) in each ROM that gets bytes from other texts, but not from this text.
+ * Returns statements that store the last byte of each ROM that gets bytes only from other texts.
  * @param {Int16Array} bytes
  * @param {Set<number>} pages the ROMs that get bytes from this text
  */
-function statementsForRoms(bytes, pages) {
-  const lastOf = (/** @type {number} */ page) => {
+function formatRomStatements(bytes, pages) {
+  const findLastByte = (/** @type {number} */ page) => {
     let at = (page + 1) * PAGE_BYTES - 1;
     while (at >= page * PAGE_BYTES && bytes[at] < 0) at -= 1;
     return at;
   };
-  const lacking = PAGES.filter((page) => !pages.has(page)).map((page) => ({ page, at: lastOf(page) }));
-  return lacking.filter(({ page, at }) => at >= page * PAGE_BYTES).map(({ at }) => statementsOf(at, [bytes[at]], 1)).join("");
+  const uncoveredPages = PAGE_NUMBERS.filter((page) => !pages.has(page)).map((page) => ({ page, at: findLastByte(page) }));
+  return uncoveredPages.filter(({ page, at }) => at >= page * PAGE_BYTES).map(({ at }) => formatStatements(at, [bytes[at]], 1)).join("");
 }
 
 /**
- * Returns the `asm` texts that store bytes in ROM, each as long as possible. If there are several texts, each of them stores a byte in
- * every affected ROM. If one of these ROMs is missing, the bench therefore rejects all texts.
+ * Returns the `asm` texts that store bytes in ROM. If several texts are necessary, each of them stores at least one byte in every ROM that
+ * gets bytes. The bench then rejects either all texts or none, if one of these ROMs is missing on the board.
  * @param {Int16Array} bytes the bytes by address; negative for no byte
  * @returns {string[]}
  */
-export function textsOfBytes(bytes) {
-  const lines = rangesOf([...bytes.keys()].filter((at) => bytes[at] >= 0)).flatMap(({ from, count }) => {
-    const begins = upTo(Math.ceil(count / MAX_BYTES_IN_LINE)).map((at) => from + at * MAX_BYTES_IN_LINE);
-    return begins.map((at) => ({ at, end: Math.min(at + MAX_BYTES_IN_LINE, from + count) }));
-  }).map(({ at, end }) => ({ text: statementsOf(at, [...bytes.subarray(at, end)], MAX_BYTES_IN_LINE), pages: [at, end - 1].map(pageOf) }));
-  const whole = lines.map(({ text }) => text).join("");
-  if (whole.length <= LONGEST_TEXT) return [whole];
+export function createByteTexts(bytes) {
+  const lines = groupIntoRanges([...bytes.keys()].filter((at) => bytes[at] >= 0)).flatMap(({ from, count }) => {
+    const lineStarts = indices(Math.ceil(count / MAX_BYTES_IN_LINE)).map((at) => from + at * MAX_BYTES_IN_LINE);
+    return lineStarts.map((at) => ({ at, end: Math.min(at + MAX_BYTES_IN_LINE, from + count) }));
+  }).map(({ at, end }) => {
+    const text = formatStatements(at, [...bytes.subarray(at, end)], MAX_BYTES_IN_LINE);
+    return { text, pages: [at, end - 1].map(romNumber) };
+  });
+  const wholeText = lines.map(({ text }) => text).join("");
+  if (wholeText.length <= LONGEST_TEXT) return [wholeText];
   /** @type {{ text: string, pages: Set<number> }[]} */
   const texts = [{ text: "", pages: new Set() }];
   for (const { text, pages } of lines) {
-    if (texts[texts.length - 1].text.length + text.length > LONGEST_TEXT - ROOM_FOR_ROMS) texts.push({ text: "", pages: new Set() });
+    if (texts[texts.length - 1].text.length + text.length > LONGEST_TEXT - RESERVED_LENGTH) texts.push({ text: "", pages: new Set() });
     const last = texts[texts.length - 1];
     last.text += text;
     for (const page of pages) last.pages.add(page);
   }
-  return texts.map(({ text, pages }) => text + statementsForRoms(bytes, pages));
+  return texts.map(({ text, pages }) => text + formatRomStatements(bytes, pages));
 }
 
 /**
- * Returns the `asm` texts that load a program into ROM and store 0 at other addresses. If possible, there is only one text. Otherwise the
- * last text contains the program.
+ * Returns the `asm` texts that load a program into ROM and store 0 at other addresses. If one text is not enough, the last text contains
+ * the program.
  * @param {string} program the text as sent to the bench
  * @param {number[]} addresses the addresses in ascending order
  * @returns {string[]}
@@ -119,7 +122,7 @@ export function programTexts(program, addresses) {
  * @param {Leftovers} leftovers
  * @param {string} counter the program counter, as text
  */
-export function wordsOfAssembled({ size, left }, counter) {
+export function describeAssembled({ size, left }, counter) {
   const first = left.length > 0 ? `0x${hex(left[0], 3)}` : "";
   const stay = say.stays(counted(left.length, "byte"), left.length === 1, first);
   return say.assembled(counted(size, "byte"), left.length > 0 ? ` ${stay}` : "", counter);

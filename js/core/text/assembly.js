@@ -4,9 +4,10 @@
  * A word and its range in the line.
  * @typedef {{ text: string, from: number, to: number }} Word
  *
- * The parts of a line. `label`: the label, or the name that the line defines. `defines`: true if the line defines a name with `=`. `head`:
- * the first word of the statement. `operands`: the operands, or the value of a definition. `comment`: the index at which the comment
- * starts.
+ * The parts of a line:
+ * - `label`: the label, or the name that the line defines; `defines`: true if the line defines a name with `=`;
+ * - `head`: the first word of the statement; `operands`: the operands, or the value of a definition;
+ * - `comment`: the index at which the comment starts; the line length if there is none.
  * @typedef {{ label: Word | null, defines: boolean, head: Word | null, operands: Word[], comment: number }} Parts
  *
  * @typedef {"comment" | "label" | "instruction" | "directive" | "register" | "number" | "name" | "unknown"} Kind
@@ -14,6 +15,7 @@
  */
 
 export const DIRECTIVES = ["ORG", "DB"];
+/** The patterns of operands and names. */
 export const REGISTER = /^[Rr](\d|1[0-5])$/;
 export const PAIR = /^[Pp][0-7]$/;
 export const NUMBER = /^(\d+|0x[0-9A-Fa-f]+)$/;
@@ -27,7 +29,7 @@ export const MAX_NAME_LENGTH = 16;
  * @param {number} to
  * @returns {Word | null}
  */
-function wordIn(line, from, to) {
+function trimmedWord(line, from, to) {
   const text = line.slice(from, to);
   const trimmed = text.trim();
   if (trimmed === "") return null;
@@ -41,13 +43,13 @@ function wordIn(line, from, to) {
  * @param {number} from
  * @param {number} to
  */
-function operandsIn(line, from, to) {
+function splitOperands(line, from, to) {
   if (line.slice(from, to).trim() === "") return [];
   const words = [];
   for (let at = from; at <= to;) {
     const comma = line.indexOf(",", at);
     const end = comma < 0 || comma > to ? to : comma;
-    words.push(wordIn(line, at, end) || { text: "", from: end, to: end });
+    words.push(trimmedWord(line, at, end) || { text: "", from: end, to: end });
     at = end + 1;
   }
   return words;
@@ -63,7 +65,7 @@ const MAX_CACHED_LENGTH = 255;
  * @param {string} line
  * @returns {Readonly<Parts>}
  */
-export function partsOf(line) {
+export function splitStatement(line) {
   if (line.length > MAX_CACHED_LENGTH) return splitLine(line);
   const before = cache.get(line);
   if (before) return before;
@@ -82,18 +84,18 @@ function splitLine(line) {
   const mark = line.indexOf(";");
   const comment = mark < 0 ? line.length : mark;
   const colon = /^[^:=,]*?:/.exec(line.slice(0, comment));
-  const label = colon ? wordIn(line, 0, colon[0].length - 1) : null;
+  const label = colon ? trimmedWord(line, 0, colon[0].length - 1) : null;
   const from = colon ? colon[0].length : 0;
   const equals = line.slice(0, comment).indexOf("=", from);
   if (equals >= 0) {
-    const value = wordIn(line, equals + 1, comment);
-    return { label: label || wordIn(line, from, equals), defines: true, head: null, operands: value ? [value] : [], comment };
+    const value = trimmedWord(line, equals + 1, comment);
+    return { label: label || trimmedWord(line, from, equals), defines: true, head: null, operands: value ? [value] : [], comment };
   }
   const found = /^\s*([^\s,]+)/.exec(line.slice(from, comment));
   if (!found) return { label, defines: false, head: null, operands: [], comment };
   const end = from + found[0].length;
   const head = { text: found[1], from: end - found[1].length, to: end };
-  return { label, defines: false, head, operands: operandsIn(line, end, comment), comment };
+  return { label, defines: false, head, operands: splitOperands(line, end, comment), comment };
 }
 
 /**
@@ -101,7 +103,7 @@ function splitLine(line) {
  * @param {string} text
  * @returns {Kind}
  */
-export function kindOfOperand(text) {
+export function classifyOperand(text) {
   if (REGISTER.test(text) || PAIR.test(text)) return "register";
   if (NUMBER.test(text)) return "number";
   return NAME.test(text) ? "name" : "unknown";
@@ -113,8 +115,8 @@ export function kindOfOperand(text) {
  * @param {(word: string) => boolean} isInstruction
  * @returns {Token[]}
  */
-export function tokensOf(line, isInstruction) {
-  const { label, head, operands, comment } = partsOf(line);
+export function tokenizeLine(line, isInstruction) {
+  const { label, head, operands, comment } = splitStatement(line);
   /** @type {Token[]} */
   const tokens = [];
   if (label) tokens.push({ ...label, kind: "label" });
@@ -123,7 +125,7 @@ export function tokensOf(line, isInstruction) {
     const other = DIRECTIVES.includes(word) ? "directive" : "unknown";
     tokens.push({ ...head, kind: isInstruction(word) ? "instruction" : other });
   }
-  for (const word of operands.filter(({ text }) => text !== "")) tokens.push({ ...word, kind: kindOfOperand(word.text) });
+  for (const word of operands.filter(({ text }) => text !== "")) tokens.push({ ...word, kind: classifyOperand(word.text) });
   if (comment < line.length) tokens.push({ text: line.slice(comment), from: comment, to: line.length, kind: "comment" });
   return tokens;
 }
@@ -133,10 +135,10 @@ export function tokensOf(line, isInstruction) {
  * @param {string[]} lines
  * @returns {Map<string, number>}
  */
-export function namesOf(lines) {
+export function findDefinedNames(lines) {
   const names = new Map();
   lines.forEach((line, at) => {
-    const { label } = partsOf(line);
+    const { label } = splitStatement(line);
     if (label && NAME.test(label.text) && !names.has(label.text)) names.set(label.text, at + 1);
   });
   return names;
@@ -145,13 +147,13 @@ export function namesOf(lines) {
 /**
  * Returns the word of letters, digits and underscores at an index in a line; null if there is none.
  * @param {string} line
- * @param {number} at
+ * @param {number} column
  * @returns {Word | null}
  */
-export function wordAt(line, at) {
-  const before = /\w*$/.exec(line.slice(0, at));
-  const after = /^\w*/.exec(line.slice(at));
-  const from = at - (before ? before[0].length : 0);
-  const to = at + (after ? after[0].length : 0);
+export function wordAt(line, column) {
+  const before = /\w*$/.exec(line.slice(0, column));
+  const after = /^\w*/.exec(line.slice(column));
+  const from = column - (before ? before[0].length : 0);
+  const to = column + (after ? after[0].length : 0);
   return from === to ? null : { text: line.slice(from, to), from, to };
 }

@@ -1,16 +1,16 @@
-// Completes a word in a board text: a part with all its keys, a key, or a value that names a signal line of the board.
+// Completes words in a board text: table headers, templates of tables, keys, and values. A value can be the name of a signal line.
 
 import { MAX_PARTS, boardLines } from "../bench/board_form.js";
-import { upTo } from "../bench/numbers.js";
-import { partsWithLines, readBoardText } from "./board_reader.js";
-import { fitting, withoutDescription } from "./completion.js";
+import { indices } from "../bench/numbers.js";
+import { collectParts, readBoardText } from "./board_reader.js";
+import { filterCompletions, withoutDescription } from "./completion.js";
 import { tableAt } from "./text_help.js";
 import { commentAt } from "./text_fault.js";
 import * as say from "../../words/text.js";
 
 /**
  * @typedef {import("./completion.js").Completion} Completion
- * @typedef {import("./completion.js").Fitting} Fitting
+ * @typedef {import("./completion.js").CompletionItem} CompletionItem
  * @typedef {import("../bench/board_form.js").BoardLine} BoardLine
  */
 
@@ -21,23 +21,23 @@ const VALUE = /(\w+)\s*=\s*(?:\[(?:[^\][\]"]|"[^"\n]*")*)?("?)([\w.]*)$/;
  * Describes a signal line of the board.
  * @param {BoardLine} line
  */
-function wordsOfLine({ name, kind, isInput }) {
+function describeLine({ name, kind, isInput }) {
   const [first, second, third] = name.match(/\d+/g) || [];
   if (kind === "rom") return say.lineOfRom(isInput, second, first);
   return kind === "ram" ? say.lineOfRam(third, second, first) : say.bitOfChain(second, first);
 }
 
 /** The maximum number of characters to search before the caret. */
-const MAX_CHARACTERS_BEFORE = 2000;
+const MAX_CHARACTERS_BEFORE_CURSOR = 2000;
 
-/** The parts of a board text, as far as the text is valid. */
-class Parts {
+/** The chips, chains and signal lines in the valid tables of a board text. */
+class BoardParts {
   /** @param {string} text */
   constructor(text) {
-    const { roms, banks, chains } = partsWithLines(readBoardText(text).entries);
-    this.chips = upTo(MAX_PARTS.rom).filter((number) => !roms.some(({ chip }) => chip === number));
-    this.banks = upTo(MAX_PARTS.ram).filter((number) => !banks.some(({ bank }) => bank === number));
-    this.chains = upTo(chains.length);
+    const { roms, banks, chains } = collectParts(readBoardText(text).entries);
+    this.chips = indices(MAX_PARTS.rom).filter((number) => !roms.some(({ chip }) => chip === number));
+    this.banks = indices(MAX_PARTS.ram).filter((number) => !banks.some(({ bank }) => bank === number));
+    this.chains = indices(chains.length);
     const lines = boardLines({ roms, banks, chains });
     this.inputs = lines.filter(({ isInput }) => isInput);
     this.bits = lines.filter(({ kind }) => kind === "bit");
@@ -48,11 +48,11 @@ class Parts {
    * Returns the possible values of a key. Names of signal lines and ports need quotes.
    * @param {string} table
    * @param {string} key
-   * @returns {{ list: Fitting[], isQuoted: boolean }}
+   * @returns {{ list: CompletionItem[], isQuoted: boolean }}
    */
-  values(table, key) {
+  listValues(table, key) {
     const lines = (/** @type {BoardLine[]} */ all) => (
-      { list: all.map((line) => ({ text: line.name, what: wordsOfLine(line) })), isQuoted: true });
+      { list: all.map((line) => ({ text: line.name, what: describeLine(line) })), isQuoted: true });
     const numbers = (/** @type {number[]} */ list) => ({ list: withoutDescription(list.map(String)), isQuoted: false });
     switch (`${table}.${key}`) {
       case "rom.chip": return numbers(this.chips);
@@ -67,8 +67,8 @@ class Parts {
   }
 
   /**
-   * Returns a template for each kind of part, with all its keys and with existing signal lines.
-   * @returns {Fitting[]}
+   * Returns a template for each kind of table, with all its keys and with existing signal lines as values.
+   * @returns {CompletionItem[]}
    */
   templates() {
     const [input] = this.inputs;
@@ -86,40 +86,41 @@ class Parts {
 /**
  * Returns the completions of a value.
  * @param {string} text
- * @param {number} at
+ * @param {number} column
  * @param {RegExpExecArray} value
- * @param {{ list: Fitting[], isQuoted: boolean }} values
+ * @param {{ list: CompletionItem[], isQuoted: boolean }} values
  * @returns {Completion}
  */
-function completeValue(text, at, value, { list, isQuoted }) {
-  const isOpen = value[2] !== "";
-  if (isOpen && !isQuoted) return { from: at, to: at, list: [] };
-  const close = isQuoted && text[at] !== "\"" ? "\"" : "";
-  const open = isQuoted && !isOpen ? "\"" : "";
-  const { from, to, list: found } = fitting(text, at, list, /[\w.]*$/);
-  return { from, to, list: found.map((each) => ({ ...each, text: `${open}${each.text}${close}` })) };
+function completeValue(text, column, value, { list, isQuoted }) {
+  const isQuoteOpen = value[2] !== "";
+  if (isQuoteOpen && !isQuoted) return { from: column, to: column, list: [] };
+  const closingQuote = isQuoted && text[column] !== "\"" ? "\"" : "";
+  const openingQuote = isQuoted && !isQuoteOpen ? "\"" : "";
+  const { from, to, list: found } = filterCompletions(text, column, list, /[\w.]*$/);
+  return { from, to, list: found.map((each) => ({ ...each, text: `${openingQuote}${each.text}${closingQuote}` })) };
 }
 
 /**
  * Returns the completions at a position in a board text.
  * @param {string[]} lines
  * @param {number} line the line number from 0
- * @param {number} at
+ * @param {number} column
  * @param {Map<string, Map<string, string>>} tables the keys and their values, by table
  * @returns {Completion}
  */
-export function completeBoard(lines, line, at, tables) {
+export function completeBoard(lines, line, column, tables) {
   const text = lines[line];
-  const before = text.slice(0, at);
-  if (commentAt(before, "#") < before.length) return { from: at, to: at, list: [] };
-  if (/^\s*\[+\w*$/.test(before)) return fitting(text, at, withoutDescription([...tables.keys()]));
+  const textBefore = text.slice(0, column);
+  if (commentAt(textBefore, "#") < textBefore.length) return { from: column, to: column, list: [] };
+  if (/^\s*\[+\w*$/.test(textBefore)) return filterCompletions(text, column, withoutDescription([...tables.keys()]));
   const table = tableAt(lines, line);
-  const parts = new Parts(lines.map((each, number) => (number === line ? "" : each)).join("\n"));
+  const parts = new BoardParts(lines.map((each, number) => (number === line ? "" : each)).join("\n"));
   // An array can start some lines above.
   const linesBefore = lines.slice(Math.max(0, line - 9), line).map((each) => each.slice(0, commentAt(each, "#")));
-  const value = VALUE.exec([...linesBefore, before].join("\n").slice(-MAX_CHARACTERS_BEFORE));
-  if (value && (before.includes(value[1]) || value[0].includes("["))) return completeValue(text, at, value, parts.values(table, value[1]));
+  const value = VALUE.exec([...linesBefore, textBefore].join("\n").slice(-MAX_CHARACTERS_BEFORE_CURSOR));
+  const isInValue = value && (textBefore.includes(value[1]) || value[0].includes("["));
+  if (value && isInValue) return completeValue(text, column, value, parts.listValues(table, value[1]));
   const keys = tables.get(table) || new Map();
   const words = [...keys].map(([name, values]) => ({ text: name, what: values }));
-  return text.trim() === "" ? { from: 0, to: at, list: [...words, ...parts.templates()] } : fitting(text, at, words);
+  return text.trim() === "" ? { from: 0, to: column, list: [...words, ...parts.templates()] } : filterCompletions(text, column, words);
 }

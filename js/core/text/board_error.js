@@ -1,9 +1,9 @@
-// Describes the error that the bench reports for a board text. The bench names the part, the text reader finds its position, and the manual
-// describes the valid values of each key.
+// Describes the error that the bench reports for a board text. The bench reports a table and a key, the parser of board texts finds their
+// position, and the manual describes the valid values of each key.
 
-import { KEYS, LINE_NAMES, MAX_PARTS, MAX_COLUMNS, BITS_PER_CHIP, RANGES, boardLines } from "../bench/board_form.js";
-import { similarWords, suggestion } from "./alike.js";
-import { partsWithLines, readBoardText } from "./board_reader.js";
+import { PART_KEYS, LINE_NAMES, MAX_PARTS, MAX_COLUMNS, BITS_PER_CHIP, VALUE_RANGES, boardLines } from "../bench/board_form.js";
+import { findSimilarWords, formatSuggestion } from "./alike.js";
+import { collectParts, readBoardText } from "./board_reader.js";
 import { faultAt } from "./text_fault.js";
 import * as say from "../../words/text.js";
 
@@ -15,7 +15,7 @@ import * as say from "../../words/text.js";
  * @typedef {import("./board_reader.js").Value} Value
  * @typedef {import("./text_fault.js").Fault} Fault
  *
- * The wrong part, as far as the text contains it.
+ * The table and the key with the error; null if the text does not contain them.
  * @typedef {{ entry: Entry | null, key: Key | null }} WrongPart
  */
 
@@ -35,7 +35,7 @@ const LINE_KEYS = ["clock", "data", "line", "columns"];
  * Returns the header line of a table.
  * @param {string} kind
  */
-const headerOf = (kind) => (kind === "keys" ? "[keys]" : `[[${kind}]]`);
+const formatHeader = (kind) => (kind === "keys" ? "[keys]" : `[[${kind}]]`);
 
 /** Finds the position and the message of an error. */
 class BoardErrorText {
@@ -50,7 +50,7 @@ class BoardErrorText {
     this.error = error;
     this.tables = tables;
     this.wordsOf = wordsOf;
-    this.parts = partsWithLines(text.entries);
+    this.parts = collectParts(text.entries);
     this.lines = new Map(boardLines(this.parts).map((line) => [line.name, line]));
   }
 
@@ -61,7 +61,7 @@ class BoardErrorText {
   }
 
   /** @returns {WrongPart} the part that contains the error */
-  wrongPart() {
+  findWrongPart() {
     const { section, index, key: name } = this.error;
     const key = (/** @type {Key[]} */ keys) => keys.find((each) => each.name === name) || null;
     if (section === "") {
@@ -73,20 +73,23 @@ class BoardErrorText {
     return { entry: null, key: this.text.keys.find((each) => each.name === section) || null };
   }
 
-  /** Returns the error with its position and message. @returns {Fault} */
-  fault() {
+  /**
+   * Returns the error with its position and message.
+   * @returns {Fault}
+   */
+  createFault() {
     const { number } = this.error;
-    if (number === NOT_TOML) return this.tomlError();
-    const { entry, key } = this.wrongPart();
-    if (number === UNKNOWN_KEY) return this.unknownKey(entry, key);
-    const value = key && number !== MISSING_KEY ? this.wrongValue(key) : null;
-    const words = this.words(entry, key, value);
+    if (number === NOT_TOML) return this.createTomlFault();
+    const { entry, key } = this.findWrongPart();
+    if (number === UNKNOWN_KEY) return this.createUnknownKeyFault(entry, key);
+    const value = key && number !== MISSING_KEY ? this.findWrongValue(key) : null;
+    const words = this.formatMessage(entry, key, value);
     const place = value || entry;
-    return place ? faultAt(number, place, words) : this.wholeLine(words);
+    return place ? faultAt(number, place, words) : this.createLineFault(words);
   }
 
   /** Returns the error in a text that is not valid TOML. */
-  tomlError() {
+  createTomlFault() {
     const { number, line } = this.error;
     const found = this.text.faults.find((each) => each.line === line);
     if (found) return found;
@@ -95,15 +98,15 @@ class BoardErrorText {
       const first = keys.find(({ name }) => second && name === second.name);
       if (second && first && first !== second) return faultAt(number, second, say.alreadyThere(second.name, first.line));
     }
-    return this.wholeLine(this.wordsOf(number));
+    return this.createLineFault(this.wordsOf(number));
   }
 
   /**
-   * Returns the value of a key; for several columns, the wrong column.
+   * Returns the value of a key. If the value is an array of columns, returns the column with the error.
    * @param {Key} key
    * @returns {Value}
    */
-  wrongValue({ name, value }) {
+  findWrongValue({ name, value }) {
     const { number } = this.error;
     if (name !== "columns" || !Array.isArray(value.inner)) return value;
     return value.inner.find(({ inner }) => {
@@ -119,14 +122,14 @@ class BoardErrorText {
    * @param {Key | null} key
    * @param {Value | null} value the wrong value
    */
-  words(entry, key, value) {
+  formatMessage(entry, key, value) {
     const { number, section, key: name } = this.error;
     if (number === MISSING_KEY) return say.lacks(section, name);
-    if (number === BAD_VALUE) return this.formMessage(value);
+    if (number === BAD_VALUE) return this.explainValues(value);
     if (number === TOO_MANY) return name === "" ? say.mostTables(MAX_PARTS[section], section) : say.mostColumns(MAX_COLUMNS);
     if (!entry || !key || !value) return this.wordsOf(number);
-    if (number === DUPLICATE) return say.alreadyThere(`${name} ${value.inner}`, this.lineOfFirst(entry, key));
-    if (number === LACKS_LINE) return name === "rows" ? this.rowsNeed(entry) : this.missingLine(String(value.inner));
+    if (number === DUPLICATE) return say.alreadyThere(`${name} ${value.inner}`, this.findFirstLine(entry, key));
+    if (number === LACKS_LINE) return name === "rows" ? this.explainRows(entry) : this.explainMissingLine(String(value.inner));
     const { kind = "" } = this.lines.get(String(value.inner)) || {};
     return name === "columns" ? say.needsInput(String(value.inner)) : say.needsOutput(name, String(value.inner), kind === "bit");
   }
@@ -135,13 +138,13 @@ class BoardErrorText {
    * Returns a message that describes the valid values of a key or a table.
    * @param {Value | null} value
    */
-  formMessage(value) {
+  explainValues(value) {
     const { section, index, key } = this.error;
     const values = (this.tables.get(section) || new Map()).get(key);
     const inner = value ? value.inner : null;
-    const isLine = LINE_KEYS.includes(key) && typeof inner !== "object" && (key !== "columns" || value !== this.wrongPart().key?.value);
+    const isLine = LINE_KEYS.includes(key) && typeof inner !== "object" && (key !== "columns" || value !== this.findWrongPart().key?.value);
     if (isLine) return say.noLineName(String(inner));
-    if (typeof inner === "string" && `${section}.${key}` in RANGES && /^\d+$/.test(inner)) return say.withoutQuotes(key, inner);
+    if (typeof inner === "string" && `${section}.${key}` in VALUE_RANGES && /^\d+$/.test(inner)) return say.withoutQuotes(key, inner);
     if (key) return values ? say.keyMustBe(key, values) : this.wordsOf(BAD_VALUE);
     if (section !== "keys" && index === 0) return say.several(section);
     return section === "keys" ? say.ONE_MATRIX : say.mustBeTable(section);
@@ -151,7 +154,7 @@ class BoardErrorText {
    * Returns a message with the reason why the board does not have a line or chain.
    * @param {string} name
    */
-  missingLine(name) {
+  explainMissingLine(name) {
     const [, kind = "", number = "", chip = ""] = /^(rom|ram|chain)(\d+)\.(\d+)/.exec(name) || [];
     const { banks, chains } = this.parts;
     if (kind === "") return say.noChain(name, chains.length);
@@ -163,10 +166,10 @@ class BoardErrorText {
   }
 
   /**
-   * Returns a message with the chain bits that the key matrix rows need.
+   * Returns a message about the chain bits that the rows of the key matrix need.
    * @param {Entry} entry
    */
-  rowsNeed({ keys }) {
+  explainRows({ keys }) {
     const [chain, first, rows] = ["chain", "first", "rows"].map((name) => {
       const key = keys.find((each) => each.name === name);
       return key ? Number(key.value.inner) : 0;
@@ -180,7 +183,7 @@ class BoardErrorText {
    * @param {Entry | null} entry
    * @param {Key} key
    */
-  lineOfFirst(entry, key) {
+  findFirstLine(entry, key) {
     const first = this.entries.find((each) => each !== entry
       && each.keys.some(({ name, value }) => name === key.name && value.inner === key.value.inner));
     return first ? first.line : 1;
@@ -192,15 +195,15 @@ class BoardErrorText {
    * @param {Key | null} key
    * @returns {Fault}
    */
-  unknownKey(entry, key) {
+  createUnknownKeyFault(entry, key) {
     const { section, key: name } = this.error;
-    const known = section === "" ? Object.keys(KEYS) : KEYS[section];
-    const similar = similarWords(name, known);
-    const instead = suggestion(similar) || say.whichHas(known.join(", "));
+    const known = section === "" ? Object.keys(PART_KEYS) : PART_KEYS[section];
+    const suggestions = findSimilarWords(name, known);
+    const instead = formatSuggestion(suggestions) || say.whichHas(known.join(", "));
     const message = section === "" ? say.noPart(name, instead) : say.noKeyOf(name, section, instead);
     const place = key || entry;
-    const fault = place ? faultAt(UNKNOWN_KEY, place, message) : this.wholeLine(message);
-    const cures = key ? similar : similar.map(headerOf);
+    const fault = place ? faultAt(UNKNOWN_KEY, place, message) : this.createLineFault(message);
+    const cures = key ? suggestions : suggestions.map(formatHeader);
     return cures.length > 0 && place ? { ...fault, cures } : fault;
   }
 
@@ -209,7 +212,7 @@ class BoardErrorText {
    * @param {string} words
    * @returns {Fault}
    */
-  wholeLine(words) {
+  createLineFault(words) {
     const { number } = this.error;
     const line = Math.max(1, this.error.line);
     return { number, line, from: 0, to: Infinity, words };
@@ -224,8 +227,8 @@ class BoardErrorText {
  * @param {(number: number) => string} wordsOf returns the message of a refusal
  * @returns {Fault}
  */
-export function errorOfBoard(text, error, tables, wordsOf) {
-  const fault = new BoardErrorText(readBoardText(text), error, tables, wordsOf).fault();
+export function createBoardError(text, error, tables, wordsOf) {
+  const fault = new BoardErrorText(readBoardText(text), error, tables, wordsOf).createFault();
   const line = text.split("\n")[fault.line - 1] || "";
   return { ...fault, to: Math.min(fault.to, line.length) };
 }

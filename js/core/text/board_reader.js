@@ -1,7 +1,7 @@
-// Parses the TOML subset of board texts, with the position of each key and value. The parser collects errors and continues after them. Only
-// the bench decides whether a text is valid; this parser explains why the bench rejects a text.
+// Parses the TOML subset of board texts, with the position of each key and value. After an error, the parser continues with the next line.
+// The bench alone decides whether a text is valid. This parser explains why the bench rejects a text.
 
-import { RANGES } from "../bench/board_form.js";
+import { VALUE_RANGES } from "../bench/board_form.js";
 import { tomlWords } from "./toml_words.js";
 import * as say from "../../words/text.js";
 
@@ -13,16 +13,16 @@ import * as say from "../../words/text.js";
  * The end of a word: its line, and the index after its last character.
  * @typedef {{ line: number, to: number }} End
  *
- * A value with its position and end. The position of an array or table is its opening bracket. `whole` is false for a number that is not an
- * integer.
+ * A value with its position and end. The position of an array or table is its opening bracket. `whole` is false for a number that is not
+ * written as an integer.
  * @typedef {{ inner: Inner, whole: boolean, line: number, from: number, to: number, end: End }} Value
  * @typedef {{ name: string, line: number, from: number, to: number, value: Value }} Key
  *
  * A table with its position and its keys. Only an inline table has an end.
  * @typedef {{ table: string, line: number, from: number, to: number, keys: Key[], end?: End }} Entry
  *
- * The contents of a text: its tables (`entries`), the keys before all tables (`keys`), those of these keys whose values are not tables
- * (`others`), and the errors.
+ * The contents of a text: its tables (`entries`), the keys before the first table header (`keys`), the keys among them whose values are not
+ * tables (`others`), and the errors.
  * @typedef {{ entries: Entry[], others: Key[], keys: Key[], faults: Fault[] }} BoardText
  */
 
@@ -58,7 +58,7 @@ export class BoardReader {
     /** @type {Fault[]} */
     this.faults = [];
     /** @type {Entry | null} the current table; null before the first table */
-    this.open = null;
+    this.currentTable = null;
     /** The number of open brackets and braces. */
     this.depth = 0;
   }
@@ -83,7 +83,7 @@ export class BoardReader {
    * @param {string} mark
    * @param {string} words the error message
    */
-  take(mark, words) {
+  expectMark(mark, words) {
     if (!this.isMark(mark)) throw new NotToml(this.word, this.word.fault || words);
     this.at += 1;
   }
@@ -127,10 +127,10 @@ export class BoardReader {
     const name = this.word;
     if (name.kind !== "bare" && name.kind !== "string") throw new NotToml(name, say.TABLE_FORM);
     this.at += 1;
-    this.take("]", say.bracketMissing(isArray ? `[[${name.text}]]` : `[${name.text}]`));
-    if (isArray) this.take("]", say.bracketMissing(`[[${name.text}]]`));
-    this.open = { table: isArray ? name.text : `[${name.text}]`, line, from, to: name.to + (isArray ? 2 : 1), keys: [] };
-    this.entries.push(this.open);
+    this.expectMark("]", say.bracketMissing(isArray ? `[[${name.text}]]` : `[${name.text}]`));
+    if (isArray) this.expectMark("]", say.bracketMissing(`[[${name.text}]]`));
+    this.currentTable = { table: isArray ? name.text : `[${name.text}]`, line, from, to: name.to + (isArray ? 2 : 1), keys: [] };
+    this.entries.push(this.currentTable);
     this.endLine();
   }
 
@@ -142,7 +142,7 @@ export class BoardReader {
   readPair() {
     const key = this.readKey();
     const { inner } = key.value;
-    if (this.open) this.open.keys.push(key);
+    if (this.currentTable) this.currentTable.keys.push(key);
     else {
       this.keys.push(key);
       if (!this.addTables(key.name, inner)) this.others.push(key);
@@ -172,7 +172,7 @@ export class BoardReader {
     const name = this.word;
     if (name.kind !== "bare" && name.kind !== "string") throw new NotToml(name, name.fault || say.KEY_FORM);
     this.at += 1;
-    this.take("=", say.equalsMissing(name.text));
+    this.expectMark("=", say.equalsMissing(name.text));
     return { name: name.text, line: name.line, from: name.from, to: name.to, value: this.readValue(name.text) };
   }
 
@@ -184,11 +184,11 @@ export class BoardReader {
   readValue(key) {
     const { kind, text, line, from, to, fault } = this.word;
     const range = { line, from, to };
-    if (this.isMark("[")) return { inner: this.nested(() => this.readArray(key)), whole: true, ...range, end: this.lastEnd };
-    if (this.isMark("{")) return { inner: this.nested(() => this.readTable()), whole: true, ...range, end: this.lastEnd };
+    if (this.isMark("[")) return { inner: this.readNested(() => this.readArray(key)), whole: true, ...range, end: this.lastEnd };
+    if (this.isMark("{")) return { inner: this.readNested(() => this.readTable()), whole: true, ...range, end: this.lastEnd };
     if (kind === "end") throw new NotToml(this.word, say.valueMissing(key));
     if (kind === "mark" || kind === "bad") throw new NotToml(this.word, fault || say.noValue(text));
-    const inner = this.innerOf(kind, text);
+    const inner = this.parseScalar(kind, text);
     this.at += 1;
     return { inner, whole: typeof inner !== "number" || INTEGER.test(text), ...range, end: { line, to } };
   }
@@ -199,7 +199,7 @@ export class BoardReader {
    * @param {() => Read} read
    * @returns {Read}
    */
-  nested(read) {
+  readNested(read) {
     if (this.depth === MAX_DEPTH) throw new NotToml(this.word, say.tooDeep(MAX_DEPTH));
     this.depth += 1;
     try {
@@ -215,7 +215,7 @@ export class BoardReader {
    * @param {string} text
    * @returns {Inner}
    */
-  innerOf(kind, text) {
+  parseScalar(kind, text) {
     if (kind === "string") return text;
     if (INTEGER.test(text)) return Number(text.replace(/_/g, ""));
     if (text === "true" || text === "false") return text === "true";
@@ -280,15 +280,15 @@ export function readBoardText(text) {
  * Returns the ROMs, RAM banks and chains in a text. Chip counts are limited to the maximum of a board.
  * @param {Entry[]} entries
  */
-export function partsWithLines(entries) {
+export function collectParts(entries) {
   /** @type {(table: string) => Map<string, Inner>[]} */
-  const of = (table) => entries.filter((entry) => entry.table === table).map(({ keys }) => (
+  const findTables = (table) => entries.filter((entry) => entry.table === table).map(({ keys }) => (
     new Map(keys.map(({ name, value }) => [name, value.inner]))));
   /** @type {(table: string, values: Map<string, Inner>) => number} */
-  const chipsOf = (table, values) => Math.min(RANGES[`${table}.chips`].to, Number(values.get("chips")) || 0);
+  const countChips = (table, values) => Math.min(VALUE_RANGES[`${table}.chips`].to, Number(values.get("chips")) || 0);
   return {
-    roms: of("rom").map((values) => ({ chip: Number(values.get("chip")), port: String(values.get("port")) })),
-    banks: of("ram").map((values) => ({ bank: Number(values.get("bank")), chips: chipsOf("ram", values) })),
-    chains: of("chain").map((values) => ({ chips: chipsOf("chain", values) })),
+    roms: findTables("rom").map((values) => ({ chip: Number(values.get("chip")), port: String(values.get("port")) })),
+    banks: findTables("ram").map((values) => ({ bank: Number(values.get("bank")), chips: countChips("ram", values) })),
+    chains: findTables("chain").map((values) => ({ chips: countChips("chain", values) })),
   };
 }

@@ -1,11 +1,11 @@
-// Makes foreign texts safe for a terminal. Escapes characters that could move the cursor, change the title, or reverse the writing
-// direction.
+// Escapes the characters of a text from another program that a terminal could interpret: they could move the cursor, change the title, or
+// reverse the writing direction.
 
 // eslint-disable-next-line no-control-regex
 const UNSAFE_CHARACTERS = /[\u0000-\u0008\u000b-\u001f\u007f-\u009f\u061c\u200e\u200f\u2028-\u202e\u2066-\u2069]/g;
 
 /**
- * Returns a text with control characters escaped as `\x1B` or `\u202E`. Line feeds and tabs stay.
+ * Replaces the control characters in a text by escape sequences such as `\x1B` or `\u202E`. Line feeds and tabs stay.
  * @param {string} text
  */
 export function escaped(text) {

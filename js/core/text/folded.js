@@ -1,18 +1,18 @@
-// Wraps paragraphs to a width, between words.
+// Breaks paragraphs into lines of a maximum width, between words.
 
 /**
  * Wraps a paragraph. A word that is longer than the width gets its own line.
  * @param {string} text
  * @param {number} width
- * @param {string} [first] the prefix of the first line
- * @param {string} [others] the prefix of the other lines
+ * @param {string} [firstPrefix] the prefix of the first line
+ * @param {string} [otherPrefix] the prefix of the other lines
  */
-export function folded(text, width, first = "", others = first) {
-  const lines = [first];
+export function folded(text, width, firstPrefix = "", otherPrefix = firstPrefix) {
+  const lines = [firstPrefix];
   let isFresh = true;
   for (const word of text.trim().split(/\s+/)) {
     const last = lines[lines.length - 1];
-    if (!isFresh && last.length + 1 + word.length > width) lines.push(others + word);
+    if (!isFresh && last.length + 1 + word.length > width) lines.push(otherPrefix + word);
     else lines[lines.length - 1] = isFresh ? last + word : `${last} ${word}`;
     isFresh = false;
   }
@@ -27,7 +27,7 @@ export const QUOTED = "    ";
  * @param {string} message
  * @param {number} width
  */
-export function foldedMessage(message, width) {
+export function wrapMessage(message, width) {
   return message.split("\n").map((line) => {
     if (line.length <= width || line.startsWith(QUOTED)) return line;
     const indent = line.slice(0, line.length - line.trimStart().length);

@@ -1,11 +1,11 @@
-// Finds the foldable lines of a text: a program part under its label, a board table, a test, or comment lines.
+// Finds the ranges of lines that an editor can fold: the code below a label, a table of a board text, a test, or consecutive comment lines.
 
 /**
  * A function that returns the line at a number from 0; undefined after the last line.
  * @typedef {(line: number) => string | undefined} LineAt
  *
- * The patterns for the parts of a text. `mark` starts a comment. `head` matches the first line of a part. `isNested`: true if a head
- * directly after a code line belongs to the enclosing part, as a loop label belongs to its subroutine.
+ * The patterns for the foldable ranges of a text. `mark` starts a comment. `head` matches the first line of a range. `isNested`: true if a
+ * head directly after a code line starts a nested range, as the label of a loop in a subroutine does.
  * @typedef {{ mark: string, head: RegExp, isNested: boolean }} Parts
  */
 
@@ -31,7 +31,7 @@ function isComment(text, { mark }) {
 }
 
 /**
- * Returns whether a head starts an outer part. This is true after a blank line or a comment, or if parts cannot be nested.
+ * Returns whether a head starts an outer range. This is true after a blank line or a comment, and if ranges cannot be nested.
  * @param {LineAt} lineAt
  * @param {number} line
  * @param {Parts} parts
@@ -42,16 +42,16 @@ function isOuter(lineAt, line, parts) {
 }
 
 /**
- * Returns whether a part ends before a line.
+ * Returns whether a range ends before a line.
  * @param {LineAt} lineAt
  * @param {number} line
  * @param {Parts} parts
- * @param {boolean} isOuterPart true for an outer part
+ * @param {boolean} isOuterPart true for an outer range
  */
 function endsBefore(lineAt, line, parts, isOuterPart) {
   const text = lineAt(line) || "";
   if (parts.head.test(text)) return !isOuterPart || isOuter(lineAt, line, parts);
-  // An unindented comment after a blank line belongs to the next part.
+  // An unindented comment after a blank line belongs to the next range.
   return text.startsWith(parts.mark) && isBlank(lineAt(line - 1));
 }
 
@@ -61,7 +61,7 @@ function endsBefore(lineAt, line, parts, isOuterPart) {
  * @param {number} line the line number from 0
  * @param {Parts} parts
  */
-export function lastFolded(lineAt, line, parts) {
+export function findFoldEnd(lineAt, line, parts) {
   const text = lineAt(line) || "";
   let end = line;
   if (isComment(text, parts)) {
@@ -82,9 +82,9 @@ export function lastFolded(lineAt, line, parts) {
  * @param {number} line
  * @param {Parts} parts
  */
-export function headOf(lineAt, line, parts) {
+export function findFoldStart(lineAt, line, parts) {
   for (let head = line; head >= 0; head--) {
-    const last = lastFolded(lineAt, head, parts);
+    const last = findFoldEnd(lineAt, head, parts);
     if (last > head && last >= line) return head;
   }
   return -1;

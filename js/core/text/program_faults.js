@@ -1,55 +1,56 @@
-// Finds all errors in a program. The bench reports line numbers and refusal numbers; this module finds the wrong words and characters.
+// Finds all errors in a program. The bench reports line numbers and refusal numbers. This module adds the wrong word in each line, and a
+// message.
 
-import { namesOf, partsOf } from "./assembly.js";
+import { findDefinedNames, splitStatement } from "./assembly.js";
 import { hex } from "../bench/numbers.js";
 import { MAX_ERRORS } from "../bench/text_judgement.js";
-import { wordsOfProgramLine } from "./program_words.js";
-import { TEXT_TOO_LONG, alignedText, faultsOfLines, sentLine } from "./text_fault.js";
+import { explainProgramLine } from "./program_words.js";
+import { TEXT_TOO_LONG, alignedText, findLineFaults, sentLine } from "./text_fault.js";
 import * as say from "../../words/text.js";
 
 /**
  * @typedef {import("../bench/answers.js").Refusal} Refusal
  * @typedef {import("../help/manual.js").Instruction} Instruction
- * @typedef {import("./program_words.js").Facts} Facts
- * @typedef {import("./program_words.js").Found} Found
+ * @typedef {import("./program_words.js").KnownWords} KnownWords
+ * @typedef {import("./program_words.js").WordError} WordError
  * @typedef {import("./text_fault.js").Fault} Fault
  *
- * The errors in the lines of a program. `areAll` is false if the bench has not checked all lines. `rest` is a refusal without a line number
- * (42).
- * @typedef {{ faults: Fault[], areAll: boolean, rest: Refusal | null }} AllFaults
+ * The errors in the lines of a program. `isWhole` is false if the bench has not checked all lines. `rest` is a refusal of the program
+ * without a line number (42: the board lacks a ROM).
+ * @typedef {{ faults: Fault[], isWhole: boolean, rest: Refusal | null }} AllFaults
  */
 
 /** The refusal number for a program that does not fit into the ROMs of the board. */
-export const LACKS_ROM = 42;
+export const MISSING_ROM = 42;
 
 /**
- * Returns an error in a line. It covers the wrong word, or all code of the line.
+ * Creates an error in a line. Its range is the wrong word, or all code of the line.
  * @param {string} source the text of the line
- * @param {number} at the line number
- * @param {Found | null} found
+ * @param {number} lineNumber the line number
+ * @param {WordError | null} error
  * @param {number} number the refusal number
  * @param {(number: number) => string} wordsOf
  * @returns {Fault}
  */
-function faultAt(source, at, found, number, wordsOf) {
-  const code = source.slice(0, partsOf(source).comment);
+function createFault(source, lineNumber, error, number, wordsOf) {
+  const code = source.slice(0, splitStatement(source).comment);
   const from = code.length - code.trimStart().length;
-  const range = found && found.word ? { from: found.word.from, to: found.word.to } : { from, to: Math.max(from, code.trimEnd().length) };
-  const cures = found && found.word && found.cures ? { cures: found.cures } : {};
-  return { number, line: at, ...range, words: found ? found.words : wordsOf(number), ...cures };
+  const range = error && error.word ? { from: error.word.from, to: error.word.to } : { from, to: Math.max(from, code.trimEnd().length) };
+  const cures = error && error.word && error.cures ? { cures: error.cures } : {};
+  return { number, line: lineNumber, ...range, words: error ? error.words : wordsOf(number), ...cures };
 }
 
 /**
  * Returns an error that the bench reports for a line, with its position and message.
  * @param {string[]} lines the program lines
  * @param {import("../bench/text_judgement.js").LineError} error
- * @param {Facts} facts
+ * @param {KnownWords} facts
  * @param {(number: number) => string} wordsOf returns the message of a refusal
  * @returns {Fault}
  */
-export function errorOfLine(lines, { line, number }, facts, wordsOf) {
+export function createLineError(lines, { line, number }, facts, wordsOf) {
   const text = lines[line - 1];
-  return faultAt(text, line, wordsOfProgramLine(text, number, facts), number, wordsOf);
+  return createFault(text, line, explainProgramLine(text, number, facts), number, wordsOf);
 }
 
 /**
@@ -57,22 +58,22 @@ export function errorOfLine(lines, { line, number }, facts, wordsOf) {
  * @param {string} program
  * @param {Map<string, Instruction>} instructions
  * @param {(number: number) => string} wordsOf returns the message of a refusal
- * @param {Pick<import("./all_faults.js").Asked, "errors" | "refuse">} queries
+ * @param {Pick<import("./all_faults.js").FaultQueries, "errors" | "refuse">} queries
  * @returns {Promise<AllFaults>}
  */
 export async function findProgramFaults(program, instructions, wordsOf, queries) {
-  const textFaults = faultsOfLines(program, ";");
-  if (textFaults.some(({ number }) => number === TEXT_TOO_LONG)) return { faults: textFaults, areAll: false, rest: null };
+  const textFaults = findLineFaults(program, ";");
+  if (textFaults.some(({ number }) => number === TEXT_TOO_LONG)) return { faults: textFaults, isWhole: false, rest: null };
   const lines = alignedText(program, ";").split("\n");
   const unsentLines = new Set(textFaults.map(({ line }) => line));
   const sent = lines.map((line, at) => (unsentLines.has(at + 1) ? "" : sentLine(line, ";"))).join("\n");
   const errors = await queries.errors(sent);
-  /** @type {Facts} */
-  const facts = { instructions, names: namesOf(lines) };
-  const found = errors.map((error) => errorOfLine(lines, error, facts, wordsOf));
+  /** @type {KnownWords} */
+  const facts = { instructions, names: findDefinedNames(lines) };
+  const found = errors.map((error) => createLineError(lines, error, facts, wordsOf));
   const faults = [...textFaults, ...found].sort((one, other) => one.line - other.line || one.from - other.from);
   const rest = faults.length === 0 ? await queries.refuse(sent) : null;
-  return { faults, areAll: errors.length < MAX_ERRORS, rest };
+  return { faults, isWhole: errors.length < MAX_ERRORS, rest };
 }
 
 /**
@@ -82,7 +83,7 @@ export async function findProgramFaults(program, instructions, wordsOf, queries)
  * @param {Set<number>} roms the ROM numbers on the board
  * @returns {Fault[]}
  */
-export function lacksOfRom(lines, map, roms) {
+export function findMissingRoms(lines, map, roms) {
   /** @type {Map<number, Fault>} */
   const faults = new Map();
   lines.forEach((text, at) => {
@@ -92,21 +93,21 @@ export function lacksOfRom(lines, map, roms) {
     const chip = [Math.floor(address / 256), Math.floor((address + map.sizes[line] - 1) / 256)].find((each) => !roms.has(each));
     if (chip === undefined || faults.has(chip)) return;
     const message = say.noRomForLine(chip, hex(address, 3));
-    faults.set(chip, faultAt(text, line, { word: null, words: message }, LACKS_ROM, () => message));
+    faults.set(chip, createFault(text, line, { word: null, words: message }, MISSING_ROM, () => message));
   });
   return [...faults.values()];
 }
 
 /**
- * Returns whether every checked code line has an error. Such a text is probably not a program.
+ * Returns whether a text is probably not a program, because every checked code line has an error.
  * @param {string} program
  * @param {AllFaults} found
  */
-export function isNoProgram(program, { faults, areAll }) {
-  const wrong = new Set(faults.map(({ line }) => line));
-  const last = areAll ? Infinity : Math.max(0, ...wrong);
+export function isNoProgram(program, { faults, isWhole }) {
+  const wrongLines = new Set(faults.map(({ line }) => line));
+  const last = isWhole ? Infinity : Math.max(0, ...wrongLines);
   /** @type {(text: string) => boolean} */
-  const isCode = (text) => text.slice(0, partsOf(text).comment).trim() !== "";
+  const isCode = (text) => text.slice(0, splitStatement(text).comment).trim() !== "";
   const code = program.split("\n").flatMap((text, at) => (at < last && isCode(text) ? [at + 1] : []));
-  return code.length > 0 && code.every((line) => wrong.has(line));
+  return code.length > 0 && code.every((line) => wrongLines.has(line));
 }

@@ -1,12 +1,12 @@
-// Formats a program: labels at the margin, then columns for instructions, operands and comments. Only blanks change, and only in lines with
-// a valid form, so the program keeps its bytes.
+// Formats a program: labels at the margin, then columns for instructions, operands and comments. Changes only blanks and tabs, and only in
+// lines with a valid form, so the assembled bytes stay the same.
 
 import { MAX_LINE_LENGTH } from "../bench/inputs.js";
-import { LONGEST_KEPT, LONGEST_TEXT, sentText, trimBlanks } from "./text_fault.js";
+import { STORED_LIMIT, LONGEST_TEXT, sentText, trimBlanks } from "./text_fault.js";
 import * as say from "../../words/text.js";
 
 /**
- * The gap style: blanks, or tabs where possible. Tab stops are at multiples of `tabSize`.
+ * The format of gaps: blanks only, or as many tabs as possible. Tab stops are at multiples of `tabSize`.
  * @typedef {{ tabSize: number, insertSpaces: boolean }} Layout
  *
  * The parts of a line: a name defined with `=` and its value, or a label and a statement. A missing part is "".
@@ -17,9 +17,9 @@ import * as say from "../../words/text.js";
  */
 
 /** The columns of statements, operands and comments. */
-const STATEMENT = 8;
-const OPERANDS = 12;
-const COMMENT = 24;
+const STATEMENT_COLUMN = 8;
+const OPERAND_COLUMN = 12;
+const COMMENT_COLUMN = 24;
 /** A comment after long code starts at the next multiple of COMMENT_STEP. */
 const COMMENT_STEP = 8;
 /**
@@ -47,7 +47,7 @@ function columnAfter(text, column, { tabSize }) {
  * @param {number} to
  * @param {Layout} layout
  */
-function gap(from, to, { tabSize, insertSpaces }) {
+function formatGap(from, to, { tabSize, insertSpaces }) {
   if (insertSpaces || to - from < 2) return " ".repeat(to - from);
   const lastStop = Math.floor(to / tabSize);
   const tabs = Math.max(0, lastStop - Math.floor(from / tabSize));
@@ -76,10 +76,11 @@ function splitLine(line, isHead, layout) {
 }
 
 /**
- * Returns for each definition the length of the longest name in its block of definitions; 0 for any other line.
+ * Returns a width for each line: for a definition, the length of the longest name in its block of consecutive definitions; 0 for any other
+ * line.
  * @param {(CutLine | null)[]} lines
  */
-function widthsOf(lines) {
+function nameWidths(lines) {
   const widths = lines.map((each) => (each ? each.name.length : 0));
   for (let at = 1; at < widths.length; at++) if (widths[at] > 0) widths[at] = Math.max(widths[at], widths[at - 1]);
   for (let at = widths.length - 2; at >= 0; at--) if (widths[at] > 0) widths[at] = Math.max(widths[at], widths[at + 1]);
@@ -92,15 +93,15 @@ function widthsOf(lines) {
  * @param {number} width the length of the longest name in the block of definitions
  * @param {Layout} layout
  */
-function codeOf({ name, value, label, head, operands }, width, layout) {
-  if (name) return `${name}${gap(name.length, width + 1, layout)}= ${value}`;
+function formatCode({ name, value, label, head, operands }, width, layout) {
+  if (name) return `${name}${formatGap(name.length, width + 1, layout)}= ${value}`;
   let code = label && `${label}:`;
   const add = (/** @type {string} */ word, /** @type {number} */ column) => {
     const end = columnAfter(code, 0, layout);
-    code += gap(end, end < column ? column : end + (code ? 1 : 0), layout) + word;
+    code += formatGap(end, end < column ? column : end + (code ? 1 : 0), layout) + word;
   };
-  if (head) add(head, STATEMENT);
-  if (operands) add(operands, OPERANDS);
+  if (head) add(head, STATEMENT_COLUMN);
+  if (operands) add(operands, OPERAND_COLUMN);
   return code;
 }
 
@@ -110,10 +111,10 @@ function codeOf({ name, value, label, head, operands }, width, layout) {
  * @param {number} indent the current column of the comment
  * @param {number} last the column of the comment in the previous line, 0 if there is none in a comment column
  */
-function columnOfComment(end, indent, last) {
-  if (end > 0) return Math.max(COMMENT, Math.ceil((end + 2) / COMMENT_STEP) * COMMENT_STEP);
+function commentColumn(end, indent, last) {
+  if (end > 0) return Math.max(COMMENT_COLUMN, Math.ceil((end + 2) / COMMENT_STEP) * COMMENT_STEP);
   if (indent === 0) return 0;
-  return indent < MIN_COMMENT_INDENT ? STATEMENT : last || COMMENT;
+  return indent < MIN_COMMENT_INDENT ? STATEMENT_COLUMN : last || COMMENT_COLUMN;
 }
 
 /**
@@ -123,30 +124,30 @@ function columnOfComment(end, indent, last) {
  * @param {Layout} layout
  * @returns {string[]}
  */
-export function formattedLines(lines, isHead, layout) {
+export function formatProgramLines(lines, isHead, layout) {
   const parts = lines.map((line) => splitLine(line, isHead, layout));
-  const widths = widthsOf(parts);
-  let last = 0;
+  const widths = nameWidths(parts);
+  let lastCommentColumn = 0;
   return parts.map((line, at) => {
-    const code = line ? codeOf(line, widths[at], layout) : "";
+    const code = line ? formatCode(line, widths[at], layout) : "";
     const end = columnAfter(code, 0, layout);
-    const column = line && line.comment ? columnOfComment(end, line.indent, last) : 0;
-    last = column >= COMMENT ? column : 0;
+    const column = line && line.comment ? commentColumn(end, line.indent, lastCommentColumn) : 0;
+    lastCommentColumn = column >= COMMENT_COLUMN ? column : 0;
     // A line stays unchanged if its formatted code is too long to send.
     if (!line || code.length > MAX_LINE_LENGTH) return lines[at];
-    return line.comment ? code + gap(end, column, layout) + line.comment : code;
+    return line.comment ? code + formatGap(end, column, layout) + line.comment : code;
   });
 }
 
 /**
- * Returns a message if the formatted text is too long, or "".
+ * Returns an error message if the formatted text is too long; otherwise "".
  * @param {string[]} lines
  */
-export function faultOfLayout(lines) {
+export function findLayoutError(lines) {
   const text = lines.join("\n");
   const sent = sentText(text, ";").length;
   if (sent > LONGEST_TEXT) return say.layoutTooLong(LONGEST_TEXT.toLocaleString("en"), sent.toLocaleString("en"));
-  return text.length > LONGEST_KEPT ? say.layoutTooLong(LONGEST_KEPT.toLocaleString("en"), text.length.toLocaleString("en")) : "";
+  return text.length > STORED_LIMIT ? say.layoutTooLong(STORED_LIMIT.toLocaleString("en"), text.length.toLocaleString("en")) : "";
 }
 
 /**
@@ -155,7 +156,7 @@ export function faultOfLayout(lines) {
  * @param {string[]} after the new lines, as many as the old lines
  * @returns {Change[]}
  */
-export function changesOf(before, after) {
+export function findLineChanges(before, after) {
   return before.flatMap((old, line) => {
     const text = after[line];
     if (old === text) return [];

@@ -1,8 +1,8 @@
-// Explains an error in a program line that the bench rejects: the wrong word, and the expected form.
+// Explains why the bench rejects a program line: finds the wrong word and describes the expected form.
 
-import { similarWords, suggestion } from "./alike.js";
+import { findSimilarWords, formatSuggestion } from "./alike.js";
 import { LAST_ADDRESS } from "../bench/numbers.js";
-import { DIRECTIVES, MAX_NAME_LENGTH, NAME, NUMBER, PAIR, REGISTER, partsOf } from "./assembly.js";
+import { DIRECTIVES, MAX_NAME_LENGTH, NAME, NUMBER, PAIR, REGISTER, splitStatement } from "./assembly.js";
 import * as say from "../../words/text.js";
 
 /**
@@ -11,10 +11,10 @@ import * as say from "../../words/text.js";
  * @typedef {import("../help/manual.js").Instruction} Instruction
  *
  * The known words: the instructions by mnemonic, and the names that the program defines, with their line numbers.
- * @typedef {{ instructions: Map<string, Instruction>, names: Map<string, number> }} Facts
+ * @typedef {{ instructions: Map<string, Instruction>, names: Map<string, number> }} KnownWords
  *
- * The wrong word and a message. `cures` are replacements for the word that fix the error.
- * @typedef {{ word: Word | null, words: string, cures?: string[] }} Found
+ * An error: the wrong word, the message, and replacements for the word that fix the error (`cures`).
+ * @typedef {{ word: Word | null, words: string, cures?: string[] }} WordError
  */
 
 /**
@@ -34,12 +34,12 @@ const OPERANDS = {
  * Returns the description of an operand kind.
  * @param {string} kind the letters in the manual's table
  */
-export function wordsOfOperand(kind) {
+export function describeOperand(kind) {
   return OPERANDS[kind].what;
 }
 
 /**
- * Converts a number from the spelling of another assembler. Returns the bench's spelling and a message; null for any other text.
+ * Converts a number in the syntax of another assembler. Returns the number in the bench's syntax and a message; null for any other text.
  * @param {string} text
  * @returns {{ number: string, words: string } | null}
  */
@@ -58,12 +58,12 @@ function foreignNumber(text) {
 }
 
 /**
- * Returns a message about a number in the spelling of another assembler, or about an expression; "" for any other text.
+ * Returns a message about a number in the syntax of another assembler, or about an expression; "" for any other text.
  * @param {string} text
  */
-function wordsOfNumber(text) {
-  const foreign = foreignNumber(text);
-  if (foreign) return foreign.words;
+function describeNumberError(text) {
+  const foreignForm = foreignNumber(text);
+  if (foreignForm) return foreignForm.words;
   if (/^-\d+$/.test(text)) return say.NO_NEGATIVES;
   if (/[-+*/()<>]/.test(text)) return say.NO_EXPRESSIONS;
   if (/\s/.test(text)) return say.COMMA_OF_OPERANDS;
@@ -72,36 +72,36 @@ function wordsOfNumber(text) {
 }
 
 /**
- * Returns the bench's spelling of a number from another assembler; an empty list for any other text.
+ * Returns the replacement for a number in the syntax of another assembler; an empty list for any other text.
  * @param {string} text
  */
-function curesOfNumber(text) {
-  const foreign = foreignNumber(text);
-  return foreign ? [foreign.number] : [];
+function numberFixes(text) {
+  const foreignForm = foreignNumber(text);
+  return foreignForm ? [foreignForm.number] : [];
 }
 
 /**
- * Returns a message about a word, with its fixes if there are any.
+ * Creates an error, with replacements if there are any.
  * @param {Word | null} word
  * @param {string} words
  * @param {string[]} cures
- * @returns {Found}
+ * @returns {WordError}
  */
-function foundWith(word, words, cures) {
+function createError(word, words, cures) {
   return cures.length > 0 ? { word, words, cures } : { word, words };
 }
 
 /**
  * Returns the reason why a word cannot be a name, or "".
  * @param {string} text
- * @param {Facts} facts
+ * @param {KnownWords} facts
  */
-function wordsOfName(text, { instructions }) {
-  const upper = text.toUpperCase();
+function describeNameError(text, { instructions }) {
+  const upperCaseWord = text.toUpperCase();
   if (text.length > MAX_NAME_LENGTH) return say.nameTooLong(MAX_NAME_LENGTH, text.length);
   if (!NAME.test(text)) return say.NAME_FORM;
-  if (instructions.has(upper)) return say.isInstruction(text);
-  if (upper === "WPM" || DIRECTIVES.includes(upper)) return say.cannotBeName(text);
+  if (instructions.has(upperCaseWord)) return say.isInstruction(text);
+  if (upperCaseWord === "WPM" || DIRECTIVES.includes(upperCaseWord)) return say.cannotBeName(text);
   return REGISTER.test(text) || PAIR.test(text) ? say.isRegister(text) : "";
 }
 
@@ -110,21 +110,23 @@ function wordsOfName(text, { instructions }) {
  * @param {string} head the mnemonic or directive
  * @param {string} kind the operand kind: the letters in the manual's table
  * @param {Word} word
- * @param {Facts} facts
+ * @param {KnownWords} facts
  * @param {boolean} isFirst
- * @returns {Found | null}
+ * @returns {WordError | null}
  */
-function faultOfOperand(head, kind, word, facts, isFirst) {
+function findOperandError(head, kind, word, facts, isFirst) {
   const { what } = OPERANDS[kind];
-  const takes = isFirst ? say.takes(head, what) : say.takesAfterComma(head, what);
+  const expectation = isFirst ? say.takes(head, what) : say.takesAfterComma(head, what);
   const { text } = word;
   if (kind === "Pk" && PAIR.test(text)) return null;
   if (kind === "Rk" && REGISTER.test(text)) return null;
-  if (kind === "Pk" || kind === "Rk") return { word, words: /\s/.test(text) ? `${takes}; ${wordsOfNumber(text)}` : takes };
+  if (kind === "Pk" || kind === "Rk") {
+    return { word, words: /\s/.test(text) ? `${expectation}; ${describeNumberError(text)}` : expectation };
+  }
   if (NUMBER.test(text)) return null;
-  const reason = text === "" || REGISTER.test(text) || PAIR.test(text) ? "" : wordsOfNumber(text) || wordsOfName(text, facts);
-  if (reason) return foundWith(word, `${takes}; ${reason}`, curesOfNumber(text));
-  return NAME.test(text) && !wordsOfName(text, facts) ? null : { word, words: takes };
+  const reason = text === "" || REGISTER.test(text) || PAIR.test(text) ? "" : describeNumberError(text) || describeNameError(text, facts);
+  if (reason) return createError(word, `${expectation}; ${reason}`, numberFixes(text));
+  return NAME.test(text) && !describeNameError(text, facts) ? null : { word, words: expectation };
 }
 
 /**
@@ -132,7 +134,7 @@ function faultOfOperand(head, kind, word, facts, isFirst) {
  * @param {string} form the form of the instruction, such as `JCN c, t`
  * @returns {string[]}
  */
-export function operandsOfForm(form) {
+export function parseOperandKinds(form) {
   const rest = form.split(" ").slice(1).join(" ");
   return rest === "" ? [] : rest.split(", ");
 }
@@ -141,31 +143,32 @@ export function operandsOfForm(form) {
  * Returns the error in a statement whose first word is not an instruction.
  * @param {Parts} parts
  * @param {Word} head
- * @param {Facts} facts
- * @returns {Found}
+ * @param {KnownWords} facts
+ * @returns {WordError}
  */
-function faultOfHead({ label, operands }, head, { instructions }) {
-  const upper = head.text.toUpperCase();
-  if (upper === "WPM") return { word: head, words: say.NO_WPM };
+function findHeadError({ label, operands }, head, { instructions }) {
+  const upperCaseWord = head.text.toUpperCase();
+  if (upperCaseWord === "WPM") return { word: head, words: say.NO_WPM };
   const definition = operands.length === 1 && NAME.test(head.text) && /^(?:EQU|SET)\s+(.*)$/i.exec(operands[0].text);
   if (definition) return { word: operands[0], words: say.nameGetsNumber(head.text, definition[1]), cures: [`= ${definition[1]}`] };
-  const other = say.ELSEWHERE.get(upper);
+  const replacement = say.ELSEWHERE.get(upperCaseWord);
   const isName = !label && NAME.test(head.text);
   if (isName && operands.length > 0 && isHead(operands[0].text.split(/\s/)[0], instructions)) {
-    return foundWith(head, say.noInstruction(head.text, say.labelForm(head.text)), [`${head.text}:`]);
+    return createError(head, say.noInstruction(head.text, say.labelForm(head.text)), [`${head.text}:`]);
   }
   const isAlone = isName && operands.length === 0;
-  const similar = other ? [] : similarWords(upper, [...instructions.keys(), ...DIRECTIVES]);
-  const question = other ? `; ${other}?` : suggestion(similar);
+  const similar = replacement ? [] : findSimilarWords(upperCaseWord, [...instructions.keys(), ...DIRECTIVES]);
+  const question = replacement ? `; ${replacement}?` : formatSuggestion(similar);
   const message = say.noInstruction(head.text, question || (isAlone ? say.labelForm(head.text) : ""));
-  const alone = isAlone && !question ? [`${head.text}:`] : similar;
-  return foundWith(head, message, other ? other.split(" or ").filter((each) => /^[A-Z]+( \d+,?)?$/.test(each)).map(fixOf) : alone);
+  const labelFix = isAlone && !question ? [`${head.text}:`] : similar;
+  if (!replacement) return createError(head, message, labelFix);
+  return createError(head, message, replacement.split(" or ").filter((each) => /^[A-Z]+( \d+,?)?$/.test(each)).map(formatFix));
 }
 
 /**
  * Returns whether a statement can start with a word.
  * @param {string} word
- * @param {Facts["instructions"]} instructions
+ * @param {KnownWords["instructions"]} instructions
  */
 function isHead(word, instructions) {
   const upper = word.toUpperCase();
@@ -174,81 +177,81 @@ function isHead(word, instructions) {
 
 /**
  * Returns the fix for an instruction of another assembler. A JCN condition needs a comma before the address.
- * @param {string} other
+ * @param {string} instructionText
  */
-function fixOf(other) {
-  return other.startsWith("JCN ") ? `${other},` : other;
+function formatFix(instructionText) {
+  return instructionText.startsWith("JCN ") ? `${instructionText},` : instructionText;
 }
 
 /**
  * Returns the error in a directive; null if there is none.
  * @param {Word} head
  * @param {Word[]} operands
- * @param {Facts} facts
- * @returns {Found | null}
+ * @param {KnownWords} facts
+ * @returns {WordError | null}
  */
-function faultOfDirective(head, operands, facts) {
+function findDirectiveError(head, operands, facts) {
   if (head.text.toUpperCase() === "ORG") {
     const isNumber = operands.length === 1 && NUMBER.test(operands[0].text);
     if (isNumber) return null;
-    const reason = operands[0] && !NAME.test(operands[0].text) ? wordsOfNumber(operands[0].text) : "";
+    const reason = operands[0] && !NAME.test(operands[0].text) ? describeNumberError(operands[0].text) : "";
     const message = say.orgForm(reason && `; ${reason}`);
-    return foundWith(operands[0] || head, message, reason ? curesOfNumber(operands[0].text) : []);
+    return createError(operands[0] || head, message, reason ? numberFixes(operands[0].text) : []);
   }
   if (operands.length === 0) return { word: head, words: say.DB_FORM };
-  return operands.map((word) => faultOfOperand("DB", "b", word, facts, true)).find((found) => found !== null) || null;
+  return operands.map((word) => findOperandError("DB", "b", word, facts, true)).find((found) => found !== null) || null;
 }
 
 /**
  * Returns the error in a line with a form that the assembler does not accept.
  * @param {Parts} parts
- * @param {Facts} facts
- * @returns {Found | null}
+ * @param {KnownWords} facts
+ * @returns {WordError | null}
  */
-function faultOfForm(parts, facts) {
+function findFormError(parts, facts) {
   const { label, defines, head, operands } = parts;
-  const badName = label && wordsOfName(label.text, facts);
+  const badName = label && describeNameError(label.text, facts);
   if (badName) return { word: label, words: badName };
   if (defines) {
-    const reason = operands[0] ? wordsOfNumber(operands[0].text) : "";
+    const reason = operands[0] ? describeNumberError(operands[0].text) : "";
     const message = say.equalsForm(reason && `; ${reason}`);
-    return foundWith(operands[0] || label, message, reason ? curesOfNumber(operands[0].text) : []);
+    return createError(operands[0] || label, message, reason ? numberFixes(operands[0].text) : []);
   }
   if (!head) return { word: label, words: say.COLON_FORM };
-  const upper = head.text.toUpperCase();
-  if (DIRECTIVES.includes(upper)) return faultOfDirective(head, operands, facts);
-  const instruction = facts.instructions.get(upper);
-  if (!instruction) return faultOfHead(parts, head, facts);
-  const kinds = operandsOfForm(instruction.form);
-  if (kinds.length === 0) return { word: operands[0] || head, words: say.takesNothing(upper) };
+  const upperCaseWord = head.text.toUpperCase();
+  if (DIRECTIVES.includes(upperCaseWord)) return findDirectiveError(head, operands, facts);
+  const instruction = facts.instructions.get(upperCaseWord);
+  if (!instruction) return findHeadError(parts, head, facts);
+  const kinds = parseOperandKinds(instruction.form);
+  if (kinds.length === 0) return { word: operands[0] || head, words: say.takesNothing(upperCaseWord) };
   for (let at = 0; at < Math.min(kinds.length, operands.length); at++) {
-    const found = faultOfOperand(upper, kinds[at], operands[at], facts, at === 0);
+    const found = findOperandError(upperCaseWord, kinds[at], operands[at], facts, at === 0);
     if (found) return found;
   }
   const extra = operands[kinds.length];
   const wanted = kinds.map((kind) => OPERANDS[kind].what).join(say.AND_AFTER);
-  return { word: extra || head, words: say.takesNoMore(upper, wanted, Boolean(extra)) };
+  return { word: extra || head, words: say.takesNoMore(upperCaseWord, wanted, Boolean(extra)) };
 }
 
 /**
  * Returns the error in a line with an out-of-range value.
  * @param {Parts} parts
- * @param {Facts} facts
- * @returns {Found | null}
+ * @param {KnownWords} facts
+ * @returns {WordError | null}
  */
-function faultOfValue({ head, operands, defines, label }, { instructions }) {
+function findValueError({ head, operands, defines, label }, { instructions }) {
   if (defines) return { word: operands[0] || label, words: say.NUMBER_OF_NAME };
   if (!head) return null;
-  const upper = head.text.toUpperCase();
-  const instruction = instructions.get(upper);
-  const kinds = instruction ? operandsOfForm(instruction.form) : operands.map(() => (upper === "ORG" ? "t" : "b"));
+  const upperCaseWord = head.text.toUpperCase();
+  const instruction = instructions.get(upperCaseWord);
+  const kinds = instruction ? parseOperandKinds(instruction.form) : operands.map(() => (upperCaseWord === "ORG" ? "t" : "b"));
   const values = operands.map((word, at) => ({ word, kind: OPERANDS[kinds[at] || "b"] })).filter(({ kind }) => kind.most > 0);
   const tooLarge = values.find(({ word, kind }) => NUMBER.test(word.text) && Number(word.text) > kind.most);
-  const named = values.find(({ word }) => NAME.test(word.text));
-  const found = tooLarge || named;
+  const namedOperand = values.find(({ word }) => NAME.test(word.text));
+  const found = tooLarge || namedOperand;
   if (!found) return null;
-  const what = upper === "ORG" ? say.ORG_ADDRESS : found.kind.what;
-  return { word: found.word, words: say.takesBut(upper, what, tooLarge ? "" : say.isMore(found.word.text)) };
+  const what = upperCaseWord === "ORG" ? say.ORG_ADDRESS : found.kind.what;
+  return { word: found.word, words: say.takesBut(upperCaseWord, what, tooLarge ? "" : say.isMore(found.word.text)) };
 }
 
 /**
@@ -262,33 +265,33 @@ function lastName({ operands }) {
 /**
  * Returns the error in a line with an undefined name.
  * @param {Parts} parts
- * @param {Facts} facts
- * @returns {Found | null}
+ * @param {KnownWords} facts
+ * @returns {WordError | null}
  */
-function faultOfUnknown({ operands }, { names }) {
+function findUnknownName({ operands }, { names }) {
   const word = operands.find(({ text }) => NAME.test(text) && !REGISTER.test(text) && !PAIR.test(text) && !names.has(text));
   if (!word) return null;
-  const similar = similarWords(word.text, names.keys());
+  const similar = findSimilarWords(word.text, names.keys());
   const isHex = /^[0-9A-Fa-f]+$/.test(word.text) && similar.length === 0;
   const cures = isHex ? [`0x${word.text.toUpperCase()}`] : similar;
-  return foundWith(word, say.notDefined(word.text, cures.length > 0 ? suggestion(cures) : ""), cures);
+  return createError(word, say.notDefined(word.text, cures.length > 0 ? formatSuggestion(cures) : ""), cures);
 }
 
 /**
  * Returns the error in a line; null if the refusal message is sufficient.
  * @param {string} line
  * @param {number} number the refusal number
- * @param {Facts} facts
- * @returns {Found | null}
+ * @param {KnownWords} facts
+ * @returns {WordError | null}
  */
-export function wordsOfProgramLine(line, number, facts) {
-  const parts = partsOf(line);
-  if (number === 30) return faultOfForm(parts, facts);
+export function explainProgramLine(line, number, facts) {
+  const parts = splitStatement(line);
+  if (number === 30) return findFormError(parts, facts);
   if (number === 31 && parts.label) {
     return { word: parts.label, words: say.definedBefore(parts.label.text, facts.names.get(parts.label.text)) };
   }
-  if (number === 32) return faultOfUnknown(parts, facts);
-  if (number === 33) return faultOfValue(parts, facts);
+  if (number === 32) return findUnknownName(parts, facts);
+  if (number === 33) return findValueError(parts, facts);
   if (number === 34 && parts.head) {
     const word = lastName(parts);
     const head = parts.head.text.toUpperCase();

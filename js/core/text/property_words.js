@@ -1,13 +1,13 @@
-// Help and completions for property texts, from the manual's tables and the names of the board and the program.
+// Returns the help and the completions for properties texts, from the manual's tables and the names of the board and the program.
 
 import { withoutDescription } from "./completion.js";
-import { completeWord, conditionForms, descriptionIn, fittings, formsOfTables, wordsOfCondition, wordsUpTo } from "./test_words.js";
+import { completeWord, conditionForms, findDescription, firstWords, formsByTable, nextConditionWords, wordsUpTo } from "./test_words.js";
 import * as say from "../../words/text.js";
 
 /**
  * @typedef {import("../help/manual.js").ManualSection} ManualSection
  * @typedef {import("./completion.js").Completion} Completion
- * @typedef {import("./completion.js").Fitting} Fitting
+ * @typedef {import("./completion.js").CompletionItem} CompletionItem
  * @typedef {import("./test_words.js").Form} Form
  * @typedef {import("./test_words.js").TestNames} TestNames
  * @typedef {{ lines: Form[], conditions: Form[] }} PropertyForms
@@ -26,20 +26,20 @@ const AFTER_LABEL = ["to", say.ONCE_FOR_EACH_PRESS, "only after"];
 const AFTER_TARGET = ["within"];
 
 /**
- * Returns the manual's forms of property lines.
+ * Returns the manual's forms of lines in properties texts.
  * @param {ManualSection[]} manual
  * @returns {PropertyForms}
  */
 export function propertyForms(manual) {
-  const lines = SECTIONS.flatMap((title) => formsOfTables(manual, title).flat());
+  const lines = SECTIONS.flatMap((title) => formsByTable(manual, title).flat());
   return { lines, conditions: conditionForms(manual).filter(({ word }) => !TEST_WORDS.has(word)) };
 }
 
 /**
- * Returns an initial property text for a board.
+ * Returns an initial properties text for a board.
  * @param {TestNames} names
  */
-export function firstProperties({ keys, lamps }) {
+export function createFirstProperties({ keys, lamps }) {
   const [lamp = "0"] = lamps;
   const firstLines = `${say.FIRST_PROPERTIES}${keys.length === 0 ? "test\n" : ""}`;
   return `${firstLines}wait 1 ms to 20 ms\nnote lamps\n\nreach lamp ${lamp} on\nreach lamp ${lamp} off\n`;
@@ -49,7 +49,7 @@ export function firstProperties({ keys, lamps }) {
  * Returns the words of the condition in a line; null if the line has none.
  * @param {string[]} words
  */
-function conditionOf(words) {
+function findCondition(words) {
   const [first, ...rest] = words;
   if (CONDITION_START.test(first || "")) return rest;
   return first === "at" && rest.length > 0 ? rest.slice(1) : null;
@@ -59,54 +59,54 @@ function conditionOf(words) {
  * Returns the words that can come next in a line that starts with a label.
  * @param {string[]} words
  */
-function wordsAfterLabel([, second, ...more]) {
+function nextWordsAfterLabel([, second, ...more]) {
   if (second === undefined) return AFTER_LABEL;
   return second === "to" && more.length === 1 ? AFTER_TARGET : [];
 }
 
 /**
  * Returns the words that can come next in a line.
- * @param {string[]} before
+ * @param {string[]} previousWords
  * @param {string} typed the unfinished word
  * @param {TestNames} names
  * @param {PropertyForms} forms
- * @returns {Fitting[]}
+ * @returns {CompletionItem[]}
  */
-function wordsAfter(before, typed, names, { lines, conditions }) {
+function nextWords(previousWords, typed, names, { lines, conditions }) {
   const labels = withoutDescription(names.labels.map((label) => `@${label}`));
   if (typed.startsWith("@")) return labels;
-  if (before.length === 0) return [...fittings(lines.filter(({ word }) => /^[a-z]+$/.test(word))), ...labels];
-  const last = before[before.length - 1];
-  if (before[0] === "press" || last === "press") return withoutDescription(names.keys);
-  if (before[0].startsWith("@")) return withoutDescription(wordsAfterLabel(before));
-  const condition = conditionOf(before);
-  if (condition) return wordsOfCondition(condition, names, conditions, CONDITION_END);
-  return before[0] === "note" ? withoutDescription(["lamps"]) : [];
+  if (previousWords.length === 0) return [...firstWords(lines.filter(({ word }) => /^[a-z]+$/.test(word))), ...labels];
+  const last = previousWords[previousWords.length - 1];
+  if (previousWords[0] === "press" || last === "press") return withoutDescription(names.keys);
+  if (previousWords[0].startsWith("@")) return withoutDescription(nextWordsAfterLabel(previousWords));
+  const condition = findCondition(previousWords);
+  if (condition) return nextConditionWords(condition, names, conditions, CONDITION_END);
+  return previousWords[0] === "note" ? withoutDescription(["lamps"]) : [];
 }
 
 /**
- * Returns the completions at a position in a property text.
+ * Returns the completions at a position in a properties text.
  * @param {string[]} lines
  * @param {number} line the line number from 0
- * @param {number} at
+ * @param {number} column
  * @param {TestNames} names
  * @param {PropertyForms} forms
  * @returns {Completion}
  */
-export function completeProperty(lines, line, at, names, forms) {
-  return completeWord(lines[line], at, (before, typed) => wordsAfter(before, typed, names, forms));
+export function completeProperty(lines, line, column, names, forms) {
+  return completeWord(lines[line], column, (previousWords, typed) => nextWords(previousWords, typed, names, forms));
 }
 
 /**
  * Returns the help for the word at a position, or "".
  * @param {string[]} lines
  * @param {number} line the line number from 0
- * @param {number} at
+ * @param {number} column
  * @param {PropertyForms} forms
  */
-export function helpForProperty(lines, line, at, forms) {
-  const words = wordsUpTo(lines[line], at);
+export function helpForProperty(lines, line, column, forms) {
+  const words = wordsUpTo(lines[line], column);
   if (words.length === 0) return "";
   const known = words.length === 1 && forms.lines.find(({ word }) => word === words[0]);
-  return known ? `${known.form}: ${known.does}` : descriptionIn(forms.conditions, words[words.length - 1]);
+  return known ? `${known.form}: ${known.does}` : findDescription(forms.conditions, words[words.length - 1]);
 }

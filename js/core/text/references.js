@@ -1,6 +1,6 @@
-// Finds the references to a program name: its definition and its uses. Also checks a new name before a renaming.
+// Finds the references to a name in a program: its definition and its uses. Also checks whether a name can be renamed.
 
-import { DIRECTIVES, MAX_NAME_LENGTH, NAME, PAIR, REGISTER, namesOf, partsOf, wordAt } from "./assembly.js";
+import { DIRECTIVES, MAX_NAME_LENGTH, NAME, PAIR, REGISTER, findDefinedNames, splitStatement, wordAt } from "./assembly.js";
 import * as say from "../../words/text.js";
 
 /**
@@ -16,7 +16,7 @@ import * as say from "../../words/text.js";
  * @returns {Reference[]}
  */
 function referencesIn(text, line, name) {
-  const { label, operands } = partsOf(text);
+  const { label, operands } = splitStatement(text);
   const defined = label && label.text === name ? [{ line, from: label.from, to: label.to, isDefinition: true }] : [];
   const used = operands.filter((word) => word.text === name).map(({ from, to }) => ({ line, from, to, isDefinition: false }));
   return [...defined, ...used];
@@ -28,7 +28,7 @@ function referencesIn(text, line, name) {
  * @param {string} name
  * @returns {Reference[]}
  */
-export function referencesOf(lines, name) {
+export function findReferences(lines, name) {
   return lines.flatMap((text, at) => referencesIn(text, at + 1, name));
 }
 
@@ -36,13 +36,13 @@ export function referencesOf(lines, name) {
  * Returns the name at a position; "" if the word at the position is not a name that the program defines.
  * @param {string[]} lines
  * @param {number} line the line number from 0
- * @param {number} at
+ * @param {number} column
  */
-export function nameAt(lines, line, at) {
+export function nameAt(lines, line, column) {
   const text = lines[line] || "";
-  const word = wordAt(text, at);
+  const word = wordAt(text, column);
   const isName = word !== null && referencesIn(text, line + 1, word.text).some(({ from }) => from === word.from);
-  return isName && namesOf(lines).has(word.text) ? word.text : "";
+  return isName && findDefinedNames(lines).has(word.text) ? word.text : "";
 }
 
 /**
@@ -50,23 +50,23 @@ export function nameAt(lines, line, at) {
  * @param {string[]} lines
  * @param {string} name
  */
-export function definitionOf(lines, name) {
-  return referencesOf(lines, name).find(({ isDefinition }) => isDefinition) || null;
+export function findDefinition(lines, name) {
+  return findReferences(lines, name).find(({ isDefinition }) => isDefinition) || null;
 }
 
 /**
  * Returns the reason why a name cannot be renamed, or "".
  * @param {string[]} lines
  * @param {string} name
- * @param {string} wanted the new name
+ * @param {string} newName the new name
  * @param {(word: string) => boolean} isInstruction returns whether an upper-case word is an instruction
  */
-export function faultOfRenaming(lines, name, wanted, isInstruction) {
-  const upper = wanted.toUpperCase();
-  if (!NAME.test(wanted)) return say.NAME_IS;
-  if (wanted.length > MAX_NAME_LENGTH) return say.nameHasMost(MAX_NAME_LENGTH, wanted.length);
-  if (isInstruction(upper) || upper === "WPM" || DIRECTIVES.includes(upper)) return say.isAnInstruction(wanted);
-  if (REGISTER.test(wanted) || PAIR.test(wanted)) return say.isARegister(wanted);
-  const line = namesOf(lines).get(wanted);
-  return wanted !== name && line ? say.isDefined(wanted, line) : "";
+export function findRenamingError(lines, name, newName, isInstruction) {
+  const upper = newName.toUpperCase();
+  if (!NAME.test(newName)) return say.NAME_IS;
+  if (newName.length > MAX_NAME_LENGTH) return say.nameHasMost(MAX_NAME_LENGTH, newName.length);
+  if (isInstruction(upper) || upper === "WPM" || DIRECTIVES.includes(upper)) return say.isAnInstruction(newName);
+  if (REGISTER.test(newName) || PAIR.test(newName)) return say.isARegister(newName);
+  const line = findDefinedNames(lines).get(newName);
+  return newName !== name && line ? say.isDefined(newName, line) : "";
 }

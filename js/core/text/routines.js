@@ -1,8 +1,8 @@
 // Finds the routines of a program: the lines that each routine can reach, the routines that it calls with JMS, and its callers. A routine
-// starts at the first statement, and at each label that a JMS names. A path ends at BBL, at JIN (its target is not in the text), at data
-// and at ORG.
+// starts at the first statement, or at a label that a JMS names. A path through a routine ends at BBL, at JIN (because its target is not in
+// the text), at data and at ORG.
 
-import { namesOf, partsOf } from "./assembly.js";
+import { findDefinedNames, splitStatement } from "./assembly.js";
 
 /**
  * A routine. `name` is its label, "" for none. `from` and `to` are the columns of the label. `line` and `last` are its first and last line,
@@ -22,11 +22,11 @@ const JUMPS = new Set(["JUN", "JCN", "ISZ"]);
 export class Routines {
   /** @param {string[]} lines */
   constructor(lines) {
-    this.parts = lines.map(partsOf);
-    this.names = namesOf(lines);
-    this.statements = this.parts.map((parts) => this.statementOf(parts));
+    this.parts = lines.map(splitStatement);
+    this.names = findDefinedNames(lines);
+    this.statements = this.parts.map((parts) => this.parseStatement(parts));
     /** @type {Map<number, Set<number>>} the lines that each routine reaches, by the first line of the routine */
-    this.reached = new Map();
+    this.linesByRoutine = new Map();
     this.routines = this.findRoutines();
   }
 
@@ -34,7 +34,7 @@ export class Routines {
    * @param {import("./assembly.js").Parts} parts
    * @returns {Statement | null}
    */
-  statementOf({ head, operands }) {
+  parseStatement({ head, operands }) {
     if (!head) return null;
     const last = operands[operands.length - 1];
     const line = last ? this.names.get(last.text) : undefined;
@@ -49,7 +49,7 @@ export class Routines {
     return [...begins].sort((one, other) => one - other).map((line) => {
       const { label, head } = this.parts[line];
       const { from, to } = label || head || { from: 0, to: 0 };
-      return { name: label ? label.text : "", line, from, to, last: this.lastOf(line) };
+      return { name: label ? label.text : "", line, from, to, last: this.findLastLine(line) };
     });
   }
 
@@ -57,7 +57,7 @@ export class Routines {
    * Returns the line of the first statement at or after a line; -1 if there is none.
    * @param {number} line
    */
-  statementFrom(line) {
+  findStatement(line) {
     for (let at = line; at < this.statements.length; at++) if (this.statements[at]) return at;
     return -1;
   }
@@ -68,38 +68,38 @@ export class Routines {
    */
   successors(line) {
     const { head, target } = /** @type {Statement} */ (this.statements[line]);
-    const next = PATH_ENDS.has(head) ? [] : [this.statementFrom(line + 1)];
-    return JUMPS.has(head) && target >= 0 ? [...next, this.statementFrom(target)] : next;
+    const next = PATH_ENDS.has(head) ? [] : [this.findStatement(line + 1)];
+    return JUMPS.has(head) && target >= 0 ? [...next, this.findStatement(target)] : next;
   }
 
   /**
    * Returns the lines of the statements that a routine reaches.
-   * @param {number} begin the first line of the routine
+   * @param {number} firstLine the first line of the routine
    * @returns {Set<number>}
    */
-  linesOf(begin) {
-    const known = this.reached.get(begin);
+  reachedLines(firstLine) {
+    const known = this.linesByRoutine.get(firstLine);
     if (known) return known;
-    const reached = new Set();
-    const queue = [this.statementFrom(begin)];
+    const lines = new Set();
+    const queue = [this.findStatement(firstLine)];
     while (queue.length > 0) {
       const line = /** @type {number} */ (queue.pop());
-      if (line < 0 || reached.has(line)) continue;
-      reached.add(line);
+      if (line < 0 || lines.has(line)) continue;
+      lines.add(line);
       queue.push(...this.successors(line));
     }
-    this.reached.set(begin, reached);
-    return reached;
+    this.linesByRoutine.set(firstLine, lines);
+    return lines;
   }
 
   /**
    * Returns the last line up to which all statements belong to a routine.
-   * @param {number} begin the first line of the routine
+   * @param {number} firstLine the first line of the routine
    */
-  lastOf(begin) {
-    const reached = this.linesOf(begin);
-    let last = begin;
-    for (let at = this.statementFrom(begin); at >= 0 && reached.has(at); at = this.statementFrom(at + 1)) last = at;
+  findLastLine(firstLine) {
+    const reached = this.reachedLines(firstLine);
+    let last = firstLine;
+    for (let at = this.findStatement(firstLine); at >= 0 && reached.has(at); at = this.findStatement(at + 1)) last = at;
     return last;
   }
 
@@ -109,8 +109,8 @@ export class Routines {
    */
   routineAt(line) {
     const first = this.routines.find((each) => each.line === line);
-    const inside = this.routines.filter((each) => this.linesOf(each.line).has(line));
-    // If several routines reach the line, the nearest one above is used.
+    const inside = this.routines.filter((each) => this.reachedLines(each.line).has(line));
+    // If several routines reach the line, prefer the one that starts nearest above it.
     return first || inside.filter((each) => each.line <= line).pop() || inside[0] || null;
   }
 
@@ -119,11 +119,12 @@ export class Routines {
    * @param {string} name
    * @returns {Routine | null}
    */
-  routineOf(name) {
+  getByName(name) {
     const line = (this.names.get(name) || 0) - 1;
     const { label, defines } = this.parts[line] || { label: null, defines: true };
     if (!label || defines) return null;
-    return this.routines.find((each) => each.line === line) || { name, line, from: label.from, to: label.to, last: this.lastOf(line) };
+    const { from, to } = label;
+    return this.routines.find((each) => each.line === line) || { name, line, from, to, last: this.findLastLine(line) };
   }
 
   /**
@@ -150,7 +151,7 @@ export class Routines {
    * @returns {{ routine: Routine, places: CallPlace[] }[]}
    */
   called(routine) {
-    const calls = this.callsIn(this.linesOf(routine.line));
+    const calls = this.callsIn(this.reachedLines(routine.line));
     return this.routines.map((each) => ({ routine: each, places: calls.filter(({ target }) => target === each.line) }))
       .filter(({ places }) => places.length > 0);
   }
@@ -162,10 +163,10 @@ export class Routines {
    * @returns {Routine[]}
    */
   routinesWith(line) {
-    const inside = this.routines.filter((each) => this.linesOf(each.line).has(line));
+    const inside = this.routines.filter((each) => this.reachedLines(each.line).has(line));
     if (inside.length > 0) return inside;
     const above = [...this.names].filter(([, at]) => at - 1 <= line && !this.parts[at - 1].defines).pop();
-    const routine = above ? this.routineOf(above[0]) : null;
+    const routine = above ? this.getByName(above[0]) : null;
     return routine ? [routine] : [];
   }
 
@@ -176,16 +177,16 @@ export class Routines {
    */
   callers({ line: callee }) {
     /** @type {Map<number, { routine: Routine, places: CallPlace[] }>} */
-    const found = new Map();
+    const callersByLine = new Map();
     for (const call of this.callsIn(this.statements.keys())) {
       if (call.target !== callee) continue;
       for (const routine of this.routinesWith(call.line)) {
-        const known = found.get(routine.line) || { routine, places: [] };
+        const known = callersByLine.get(routine.line) || { routine, places: [] };
         known.places.push(call);
-        found.set(routine.line, known);
+        callersByLine.set(routine.line, known);
       }
     }
-    return [...found.values()].sort((one, other) => one.routine.line - other.routine.line);
+    return [...callersByLine.values()].sort((one, other) => one.routine.line - other.routine.line);
   }
 
   /**

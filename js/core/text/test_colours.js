@@ -1,31 +1,33 @@
-// Syntax colours for test and property texts.
+// Syntax colours for test and properties texts.
 
-import { WORDS } from "../conditions/parser.js";
+import { KEYWORDS } from "../conditions/parser.js";
 
 /**
  * The style of a range in a line.
- * @typedef {{ from: number, to: number, style: string }} Coloured
+ * @typedef {{ from: number, to: number, style: string }} ColouredRange
  */
 
 /**
- * A language. `first` matches the words that can start a line. `others` are all other keywords. `named` is the word before a name that
- * extends to the end of the line. `whole` matches the first words of lines without comments. `isFree` is true if a line can start with a
- * condition.
+ * A language:
+ * - `first` matches the words that can start a line; `otherKeywords` are all other keywords;
+ * - `nameKeyword` is the word before a name that extends to the end of the line;
+ * - `uncommentedStart` matches the first words of lines without comments;
+ * - `startsWithCondition` is true if a line can start with a condition.
  */
 const TESTS = {
   first: /^(test|steps|from|save|press|release|keys|pace|run|until|expect|mark|set|reset|do|repeat|end)$/,
-  others: new Set([...WORDS, "within"]),
-  named: "test",
-  whole: /^(test|press|release|keys)$/,
-  isFree: false,
+  otherKeywords: new Set([...KEYWORDS, "within"]),
+  nameKeyword: "test",
+  uncommentedStart: /^(test|press|release|keys)$/,
+  startsWithCondition: false,
 };
 const PROPERTIES = {
   first: new RegExp("^(press|test|reset|together|wait|held|apart|from|begin|note|pace|never|always|at|after|every|reach|model|while|once|"
     + "not|lamps?|display)$"),
-  others: new Set([...WORDS, "for", "only", "after", "press", "within", "to", "once", "each", "line"]),
-  named: "",
-  whole: /^/,
-  isFree: true,
+  otherKeywords: new Set([...KEYWORDS, "for", "only", "after", "press", "within", "to", "once", "each", "line"]),
+  nameKeyword: "",
+  uncommentedStart: /^/,
+  startsWithCondition: true,
 };
 
 /**
@@ -34,13 +36,13 @@ const PROPERTIES = {
  * @param {boolean} isFirst
  * @param {typeof TESTS} language
  */
-function styleOf(word, isFirst, { first, others, isFree }) {
+function chooseStyle(word, isFirst, { first, otherKeywords, startsWithCondition }) {
   if (isFirst && first.test(word)) return "keyword";
-  if (isFirst && !isFree) return "error";
+  if (isFirst && !startsWithCondition) return "error";
   if (word.startsWith("@")) return "def";
   if (/^(0x[0-9A-Fa-f]+|[\d.]+(us|ms|s)?|us|ms|s|[*.?]+)$/.test(word)) return "number";
   if (/^([<>=&+-]+|!=|\|\|)$/.test(word)) return "";
-  return others.has(word.replace(/^[(!]+|[,)]+$/g, "").toLowerCase()) ? "keyword" : "variable-2";
+  return otherKeywords.has(word.replace(/^[(!]+|[,)]+$/g, "").toLowerCase()) ? "keyword" : "variable-2";
 }
 
 /**
@@ -50,8 +52,8 @@ function styleOf(word, isFirst, { first, others, isFree }) {
  * @param {typeof TESTS} language
  */
 function isComment(rest, first, language) {
-  // After key names, the mark can itself be a key name.
-  return /^[#;]/.test(rest) && (first === "" || (!language.whole.test(first) && /^[#;](\s|$)/.test(rest)));
+  // After key names, the comment mark can itself be a key name.
+  return /^[#;]/.test(rest) && (first === "" || (!language.uncommentedStart.test(first) && /^[#;](\s|$)/.test(rest)));
 }
 
 /**
@@ -59,23 +61,23 @@ function isComment(rest, first, language) {
  * @param {string} line
  * @param {typeof TESTS} language
  */
-function coloursOf(line, language) {
-  /** @type {Coloured[]} */
+function colourLine(line, language) {
+  /** @type {ColouredRange[]} */
   const coloured = [];
   let first = "";
   for (const { 0: word, index = 0 } of line.matchAll(/\S+/g)) {
     const rest = line.slice(index);
-    const isWhole = isComment(rest, first, language) ? "comment" : first !== "" && first === language.named ? "string" : "";
+    const isWhole = isComment(rest, first, language) ? "comment" : first !== "" && first === language.nameKeyword ? "string" : "";
     if (isWhole) return [...coloured, { from: index, to: line.length, style: isWhole }];
-    const style = styleOf(word, first === "", language);
+    const style = chooseStyle(word, first === "", language);
     if (style !== "") coloured.push({ from: index, to: index + word.length, style });
     if (first === "") first = word;
   }
   return coloured;
 }
 
-/** The colouring functions by kind of text. Each function returns the styled ranges of a line. */
+/** The functions that return the styled ranges of a line, by kind of text. */
 export const COLOURS = {
-  tests: (/** @type {string} */ line) => coloursOf(line, TESTS),
-  properties: (/** @type {string} */ line) => coloursOf(line, PROPERTIES),
+  tests: (/** @type {string} */ line) => colourLine(line, TESTS),
+  properties: (/** @type {string} */ line) => colourLine(line, PROPERTIES),
 };

@@ -1,13 +1,13 @@
 // Help and completions for test texts, from the manual's tables and the names of the board and the program.
 
-import { piecesOf, plain } from "../help/manual.js";
+import { splitCell, cellText } from "../help/manual.js";
 import { withoutDescription } from "./completion.js";
 import * as say from "../../words/text.js";
 
 /**
  * @typedef {import("../help/manual.js").ManualSection} ManualSection
  * @typedef {import("./completion.js").Completion} Completion
- * @typedef {import("./completion.js").Fitting} Fitting
+ * @typedef {import("./completion.js").CompletionItem} CompletionItem
  * @typedef {{ keys: string[], lamps: string[], labels: string[] }} TestNames
  */
 
@@ -23,9 +23,9 @@ import * as say from "../../words/text.js";
  * @param {string[][]} rows
  * @returns {Form[]}
  */
-function formsOf(rows) {
-  return rows.flatMap(([forms, does]) => piecesOf(forms).filter(({ isCode }) => isCode).map(({ text }) => (
-    { word: text.split(" ", 1)[0], form: text, does: plain(does) })));
+function parseForms(rows) {
+  return rows.flatMap(([forms, does]) => splitCell(forms).filter(({ isCode }) => isCode).map(({ text }) => (
+    { word: text.split(" ", 1)[0], form: text, does: cellText(does) })));
 }
 
 /**
@@ -33,9 +33,9 @@ function formsOf(rows) {
  * @param {ManualSection[]} manual
  * @param {string} title
  */
-export function formsOfTables(manual, title) {
+export function formsByTable(manual, title) {
   const section = manual.find((each) => each.title === title);
-  return section ? section.tables.map(({ rows }) => formsOf(rows)) : [];
+  return section ? section.tables.map(({ rows }) => parseForms(rows)) : [];
 }
 
 /**
@@ -43,7 +43,7 @@ export function formsOfTables(manual, title) {
  * @param {ManualSection[]} manual
  */
 export function conditionForms(manual) {
-  const [forms] = formsOfTables(manual, say.CONDITIONS);
+  const [forms] = formsByTable(manual, say.CONDITIONS);
   return forms || [];
 }
 
@@ -53,16 +53,16 @@ export function conditionForms(manual) {
  * @returns {TestForms}
  */
 export function testForms(manual) {
-  const [steps] = formsOfTables(manual, say.LINES_OF_TEST);
+  const [steps] = formsByTable(manual, say.LINES_OF_TEST);
   return { steps: steps || [], conditions: conditionForms(manual) };
 }
 
 /**
- * Returns the first words of forms as completions, without duplicates.
+ * Returns the first words of forms as completions, each word once.
  * @param {Form[]} forms
- * @returns {Fitting[]}
+ * @returns {CompletionItem[]}
  */
-export function fittings(forms) {
+export function firstWords(forms) {
   const words = new Map(forms.map((form) => [form.word, form]));
   return [...words.values()].map(({ word, form, does }) => ({ text: word, what: `${form.slice(word.length)}   ${does}` }));
 }
@@ -73,15 +73,15 @@ export function fittings(forms) {
  * @param {string} typed the unfinished word
  * @param {TestNames} names
  * @param {TestForms} forms
- * @returns {Fitting[]}
+ * @returns {CompletionItem[]}
  */
-function wordsAfter(before, typed, { keys, lamps, labels }, forms) {
+function nextWords(before, typed, { keys, lamps, labels }, forms) {
   const [first] = before;
-  if (first === undefined) return fittings(forms.steps);
+  if (first === undefined) return firstWords(forms.steps);
   if (first === "press" || first === "release" || first === "keys") return withoutDescription(keys);
   if (first !== "until" && first !== "expect") return [];
   if (typed.startsWith("@")) return withoutDescription(labels.map((label) => `@${label}`));
-  return wordsOfCondition(before.slice(1), { keys, lamps, labels }, forms.conditions, ["within"]);
+  return nextConditionWords(before.slice(1), { keys, lamps, labels }, forms.conditions, ["within"]);
 }
 
 /** The words that join conditions. */
@@ -92,61 +92,61 @@ const CONJUNCTIONS = new Set(["and", "or", "&&", "||"]);
  * @param {string[]} before the words of the condition so far
  * @param {TestNames} names
  * @param {Form[]} conditions
- * @param {string[]} after the words that can follow a complete condition
- * @returns {Fitting[]}
+ * @param {string[]} nextKeywords the words that can follow a complete condition
+ * @returns {CompletionItem[]}
  */
-export function wordsOfCondition(before, { keys, lamps, labels }, conditions, after) {
+export function nextConditionWords(before, { keys, lamps, labels }, conditions, nextKeywords) {
   const begin = before.reduce((last, word, at) => (CONJUNCTIONS.has(word) ? at + 1 : last), 0);
   const words = before.slice(begin).map((word) => word.replace(/^[(!]+/, "")).filter((word) => word !== "not" && word !== "");
-  const joins = ["and", "or", ...after];
-  if (words.length === 0) return [...fittings(conditions), ...withoutDescription(labels.map((label) => `@${label}`))];
+  const conjunctions = ["and", "or", ...nextKeywords];
+  if (words.length === 0) return [...firstWords(conditions), ...withoutDescription(labels.map((label) => `@${label}`))];
   const [word] = words;
-  if (word === "lamp") return withoutDescription(words.length === 1 ? lamps : ["on", "off", ...joins]);
-  if (word === "key") return withoutDescription(words.length === 1 ? keys : ["down", "up", ...joins]);
+  if (word === "lamp") return withoutDescription(words.length === 1 ? lamps : ["on", "off", ...conjunctions]);
+  if (word === "key") return withoutDescription(words.length === 1 ? keys : ["down", "up", ...conjunctions]);
   if (word === "at" && words.length === 1) return withoutDescription(labels);
-  return withoutDescription(word === "lamps" ? [...lamps, "none", ...joins] : joins);
+  return withoutDescription(word === "lamps" ? [...lamps, "none", ...conjunctions] : conjunctions);
 }
 
 /**
  * Returns the completions of the unfinished word.
  * @param {string} line
- * @param {number} at
- * @param {(before: string[], begun: string) => Fitting[]} fitting returns the words that can come next
+ * @param {number} column
+ * @param {(before: string[], typed: string) => CompletionItem[]} findWords returns the words that can come next
  * @returns {Completion}
  */
-export function completeWord(line, at, fitting) {
-  const before = line.slice(0, at);
-  if (/^\s*[#;]/.test(before)) return { from: at, to: at, list: [] };
+export function completeWord(line, column, findWords) {
+  const before = line.slice(0, column);
+  if (/^\s*[#;]/.test(before)) return { from: column, to: column, list: [] };
   const typed = /\S*$/.exec(before) || [""];
-  const list = fitting(before.slice(0, at - typed[0].length).split(/\s+/).filter(Boolean), typed[0]);
-  return { from: at - typed[0].length, to: at, list: list.filter(({ text }) => text.startsWith(typed[0]) && text !== typed[0]) };
+  const list = findWords(before.slice(0, column - typed[0].length).split(/\s+/).filter(Boolean), typed[0]);
+  return { from: column - typed[0].length, to: column, list: list.filter(({ text }) => text.startsWith(typed[0]) && text !== typed[0]) };
 }
 
 /**
  * Returns the completions at a position in a test text.
  * @param {string[]} lines
  * @param {number} line the line number from 0
- * @param {number} at
+ * @param {number} column
  * @param {TestNames} names
  * @param {TestForms} forms
  * @returns {Completion}
  */
-export function completeTest(lines, line, at, names, forms) {
+export function completeTest(lines, line, column, names, forms) {
   const shared = lines.slice(0, line).flatMap((each) => (/^\s*steps\s+(\S+)\s*$/.exec(each) || []).slice(1));
-  return completeWord(lines[line], at, (before, typed) => (
-    before.length === 1 && before[0] === "do" ? withoutDescription(shared) : wordsAfter(before, typed, names, forms)));
+  return completeWord(lines[line], column, (before, typed) => (
+    before.length === 1 && before[0] === "do" ? withoutDescription(shared) : nextWords(before, typed, names, forms)));
 }
 
 /**
  * Returns the words of a line up to the word at a position. Returns an empty list if there is no word at the position, or if the line is a
  * comment.
  * @param {string} line
- * @param {number} at
+ * @param {number} column
  */
-export function wordsUpTo(line, at) {
+export function wordsUpTo(line, column) {
   const words = [...(line || "").matchAll(/\S+/g)];
   if (words.length === 0 || /^[#;]/.test(words[0][0])) return [];
-  const found = words.findIndex((word) => word.index !== undefined && word.index <= at && at <= word.index + word[0].length);
+  const found = words.findIndex((word) => word.index !== undefined && word.index <= column && column <= word.index + word[0].length);
   return words.slice(0, found + 1).map(([word]) => word);
 }
 
@@ -155,7 +155,7 @@ export function wordsUpTo(line, at) {
  * @param {Form[]} forms
  * @param {string} word
  */
-export function descriptionIn(forms, word) {
+export function findDescription(forms, word) {
   const known = forms.find((form) => form.word === word) || forms.find((form) => normalizedWord(form.word) === normalizedWord(word));
   return known ? `${known.form}: ${known.does}` : "";
 }
@@ -164,20 +164,20 @@ export function descriptionIn(forms, word) {
  * Returns the help for the word at a position, or "".
  * @param {string[]} lines
  * @param {number} line the line number from 0
- * @param {number} at
+ * @param {number} column
  * @param {TestForms} forms
  */
-export function helpForTest(lines, line, at, { steps, conditions }) {
-  const words = wordsUpTo(lines[line], at);
+export function helpForTest(lines, line, column, { steps, conditions }) {
+  const words = wordsUpTo(lines[line], column);
   if (words.length === 0) return "";
-  if (words.length > 1) return /^(until|expect)$/.test(words[0]) ? descriptionIn(conditions, words[words.length - 1]) : "";
+  if (words.length > 1) return /^(until|expect)$/.test(words[0]) ? findDescription(conditions, words[words.length - 1]) : "";
   const known = steps.find(({ word }) => word === words[0]);
   return known ? `${known.form}: ${known.does}` : "";
 }
 
 /**
- * Replaces the numbers in a word by 0, and the letters that stand for numbers in the manual too. `ram.1.0x20` and `ram.B.S` therefore
- * become equal.
+ * Replaces the numbers in a word by 0, and also the capital letters that the manual writes for numbers. `ram.1.0x20` and `ram.B.S` become
+ * equal in this way.
  * @param {string} word
  */
 function normalizedWord(word) {

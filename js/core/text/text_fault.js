@@ -1,5 +1,5 @@
-// Converts a text to the form that is sent to the bench, and finds lines that cannot be sent. Comments and indentation are not sent;
-// comments can therefore contain any character and do not count towards the length. In code, a non-ASCII character is an error.
+// Converts a text to the form that is sent to the bench, and finds lines that cannot be sent. Comments and indentation are not sent, so
+// comments can contain any character and do not count towards the length. In code, a non-ASCII character is an error.
 
 import { LINE_TOO_LONG, MAX_LINE_LENGTH, NOT_ASCII } from "../bench/inputs.js";
 import * as say from "../../words/text.js";
@@ -19,7 +19,7 @@ import * as say from "../../words/text.js";
 /** The maximum length of a sent text in characters, including one line feed per line. */
 export const LONGEST_TEXT = 16384;
 /** The maximum length of a text with comments and indentation, in characters. */
-export const LONGEST_KEPT = 65536;
+export const STORED_LIMIT = 65536;
 /** The refusal number for a text that is too long. */
 export const TEXT_TOO_LONG = 13;
 
@@ -49,11 +49,11 @@ export function commentAt(line, mark) {
 }
 
 /**
- * Comments lines out. If all lines are comments, removes the comment marks instead. Blank lines stay unchanged.
+ * Adds a comment mark to each line. If all lines are comments, removes the comment marks instead. Blank lines stay unchanged.
  * @param {string[]} lines
  * @param {CommentMark | string} mark
  */
-export function commented(lines, mark) {
+export function toggleComments(lines, mark) {
   const areAll = lines.every((line) => line.trim() === "" || line.trimStart().startsWith(mark)) && lines.some((line) => line.trim() !== "");
   if (areAll) return lines.map((line) => line.replace(new RegExp(`^(\\s*)${mark} ?`), "$1"));
   return lines.map((line) => (line.trim() === "" ? line : `${mark} ${line}`));
@@ -82,21 +82,21 @@ export function trimBlanks(text) {
 }
 
 /**
- * Returns a line as it is sent. The result is never only a dot, because that would end the text.
+ * Returns a line in the form that is sent. The result is never only a dot, because a dot ends the text.
  * @param {string} line
  * @param {CommentMark} mark
  */
 export function sentLine(line, mark) {
-  const left = trimBlanks(line.slice(0, commentAt(line, mark)));
-  return left === "." && line !== "." ? " ." : left;
+  const code = trimBlanks(line.slice(0, commentAt(line, mark)));
+  return code === "." && line !== "." ? " ." : code;
 }
 
 /**
- * Returns a text with each line changed, and with a line feed after the last line.
+ * Applies a function to each line of a text. In the result, each line ends with a line feed.
  * @param {string} text
  * @param {(line: string) => string} change
  */
-function changedLines(text, change) {
+function mapLines(text, change) {
   if (text === "") return "";
   const lines = text.replace(/\r\n?/g, "\n").split("\n");
   // The last line of a text can consist of blanks.
@@ -110,24 +110,25 @@ function changedLines(text, change) {
  * @param {CommentMark} mark
  */
 export function alignedText(text, mark) {
-  return changedLines(text, (line) => alignedLine(line, mark));
+  return mapLines(text, (line) => alignedLine(line, mark));
 }
 
 /**
- * Returns a text as it is sent. If a board text contains a multi-line string, blanks stay because they can belong to the string.
+ * Returns a text in the form that is sent. If a board text contains a multi-line string, keeps blanks and comments, because they can belong
+ * to the string.
  * @param {string} text
  * @param {CommentMark} mark
  */
 export function sentText(text, mark) {
   if (mark === "#" && /"""|'''/.test(text)) return alignedText(text, mark);
-  return changedLines(text, (line) => sentLine(line, mark));
+  return mapLines(text, (line) => sentLine(line, mark));
 }
 
 /**
  * Returns a message about an invalid character.
  * @param {string} character
  */
-function wordsOfCharacter(character) {
+function describeCharacter(character) {
   if (/[\u2018\u2019\u201c\u201d\u00ab\u00bb]/.test(character)) return say.otherQuote(character);
   if (character === "\u00a0") return say.OTHER_BLANK;
   if (/[\p{Cf}\p{Zs}\p{Zl}\p{Zp}\p{Cc}]/u.test(character) && character >= "\u0080") {
@@ -142,11 +143,11 @@ function wordsOfCharacter(character) {
  * Returns the error in a line that cannot be sent; null if it can be sent.
  * @param {string} line the line, with the same positions as the original
  * @param {string} sent the line as sent
- * @param {number} at the line number
+ * @param {number} lineNumber the line number
  * @returns {Fault | null}
  */
-function faultOfLine(line, sent, at) {
-  const range = { line: at, from: 0, to: line.length };
+function findLineFault(line, sent, lineNumber) {
+  const range = { line: lineNumber, from: 0, to: line.length };
   if (sent === ".") return { number: 0, ...range, words: say.DOT_ENDS };
   if (sent.length > MAX_LINE_LENGTH) {
     const message = say.lineTooLong(MAX_LINE_LENGTH, sent.length);
@@ -155,15 +156,15 @@ function faultOfLine(line, sent, at) {
   const foreign = /[^\t -~]+/u.exec(line);
   if (!foreign) return null;
   const from = foreign.index;
-  return { number: NOT_ASCII, line: at, from, to: from + foreign[0].length, words: wordsOfCharacter([...foreign[0]][0]) };
+  return { number: NOT_ASCII, line: lineNumber, from, to: from + foreign[0].length, words: describeCharacter([...foreign[0]][0]) };
 }
 
 /**
- * Returns whether all lines of a text can be sent. This fast check is sufficient for most texts.
+ * Returns whether all lines of a text can be sent. Most texts pass this fast check.
  * @param {string} text
  * @param {string[]} sentLines
  */
-function canBeSent(text, sentLines) {
+function canSendLines(text, sentLines) {
   return !/[^\t\n\r -~]/.test(text) && sentLines.every((line) => line.length <= MAX_LINE_LENGTH && line !== ".");
 }
 
@@ -173,12 +174,12 @@ function canBeSent(text, sentLines) {
  * @param {CommentMark} mark
  * @returns {Fault[]}
  */
-export function faultsOfLines(text, mark) {
+export function findLineFaults(text, mark) {
   const sent = sentText(text, mark);
   const sentLines = sent.split("\n");
-  if (sent.length <= LONGEST_TEXT && canBeSent(text, sentLines)) return [];
+  if (sent.length <= LONGEST_TEXT && canSendLines(text, sentLines)) return [];
   const lines = alignedText(text, mark).split("\n");
-  const faults = lines.map((line, at) => faultOfLine(line, sentLines[at], at + 1)).filter((fault) => fault !== null);
+  const faults = lines.map((line, at) => findLineFault(line, sentLines[at], at + 1)).filter((fault) => fault !== null);
   if (sent.length > LONGEST_TEXT) {
     const last = sent.slice(0, LONGEST_TEXT).split("\n").length;
     const message = say.textTooLong(LONGEST_TEXT.toLocaleString("en"), sent.length.toLocaleString("en"));

@@ -1,8 +1,8 @@
-// Help for the words of programs and boards, from the manual's tables.
+// Returns the help for words in programs and board texts, from the manual's tables.
 
 import { counted } from "../bench/numbers.js";
-import { PAIR, REGISTER, namesOf, partsOf, wordAt } from "./assembly.js";
-import { plain, rowsOf } from "../help/manual.js";
+import { PAIR, REGISTER, findDefinedNames, splitStatement, wordAt } from "./assembly.js";
+import { cellText, sectionRows } from "../help/manual.js";
 import * as say from "../../words/text.js";
 
 /**
@@ -14,10 +14,10 @@ import * as say from "../../words/text.js";
  * Returns the help for an instruction: its form, its size in words and cycles, and its effect.
  * @param {Instruction} instruction
  */
-export function wordsOfInstruction(instruction) {
+export function describeInstruction(instruction) {
   const { form, words, cycles } = instruction;
   const size = `${counted(Number(words), "word")}, ${counted(Number(cycles), "cycle")}`;
-  const does = doesOf(instruction);
+  const does = describeEffect(instruction);
   return `${form}: ${size}. ${does[0].toUpperCase()}${does.slice(1)}.`;
 }
 
@@ -25,7 +25,7 @@ export function wordsOfInstruction(instruction) {
  * Returns the effect of an instruction. If the manual does not mention the carry, adds that the carry does not change.
  * @param {Instruction} instruction
  */
-export function doesOf({ does }) {
+export function describeEffect({ does }) {
   return /\bCY\b|carry|borrow/.test(does) ? does : `${does}${say.CARRY_STAYS}`;
 }
 
@@ -33,7 +33,7 @@ export function doesOf({ does }) {
  * Returns the help for a register or register pair.
  * @param {string} word
  */
-export function wordsOfRegister(word) {
+export function describeRegister(word) {
   const number = Number(word.slice(1));
   if (PAIR.test(word)) return say.pairIs(number, 2 * number, 2 * number + 1);
   return say.registerIs(number, number % 2 === 0, Math.floor(number / 2));
@@ -43,7 +43,7 @@ export function wordsOfRegister(word) {
  * Returns the help for a directive, or "" for any other word.
  * @param {string} word the word in upper case
  */
-export function wordsOfDirective(word) {
+export function describeDirective(word) {
   if (word === "ORG") return say.ORG_HELP;
   return word === "DB" ? say.DB_HELP : "";
 }
@@ -52,23 +52,23 @@ export function wordsOfDirective(word) {
  * Returns the help for the word at a position in a program, or "".
  * @param {string[]} lines
  * @param {number} line the line number from 0
- * @param {number} at
+ * @param {number} column
  * @param {Map<string, Instruction>} instructions
  * @param {(name: string) => string} meaningOf returns the meaning of a name, or ""
  */
-export function helpForProgram(lines, line, at, instructions, meaningOf) {
+export function helpForProgram(lines, line, column, instructions, meaningOf) {
   const text = lines[line] || "";
-  const word = wordAt(text, at);
-  const { comment } = partsOf(text);
+  const word = wordAt(text, column);
+  const { comment } = splitStatement(text);
   if (!word || word.from >= comment) return "";
   const upper = word.text.toUpperCase();
   const instruction = instructions.get(upper);
-  if (instruction) return wordsOfInstruction(instruction);
-  if (wordsOfDirective(upper)) return wordsOfDirective(upper);
-  if (REGISTER.test(word.text) || PAIR.test(word.text)) return wordsOfRegister(word.text);
+  if (instruction) return describeInstruction(instruction);
+  if (describeDirective(upper)) return describeDirective(upper);
+  if (REGISTER.test(word.text) || PAIR.test(word.text)) return describeRegister(word.text);
   const meaning = meaningOf(word.text);
   if (meaning) return meaning;
-  const definedIn = namesOf(lines).get(word.text);
+  const definedIn = findDefinedNames(lines).get(word.text);
   return definedIn ? say.definedInLine(word.text, definedIn) : "";
 }
 
@@ -81,12 +81,12 @@ export function boardTables(manual) {
   /** @type {Map<string, Map<string, string>>} */
   const tables = new Map();
   let keys = new Map();
-  for (const [table, , names, values] of rowsOf(manual, say.KEYS_OF_TEXT)) {
+  for (const [table, , names, values] of sectionRows(manual, say.KEYS_OF_TEXT)) {
     if (table !== "") {
       keys = new Map();
-      tables.set(plain(table), keys);
+      tables.set(cellText(table), keys);
     }
-    for (const [, name] of names.matchAll(/`([^`]+)`/g)) keys.set(name, plain(values));
+    for (const [, name] of names.matchAll(/`([^`]+)`/g)) keys.set(name, cellText(values));
   }
   return tables;
 }
@@ -108,11 +108,11 @@ export function tableAt(lines, line) {
  * Returns the help for the word at a position in a board text, or "".
  * @param {string[]} lines
  * @param {number} line the line number from 0
- * @param {number} at
+ * @param {number} column
  * @param {Map<string, Map<string, string>>} tables
  */
-export function helpForBoard(lines, line, at, tables) {
-  const word = wordAt(lines[line] || "", at);
+export function helpForBoard(lines, line, column, tables) {
+  const word = wordAt(lines[line] || "", column);
   if (!word) return "";
   const table = tableAt(lines, line);
   const values = (tables.get(table) || new Map()).get(word.text);

@@ -11,7 +11,7 @@ import * as say from "../../words/text.js";
 
 const BLANK = /^[ \t]+/;
 const COMMENT = /^#.*/;
-const BARE = /^[A-Za-z0-9_+:-]+(\.[A-Za-z0-9_+:-]+)*/;
+const BARE_WORD = /^[A-Za-z0-9_+:-]+(\.[A-Za-z0-9_+:-]+)*/;
 const STRING = /^"((?:\\.|[^"\\])*)"|^'([^']*)'/;
 
 /**
@@ -21,21 +21,21 @@ const STRING = /^"((?:\\.|[^"\\])*)"|^'([^']*)'/;
  * @param {number} from
  * @returns {TomlWord}
  */
-function wordFrom(text, line, from) {
-  const rest = text.slice(from);
-  const string = STRING.exec(rest);
+function parseWord(text, line, from) {
+  const remainingText = text.slice(from);
+  const string = STRING.exec(remainingText);
   if (string) {
     const inside = string[1] === undefined ? string[2] : string[1];
     return { kind: "string", text: inside, line, from, to: from + string[0].length, fault: "" };
   }
-  if (/^["']/.test(rest)) {
+  if (/^["']/.test(remainingText)) {
     const to = text.length;
-    return { kind: "bad", text: rest, line, from, to, fault: say.closingMissing(rest[0]) };
+    return { kind: "bad", text: remainingText, line, from, to, fault: say.closingMissing(remainingText[0]) };
   }
-  const bare = BARE.exec(rest);
+  const bare = BARE_WORD.exec(remainingText);
   if (bare) return { kind: "bare", text: bare[0], line, from, to: from + bare[0].length, fault: "" };
-  const isMark = /^[[\]{}=,.]/.test(rest);
-  const [character] = rest;
+  const isMark = /^[[\]{}=,.]/.test(remainingText);
+  const [character] = remainingText;
   const word = { text: character, line, from, to: from + 1 };
   return isMark ? { kind: "mark", ...word, fault: "" } : { kind: "bad", ...word, fault: say.noMeaning(character) };
 }
@@ -56,7 +56,7 @@ export function tomlWords(lines) {
         from += gap[0].length;
         continue;
       }
-      const word = wordFrom(text, at + 1, from);
+      const word = parseWord(text, at + 1, from);
       words.push(word);
       from = word.to;
     }

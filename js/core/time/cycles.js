@@ -1,19 +1,24 @@
-// Counts cycles for the user: since a reset, since the last stop, and between two marks; each count has the time of a real 4004.
+// Counts cycles for the user: since the last reset, since the last stop, and between two marks. Also converts cycles to the time of a real
+// 4004.
 
 import { counted } from "../bench/numbers.js";
 import { CYCLE_US } from "./mcs4_time.js";
 import * as say from "../../words/time.js";
 
 /**
- * The counts of a session: all cycles (`total`), and `total` at the last reset, at the start of the last run, and at up to two marks.
- * @typedef {{ total: number, reset: number, from: number, marks: number[] }} KeptCycles
+ * The stored counts of a session. `total` is the number of all cycles. `reset`, `from` and `marks` are its values at the last reset, at the
+ * start of the last run, and at up to two marks.
+ * @typedef {{ total: number, reset: number, from: number, marks: number[] }} StoredCycles
  */
 
-/** @type {KeptCycles} */
+/** @type {StoredCycles} */
 export const NO_CYCLES = { total: 0, reset: 0, from: 0, marks: [] };
 
-/** @param {number} cycles */
-export function timeOfCycles(cycles) {
+/**
+ * Formats the time of a number of cycles: `5.810 ms`.
+ * @param {number} cycles
+ */
+export function formatCycleTime(cycles) {
   const milliseconds = (cycles * CYCLE_US) / 1000;
   return milliseconds < 1000 ? say.inMilliseconds(milliseconds.toFixed(3)) : say.inSeconds((milliseconds / 1000).toFixed(3));
 }
@@ -22,19 +27,19 @@ export function timeOfCycles(cycles) {
  * Formats a cycle count with its time: `538 cycles, 5.810 ms`.
  * @param {number} cycles
  */
-export function wordsOfCycles(cycles) {
-  return `${counted(cycles, "cycle")}, ${timeOfCycles(cycles)}`;
+export function formatCycles(cycles) {
+  return `${counted(cycles, "cycle")}, ${formatCycleTime(cycles)}`;
 }
 
 export class Cycles {
-  /** @param {KeptCycles} [storedCounts] */
+  /** @param {StoredCycles} [storedCounts] */
   constructor(storedCounts = NO_CYCLES) {
     const { total, reset, from, marks } = storedCounts;
     this.total = total;
     this.reset = reset;
     this.from = from;
     this.marks = marks;
-    /** True if time is paused; the next cycles then start another run. */
+    /** True if the session is paused. The next cycles then start another run. */
     this.isPaused = true;
   }
 
@@ -51,7 +56,7 @@ export class Cycles {
     this.reset = reset;
   }
 
-  /** Records that time is paused: the next cycles start another run. */
+  /** Records that the session is paused. */
   stop() {
     this.isPaused = true;
   }
@@ -61,7 +66,10 @@ export class Cycles {
     this.marks = this.marks.length === 1 ? [...this.marks, this.total] : [this.total];
   }
 
-  /** The cycles since the reset, in the last run, and from the first mark to the second mark or to now (null without a mark). */
+  /**
+   * The numbers of cycles since the last reset, since the last stop, and since the first mark (null without a mark). A second mark ends the
+   * last count.
+   */
   get counts() {
     const [first, second = this.total] = this.marks;
     return {
@@ -71,7 +79,7 @@ export class Cycles {
     };
   }
 
-  /** @returns {KeptCycles} */
+  /** @returns {StoredCycles} the counts to store */
   get kept() {
     const { total, reset, from, marks } = this;
     return { total, reset, from, marks };

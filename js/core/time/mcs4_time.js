@@ -1,4 +1,4 @@
-// Durations of the 4004, the screen, the eye and key presses. Each name contains its unit.
+// Durations: of the cycles of a 4004, of the frames of a screen, of human vision, and of key presses. Each name contains the unit.
 
 /** The duration of a cycle in tenths of a microsecond: eight clock periods of 1.35 microseconds. */
 export const CYCLE_TENTHS_US = 108;
@@ -12,23 +12,23 @@ export const CYCLES_PER_SECOND = 92593;
 export const FRAME_MS = 1000 / 60;
 export const FRAME_CYCLES = 1543;
 
-/** The time constant of the eye: after this time, it perceives the fraction 1 - 1/e of a change. */
+/** The time constant of human vision: after this time, the eye perceives the fraction 1 - 1/e of a change of brightness. */
 export const EYE_MS = 30;
 export const EYE_CYCLES = 2778;
 
-/** The minimum times of a key on the page: 43 ms down, 22 ms up. */
+/** The minimum times for which a key on the page is down and then up: 43 ms and 22 ms. */
 export const KEY_DOWN_CYCLES = 4000;
 export const KEY_UP_CYCLES = 2000;
-/** The times of a key in tests and tools: 43 ms down, then 173 ms up. A program that polls its keys detects each press. */
+/** The times for which a key in tests and tools is down and then up: 43 ms and 173 ms. A program that polls its keys detects each press. */
 export const TOOL_KEY_DOWN_CYCLES = 4000;
 export const TOOL_KEY_UP_CYCLES = 16000;
-/** The wait of a script before its first key: 22 ms. */
-export const BEFORE_KEYS_CYCLES = 2000;
+/** The wait before the first key in a script: 22 ms. */
+export const CYCLES_BEFORE_KEYS = 2000;
 
 /**
  * Converts milliseconds to cycles, rounded to the nearest cycle.
  * @param {number} milliseconds
  */
-export function cyclesOfMs(milliseconds) {
+export function cyclesFromMilliseconds(milliseconds) {
   return Math.floor(milliseconds / CYCLE_MS + 0.5);
 }

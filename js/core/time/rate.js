@@ -1,7 +1,7 @@
 // Measures the rate of cycles per second, over half a second.
 
 /** The duration of a measurement, in milliseconds. */
-const INTERVAL = 500;
+const INTERVAL_MS = 500;
 
 export class Rate {
   /** @param {number} now the current time in milliseconds */
@@ -20,7 +20,7 @@ export class Rate {
   add(cycles, now) {
     this.cycles += cycles;
     const time = now - this.since;
-    if (time < INTERVAL) return false;
+    if (time < INTERVAL_MS) return false;
     this.perSecond = (this.cycles / time) * 1000;
     this.since = now;
     this.cycles = 0;

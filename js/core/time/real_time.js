@@ -1,13 +1,13 @@
-// Real time: computes the number of cycles that are due. Time during which the page was hidden, blocked or asleep does not count. A key
-// press is simulated early, and later frames make up for it.
+// Computes the number of cycles that each frame must simulate to keep up with real time. The time for which the page is hidden, blocked or
+// asleep does not count. A key press is simulated up to one frame early, and the later frames simulate fewer cycles.
 
 import { CYCLES_PER_SECOND, FRAME_MS } from "./mcs4_time.js";
 
-/** The maximum number of cycles in a frame. A slow browser skips further cycles. */
+/** The maximum number of cycles per frame. A slow browser skips all further cycles. */
 export const MAX_DUE = 20000;
-/** The maximum time by which a key press is simulated early, in milliseconds: one frame, because lamps change only once per frame. */
+/** The maximum time that a key press is simulated early, in milliseconds: one frame, because lamps change only once per frame. */
 export const MAX_AHEAD = FRAME_MS;
-/** The minimum gap between frames that counts as a pause, in milliseconds. */
+/** The minimum time between two frames that counts as a gap, in milliseconds. */
 export const LONG_GAP = 1000;
 
 export class RealTime {
@@ -32,7 +32,7 @@ export class RealTime {
   }
 
   /**
-   * Restarts at a time with no cycles due, even after an early key press.
+   * Restarts at a time with no cycles due. Forgets cycles that were simulated early.
    * @param {number} now
    * @param {number} wall
    */
@@ -43,13 +43,14 @@ export class RealTime {
     this.owed = 0;
   }
 
-  /** Records that the page is hidden. The next frame reports the length of the gap. */
+  /** Records that the page is hidden. The next frame then reports a gap. */
   hide() {
     this.wasHidden = true;
   }
 
   /**
-   * Skips the time since the last frame if time was paused. Returns the gap in milliseconds; null if there was none.
+   * Skips the time since the last frame if the page was hidden, blocked or asleep. Returns the length of this gap in milliseconds; null if
+   * there was no gap.
    * @param {number} now
    * @param {number} wall
    * @returns {{ gap: number, wasHidden: boolean } | null}

@@ -1,51 +1,57 @@
-// The speeds of time: real time, a fraction of real time, one instruction per second, or full speed.
+// The speeds at which a session can run: real time, a fraction of real time, one instruction per second, or full speed.
 
 import * as say from "../../words/time.js";
 
 /**
- * A speed. Time is slower than real time by the factor `slowdown`. `byInstruction`: one instruction per second. `isFull`: full speed.
- * @typedef {{ id: string, words: string, slowdown: number, byInstruction: boolean, isFull: boolean }} Speed
+ * A speed. `slowdown` is the duration of a cycle in the session, divided by its duration in real time. `isByInstruction` is true for one
+ * instruction per second, and `isFull` for full speed.
+ * @typedef {{ id: string, words: string, slowdown: number, isByInstruction: boolean, isFull: boolean }} Speed
  */
 
 /**
+ * Creates a speed; the default is real time.
  * @param {string} id
  * @param {string} words
- * @param {Partial<Speed>} some
+ * @param {Partial<Speed>} changes
  * @returns {Speed}
  */
-function speed(id, words, some = {}) {
-  return { id, words, slowdown: 1, byInstruction: false, isFull: false, ...some };
+function createSpeed(id, words, changes = {}) {
+  return { id, words, slowdown: 1, isByInstruction: false, isFull: false, ...changes };
 }
 
-export const REAL = speed("real", say.REAL_TIME);
+export const REAL_TIME_SPEED = createSpeed("real", say.REAL_TIME);
 
 /** The speeds in the order of the menu. */
 export const SPEEDS = [
-  REAL,
-  speed("tenth", "1/10", { slowdown: 10 }),
-  speed("hundredth", "1/100", { slowdown: 100 }),
-  speed("thousandth", "1/1,000", { slowdown: 1000 }),
-  speed("instruction", say.ONE_A_SECOND, { byInstruction: true }),
-  speed("full", say.FULL_SPEED, { isFull: true }),
+  REAL_TIME_SPEED,
+  createSpeed("tenth", "1/10", { slowdown: 10 }),
+  createSpeed("hundredth", "1/100", { slowdown: 100 }),
+  createSpeed("thousandth", "1/1,000", { slowdown: 1000 }),
+  createSpeed("instruction", say.ONE_A_SECOND, { isByInstruction: true }),
+  createSpeed("full", say.FULL_SPEED, { isFull: true }),
 ];
 
-/** @param {string} id */
-export function speedOf(id) {
-  return SPEEDS.find((each) => each.id === id) || REAL;
+/**
+ * Returns the speed with an id; real time for an unknown id.
+ * @param {string} id
+ */
+export function findSpeed(id) {
+  return SPEEDS.find((each) => each.id === id) || REAL_TIME_SPEED;
 }
 
 /**
- * Returns whether the eye can follow the marked source line.
+ * Returns whether a user can follow the mark at the current source line with the eyes.
  * @param {Speed} each
  */
-export function canFollowLine({ slowdown, byInstruction }) {
-  return byInstruction || slowdown >= 100;
+export function canFollowLine({ slowdown, isByInstruction }) {
+  return isByInstruction || slowdown >= 100;
 }
 
 /**
- * Returns whether a click toggles a key, as it does while time is paused. At such a speed the program is too slow to detect a short press.
+ * Returns whether a click on a key toggles the key, as it does while the session is paused. At such a low speed, the program cannot detect
+ * a short press.
  * @param {Speed} each
  */
-export function togglesKeys({ slowdown, byInstruction }) {
-  return byInstruction || slowdown >= 1000;
+export function togglesKeys({ slowdown, isByInstruction }) {
+  return isByInstruction || slowdown >= 1000;
 }

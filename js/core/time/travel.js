@@ -1,4 +1,4 @@
-// Moves to a goal, back and forward in time, and shows messages about the moves.
+// Moves a session to a goal, backwards or forwards in time, and shows a message about each move.
 
 import { wordsOfGone } from "../../words/stops.js";
 import * as say from "../../words/time.js";
@@ -6,27 +6,27 @@ import * as say from "../../words/time.js";
 /**
  * @typedef {import("../engine/travel_requests.js").TravelRequests} TravelRequests
  * @typedef {import("../bench/bench_client.js").Caller<TravelRequests>} Bench
- * @typedef {import("../bench/bench_client.js").Ways} Ways
+ * @typedef {import("../bench/bench_client.js").CallOptions} CallOptions
  * @typedef {import("../engine/going_back.js").BackGoal} BackGoal
  * @typedef {import("../bench/protocol.js").Stop} Stop
  * @typedef {import("../bench/protocol.js").Tally} Tally
- * @typedef {import("../bench/protocol.js").ServedLines} ServedLines
+ * @typedef {import("../bench/protocol.js").LinesReply} LinesReply
  * @typedef {import("../debug/goals.js").Goal} Goal
  */
 
 /**
  * The callbacks of Travel.
  * @typedef {object} TravelCalls
- * @property {() => Promise<void>} stand Pauses time; resolves after time is paused.
+ * @property {() => Promise<void>} pause Pauses the session; resolves when the session is paused.
  * @property {() => { board: string, program: string, watched: string[] }} texts Returns the texts whose names conditions can use, and the
  *   watch expressions.
  * @property {(goal: Goal | null) => void} aim Stores the goal in the session during the search; null removes it.
- * @property {<Result extends ServedLines>(words: string, work: (ways: Ways) => Promise<Result>) => Promise<Result | null>} change Does work
- *   that changes the session; saves and shows the result. `words` describe the work while the user can cancel it. If the work is cancelled
- *   or fails, reports that and resolves to null.
- * @property {(goal: Goal) => void} runTo Starts time; it runs to the goal that the bench has stored.
+ * @property {<Result extends LinesReply>(words: string, work: (ways: CallOptions) => Promise<Result>) => Promise<Result | null>} change
+ * Does work that changes the session; saves and shows the result. `words` describe the work while the user can cancel it. If the work is
+ *   cancelled or fails, reports that and resolves to null.
+ * @property {(goal: Goal) => void} runTo Starts the session, which runs to the goal that the bench has stored.
  * @property {(tally: Tally) => void} counted Reports breakpoint hits and log messages.
- * @property {(stop: Stop, goal: Goal) => string} reasonOf Returns the message with the reason why time stopped.
+ * @property {(stop: Stop, goal: Goal) => string} reasonOf Returns the message with the reason for a stop.
  * @property {() => string} where Returns the program counter with its name and source line as text.
  * @property {(id: number) => import("../debug/breakpoints.js").Breakpoint | undefined} breakpoint Returns the breakpoint with an id, or
  *   undefined.
@@ -44,11 +44,12 @@ export class Travel {
   }
 
   /**
-   * Runs until a goal is reached or something else stops time. A near goal is reached at once. For any other goal, time starts to run.
+   * Runs until the session reaches a goal, or until something else stops it. First searches ahead for the goal. If the goal is not near,
+   * starts the session.
    * @param {Goal} goal
    */
   async goOn(goal) {
-    await this.calls.stand();
+    await this.calls.pause();
     if (goal.kind === "when") await this.bench.call("takeNames", [this.calls.texts()]);
     this.calls.aim(goal);
     const result = await this.calls.change(say.SEARCHING_GOAL, (ways) => this.bench.call("goOn", [goal], ways));
@@ -60,16 +61,20 @@ export class Travel {
     else this.calls.showMessage(this.calls.reasonOf({ why: isReached ? "goal" : end, cycles, id, returns }, goal));
   }
 
-  /** @param {BackGoal} goal */
+  /**
+   * Moves back to a goal in the past.
+   * @param {BackGoal} goal
+   */
   async goBack(goal) {
-    await this.calls.stand();
+    await this.calls.pause();
     if (goal.kind === "when") await this.bench.call("takeNames", [this.calls.texts()]);
     const result = await this.calls.change(say.REPEATING_PAST, (ways) => this.bench.call("goBack", [goal], ways));
     if (result) this.calls.showMessage(wordsOfGone(goal, result, this.calls.where(), this.calls.breakpoint(result.id)));
   }
 
+  /** Moves forward again after a move back in time. */
   async goForward() {
-    await this.calls.stand();
+    await this.calls.pause();
     const result = await this.calls.change(say.GOING_FORWARD, () => this.bench.call("goForward", []));
     if (result) this.calls.showMessage(wordsOfGone({ kind: "forward" }, result, this.calls.where()));
   }

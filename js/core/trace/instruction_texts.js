@@ -1,34 +1,36 @@
-// Builds the part of a trace line before the effect of an instruction: elapsed cycles, address, bytes and text. A label has its own line.
+// Formats the first columns of a trace line: the elapsed cycles, and the address, bytes and text of the instruction. The label of an
+// instruction is a separate line before it.
 
 import { hex } from "../bench/numbers.js";
-import { ADDRESSES } from "../bench/rom_bytes.js";
+import { ADDRESS_COUNT } from "../bench/rom_bytes.js";
 import { joinLines } from "../bench/inputs.js";
-import { wordsOf } from "../engine/rom_codes.js";
+import { instructionWords } from "../engine/rom_codes.js";
 
 /**
  * @typedef {import("../engine/engine_host.js").EngineHost} EngineHost
  * @typedef {import("../engine/engine_host.js").State} State
  * @typedef {import("../machine/source_map.js").SourceMap} SourceMap
  *
- * The names of a program. `source` has the source lines if the trace shows them; `before` is the number of lines before them in the file.
+ * The names of a program. `source` contains the source lines if the trace shows them, and the number of lines before them in their file
+ * (`before`).
  * @typedef {{ map: SourceMap, source: { lines: string[], before: number } | null }} TraceNames
  */
 
-/** The width of the instruction text, without and with the source. */
-const WIDTH = 25;
+/** The width of the instruction text in characters, without and with source lines. */
+const TEXT_WIDTH = 25;
 const SOURCE_WIDTH = 42;
-const TAB = 8;
+const TAB_WIDTH = 8;
 /** Matches a listing line with JUN, JMS, JCN or ISZ; captures the text before the target, and the target. */
-const JUMP = /^(?=.{10}(?:JUN|JMS|JCN|ISZ) )(.{7}[^ ].*)0x([0-9A-F]{3})$/;
-const LAST_ADDRESS = ADDRESSES - 1;
-/** The columns of the first byte in a listing line. */
-const CODE_IN_LINE = /** @type {const} */ ([4, 6]);
+const JUMP_LINE = /^(?=.{10}(?:JUN|JMS|JCN|ISZ) )(.{7}[^ ].*)0x([0-9A-F]{3})$/;
+const LAST_ADDRESS = ADDRESS_COUNT - 1;
+/** The start and end column of the first byte in a listing line. */
+const CODE_COLUMNS = /** @type {const} */ ([4, 6]);
 
 /**
  * Returns the start of a trace line: the cycles before the instruction.
  * @param {number} cycles
  */
-function cyclesText(cycles) {
+function formatElapsed(cycles) {
   return `${String(cycles).padStart(8)}  `;
 }
 
@@ -36,9 +38,9 @@ function cyclesText(cycles) {
  * Returns a source line without its comment, and with blanks instead of tabs.
  * @param {string} line
  */
-function codeOfLine(line) {
+function extractCode(line) {
   const parts = line.split("\t");
-  const expanded = parts.reduce((text, part) => text.padEnd((Math.floor(text.length / TAB) + 1) * TAB) + part);
+  const expanded = parts.reduce((text, part) => text.padEnd((Math.floor(text.length / TAB_WIDTH) + 1) * TAB_WIDTH) + part);
   return expanded.replace(/;.*/, "").replace(/ +$/, "");
 }
 
@@ -55,56 +57,56 @@ const TWO_BYTE_INSTRUCTIONS = {
 };
 
 /**
- * Returns the listing line of an instruction at the last address whose second byte is at address 0.
- * @param {number} code the first byte
- * @param {number} second the second byte
+ * Returns the listing line of a two-byte instruction at the last address, whose second byte is at address 0.
+ * @param {number} firstByte the first byte
+ * @param {number} secondByte the second byte
  */
-function wrappedText(code, second) {
-  const digits = hex(second, 2);
-  const [name, operandsOf] = TWO_BYTE_INSTRUCTIONS[code >> 4];
-  return [hex(LAST_ADDRESS, 3), hex(code, 2), digits, name, operandsOf(code % 16, digits)].join(" ");
+function formatWrapped(firstByte, secondByte) {
+  const digits = hex(secondByte, 2);
+  const [name, operandsOf] = TWO_BYTE_INSTRUCTIONS[firstByte >> 4];
+  return [hex(LAST_ADDRESS, 3), hex(firstByte, 2), digits, name, operandsOf(firstByte % 16, digits)].join(" ");
 }
 
 export class InstructionTexts {
   /** @param {TraceNames | null} names */
   constructor(names) {
     /** The first bytes of the instructions that have been read, by address. */
-    this.codes = new Uint8Array(ADDRESSES);
+    this.codes = new Uint8Array(ADDRESS_COUNT);
     this.names = names;
-    this.width = names && names.source ? SOURCE_WIDTH : WIDTH;
+    this.width = names && names.source ? SOURCE_WIDTH : TEXT_WIDTH;
     /** @type {Map<number, { label: string, text: string }>} the instruction texts, by address */
     this.texts = new Map();
   }
 
   /**
-   * Reads the texts of the instructions at some addresses.
+   * Reads the texts of the instructions at some addresses from the bench, unless they are known.
    * @param {EngineHost} engine
    * @param {State} state
    * @param {number[]} addresses
    */
-  read(engine, state, addresses) {
+  readInstructions(engine, state, addresses) {
     const unread = addresses.filter((address) => !this.texts.has(address));
     if (unread.length === 0) return;
     // An instruction at the last address can have its second byte at address 0.
     const listed = unread.includes(LAST_ADDRESS) ? [...unread, 0] : unread;
     const { answers } = engine.ask(state, joinLines(listed.map((address) => `list 0x${hex(address, 3)} 1`)));
     listed.forEach((address, at) => {
-      this.codes[address] = parseInt(answers[at].slice(...CODE_IN_LINE), 16);
+      this.codes[address] = parseInt(answers[at].slice(...CODE_COLUMNS), 16);
     });
-    unread.forEach((address, at) => this.texts.set(address, this.linesAt(address, answers[at])));
+    unread.forEach((address, at) => this.texts.set(address, this.formatInstruction(address, answers[at])));
   }
 
   /**
-   * Returns the label line and text of an instruction.
+   * Returns the text of an instruction, and the line with its label.
    * @param {number} address
-   * @param {string} listed the listing line of the instruction
+   * @param {string} listingLine the listing line of the instruction
    */
-  linesAt(address, listed) {
+  formatInstruction(address, listingLine) {
     const { codes, names } = this;
-    const isWrapped = address === LAST_ADDRESS && wordsOf(codes[address]) === 2;
-    const whole = isWrapped ? wrappedText(codes[address], codes[0]) : listed;
+    const isWrapped = address === LAST_ADDRESS && instructionWords(codes[address]) === 2;
+    const whole = isWrapped ? formatWrapped(codes[address], codes[0]) : listingLine;
     if (!names) return { label: "", text: `${whole.padEnd(this.width)}  ` };
-    const text = this.sourceText(this.withTarget(whole), address);
+    const text = this.replaceBySource(this.replaceTarget(whole), address);
     const [label = ""] = names.map.labelsAt(address);
     const isInSource = names.source && names.map.beginsInstruction(address) && names.map.lineOfLabel(label) === names.map.lineOf(address);
     return { label: label === "" || isInSource ? "" : `          ${label}:\n`, text: `${text.padEnd(this.width)}  ` };
@@ -114,8 +116,8 @@ export class InstructionTexts {
    * Replaces the target address of a jump in a listing line by its label.
    * @param {string} text
    */
-  withTarget(text) {
-    const [, before = "", target = ""] = JUMP.exec(text) || [];
+  replaceTarget(text) {
+    const [, before = "", target = ""] = JUMP_LINE.exec(text) || [];
     const [label] = this.names && target ? this.names.map.labelsAt(parseInt(target, 16)) : [];
     return label ? `${before}${label}` : text;
   }
@@ -125,30 +127,31 @@ export class InstructionTexts {
    * @param {string} text the listing line
    * @param {number} address
    */
-  sourceText(text, address) {
+  replaceBySource(text, address) {
     const { map, source = null } = this.names || {};
     const line = map ? map.lineOf(address) : 0;
     if (!map || !source || line === 0) return text;
-    const code = map.beginsInstruction(address) ? codeOfLine(source.lines[line - 1]) : text.slice(10);
+    const code = map.beginsInstruction(address) ? extractCode(source.lines[line - 1]) : text.slice(10);
     return `${text.slice(0, 9)}${String(line + source.before).padStart(5)}  ${code}`;
   }
 
   /**
-   * Returns the trace line of an instruction up to its effect, preceded by its label line. `read` must have read the text before.
+   * Returns the first columns of the trace line of an instruction, after the line with its label. Requires an earlier call of
+   * `readInstructions` with the address.
    * @param {number} cycles the cycles before the instruction
    * @param {number} address
    */
   instructionLine(cycles, address) {
     const { label, text } = /** @type {{ label: string, text: string }} */ (this.texts.get(address));
-    return `${label}${cyclesText(cycles)}${text}`;
+    return `${label}${formatElapsed(cycles)}${text}`;
   }
 
   /**
-   * Returns a trace line with other text instead of an instruction.
+   * Returns the first columns of a trace line with any text instead of an instruction.
    * @param {number} cycles the cycles before the line
    * @param {string} words
    */
-  line(cycles, words) {
-    return `${cyclesText(cycles)}${words.padEnd(this.width)}  `;
+  plainLine(cycles, words) {
+    return `${formatElapsed(cycles)}${words.padEnd(this.width)}  `;
   }
 }

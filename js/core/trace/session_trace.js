@@ -1,8 +1,8 @@
-// Traces a session from its current state on, in pieces. It works on a copy of the state.
+// Traces a session from its current state, in pieces, on a copy of the state.
 
 import { readBoard, readRun } from "../bench/answers.js";
-import { LONGEST_RUN } from "../engine/key_queue.js";
-import { withoutStops } from "../engine/without_stops.js";
+import { MAX_RUN_CYCLES } from "../engine/key_queue.js";
+import { copyWithoutStops } from "../engine/without_stops.js";
 import { InstructionTexts } from "./instruction_texts.js";
 import { TraceLines } from "./trace_lines.js";
 import * as say from "../../words/trace.js";
@@ -12,13 +12,14 @@ import * as say from "../../words/trace.js";
  * @typedef {import("../engine/engine_host.js").State} State
  * @typedef {import("./instruction_texts.js").TraceNames} TraceNames
  *
- * A callback between pieces of long work.
+ * A function that is called between pieces of long work, and yields to other tasks.
  * @typedef {() => Promise<any>} YieldToMessages
  */
 
 /** The length of the first piece, and of all other pieces, in cycles. A short first piece shows the first lines soon. */
 const FIRST_PIECE = 500;
 const PIECE = 10000;
+/** The `run` answer's reason for the end of a run without a stop. */
 const NO_STOP = "end";
 
 /**
@@ -30,7 +31,7 @@ const NO_STOP = "end";
  */
 async function runState(engine, state, cycles, yieldToMessages) {
   for (let done = 0; done < cycles;) {
-    const [answer] = engine.serve(state, `run ${Math.min(LONGEST_RUN, cycles - done)}\n`, state).answers;
+    const [answer] = engine.serve(state, `run ${Math.min(MAX_RUN_CYCLES, cycles - done)}\n`, state).answers;
     const run = readRun(answer);
     if (!run) throw new Error(`the bench answered a run by: ${answer}`);
     done += run.cycles;
@@ -54,12 +55,12 @@ export class SessionTrace {
   }
 
   /**
-   * Yields the trace lines of the next cycles. Breakpoints and watches are ignored.
+   * Yields the trace lines of the next cycles. Ignores breakpoints and watches.
    * @param {number} cycles
    * @param {TraceNames | null} names
    */
   async* next(cycles, names) {
-    const state = withoutStops(this.engine, this.startState);
+    const state = copyWithoutStops(this.engine, this.startState);
     yield* this.lines(state, { from: 0, to: cycles, end: NO_STOP }, names);
   }
 
@@ -74,7 +75,7 @@ export class SessionTrace {
     const stop = await runState(engine, this.startState.slice(), cycles, yieldToMessages);
     // An instruction takes at most two cycles, and the session can start between them.
     const from = Math.max(0, stop.cycles - 2 * count - 2);
-    const state = withoutStops(engine, this.startState);
+    const state = copyWithoutStops(engine, this.startState);
     await runState(engine, state, from, yieldToMessages);
     /** @type {string[]} */
     const lines = [];

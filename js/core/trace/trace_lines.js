@@ -1,11 +1,11 @@
-// Builds the lines of a trace: one line per instruction of a run, with its changes. They come from the answers to the queries `count` and
-// `trace`, which do not change the state.
+// Creates the lines of a trace: one line per instruction of a run, with the changes that the instruction makes. Uses the answers to `count`
+// and `trace`, which predict a run without a change of the state.
 
-import { MOST_PLACES } from "../bench/inputs.js";
-import { valueIn } from "../bench/state_line.js";
-import { cyclesOf } from "../engine/rom_codes.js";
-import { Answers, readTraced, valuesOf } from "../engine/tracing.js";
-import { upTo } from "../bench/numbers.js";
+import { MAX_PLACES } from "../bench/inputs.js";
+import { stateValue } from "../bench/state_line.js";
+import { instructionCycles } from "../engine/rom_codes.js";
+import { Answers, parseTraceLine, rowValues } from "../engine/tracing.js";
+import { indices } from "../bench/numbers.js";
 import { tracePlaces } from "./trace_places.js";
 import * as say from "../../words/trace.js";
 
@@ -17,26 +17,26 @@ import * as say from "../../words/trace.js";
  * @typedef {import("./instruction_texts.js").InstructionTexts} InstructionTexts
  * @typedef {import("./trace_places.js").TracePlace} TracePlace
  *
- * The places of one `trace` query: their current values, and the rows with new values by the cycle of the change.
+ * The places of one `trace` query, their current values, and the rows with new values, by the cycle of the change.
  * @typedef {{ places: TracePlace[], values: string[], rows: Map<number, string> }} Group
  */
 
 /** The number of registers in the query with the program counter, the accumulator and the carry. */
 const SHOWN_REGISTERS = 13;
-const MAIN_PLACES = ["pc", "acc", "cy", ...upTo(SHOWN_REGISTERS).map((at) => `r${at}`)];
+const MAIN_PLACES = ["pc", "acc", "cy", ...indices(SHOWN_REGISTERS).map((at) => `r${at}`)];
 /** The character indexes in a row of MAIN_PLACES, which has the form ` PPP A C R R ..`. */
 const ROW_INDICES = { pc: 1, acc: 5, cy: 7, registers: 9 };
 
 /**
  * Returns the register changes between two rows as text.
  * @param {string} row
- * @param {string} before the previous row
+ * @param {string} previousRow the previous row
  */
-function changedRegisters(row, before) {
+function formatRegisterChanges(row, previousRow) {
   let changes = "";
   for (let at = 0; at < SHOWN_REGISTERS; at++) {
     const digit = row[ROW_INDICES.registers + 2 * at];
-    if (digit !== before[ROW_INDICES.registers + 2 * at]) changes += ` r${at} ${digit}`;
+    if (digit !== previousRow[ROW_INDICES.registers + 2 * at]) changes += ` r${at} ${digit}`;
   }
   return changes;
 }
@@ -46,10 +46,10 @@ function changedRegisters(row, before) {
  * @param {Group} group
  * @param {string | undefined} row the row; undefined if nothing changes
  */
-function changesIn(group, row) {
+function updateGroup(group, row) {
   let changes = "";
   if (row === undefined) return changes;
-  valuesOf(row).forEach((value, at) => {
+  rowValues(row).forEach((value, at) => {
     const { textOf } = group.places[at];
     if (value === group.values[at]) return;
     const text = textOf(value);
@@ -78,8 +78,8 @@ export class TraceLines {
    */
   secondCycle(state, elapsed) {
     const [answer] = this.engine.ask(state, "state\n").answers;
-    if (valueIn(answer, "owed") !== "1") return [];
-    return [`${this.texts.line(elapsed, say.SECOND_CYCLE)}acc ${valueIn(answer, "acc")} cy ${valueIn(answer, "cy")}`];
+    if (stateValue(answer, "owed") !== "1") return [];
+    return [`${this.texts.plainLine(elapsed, say.SECOND_CYCLE)}acc ${stateValue(answer, "acc")} cy ${stateValue(answer, "cy")}`];
   }
 
   /**
@@ -90,44 +90,44 @@ export class TraceLines {
    */
   runLines(state, cycles, elapsed) {
     const { engine, texts, board } = this;
-    const executed = new Answers(engine.ask(state, `count ${cycles}\n`).answers).takeCounts().map(({ address }) => address);
-    texts.read(engine, state, executed);
-    const codes = new Set(executed.map((address) => texts.codes[address]));
+    const executedAddresses = new Answers(engine.ask(state, `count ${cycles}\n`).answers).takeCounts().map(({ address }) => address);
+    texts.readInstructions(engine, state, executedAddresses);
+    const codes = new Set(executedAddresses.map((address) => texts.codes[address]));
     const places = tracePlaces(board, SHOWN_REGISTERS, (code) => codes.has(code));
-    const groups = upTo(Math.ceil(places.length / MOST_PLACES)).map((at) => places.slice(at * MOST_PLACES, (at + 1) * MOST_PLACES));
+    const groups = indices(Math.ceil(places.length / MAX_PLACES)).map((at) => places.slice(at * MAX_PLACES, (at + 1) * MAX_PLACES));
     const queries = [...groups.map((group) => group.map(({ name }) => name)), MAIN_PLACES];
     const questions = queries.map((names) => `trace ${cycles} ${names.join(" ")}\n`).join("");
     const answers = new Answers(engine.ask(state, `regs\n${questions}`).answers);
-    const isOwed = valueIn(answers.take(), "owed") === "1";
-    const groupsWithRows = groups.map((group) => groupOf(group, answers.takeTrace()));
-    return this.linesOf(groupsWithRows, answers.takeTrace(), { elapsed, due: Number(isOwed) });
+    const isSecondCyclePending = stateValue(answers.take(), "owed") === "1";
+    const groupsWithRows = groups.map((group) => createGroup(group, answers.takeTrace()));
+    return this.mergeAnswers(groupsWithRows, answers.takeTrace(), { elapsed, firstCycle: Number(isSecondCyclePending) });
   }
 
   /**
    * Merges the answers to the queries into lines.
    * @param {Group[]} groups
    * @param {Trace} main the trace of MAIN_PLACES
-   * @param {{ elapsed: number, due: number }} from the cycles before the run, and the cycle in which its first instruction starts
+   * @param {{ elapsed: number, firstCycle: number }} from the cycles before the run, and the cycle in which its first instruction starts
    */
-  linesOf(groups, main, { elapsed, due }) {
+  mergeAnswers(groups, main, { elapsed, firstCycle }) {
     /** @type {string[]} */
     const lines = [];
     let { row } = main;
-    let nextCycle = due;
+    let nextCycle = firstCycle;
     const addLine = (/** @type {number} */ at, /** @type {number} */ address, /** @type {string} */ after) => {
-      const registers = after === row ? "" : changedRegisters(after, row);
-      const changes = groups.reduce((sum, group) => sum + changesIn(group, group.rows.get(at)), registers);
+      const registers = after === row ? "" : formatRegisterChanges(after, row);
+      const changes = groups.reduce((sum, group) => sum + updateGroup(group, group.rows.get(at)), registers);
       row = after;
       const start = this.texts.instructionLine(elapsed + at, address);
       lines.push(`${start}acc ${row[ROW_INDICES.acc]} cy ${row[ROW_INDICES.cy]}${changes && ` ${changes}`}`);
-      nextCycle = at + cyclesOf(this.texts.codes[address]);
+      nextCycle = at + instructionCycles(this.texts.codes[address]);
     };
     // A jump to itself without any change has no row. Its line is repeated up to the next row.
     const repeatJump = (/** @type {number} */ to) => {
       while (nextCycle < to) addLine(nextCycle, parseInt(row.slice(ROW_INDICES.pc, ROW_INDICES.acc - 1), 16), row);
     };
     for (const line of main.lines) {
-      const { cycles: at, address, row: after } = readTraced(line);
+      const { cycles: at, address, row: after } = parseTraceLine(line);
       repeatJump(at);
       addLine(at, address, after);
     }
@@ -136,25 +136,25 @@ export class TraceLines {
   }
 
   /**
-   * Returns the line of the next instruction up to its effect.
+   * Returns the first columns of the line for the next instruction, without its changes.
    * @param {State} state
    * @param {number} elapsed the number of cycles before the instruction
    */
   next(state, elapsed) {
     const { engine, texts } = this;
-    const address = parseInt(valueIn(engine.ask(state, "regs\n").answers[0], "pc"), 16);
-    texts.read(engine, state, [address]);
+    const address = parseInt(stateValue(engine.ask(state, "regs\n").answers[0], "pc"), 16);
+    texts.readInstructions(engine, state, [address]);
     return texts.instructionLine(elapsed, address);
   }
 }
 
 /**
- * Returns the group for places and the answer to their query.
+ * Creates a group from places and the answer to their query.
  * @param {TracePlace[]} places
  * @param {Trace} trace
  * @returns {Group}
  */
-function groupOf(places, { row, lines }) {
-  const rows = new Map(lines.map(readTraced).map(({ cycles, row: after }) => [cycles, after]));
-  return { places, values: valuesOf(row), rows };
+function createGroup(places, { row, lines }) {
+  const rows = new Map(lines.map(parseTraceLine).map(({ cycles, row: after }) => [cycles, after]));
+  return { places, values: rowValues(row), rows };
 }

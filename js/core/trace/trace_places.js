@@ -1,6 +1,6 @@
-// The places whose changes a trace shows, in line order.
+// Lists the places whose changes a trace shows, in the order of their texts in a trace line.
 
-import { hex, upTo } from "../bench/numbers.js";
+import { hex, indices } from "../bench/numbers.js";
 import { WRR } from "../engine/rom_codes.js";
 
 /**
@@ -9,8 +9,8 @@ import { WRR } from "../engine/rom_codes.js";
  * A place in a `trace` query. `textOf` returns the text for a new value. Two values with the same text do not count as a change.
  * @typedef {{ name: string, textOf: (value: string) => string }} TracePlace
  *
- * Returns whether a run executes an instruction with a given opcode.
- * @typedef {(code: number) => boolean} Executes
+ * A function that returns whether a run executes an instruction with a given opcode.
+ * @typedef {(code: number) => boolean} OpcodeTest
  */
 
 const WRM = 0xE0;
@@ -24,7 +24,7 @@ const WR0 = 0xE4;
  * @param {(value: string) => string} [textOf]
  * @returns {TracePlace}
  */
-function place(name, textOf = (value) => ` ${name} ${value}`) {
+function createPlace(name, textOf = (value) => ` ${name} ${value}`) {
   return { name, textOf };
 }
 
@@ -32,13 +32,13 @@ function place(name, textOf = (value) => ` ${name} ${value}`) {
  * Returns the places of a RAM chip that the executed instructions can change.
  * @param {number} bank
  * @param {number} chip
- * @param {Executes} executes
+ * @param {OpcodeTest} executes
  */
-function placesOfChip(bank, chip, executes) {
-  const characters = executes(WRM) ? upTo(64).map((at) => place(`ram.${bank}.0x${hex(chip * 64 + at, 2)}`)) : [];
-  const status = upTo(4).filter((kind) => executes(WR0 + kind))
-    .flatMap((kind) => upTo(4).map((at) => place(`st.${bank}.${chip * 4 + at}.${kind}`)));
-  const port = executes(WMP) ? [place(`ram${bank}.${chip}`, (value) => ` out ${bank}.${chip} ${value}`)] : [];
+function listChipPlaces(bank, chip, executes) {
+  const characters = executes(WRM) ? indices(64).map((at) => createPlace(`ram.${bank}.0x${hex(chip * 64 + at, 2)}`)) : [];
+  const status = indices(4).filter((kind) => executes(WR0 + kind))
+    .flatMap((kind) => indices(4).map((at) => createPlace(`st.${bank}.${chip * 4 + at}.${kind}`)));
+  const port = executes(WMP) ? [createPlace(`ram${bank}.${chip}`, (value) => ` out ${bank}.${chip} ${value}`)] : [];
   return [...characters, ...status, ...port];
 }
 
@@ -46,29 +46,29 @@ function placesOfChip(bank, chip, executes) {
  * Returns the output ports of the ROMs. Input changes are left out because the program does not cause them.
  * @param {Board} board
  */
-function placesOfRoms({ roms }) {
+function listRomPlaces({ roms }) {
   return roms.filter(({ port }) => port !== "iiii").map(({ chip, port }) => {
-    const outputs = upTo(4).filter((at) => port[3 - at] !== "i").reduce((sum, at) => sum + 2 ** at, 0);
-    return place(`rom${chip}`, (value) => ` rom${chip} out ${hex(parseInt(value, 16) & outputs, 1)}`);
+    const outputs = indices(4).filter((at) => port[3 - at] !== "i").reduce((sum, at) => sum + 2 ** at, 0);
+    return createPlace(`rom${chip}`, (value) => ` rom${chip} out ${hex(parseInt(value, 16) & outputs, 1)}`);
   });
 }
 
 /**
  * Returns all places that the executed instructions can change.
  * @param {Board} board
- * @param {number} register the number of the first register that needs a place
- * @param {Executes} executes
+ * @param {number} firstRegister the number of the first register that needs a place
+ * @param {OpcodeTest} executes
  * @returns {TracePlace[]}
  */
-export function tracePlaces(board, register, executes) {
+export function tracePlaces(board, firstRegister, executes) {
   return [
-    ...upTo(16).slice(register).map((at) => place(`r${at}`)),
-    place("dcl"),
-    place("ret", (value) => ` ret ${value.replace(/,/g, " ")}`),
-    ...board.banks.flatMap(({ bank, chips }) => upTo(chips).flatMap((chip) => placesOfChip(bank, chip, executes))),
-    ...(executes(WRR) ? placesOfRoms(board) : []),
+    ...indices(16).slice(firstRegister).map((at) => createPlace(`r${at}`)),
+    createPlace("dcl"),
+    createPlace("ret", (value) => ` ret ${value.replace(/,/g, " ")}`),
+    ...board.banks.flatMap(({ bank, chips }) => indices(chips).flatMap((chip) => listChipPlaces(bank, chip, executes))),
+    ...(executes(WRR) ? listRomPlaces(board) : []),
     // Any output port can drive the clock of a chain.
-    ...(executes(WMP) || executes(WRR) ? board.chains.map((_, at) => place(`chain${at}`)) : []),
-    place("lamps", (value) => ` lamps ${value.replace(/^-$/, "")}`),
+    ...(executes(WMP) || executes(WRR) ? board.chains.map((_, at) => createPlace(`chain${at}`)) : []),
+    createPlace("lamps", (value) => ` lamps ${value.replace(/^-$/, "")}`),
   ];
 }

@@ -1,6 +1,6 @@
-// Decoders: rows that are computed from several signal lines of a recording. The decoder of a shift register (4003) shows the bit that each
-// clock edge shifts in, and the register bits when the register is at rest. The decoder of the key matrix shows the driven rows and the
-// pressed keys.
+// Decoders: lines that are computed from several signal lines of a recording. The decoder of a shift register (4003) shows the bit that
+// each clock edge shifts in, and the bits of the register after a rest of some cycles. The decoder of the key matrix shows the driven rows
+// and the pressed keys.
 
 import { countUpTo } from "./growing.js";
 import * as say from "../../words/waves.js";
@@ -8,23 +8,27 @@ import * as say from "../../words/waves.js";
 /**
  * @typedef {import("./track.js").Track} Track
  * @typedef {import("./wave_lines.js").WaveLine} WaveLine
- * @typedef {import("./wave_words.js").Base} Base
+ * @typedef {import("./wave_words.js").NumberBase} NumberBase
  */
 
 /** The number of cycles without a clock edge after which a register is at rest. */
-export const REST = 16;
+export const REST_CYCLES = 16;
 
 /**
- * The values in the track of a shift register. Each bit value has two codes that alternate, so that two equal bits in a row are two
- * changes.
+ * The values in the track of a shift register: AT_REST, or BIT or OTHER_BIT plus the bit that was shifted in. BIT and OTHER_BIT alternate,
+ * so that two consecutive equal bits are two changes.
  */
 const AT_REST = 0;
 const BIT = 2;
 const OTHER_BIT = 4;
 
+/** The radix of each number base. */
 const RADIX = { hex: 16, decimal: 10, binary: 2 };
 
-/** @param {WaveLine} line */
+/**
+ * Returns whether a line is a decoder.
+ * @param {WaveLine} line
+ */
 export function isDecoder({ kind }) {
   return kind === "shift" || kind === "scan";
 }
@@ -32,11 +36,11 @@ export function isDecoder({ kind }) {
 /**
  * Returns the moment of the last rising edge of a line at or before a moment; -1 if there is none.
  * @param {Track} clock the track of a one-bit line
- * @param {number} until
+ * @param {number} moment
  */
-export function lastRise(clock, until) {
+export function findLastRise(clock, moment) {
   const edges = clock.moments.all;
-  let count = countUpTo(edges, until);
+  let count = countUpTo(edges, moment);
   while (count > 0 && clock.valueAfter(count) === 0) count -= 1;
   return count > 0 ? edges[count - 1] : -1;
 }
@@ -51,16 +55,16 @@ export function lastRise(clock, until) {
  */
 export function deriveShift({ clock, data, rise }, track, after, end) {
   const edges = clock.moments.all;
-  let last = rise;
+  let lastRise = rise;
   const addRest = (/** @type {number} */ until) => {
-    if (last >= 0 && last + REST > after && last + REST <= until) track.set(AT_REST, last + REST);
+    if (lastRise >= 0 && lastRise + REST_CYCLES > after && lastRise + REST_CYCLES <= until) track.set(AT_REST, lastRise + REST_CYCLES);
   };
   for (let at = countUpTo(edges, after); at < edges.length; at++) {
     if (clock.valueAfter(at + 1) === 0) continue;
     addRest(edges[at] - 1);
-    last = edges[at];
-    const code = (track.now & BIT) === 0 ? BIT : OTHER_BIT;
-    track.set(code + data.valueAt(last), last);
+    lastRise = edges[at];
+    const code = (track.lastValue & BIT) === 0 ? BIT : OTHER_BIT;
+    track.set(code + data.valueAt(lastRise), lastRise);
   }
   addRest(end);
 }
@@ -68,9 +72,9 @@ export function deriveShift({ clock, data, rise }, track, after, end) {
 /**
  * Formats the bits of a register, highest bit first. BigInt is necessary because a register can have more than 53 bits.
  * @param {number[]} bits the bits, lowest first
- * @param {Base} base
+ * @param {NumberBase} base
  */
-function textOfBits(bits, base) {
+function formatBits(bits, base) {
   const number = bits.reduceRight((sum, bit) => 2n * sum + BigInt(bit), 0n);
   const text = number.toString(RADIX[base]).toUpperCase();
   return base === "decimal" ? text : text.padStart(base === "hex" ? Math.ceil(bits.length / 4) : bits.length, "0");
@@ -80,19 +84,19 @@ function textOfBits(bits, base) {
  * Returns the text for a value in the track of a shift register: the bit that was shifted in, or the register bits at rest.
  * @param {number} value
  * @param {number[]} bits
- * @param {Base} base
+ * @param {NumberBase} base
  */
 export function shiftText(value, bits, base) {
-  return value === AT_REST ? say.atRest(textOfBits(bits, base)) : String(value & 1);
+  return value === AT_REST ? say.atRest(formatBits(bits, base)) : String(value & 1);
 }
 
 /**
- * Returns the indexes of the 1 bits in a range, counted from `from`.
+ * Returns the positions of the 1 bits in a range of bits, relative to the first bit of the range.
  * @param {number} value
  * @param {number} from the number of the first bit
  * @param {number} to the number of the bit after the range
  */
-function onesOf(value, from, to) {
+function findOneBits(value, from, to) {
   const found = [];
   for (let bit = from; bit < to; bit++) if ((value >> bit) & 1) found.push(bit - from);
   return found;
@@ -104,11 +108,11 @@ function onesOf(value, from, to) {
  * @param {WaveLine} line
  * @param {number} value a value in the track of the key scan
  */
-export function scannedBy({ places, columns, width }, value) {
-  const rows = onesOf(value, columns, width);
-  const answering = onesOf(value, 0, columns);
-  const keys = rows.length === 1 ? answering.map((column) => places[rows[0] * columns + column]) : [];
-  return { rows, columns: answering, keys };
+export function readScan({ places, columns, width }, value) {
+  const rows = findOneBits(value, columns, width);
+  const activeColumns = findOneBits(value, 0, columns);
+  const keys = rows.length === 1 ? activeColumns.map((column) => places[rows[0] * columns + column]) : [];
+  return { rows, columns: activeColumns, keys };
 }
 
 /**
@@ -117,9 +121,9 @@ export function scannedBy({ places, columns, width }, value) {
  * @param {number} value
  */
 export function scanText(line, value) {
-  const { rows, columns, keys } = scannedBy(line, value);
+  const { rows, columns, keys } = readScan(line, value);
   if (rows.length === 0) return say.NO_ROW;
-  const driven = say.rowsDriven(rows);
-  if (columns.length === 0) return driven;
-  return say.rowsAnswer(driven, keys.length > 0 ? keys.join(" ") : say.columnsAnswer(columns));
+  const rowText = say.rowsDriven(rows);
+  if (columns.length === 0) return rowText;
+  return say.rowsAnswer(rowText, keys.length > 0 ? keys.join(" ") : say.columnsAnswer(columns));
 }

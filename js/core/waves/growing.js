@@ -1,22 +1,22 @@
-// A number queue in a typed array. Numbers are added at the end and removed at both ends.
+// A queue of numbers in a typed array. Numbers can be added at the end, and removed at both ends.
 
 /** @typedef {Uint16Array | Uint32Array | Float64Array} Numbers */
 
 /** The initial capacity. */
 const FIRST_CAPACITY = 64;
-/** The maximum number of unused elements at the start; more of them are removed by moving the numbers. */
+/** The number of unused elements at the start from which the numbers can be moved to the start of the array. */
 const MAX_UNUSED = 4096;
 
 /**
- * Returns the number of elements that are at most `most`.
+ * Returns how many of the numbers are at most `limit`.
  * @param {ArrayLike<number>} numbers the numbers in ascending order
- * @param {number} most
+ * @param {number} limit
  */
-export function countUpTo(numbers, most) {
+export function countUpTo(numbers, limit) {
   let [low, high] = [0, numbers.length];
   while (low < high) {
     const middle = (low + high) >> 1;
-    if (numbers[middle] <= most) low = middle + 1;
+    if (numbers[middle] <= limit) low = middle + 1;
     else high = middle;
   }
   return low;
@@ -31,6 +31,7 @@ export class NumberQueue {
     this.to = numbers.length;
   }
 
+  /** The number of elements. */
   get count() {
     return this.to - this.from;
   }
@@ -44,14 +45,18 @@ export class NumberQueue {
     this.numbers[this.to - 1] = number;
   }
 
-  /** @param {number} number */
+  /**
+   * Adds a number at the end.
+   * @param {number} number
+   */
   push(number) {
-    if (this.to === this.numbers.length) this.grow();
+    if (this.to === this.numbers.length) this.enlarge();
     this.numbers[this.to] = number;
     this.to += 1;
   }
 
-  grow() {
+  /** Replaces the array by a larger one. */
+  enlarge() {
     const larger = /** @type {Kind} */ (new (/** @type {any} */ (this.numbers.constructor))(Math.max(FIRST_CAPACITY, this.to * 2)));
     larger.set(this.numbers);
     this.numbers = larger;
@@ -62,8 +67,11 @@ export class NumberQueue {
     this.to -= 1;
   }
 
-  /** @param {number} count the count of numbers to remove at the start */
-  drop(count) {
+  /**
+   * Removes numbers at the start.
+   * @param {number} count
+   */
+  dropFirst(count) {
     this.from += count;
     if (this.from < MAX_UNUSED || this.from < this.count) return;
     this.numbers.copyWithin(0, this.from, this.to);
@@ -71,8 +79,11 @@ export class NumberQueue {
     this.from = 0;
   }
 
-  /** @param {number} count the count of numbers to keep at the start */
-  cut(count) {
+  /**
+   * Removes all numbers except the first ones.
+   * @param {number} count the number of numbers to keep
+   */
+  keepFirst(count) {
     this.to = this.from + count;
   }
 

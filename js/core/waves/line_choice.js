@@ -1,22 +1,22 @@
 // Finds the lines of a recording for the arguments of a command.
 
-import { linesOfBoard, valueLine } from "./wave_lines.js";
+import { createBoardLines, createValueLine } from "./wave_lines.js";
 import * as say from "../../words/waves.js";
 
 /**
  * @typedef {import("../bench/answers.js").Board} Board
  * @typedef {import("./wave_lines.js").WaveLine} WaveLine
  *
- * The lines of a board with the requested values, and the indexes of the requested lines in request order.
+ * The lines of a board and the requested values, and the indexes of the requested lines among them, in request order (`chosen`).
  * @typedef {{ lines: WaveLine[], chosen: number[] }} LineChoice
  */
 
 /** The error for a name that matches no line. */
-export class NoLine extends Error {}
+export class UnknownLineError extends Error {}
 
 /** @type {(line: WaveLine) => boolean} returns whether a line is a one-bit line of the board */
 const isBit = ({ kind }) => kind === "level" || kind === "key" || kind === "test";
-/** @type {(line: WaveLine) => boolean} returns whether a line is offered by name and belongs to its requestable group */
+/** @type {(line: WaveLine) => boolean} returns whether the user can request a line by its name or group */
 const isOffered = (line) => isBit(line) || line.kind === "pc" || line.kind === "label";
 
 /**
@@ -25,8 +25,8 @@ const isOffered = (line) => isBit(line) || line.kind === "pc" || line.kind === "
  * @param {string} text the board text, for the names
  * @param {boolean} hasLabels
  */
-export function offeredNames(board, text, hasLabels) {
-  return linesOfBoard(board, text, hasLabels).filter(isOffered).map(({ name }) => name);
+export function listRequestableNames(board, text, hasLabels) {
+  return createBoardLines(board, text, hasLabels).filter(isOffered).map(({ name }) => name);
 }
 
 /**
@@ -46,14 +46,14 @@ function plainName({ group, places }, number) {
  */
 function lineIndices(lines, word) {
   const lamps = lines.findIndex(({ group }) => group === "lamps");
-  const named = lines.findIndex((line, at) => line.name === word || plainName(line, at - lamps) === word);
-  if (named >= 0) return [named];
+  const addLineNames = lines.findIndex((line, at) => line.name === word || plainName(line, at - lamps) === word);
+  if (addLineNames >= 0) return [addLineNames];
   return lines.flatMap((line, at) => (isOffered(line) && line.group === word ? [at] : []));
 }
 
 /**
- * Returns the lines for words; without words, all one-bit lines of the board. Throws a NoLine if a word matches no line, or if a line is
- * requested twice.
+ * Returns the lines for words; without words, all one-bit lines of the board. Throws UnknownLineError if a word matches no line, or if two
+ * words request the same line.
  * @param {Board} board
  * @param {string} text the board text, for the names
  * @param {boolean} hasLabels
@@ -61,21 +61,21 @@ function lineIndices(lines, word) {
  * @returns {LineChoice}
  */
 export function chooseLines(board, text, hasLabels, words) {
-  const lines = linesOfBoard(board, text, hasLabels);
+  const lines = createBoardLines(board, text, hasLabels);
   const all = lines.map((_, at) => at);
   if (words.length === 0) return { lines, chosen: all.filter((at) => isBit(lines[at])) };
   /** @type {Set<number>} */
   const chosen = new Set();
   for (const word of words) {
     let indices = lineIndices(lines, word);
-    const value = indices.length === 0 ? valueLine(word, board) : null;
+    const value = indices.length === 0 ? createValueLine(word, board) : null;
     if (value) {
-      const known = lines.findIndex(({ name }) => name === value.name);
-      indices = [known < 0 ? lines.push(value) - 1 : known];
+      const knownLine = lines.findIndex(({ name }) => name === value.name);
+      indices = [knownLine < 0 ? lines.push(value) - 1 : knownLine];
     }
-    if (indices.length === 0) throw new NoLine(word === "label" ? say.LABEL_NEEDS_PROGRAM : say.noSuchLine(word));
+    if (indices.length === 0) throw new UnknownLineError(word === "label" ? say.LABEL_NEEDS_PROGRAM : say.noSuchLine(word));
     for (const number of indices) {
-      if (chosen.has(number)) throw new NoLine(say.lineTwice(lines[number].name));
+      if (chosen.has(number)) throw new UnknownLineError(say.lineTwice(lines[number].name));
       chosen.add(number);
     }
   }

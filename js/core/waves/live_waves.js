@@ -1,28 +1,30 @@
-// A recording that continues while time runs: its limits and its status.
+// A recording that grows while the session runs: its data, its limits, and its status.
 
 import { Waves } from "./wave_recording.js";
-import { grouped } from "./wave_words.js";
-import { wordsOfCycles } from "../time/cycles.js";
+import { formatNumber } from "./wave_words.js";
+import { formatCycles } from "../time/cycles.js";
 import * as say from "../../words/waves.js";
 
 /**
  * @typedef {import("../engine/live_recorder.js").LivePart} LivePart
- * @typedef {import("../engine/wave_recorder.js").Recorded} Recorded
+ * @typedef {import("../engine/wave_recorder.js").Recording} Recording
  *
- * The settings. `most`: the maximum length in cycles. `behind`: the number of these cycles after the trigger. `trigger`: the text of the
- * trigger, "" for none. `stopsTime`: true if time stops at the end.
+ * The settings. `most`: the maximum length in cycles. `behind`: the number of cycles after the trigger. `trigger`: the text of the trigger,
+ * "" for none. `stopsTime`: true if the session pauses at the end of the recording.
  * @typedef {{ most: number, behind: number, trigger: string, stopsTime: boolean }} LiveChoice
  */
 
 export class LiveWaves {
   /**
-   * @param {Recorded} recorded the first part of the recording
+   * @param {Recording} recorded the first part of the recording
    * @param {LiveChoice} choice
    */
   constructor(recorded, choice) {
     this.waves = new Waves(recorded);
     this.choice = choice;
+    /** The moment of the trigger; -1 before the trigger. */
     this.triggered = -1;
+    /** The reason for the end of the recording; "" while the recording continues. */
     this.over = "";
   }
 
@@ -30,7 +32,10 @@ export class LiveWaves {
     return this.over === "";
   }
 
-  /** @param {LivePart} part the next part */
+  /**
+   * Adds a part, and drops the cycles that exceed the maximum length.
+   * @param {LivePart} part
+   */
   take(part) {
     const { waves } = this;
     const { most, behind, trigger } = this.choice;
@@ -47,17 +52,17 @@ export class LiveWaves {
     this.over = "lost";
   }
 
-  /** The length of the recording as text. It changes with each part. */
+  /** The length of the recording as text, which changes with each part. */
   get kept() {
     const { waves } = this;
-    return waves.cycles === 0 ? "" : wordsOfCycles(waves.span);
+    return waves.cycles === 0 ? "" : formatCycles(waves.span);
   }
 
-  /** The status of the recording as text. It changes rarely. */
+  /** The status of the recording as text, which changes rarely. */
   get words() {
     const { waves, triggered, over } = this;
     const { trigger } = this.choice;
-    const triggerText = triggered < 0 ? "" : say.triggerWasAt(grouped(triggered));
+    const triggerText = triggered < 0 ? "" : say.triggerWasAt(formatNumber(triggered));
     if (over === "trigger") return say.recorded(this.kept, triggerText);
     if (over !== "") return say.recordedUntil(this.kept || say.NOTHING, say.ENDS[over] || over, triggerText);
     if (triggered >= 0) return say.recordsAfter(triggerText);

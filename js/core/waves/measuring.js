@@ -1,16 +1,17 @@
 // Measures a signal line at a moment: how long it keeps its value, and the period of a one-bit line.
 
-import { wordsOfCycles } from "../time/cycles.js";
+import { formatCycles } from "../time/cycles.js";
 import { CYCLE_US } from "../time/mcs4_time.js";
-import { isText } from "./wave_lines.js";
+import { isDrawnAsBoxes } from "./wave_lines.js";
 import * as say from "../../words/waves.js";
 
 /**
  * @typedef {import("./wave_recording.js").Waves} Waves
  *
- * A measurement: the line keeps its value from one moment to another. `isWhole`: both moments are changes of the line, not ends of the
- * recording. `period`: the cycles from the edge before the moment to the next edge in the same direction, 0 if there is none.
- * @typedef {{ from: number, to: number, isWhole: boolean, period: number }} Measure
+ * A measurement: the line keeps its value from the moment `from` to the moment `to`. `isWhole`: true if the line changes at both moments;
+ * false if one of them is an end of the recording. `period`: the cycles from the edge at `from` to the next edge in the same direction, 0
+ * if there is none.
+ * @typedef {{ from: number, to: number, isWhole: boolean, period: number }} Measurement
  */
 
 /** The number of significant digits of a frequency. */
@@ -21,18 +22,21 @@ const DIGITS = 4;
  * @param {Waves} waves
  * @param {number} line
  * @param {number} moment
- * @returns {Measure}
+ * @returns {Measurement}
  */
 export function measureAt(waves, line, moment) {
-  const before = waves.changeBefore(line, moment + 1);
-  const after = waves.changeAfter(line, moment);
-  const again = after === undefined || isText(waves.lines[line]) ? undefined : waves.changeAfter(line, after);
-  const [from, to] = [before === undefined ? waves.from : before, after === undefined ? waves.cycles : after];
-  return { from, to, isWhole: before !== undefined && after !== undefined,
-    period: before === undefined || again === undefined ? 0 : again - before };
+  const startEdge = waves.changeBefore(line, moment + 1);
+  const endEdge = waves.changeAfter(line, moment);
+  const nextEdge = endEdge === undefined || isDrawnAsBoxes(waves.lines[line]) ? undefined : waves.changeAfter(line, endEdge);
+  const [from, to] = [startEdge === undefined ? waves.from : startEdge, endEdge === undefined ? waves.cycles : endEdge];
+  return { from, to, isWhole: startEdge !== undefined && endEdge !== undefined,
+    period: startEdge === undefined || nextEdge === undefined ? 0 : nextEdge - startEdge };
 }
 
-/** @param {number} period the period in cycles */
+/**
+ * Formats the frequency for a period.
+ * @param {number} period the period in cycles
+ */
 export function frequencyText(period) {
   const hertz = (1e6 / CYCLE_US) / period;
   return hertz < 1000 ? say.inHertz(hertz.toPrecision(DIGITS)) : say.inKilohertz((hertz / 1000).toPrecision(DIGITS));
@@ -41,9 +45,9 @@ export function frequencyText(period) {
 /**
  * Returns the text of a measurement.
  * @param {string} value the value of the line as text
- * @param {Measure} measure
+ * @param {Measurement} measure
  */
-export function measureText(value, { from, to, isWhole, period }) {
-  const valueWords = say.hasValueFor(value, isWhole, wordsOfCycles(to - from));
-  return period === 0 ? valueWords : say.withPeriod(valueWords, wordsOfCycles(period), frequencyText(period));
+export function describeMeasurement(value, { from, to, isWhole, period }) {
+  const valueWords = say.hasValueFor(value, isWhole, formatCycles(to - from));
+  return period === 0 ? valueWords : say.withPeriod(valueWords, formatCycles(period), frequencyText(period));
 }

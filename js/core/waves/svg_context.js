@@ -1,15 +1,15 @@
-// Draws an SVG file through the interface of a canvas context. It has only the methods that waves need.
+// Creates an SVG file with the drawing methods of a canvas context. Has only the methods that the drawing of waves needs.
 
 /** The width of a character in pixels; the font is monospaced. */
 const CHARACTER = 7.25;
 /** @type {Record<string, string>} the SVG text anchors, by canvas `textAlign` */
 const ANCHORS = { left: "start", center: "middle", right: "end" };
 
-/** @param {number} number */
-const rounded = (number) => String(Math.round(number * 100) / 100);
+/** @type {(number: number) => string} returns a number with at most two decimals */
+const formatNumber = (number) => String(Math.round(number * 100) / 100);
 
-/** @param {string} text */
-const escaped = (text) => text.replace(/[&<>"]/g, (letter) => `&#${letter.charCodeAt(0)};`);
+/** @type {(text: string) => string} escapes the characters with a meaning in XML */
+const escapeText = (text) => text.replace(/[&<>"]/g, (letter) => `&#${letter.charCodeAt(0)};`);
 
 /**
  * Returns the name and attributes of an element, without angle brackets.
@@ -17,7 +17,7 @@ const escaped = (text) => text.replace(/[&<>"]/g, (letter) => `&#${letter.charCo
  * @param {Record<string, string | number>} attributes
  */
 function startTag(name, attributes) {
-  return [name, ...Object.entries(attributes).map(([key, value]) => `${key}="${escaped(String(value))}"`)].join(" ");
+  return [name, ...Object.entries(attributes).map(([key, value]) => `${key}="${escapeText(String(value))}"`)].join(" ");
 }
 
 /**
@@ -49,8 +49,8 @@ export class SvgContext {
     /** @type {Record<string, string>} */
     this.dash = {};
     /** @type {Record<string, string>} */
-    this.box = {};
-    this.clips = 0;
+    this.currentBox = {};
+    this.clipCount = 0;
   }
 
   save() {}
@@ -67,24 +67,24 @@ export class SvgContext {
 
   /** @param {number[]} point */
   moveTo(...point) {
-    this.path += `M${point.map(rounded).join()}`;
+    this.path += `M${point.map(formatNumber).join()}`;
   }
 
   /** @param {number[]} point */
   lineTo(...point) {
-    this.path += `${this.path === "" ? "M" : "L"}${point.map(rounded).join()}`;
+    this.path += `${this.path === "" ? "M" : "L"}${point.map(formatNumber).join()}`;
   }
 
   /** @param {number[]} box */
   rect(...box) {
-    const [x, y, width, height] = box.map(rounded);
-    this.box = { x, y, width, height };
+    const [x, y, width, height] = box.map(formatNumber);
+    this.currentBox = { x, y, width, height };
   }
 
   clip() {
-    this.clips += 1;
-    const id = `clip${this.clips}`;
-    this.parts.push(tag("clipPath", { id }, tag("rect", this.box)), `<${startTag("g", { "clip-path": `url(#${id})` })}>`);
+    this.clipCount += 1;
+    const id = `clip${this.clipCount}`;
+    this.parts.push(tag("clipPath", { id }, tag("rect", this.currentBox)), `<${startTag("g", { "clip-path": `url(#${id})` })}>`);
   }
 
   stroke() {
@@ -95,7 +95,7 @@ export class SvgContext {
   /** @param {number[]} box */
   fillRect(...box) {
     this.rect(...box);
-    this.parts.push(tag("rect", { ...this.box, fill: this.fillStyle }));
+    this.parts.push(tag("rect", { ...this.currentBox, fill: this.fillStyle }));
   }
 
   /**
@@ -105,7 +105,7 @@ export class SvgContext {
    */
   fillText(text, x, y) {
     const attributes = { "dy": ".35em", "text-anchor": ANCHORS[this.textAlign], "fill": this.fillStyle };
-    this.parts.push(tag("text", { x: rounded(x), y: rounded(y), ...attributes }, escaped(text)));
+    this.parts.push(tag("text", { x: formatNumber(x), y: formatNumber(y), ...attributes }, escapeText(text)));
   }
 
   /** @param {string} text */

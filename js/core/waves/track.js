@@ -27,7 +27,7 @@ export class Track {
     this.moments = new NumberQueue(moments);
     /** @type {NumberQueue<Numbers> | null} */
     this.values = values && new NumberQueue(values);
-    this.now = this.valueAfter(this.moments.count);
+    this.lastValue = this.valueAfter(this.moments.count);
   }
 
   /**
@@ -51,8 +51,8 @@ export class Track {
    * @param {number} moment the moment, not before the last change
    */
   set(value, moment) {
-    if (value === this.now) return;
-    this.now = value;
+    if (value === this.lastValue) return;
+    this.lastValue = value;
     if (this.moments.last === moment) {
       this.moments.pop();
       if (this.values) this.values.pop();
@@ -67,7 +67,7 @@ export class Track {
    * @param {TrackData} data
    */
   append({ moments, values }) {
-    for (let at = 0; at < moments.length; at++) this.set(values ? values[at] : 1 - this.now, moments[at]);
+    for (let at = 0; at < moments.length; at++) this.set(values ? values[at] : 1 - this.lastValue, moments[at]);
   }
 
   /**
@@ -77,8 +77,8 @@ export class Track {
   beginAt(moment) {
     const count = countUpTo(this.moments.all, moment);
     this.first = this.valueAfter(count);
-    this.moments.drop(count);
-    if (this.values) this.values.drop(count);
+    this.moments.dropFirst(count);
+    if (this.values) this.values.dropFirst(count);
   }
 
   /**
@@ -87,9 +87,9 @@ export class Track {
    */
   endAt(moment) {
     const count = countUpTo(this.moments.all, moment);
-    this.moments.cut(count);
-    if (this.values) this.values.cut(count);
-    this.now = this.valueAfter(count);
+    this.moments.keepFirst(count);
+    if (this.values) this.values.keepFirst(count);
+    this.lastValue = this.valueAfter(count);
   }
 
   /**
@@ -98,7 +98,7 @@ export class Track {
    */
   take() {
     const { first } = this;
-    this.first = this.now;
+    this.first = this.lastValue;
     return { first, moments: this.moments.take(), values: this.values && /** @type {Uint16Array} */ (this.values.take()) };
   }
 }

@@ -1,7 +1,7 @@
 // Parses the trigger of a recording: an edge of a signal line (`rom0.2 rises`, `lamp 3 falls`, `r5 changes`), or a condition that becomes
 // true (`r9 = 9`, `lamp 3 on`, `display 42`, `@LABEL`: see conditions/condition_language.js).
 
-import { tracedConditionOf } from "../conditions/condition_language.js";
+import { compileTracedCondition } from "../conditions/condition_language.js";
 import { isDecoder } from "./decoders.js";
 import { inColumn } from "../../words/conditions.js";
 import * as say from "../../words/waves.js";
@@ -16,12 +16,16 @@ import * as say from "../../words/waves.js";
  * @typedef {{ edge: Edge | "", members: number[], places: string[], address: number, holds: (values: string[]) => boolean }} Trigger
  */
 
-const EDGE = /^(.*\S)\s+(rises|falls|changes)$/;
+/** Matches an edge: the name of a line, and the kind of edge. */
+const EDGE_FORM = /^(.*\S)\s+(rises|falls|changes)$/;
 /** The condition of an edge trigger, which is never true. */
-const NEVER = () => false;
+const neverTrue = () => false;
 
-/** @param {string} text */
-export function plain(text) {
+/**
+ * Returns a name in lower case, with single blanks instead of dots and other gaps.
+ * @param {string} text
+ */
+export function normalizeName(text) {
   return text.toLowerCase().replace(/[\s.]+/g, " ").trim();
 }
 
@@ -31,33 +35,33 @@ export function plain(text) {
  * @param {string} text
  * @param {WaveLine[]} lines
  */
-export function lineNamed(text, lines) {
-  const wanted = plain(text);
+export function findLineByName(text, lines) {
+  const wantedName = normalizeName(text);
   /** @type {(matches: (line: WaveLine) => boolean) => number} */
   const find = (matches) => lines.findIndex(matches);
   const candidates = [
-    find(({ name }) => plain(name) === wanted),
-    find(({ name, kind }) => kind === "port" && plain(name.replace(/\[.*/, "")) === wanted),
-    find(({ title, kind }) => title !== "" && kind !== "value" && plain(title) === wanted),
-    find(({ name, group }) => (group === "lamps" || group === "keys") && plain(name.slice(name.indexOf(".") + 1)) === wanted),
+    find(({ name }) => normalizeName(name) === wantedName),
+    find(({ name, kind }) => kind === "port" && normalizeName(name.replace(/\[.*/, "")) === wantedName),
+    find(({ title, kind }) => title !== "" && kind !== "value" && normalizeName(title) === wantedName),
+    find(({ name, group }) => (group === "lamps" || group === "keys") && normalizeName(name.slice(name.indexOf(".") + 1)) === wantedName),
   ];
-  const lamp = /^lamp (\d+)$/.exec(wanted);
+  const lamp = /^lamp (\d+)$/.exec(wantedName);
   const lamps = lines.findIndex(({ group }) => group === "lamps");
   if (lamp && lamps >= 0 && lines[lamps + Number(lamp[1])]?.group === "lamps") candidates.push(lamps + Number(lamp[1]));
   return candidates.find((line) => line >= 0) ?? -1;
 }
 
 /**
- * Returns the line name in an edge text; "" for any other text.
+ * Returns the name of the line in an edge trigger such as `rom0.2 rises`; "" for any other text.
  * @param {string} text
  */
-export function namedInEdge(text) {
-  const found = EDGE.exec(text.trim());
+export function lineNameInEdge(text) {
+  const found = EDGE_FORM.exec(text.trim());
   return found ? found[1] : "";
 }
 
 /**
- * Parses a trigger. For an empty text, returns neither a trigger nor an error.
+ * Parses a trigger. If the text has an error, `fault` is the message. For an empty text, there is neither a trigger nor a message.
  * @param {string} text
  * @param {WaveLine[]} lines
  * @param {Names} names
@@ -65,9 +69,9 @@ export function namedInEdge(text) {
  */
 export function readTrigger(text, lines, names) {
   if (text.trim() === "") return { trigger: null, fault: "" };
-  const found = EDGE.exec(text.trim());
-  if (found) return readEdge(found[1], /** @type {Edge} */ (found[2]), lines);
-  const { condition, fault, column } = tracedConditionOf(text, names);
+  const found = EDGE_FORM.exec(text.trim());
+  if (found) return parseEdge(found[1], /** @type {Edge} */ (found[2]), lines);
+  const { condition, fault, column } = compileTracedCondition(text, names);
   if (!condition) return { trigger: null, fault: inColumn(fault, column) };
   const { places, address, holds } = condition;
   return { trigger: { edge: "", members: [], places, address, holds: (values) => holds(values) }, fault: "" };
@@ -80,8 +84,8 @@ export function readTrigger(text, lines, names) {
  * @param {WaveLine[]} lines
  * @returns {{ trigger: Trigger | null, fault: string }}
  */
-function readEdge(name, edge, lines) {
-  const line = lineNamed(name, lines);
+function parseEdge(name, edge, lines) {
+  const line = findLineByName(name, lines);
   if (line < 0) return { trigger: null, fault: say.noSuchName(name) };
   const { kind, members, width } = lines[line];
   if (kind === "pc" || kind === "label") return { trigger: null, fault: say.LABEL_FORM };
@@ -89,5 +93,5 @@ function readEdge(name, edge, lines) {
   if (edge !== "changes" && width > 1) {
     return { trigger: null, fault: say.numberForm(name) };
   }
-  return { trigger: { edge, members: kind === "port" ? members : [line], places: [], address: -1, holds: NEVER }, fault: "" };
+  return { trigger: { edge, members: kind === "port" ? members : [line], places: [], address: -1, holds: neverTrue }, fault: "" };
 }

@@ -7,13 +7,13 @@ import { isDecoder } from "./decoders.js";
 
 /** The number of time units per cycle. A unit is 100 ns. */
 const UNITS_PER_CYCLE = CYCLE_TENTHS_US;
-/** A limit above the maximum number of lines in a recording. A change is encoded as one number: moment times MAX_LINES plus line. */
+/** A number greater than the number of lines in any recording. A change is encoded as one number: moment * MAX_LINES + line. */
 const MAX_LINES = 8192;
 /** The maximum number of text lines per part of the file. A long recording does not fit into one string. */
 const PART_LINES = 100000;
 /**
- * The letters for line codes. No VCD value starts with one of them, so a reader that skips an unknown kind of value still reads the rest
- * correctly.
+ * The letters in line codes. No value in a VCD file starts with one of them. A program that skips an unknown kind of value therefore reads
+ * the following lines correctly.
  */
 const LETTERS = "ACDEFGHIJKLMNOPQSTUVWY";
 
@@ -21,7 +21,7 @@ const LETTERS = "ACDEFGHIJKLMNOPQSTUVWY";
  * Returns the short code of a signal line in the file.
  * @param {number} number the index of the line, from 0
  */
-function codeOf(number) {
+function lineCode(number) {
   let text = "";
   for (let rest = number; rest >= 0; rest = Math.floor(rest / LETTERS.length) - 1) text = LETTERS[rest % LETTERS.length] + text;
   return text;
@@ -32,11 +32,11 @@ function codeOf(number) {
  * @param {Waves} waves
  * @param {number} line
  */
-function kindOf({ lines }, line) {
+function variableType({ lines }, line) {
   return lines[line].kind === "label" || isDecoder(lines[line]) ? "string 1" : `wire ${lines[line].width}`;
 }
 
-/** Writes a VCD file in parts, even while the recording grows. */
+/** Creates a VCD file in parts, even while the recording grows. */
 export class VcdText {
   /**
    * @param {Waves} waves
@@ -45,11 +45,11 @@ export class VcdText {
   constructor(waves, chosen) {
     this.waves = waves;
     this.chosen = chosen;
-    this.codes = chosen.map((_, at) => codeOf(at));
+    this.codes = chosen.map((_, at) => lineCode(at));
     /** The start of the recording, which is time 0 in the file. */
-    this.begun = waves.from;
+    this.startMoment = waves.from;
     /** The last moment written to the file so far. */
-    this.written = waves.from;
+    this.lastWritten = waves.from;
   }
 
   /**
@@ -77,7 +77,7 @@ export class VcdText {
       `$comment ${UNITS_PER_CYCLE} units of time are a cycle of the 4004, ${CYCLE_US} microseconds $end`,
       "$timescale 100 ns $end",
       "$scope module board $end",
-      ...chosen.map((line, at) => `$var ${kindOf(waves, line)} ${codes[at]} ${waves.lines[line].name} $end`),
+      ...chosen.map((line, at) => `$var ${variableType(waves, line)} ${codes[at]} ${waves.lines[line].name} $end`),
       "$upscope $end",
       "$enddefinitions $end",
       "#0",
@@ -90,15 +90,15 @@ export class VcdText {
   /** Yields the changes in parts. */
   * changes() {
     const { waves, chosen } = this;
-    const tracks = chosen.map((line) => waves.trackOf(line));
+    const tracks = chosen.map((line) => waves.getTrack(line));
     const counts = new Uint32Array(chosen.length);
     let lines = [];
-    for (const change of changesOf(waves, chosen)) {
+    for (const change of sortedChanges(waves, chosen)) {
       const moment = Math.floor(change / MAX_LINES);
       const index = change % MAX_LINES;
       counts[index] += 1;
-      if (moment !== this.written) lines.push(`#${(moment - this.begun) * UNITS_PER_CYCLE}`);
-      this.written = moment;
+      if (moment !== this.lastWritten) lines.push(`#${(moment - this.startMoment) * UNITS_PER_CYCLE}`);
+      this.lastWritten = moment;
       lines.push(this.changeText(index, tracks[index].valueAfter(counts[index]), moment));
       if (lines.length < PART_LINES) continue;
       yield `${lines.join("\n")}\n`;
@@ -110,7 +110,7 @@ export class VcdText {
   /** Returns the end of the file. */
   end() {
     const { cycles } = this.waves;
-    return cycles > this.written ? `#${(cycles - this.begun) * UNITS_PER_CYCLE}\n` : "";
+    return cycles > this.lastWritten ? `#${(cycles - this.startMoment) * UNITS_PER_CYCLE}\n` : "";
   }
 }
 
@@ -119,7 +119,7 @@ export class VcdText {
  * @param {Waves} waves
  * @param {number[]} chosen
  */
-function changesOf(waves, chosen) {
+function sortedChanges(waves, chosen) {
   const counts = chosen.map((line) => waves.changesOf(line).length);
   const changes = new Float64Array(counts.reduce((sum, count) => sum + count, 0));
   let at = 0;

@@ -31,7 +31,7 @@ function putLetters(bytes, at, letters) {
  * @param {number[]} edges the cycles before each edge
  * @param {number} cycles
  */
-export function wavOf(level, edges, cycles) {
+export function createWav(level, edges, cycles) {
   const size = cycles * SAMPLE_BYTES;
   const bytes = new Uint8Array(HEAD_BYTES + size);
   const view = new DataView(bytes.buffer);

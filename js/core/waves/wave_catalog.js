@@ -1,8 +1,8 @@
-// The lines that the user can choose for a recording, and the lines that are visible at first.
+// Lists the lines that the user can choose for a recording, and the lines that are visible at first.
 
 import { isDecoder } from "./decoders.js";
-import { plain } from "./trigger.js";
-import { REGISTER_NAMES, characterNames, isText, linesOfBoard } from "./wave_lines.js";
+import { normalizeName } from "./trigger.js";
+import { REGISTER_NAMES, characterNames, isDrawnAsBoxes, createBoardLines } from "./wave_lines.js";
 import * as say from "../../words/waves.js";
 
 /**
@@ -21,8 +21,8 @@ const MAX_NIBBLES = 64;
  * @param {Board} board
  * @param {string} text the board text, for the names
  */
-export function catalogOf(board, text) {
-  return linesOfBoard(board, text, true, [...REGISTER_NAMES, ...characterNames(board)]);
+export function listRecordableLines(board, text) {
+  return createBoardLines(board, text, true, [...REGISTER_NAMES, ...characterNames(board)]);
 }
 
 /**
@@ -30,51 +30,51 @@ export function catalogOf(board, text) {
  * changes, the first bits are visible.
  * @param {Waves} waves
  */
-export function firstChoice(waves) {
-  const all = waves.lines.map((_, line) => line);
-  const bits = all.filter((line) => !isText(waves.lines[line]) && waves.lines[line].kind !== "value");
-  const changing = bits.filter((line) => waves.changesOf(line).length > 0);
-  const names = all.filter((line) => waves.lines[line].kind === "pc" || waves.lines[line].kind === "label");
-  const decoders = all.filter((line) => isDecoder(waves.lines[line]) && waves.changesOf(line).length > 0);
-  return [...(changing.length > 0 ? changing : bits).slice(0, MAX_FIRST_LINES), ...decoders, ...names];
+export function chooseFirstLines(waves) {
+  const lineIndexes = waves.lines.map((_, line) => line);
+  const bits = lineIndexes.filter((line) => !isDrawnAsBoxes(waves.lines[line]) && waves.lines[line].kind !== "value");
+  const changingBits = bits.filter((line) => waves.changesOf(line).length > 0);
+  const names = lineIndexes.filter((line) => waves.lines[line].kind === "pc" || waves.lines[line].kind === "label");
+  const decoders = lineIndexes.filter((line) => isDecoder(waves.lines[line]) && waves.changesOf(line).length > 0);
+  return [...(changingBits.length > 0 ? changingBits : bits).slice(0, MAX_FIRST_LINES), ...decoders, ...names];
 }
 
 /**
  * Returns the names of the chosen values. Values are recorded only on request.
- * @param {WaveLine[]} offered
- * @param {Set<string>} chosen
+ * @param {WaveLine[]} lines
+ * @param {Set<string>} chosenNames
  */
-export function valuesAmong(offered, chosen) {
-  return offered.filter(({ name, kind }) => kind === "value" && chosen.has(name)).map(({ name }) => name);
+export function chosenValueNames(lines, chosenNames) {
+  return lines.filter(({ name, kind }) => kind === "value" && chosenNames.has(name)).map(({ name }) => name);
 }
 
 /**
  * Returns the line with exactly this name. If there is none, returns the lines that contain the text in their name, title or group title.
- * @param {WaveLine[]} offered
+ * @param {WaveLine[]} lines
  * @param {string} text
  */
-function matchingLines(offered, text) {
-  const wanted = plain(text);
-  const exact = offered.filter(({ name }) => plain(name) === wanted);
+function matchingLines(lines, text) {
+  const wanted = normalizeName(text);
+  const exact = lines.filter(({ name }) => normalizeName(name) === wanted);
   if (exact.length > 0) return exact;
-  return offered.filter(({ name, title, group }) => plain(`${name} ${title} ${groupTitle(group)}`).includes(wanted));
+  return lines.filter(({ name, title, group }) => normalizeName(`${name} ${title} ${groupTitle(group)}`).includes(wanted));
 }
 
 /**
  * Returns the lines for a search text. Because RAM has many nibbles, the list contains the chosen nibbles and a limited number of other
  * matching nibbles.
- * @param {WaveLine[]} offered
+ * @param {WaveLine[]} allLines
  * @param {string} text
- * @param {Set<string>} chosen
+ * @param {Set<string>} chosenNames
  * @returns {{ lines: WaveLine[], more: string }} `more` is a note about unlisted lines
  */
-export function searchLines(offered, text, chosen) {
+export function searchLines(allLines, text, chosenNames) {
   const isAll = text.trim() === "";
   const isCharacter = (/** @type {WaveLine} */ { group }) => group.startsWith(say.RAM_GROUP);
   let left = isAll ? 0 : MAX_NIBBLES;
-  const matching = matchingLines(offered, text);
+  const matching = matchingLines(allLines, text);
   if (matching.length === 0 && !isAll) return { lines: matching, more: say.noName(text.trim()) };
-  const lines = matching.filter((line) => !isCharacter(line) || chosen.has(line.name) || left-- > 0);
+  const lines = matching.filter((line) => !isCharacter(line) || chosenNames.has(line.name) || left-- > 0);
   const hidden = matching.length - lines.length;
   if (hidden === 0) return { lines, more: "" };
   return { lines, more: say.notListed(hidden) };

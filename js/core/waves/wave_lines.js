@@ -1,11 +1,11 @@
-// The lines of a recording: the signal lines of a board, decoders, ports as numbers, and requested values, with their names and `trace`
-// places. The page and `mcs4 wave` use the same names in the same order.
+// Creates the lines of a recording: the signal lines of a board, decoders, ports as numbers, and requested values, with their names and
+// `trace` places. The page and `mcs4 wave` use the same names in the same order.
 
 import { BITS_PER_CHIP } from "../bench/board_form.js";
-import { numberOf, upTo } from "../bench/numbers.js";
-import { placeOf } from "../conditions/places.js";
+import { parseNumber, indices } from "../bench/numbers.js";
+import { parsePlace } from "../conditions/places.js";
 import { Face } from "../board/face.js";
-import { wordsOfCharacter } from "../debug/standing.js";
+import { describeCharacter } from "../debug/machine_state.js";
 import * as say from "../../words/waves.js";
 
 /**
@@ -26,7 +26,7 @@ import * as say from "../../words/waves.js";
  */
 
 /** Matches a name in the board text that is valid in a VCD file. */
-const PLAIN = /^[A-Za-z0-9_]+$/;
+const PLAIN_NAME = /^[A-Za-z0-9_]+$/;
 /** The maximum number of bits in a number, so that the number is exact. */
 const MAX_BITS = 50;
 
@@ -35,22 +35,22 @@ const MAX_BITS = 50;
  * @param {string} name
  * @param {string} group
  * @param {WaveKind} kind
- * @param {Partial<WaveLine>} rest
+ * @param {Partial<WaveLine>} details
  * @returns {WaveLine}
  */
-function newLine(name, group, kind, rest = {}) {
-  return { name, title: "", group, kind, places: [], members: [], width: 1, columns: 0, ...rest };
+function createLine(name, group, kind, details = {}) {
+  return { name, title: "", group, kind, places: [], members: [], width: 1, columns: 0, ...details };
 }
 
 /**
- * Returns the name and title of a lamp or key. A name in the board text that is invalid in a VCD file becomes the title.
+ * Returns the name and title of a lamp or key. If the name in the board text is invalid in a VCD file, it becomes the title.
  * @param {string} group
  * @param {string} ending
  * @param {FaceText | undefined} faceText
  */
-function namesOf(group, ending, faceText) {
+function lineNames(group, ending, faceText) {
   const text = faceText ? faceText.text : "";
-  return PLAIN.test(text) ? { name: `${group}.${text}`, title: "" } : { name: `${group}${ending}`, title: text };
+  return PLAIN_NAME.test(text) ? { name: `${group}.${text}`, title: "" } : { name: `${group}${ending}`, title: text };
 }
 
 /**
@@ -60,10 +60,10 @@ function namesOf(group, ending, faceText) {
  * @param {Face} face
  * @returns {WaveLine[]}
  */
-function levels(group, count, face) {
+function levelLines(group, count, face) {
   const port = face.ports.get(group);
-  return upTo(count).map((line) => (
-    newLine(`${group}.${line}`, group, "level", { places: [`${group}.${line}`], title: port ? say.lineOf(port.text, line) : "" })));
+  return indices(count).map((line) => (
+    createLine(`${group}.${line}`, group, "level", { places: [`${group}.${line}`], title: port ? say.lineOf(port.text, line) : "" })));
 }
 
 /**
@@ -71,13 +71,13 @@ function levels(group, count, face) {
  * @param {Board} board
  * @param {Face} face
  */
-function linesOfChips({ roms, banks, chains }, face) {
+function chipLines({ roms, banks, chains }, face) {
   const chips = roms.map(({ chip }) => Number(chip)).sort((one, other) => one - other);
   const sorted = [...banks].sort((one, other) => one.bank - other.bank);
   return [
-    ...chips.flatMap((chip) => levels(`rom${chip}`, 4, face)),
-    ...sorted.flatMap(({ bank, chips: count }) => upTo(count).flatMap((chip) => levels(`ram${bank}.${chip}`, 4, face))),
-    ...chains.flatMap(({ chips: count }, chain) => levels(`chain${chain}`, BITS_PER_CHIP * count, face)),
+    ...chips.flatMap((chip) => levelLines(`rom${chip}`, 4, face)),
+    ...sorted.flatMap(({ bank, chips: count }) => indices(count).flatMap((chip) => levelLines(`ram${bank}.${chip}`, 4, face))),
+    ...chains.flatMap(({ chips: count }, chain) => levelLines(`chain${chain}`, BITS_PER_CHIP * count, face)),
   ];
 }
 
@@ -86,16 +86,16 @@ function linesOfChips({ roms, banks, chains }, face) {
  * @param {Board} board
  * @param {Face} face
  */
-function linesOfFront({ lamps, rows, columns }, face) {
+function frontPanelLines({ lamps, rows, columns }, face) {
   const lines = lamps.map((place, at) => {
-    const { name, title } = namesOf("lamp", String(at), face.lamps.get(at));
-    return newLine(name, "lamps", "level", { places: [place], title });
+    const { name, title } = lineNames("lamp", String(at), face.lamps.get(at));
+    return createLine(name, "lamps", "level", { places: [place], title });
   });
-  for (const row of upTo(rows)) {
-    for (const column of upTo(columns)) {
+  for (const row of indices(rows)) {
+    for (const column of indices(columns)) {
       const key = `${row}.${column}`;
-      const { name, title } = namesOf("key", key, face.keys.get(`${row} ${column}`));
-      lines.push(newLine(name, "keys", "key", { places: [key], title }));
+      const { name, title } = lineNames("key", key, face.keys.get(`${row} ${column}`));
+      lines.push(createLine(name, "keys", "key", { places: [key], title }));
     }
   }
   return lines;
@@ -106,7 +106,7 @@ function linesOfFront({ lamps, rows, columns }, face) {
  * @param {WaveLine[]} lines the signal lines of the board
  * @param {Face} face
  */
-function portsOf(lines, face) {
+function portLines(lines, face) {
   /** @type {Map<string, number[]>} */
   const ports = new Map();
   lines.forEach(({ group, kind }, at) => {
@@ -114,7 +114,7 @@ function portsOf(lines, face) {
   });
   return [...ports].filter(([, { length }]) => length <= MAX_BITS).map(([group, members]) => {
     const faceText = face.ports.get(group);
-    return newLine(`${group}[${members.length - 1}:0]`, "numbers", "port", { members, width: members.length,
+    return createLine(`${group}[${members.length - 1}:0]`, "numbers", "port", { members, width: members.length,
     title: faceText ? faceText.text : "" });
   });
 }
@@ -125,28 +125,28 @@ function portsOf(lines, face) {
  * @param {WaveLine[]} lines the signal lines of the board
  * @param {Face} face
  */
-function decodersOf({ chains, matrix }, lines, face) {
+function decoderLines({ chains, matrix }, lines, face) {
   const numbers = (/** @type {string[]} */ places) => places.map((place) => lines.findIndex(({ name }) => name === place));
   const bitsOf = (/** @type {number} */ chain, /** @type {number} */ first, /** @type {number} */ count) => (
-    upTo(count).map((bit) => `chain${chain}.${first + bit}`));
+    indices(count).map((bit) => `chain${chain}.${first + bit}`));
   const decoders = chains.map(({ clock, data, chips }, at) => {
     const bits = bitsOf(at, 0, BITS_PER_CHIP * chips);
     const members = numbers([clock, data, ...bits]);
-    return newLine(`shift.chain${at}`, "decoders", "shift", { title: say.shiftOf(at), members, width: bits.length });
+    return createLine(`shift.chain${at}`, "decoders", "shift", { title: say.shiftOf(at), members, width: bits.length });
   });
   if (!matrix) return decoders;
   const { chain, first, rows, columns } = matrix;
-  const places = upTo(rows).flatMap((row) => columns.map((_, column) => {
+  const places = indices(rows).flatMap((row) => columns.map((_, column) => {
     const faceText = face.keys.get(`${row} ${column}`);
     return faceText ? faceText.text : `${row}.${column}`;
   }));
   const members = numbers([...columns, ...bitsOf(chain, first, rows)]);
-  return [...decoders, newLine("scan.keys", "decoders", "scan",
+  return [...decoders, createLine("scan.keys", "decoders", "scan",
     { title: say.KEY_SCAN, places, members, width: members.length, columns: columns.length })];
 }
 
-/** Matches a place with a single value. */
-const VALUE = /^(acc|cy|dcl|src|r\d+|p\d|(ram|st)\..*)$/;
+/** Matches the name of a place that can be recorded as a value. */
+const VALUE_PLACE = /^(acc|cy|dcl|src|r\d+|p\d|(ram|st)\..*)$/;
 const DIGIT_WIDTH = 4;
 const PAIR_WIDTH = 8;
 /** @type {Record<string, number>} */
@@ -158,20 +158,20 @@ const WIDTHS = { cy: 1, dcl: 3, src: 8 };
  * @param {Board} board
  * @returns {WaveLine | null}
  */
-export function valueLine(text, board) {
-  const place = placeOf(text);
-  const places = place && VALUE.test(place.name) ? place.probesOn(board) : [];
+export function createValueLine(text, board) {
+  const place = parsePlace(text);
+  const places = place && VALUE_PLACE.test(place.name) ? place.probesOn(board) : [];
   if (!place || places.length === 0) return null;
   const [word, bank, at] = place.name.split(".");
   const isMemory = word === "ram" || word === "st";
-  const title = word === "src" ? say.SRC_OF_ROMS : word === "ram" ? say.inBank(bank, wordsOfCharacter(numberOf(at)))
+  const title = word === "src" ? say.SRC_OF_ROMS : word === "ram" ? say.inBank(bank, describeCharacter(parseNumber(at)))
     : isMemory ? say.STATUS_CHARACTER : "";
   const width = /^p\d$/.test(word) ? PAIR_WIDTH : WIDTHS[word] || DIGIT_WIDTH;
-  return newLine(place.name, isMemory ? say.ramGroup(bank) : "registers", "value", { places, width, title });
+  return createLine(place.name, isMemory ? say.ramGroup(bank) : "registers", "value", { places, width, title });
 }
 
 /** The names of all registers and pairs. */
-export const REGISTER_NAMES = ["acc", "cy", ...upTo(16).map((at) => `r${at}`), ...upTo(8).map((at) => `p${at}`), "dcl", "src"];
+export const REGISTER_NAMES = ["acc", "cy", ...indices(16).map((at) => `r${at}`), ...indices(8).map((at) => `p${at}`), "dcl", "src"];
 
 /**
  * Returns the names of all RAM nibbles on a board.
@@ -179,8 +179,8 @@ export const REGISTER_NAMES = ["acc", "cy", ...upTo(16).map((at) => `r${at}`), .
  */
 export function characterNames({ banks }) {
   return banks.flatMap(({ bank, chips }) => [
-    ...upTo(chips * 64).map((at) => `ram.${bank}.0x${at.toString(16).toUpperCase().padStart(2, "0")}`),
-    ...upTo(chips * 16).map((at) => `st.${bank}.${at >> 2}.${at & 3}`),
+    ...indices(chips * 64).map((at) => `ram.${bank}.0x${at.toString(16).toUpperCase().padStart(2, "0")}`),
+    ...indices(chips * 16).map((at) => `st.${bank}.${at >> 2}.${at & 3}`),
   ]);
 }
 
@@ -193,19 +193,19 @@ export function characterNames({ banks }) {
  * @param {string[]} [values] the names of the requested values
  * @returns {WaveLine[]}
  */
-export function linesOfBoard(board, text, hasLabels, values = []) {
+export function createBoardLines(board, text, hasLabels, values = []) {
   const face = new Face(text);
-  const bits = [...linesOfChips(board, face), ...linesOfFront(board, face), newLine("test", "test", "test")];
-  const others = values.flatMap((name) => valueLine(name, board) || []);
-  const counter = newLine("pc", "pc", "pc", { width: 12 });
-  const labels = hasLabels ? [newLine("label", "label", "label", { width: 16 })] : [];
-  return [...bits, ...portsOf(bits, face), ...decodersOf(board, bits, face), ...others, counter, ...labels];
+  const bits = [...chipLines(board, face), ...frontPanelLines(board, face), createLine("test", "test", "test")];
+  const others = values.flatMap((name) => createValueLine(name, board) || []);
+  const counter = createLine("pc", "pc", "pc", { width: 12 });
+  const labels = hasLabels ? [createLine("label", "label", "label", { width: 16 })] : [];
+  return [...bits, ...portLines(bits, face), ...decoderLines(board, bits, face), ...others, counter, ...labels];
 }
 
 /**
  * Returns whether a line is drawn as boxes with values. This is true for all lines except single bits.
  * @param {WaveLine} line
  */
-export function isText({ kind, width }) {
+export function isDrawnAsBoxes({ kind, width }) {
   return kind === "pc" || kind === "label" || width > 1;
 }

@@ -1,9 +1,9 @@
-// The program of a recording: its source lines and labels, if the source is the program in ROM.
+// Creates the program of a recording, which consists of source lines and labels, if the source text is the program in ROM.
 
 import { SourceMap } from "../machine/source_map.js";
 
 /**
- * @typedef {import("../engine/program_check.js").Checked} Checked
+ * @typedef {import("../engine/program_check.js").ProgramCheck} ProgramCheck
  * @typedef {import("../engine/wave_recorder.js").RecordedProgram} RecordedProgram
  */
 
@@ -13,18 +13,18 @@ import { SourceMap } from "../machine/source_map.js";
  * @param {string} text
  * @returns {RecordedProgram}
  */
-export function programInWaves(map, text) {
+export function createRecordedProgram(map, text) {
   const labels = [...map.labels].map(([address, [name]]) => ({ address, name }));
   return { text, lines: map.lines, labels: labels.sort((one, other) => one.address - other.address) };
 }
 
 /**
  * Returns the program of a recording; null if the source is not the program in ROM.
- * @param {Checked} checked
+ * @param {ProgramCheck} checked
  * @param {string} text
  * @returns {RecordedProgram | null}
  */
 export function recordedProgram({ map, refusal, difference }, text) {
   const source = new SourceMap(map, text);
-  return refusal || difference || source.count === 0 ? null : programInWaves(source, text);
+  return refusal || difference || source.count === 0 ? null : createRecordedProgram(source, text);
 }

@@ -1,24 +1,24 @@
-// A recording for the page: the value of each line at a moment, its changes, and the instruction at a moment. A recording of running time
-// grows at its end and drops its start.
+// A recording on the page: the value of each line at any moment, the changes of each line, and the instruction at any moment. A recording
+// of a running session grows at its end and drops cycles at its start. A moment is a number of cycles.
 
-import { ADDRESSES } from "../bench/rom_bytes.js";
-import { deriveShift, lastRise, scanText, shiftText } from "./decoders.js";
+import { ADDRESS_COUNT } from "../bench/rom_bytes.js";
+import { deriveShift, findLastRise, scanText, shiftText } from "./decoders.js";
 import { NumberQueue, countUpTo } from "./growing.js";
 import { Track, emptyTrack } from "./track.js";
 import { valueText } from "./wave_words.js";
 
 /**
- * @typedef {import("../engine/wave_recorder.js").Recorded} Recorded
+ * @typedef {import("../engine/wave_recorder.js").Recording} Recording
  * @typedef {import("../engine/wave_recorder.js").RecordedPart} RecordedPart
  * @typedef {import("./wave_lines.js").WaveLine} WaveLine
- * @typedef {import("./wave_words.js").Base} Base
+ * @typedef {import("./wave_words.js").NumberBase} NumberBase
  *
  * The instruction at a moment: its address, its listing line, and its source line with the line number (0 for none). `isSecond`: the moment
  * is the second cycle of an instruction. `isEnd`: it is the next instruction, at the end of the recording.
  * @typedef {{ address: number, listed: string, line: number, source: string, isSecond: boolean, isEnd: boolean }} Instruction
  */
 
-/** The kinds of lines that are computed from other lines or from the instructions. */
+/** The kinds of lines whose values are computed from other lines or from the program counter. */
 const DERIVED = new Set(["pc", "label", "port", "shift", "scan"]);
 
 /**
@@ -26,7 +26,7 @@ const DERIVED = new Set(["pc", "label", "port", "shift", "scan"]);
  * @param {{ address: number }[]} labels the labels in ascending address order
  */
 function labelsBelow(labels) {
-  const below = new Int16Array(ADDRESSES);
+  const below = new Int16Array(ADDRESS_COUNT);
   let [next, now] = [0, -1];
   for (let address = 0; address < below.length; address++) {
     while (next < labels.length && labels[next].address <= address) now = next++;
@@ -36,7 +36,7 @@ function labelsBelow(labels) {
 }
 
 export class Waves {
-  /** @param {Recorded} recorded the recording; this object takes over the arrays */
+  /** @param {Recording} recorded the recording; this object takes over the arrays */
   constructor({ from, cycles, isStuck, isOwed, lines, tracks, moments, counters, listing, program }) {
     /** The moments at which the recording starts and ends. */
     this.from = from;
@@ -50,12 +50,12 @@ export class Waves {
     this.listing = new Map(listing);
     this.program = program;
     this.sources = program ? program.text.split("\n") : [];
-    this.below = labelsBelow(program ? program.labels : []);
+    this.labelIndexes = labelsBelow(program ? program.labels : []);
     /** @type {Map<number, Track>} the computed tracks so far, by line */
-    this.derived = new Map();
+    this.derivedTracks = new Map();
     /** @type {Map<number, number>} the last rising clock edges before the start of the recording, by shift register line */
-    this.rises = new Map();
-    /** @type {Base} the number base for display */
+    this.earlierRises = new Map();
+    /** @type {NumberBase} the number base for display */
     this.base = "hex";
   }
 
@@ -66,18 +66,21 @@ export class Waves {
 
   // --- growing and shrinking ---
 
-  /** @param {RecordedPart} part the next part */
+  /**
+   * Adds a part at the end.
+   * @param {RecordedPart} part
+   */
   append({ cycles, isStuck, tracks, moments, counters, listing }) {
-    const before = this.cycles;
+    const previousEnd = this.cycles;
     tracks.forEach((data, line) => this.tracks[line].append(data));
     moments.forEach((moment, at) => this.appendInstruction(moment, counters[at]));
     for (const [address, text] of listing) this.listing.set(address, text);
     this.cycles = cycles;
     this.isStuck = isStuck;
-    for (const [line, track] of this.derived) {
+    for (const [line, track] of this.derivedTracks) {
       // The part can change the value at the moment at which it starts.
-      track.endAt(before - 1);
-      this.derive(line, track, before - 1);
+      track.endAt(previousEnd - 1);
+      this.extendTrack(line, track, previousEnd - 1);
     }
   }
 
@@ -94,44 +97,52 @@ export class Waves {
     this.counters.push(counter);
   }
 
-  /** @param {number} moment the new start; earlier parts are dropped */
+  /**
+   * Drops all cycles before a moment.
+   * @param {number} moment the new start
+   */
   beginAt(moment) {
     if (moment <= this.from) return;
     this.from = moment;
     this.isOwed = false;
-    for (const line of this.derived.keys()) if (this.lines[line].kind === "shift") this.rises.set(line, this.riseBefore(line, moment));
-    for (const track of [...this.tracks, ...this.derived.values()]) track.beginAt(moment);
+    for (const line of this.derivedTracks.keys()) {
+      if (this.lines[line].kind === "shift") this.earlierRises.set(line, this.findRiseBefore(line, moment));
+    }
+    for (const track of [...this.tracks, ...this.derivedTracks.values()]) track.beginAt(moment);
     const count = Math.max(0, countUpTo(this.moments.all, moment) - 1);
-    this.moments.drop(count);
-    this.counters.drop(count);
+    this.moments.dropFirst(count);
+    this.counters.dropFirst(count);
   }
 
-  /** @param {number} moment the new end; later parts are dropped */
+  /**
+   * Drops all cycles after a moment.
+   * @param {number} moment the new end
+   */
   endAt(moment) {
     if (moment >= this.cycles) return;
     this.cycles = moment;
     this.isStuck = false;
-    for (const track of [...this.tracks, ...this.derived.values()]) track.endAt(moment);
+    for (const track of [...this.tracks, ...this.derivedTracks.values()]) track.endAt(moment);
     const count = Math.max(1, countUpTo(this.moments.all, moment));
-    this.moments.cut(count);
-    this.counters.cut(count);
+    this.moments.keepFirst(count);
+    this.counters.keepFirst(count);
   }
 
   // --- values ---
 
   /**
-   * Returns the track of a line. A computed track is computed on first use.
+   * Returns the track of a line. Computes the track of a derived line on its first use.
    * @param {number} line
    * @returns {Track}
    */
-  trackOf(line) {
+  getTrack(line) {
     const { kind } = this.lines[line];
     if (!DERIVED.has(kind)) return this.tracks[line];
-    let track = this.derived.get(line);
+    let track = this.derivedTracks.get(line);
     if (!track) {
-      track = new Track({ ...emptyTrack(this.lines[line].width), first: this.derivedAt(line, this.from) });
-      this.derive(line, track, this.from);
-      this.derived.set(line, track);
+      track = new Track({ ...emptyTrack(this.lines[line].width), first: this.computeValue(line, this.from) });
+      this.extendTrack(line, track, this.from);
+      this.derivedTracks.set(line, track);
     }
     return track;
   }
@@ -142,14 +153,14 @@ export class Waves {
    * @param {number} line
    * @param {number} moment
    */
-  derivedAt(line, moment) {
+  computeValue(line, moment) {
     const { kind, members } = this.lines[line];
     if (kind === "shift") return 0;
     if (kind !== "pc" && kind !== "label") {
       return members.reduce((sum, member, bit) => sum + this.tracks[member].valueAt(moment) * 2 ** bit, 0);
     }
     const counter = this.counterAt(moment);
-    return kind === "pc" ? counter : this.below[counter] + 1;
+    return kind === "pc" ? counter : this.labelIndexes[counter] + 1;
   }
 
   /**
@@ -158,18 +169,18 @@ export class Waves {
    * @param {Track} track
    * @param {number} after
    */
-  derive(line, track, after) {
+  extendTrack(line, track, after) {
     const { kind, members } = this.lines[line];
     const tracks = members.map((member) => this.tracks[member]);
     if (kind === "shift") {
       const [clock, data] = tracks;
-      deriveShift({ clock, data, rise: this.riseBefore(line, after) }, track, after, this.cycles);
+      deriveShift({ clock, data, rise: this.findRiseBefore(line, after) }, track, after, this.cycles);
     }
-    if (kind === "port" || kind === "scan") this.derivePort(tracks, track, after);
+    if (kind === "port" || kind === "scan") this.extendPortTrack(tracks, track, after);
     if (kind !== "pc" && kind !== "label") return;
     const [moments, counters] = [this.moments.all, this.counters.all];
     for (let at = countUpTo(moments, after); at < moments.length; at++) {
-      track.set(kind === "pc" ? counters[at] : this.below[counters[at]] + 1, moments[at]);
+      track.set(kind === "pc" ? counters[at] : this.labelIndexes[counters[at]] + 1, moments[at]);
     }
   }
 
@@ -178,30 +189,30 @@ export class Waves {
    * @param {number} line
    * @param {number} moment
    */
-  riseBefore(line, moment) {
-    const rise = lastRise(this.tracks[this.lines[line].members[0]], moment);
-    return rise < 0 ? this.rises.get(line) ?? -1 : rise;
+  findRiseBefore(line, moment) {
+    const rise = findLastRise(this.tracks[this.lines[line].members[0]], moment);
+    return rise < 0 ? this.earlierRises.get(line) ?? -1 : rise;
   }
 
   /**
-   * Extends the track of a port or key scan. Its value consists of the bits of its member lines.
+   * Extends the track of a port or key scan to the end. The bits of its value are the values of its member lines.
    * @param {Track[]} members
    * @param {Track} track
    * @param {number} after
    */
-  derivePort(members, track, after) {
+  extendPortTrack(members, track, after) {
     const moments = members.map((member) => member.moments.all);
-    const next = moments.map((each) => countUpTo(each, after));
+    const nextIndexes = moments.map((each) => countUpTo(each, after));
     for (;;) {
       let moment = Infinity;
       moments.forEach((each, bit) => {
-        if (next[bit] < each.length) moment = Math.min(moment, each[next[bit]]);
+        if (nextIndexes[bit] < each.length) moment = Math.min(moment, each[nextIndexes[bit]]);
       });
       if (moment === Infinity) return;
       let value = 0;
       for (let bit = members.length - 1; bit >= 0; bit--) {
-        if (moments[bit][next[bit]] === moment) next[bit] += 1;
-        value = 2 * value + members[bit].valueAfter(next[bit]);
+        if (moments[bit][nextIndexes[bit]] === moment) nextIndexes[bit] += 1;
+        value = 2 * value + members[bit].valueAfter(nextIndexes[bit]);
       }
       track.set(value, moment);
     }
@@ -212,7 +223,7 @@ export class Waves {
    * @param {number} line
    */
   changesOf(line) {
-    return this.trackOf(line).moments.all;
+    return this.getTrack(line).moments.all;
   }
 
   /**
@@ -221,7 +232,7 @@ export class Waves {
    * @param {number} moment
    */
   numberAt(line, moment) {
-    return this.trackOf(line).valueAt(moment);
+    return this.getTrack(line).valueAt(moment);
   }
 
   /**
@@ -232,7 +243,10 @@ export class Waves {
     return Math.max(0, countUpTo(this.moments.all, moment) - 1);
   }
 
-  /** @param {number} moment */
+  /**
+   * Returns the program counter at a moment.
+   * @param {number} moment
+   */
   counterAt(moment) {
     return this.counters.all[this.sampleAt(moment)];
   }
@@ -242,7 +256,7 @@ export class Waves {
    * @param {number} moment
    */
   labelAt(moment) {
-    const label = this.below[this.counterAt(moment)];
+    const label = this.labelIndexes[this.counterAt(moment)];
     return this.program && label >= 0 ? this.program.labels[label].name : "";
   }
 

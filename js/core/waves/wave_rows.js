@@ -1,11 +1,11 @@
-// The arrangement of wave rows: their order, titles, colours and groups. It is stored by line name, so that it also applies to later
-// recordings.
+// The arrangement of wave rows: their order, titles, colours and groups. The arrangement is stored by line name, so that later recordings
+// have the same arrangement.
 
 /**
  * @typedef {import("./wave_lines.js").WaveLine} WaveLine
  * @typedef {typeof ROW_COLOURS[number]} RowColour
  * @typedef {{ title?: string, colour?: RowColour | "", group?: string }} RowLook
- * @typedef {{ order: string[], looks: Record<string, RowLook>, folded: string[] }} KeptRows
+ * @typedef {{ order: string[], looks: Record<string, RowLook>, folded: string[] }} StoredRows
  *
  * A row: a line with its index and name, or a group heading with index -1. `title` is the displayed text.
  * @typedef {{ line: number, name: string, title: string, colour: RowColour | "", group: string, isFolded: boolean }} WaveRow
@@ -14,7 +14,7 @@
 export const ROW_COLOURS = /** @type {const} */ (["red", "amber", "green", "blue", "violet"]);
 
 export class WaveRows {
-  /** @param {Partial<KeptRows>} [storedRows] */
+  /** @param {Partial<StoredRows>} [storedRows] */
   constructor(storedRows = {}) {
     const { order = [], looks = {}, folded = [] } = storedRows;
     /** The line names in row order, as far as the user has changed the order. */
@@ -23,7 +23,7 @@ export class WaveRows {
     this.folded = new Set(folded);
   }
 
-  /** @returns {KeptRows} */
+  /** @returns {StoredRows} */
   get kept() {
     return { order: this.order, looks: Object.fromEntries(this.looks), folded: [...this.folded] };
   }
@@ -32,39 +32,39 @@ export class WaveRows {
    * @param {string} name
    * @returns {RowLook}
    */
-  lookOf(name) {
+  getLook(name) {
     return this.looks.get(name) || {};
   }
 
   /** @param {string} name */
   groupOf(name) {
-    return this.lookOf(name).group || "";
+    return this.getLook(name).group || "";
   }
 
   /**
-   * Changes the look of a row.
+   * Changes the title, colour or group of a row.
    * @param {string} name the name of the line
    * @param {RowLook} look the changed properties
    */
   change(name, look) {
-    this.looks.set(name, { ...this.lookOf(name), ...look });
+    this.looks.set(name, { ...this.getLook(name), ...look });
   }
 
   /**
    * Returns names in row order. A name that is not in the stored order follows its predecessor on the board.
    * @param {string[]} names the line names in board order
    */
-  ordered(names) {
-    const wanted = new Set(names);
-    const found = this.order.filter((name) => wanted.has(name));
-    const placed = new Set(found);
+  sortNames(names) {
+    const wantedNames = new Set(names);
+    const sortedNames = this.order.filter((name) => wantedNames.has(name));
+    const placedNames = new Set(sortedNames);
     names.forEach((name, at) => {
-      if (!placed.has(name)) found.splice(at === 0 ? 0 : found.indexOf(names[at - 1]) + 1, 0, name);
+      if (!placedNames.has(name)) sortedNames.splice(at === 0 ? 0 : sortedNames.indexOf(names[at - 1]) + 1, 0, name);
     });
     // The rows of a group follow its first row.
-    const groups = [...new Set(found.map((name) => this.groupOf(name) || ` ${name}`))];
+    const groups = [...new Set(sortedNames.map((name) => this.groupOf(name) || ` ${name}`))];
     const members = new Map(groups.map((group) => [group, /** @type {string[]} */ ([])]));
-    for (const name of found) (members.get(this.groupOf(name) || ` ${name}`) || []).push(name);
+    for (const name of sortedNames) (members.get(this.groupOf(name) || ` ${name}`) || []).push(name);
     return [...members.values()].flat();
   }
 
@@ -78,13 +78,13 @@ export class WaveRows {
     const numbers = new Map(chosen.map((line) => [lines[line].name, line]));
     /** @type {WaveRow[]} */
     const rows = [];
-    let last = "";
-    for (const name of this.ordered([...numbers.keys()])) {
-      const { title = "", colour = "", group = "" } = this.lookOf(name);
+    let lastGroup = "";
+    for (const name of this.sortNames([...numbers.keys()])) {
+      const { title = "", colour = "", group = "" } = this.getLook(name);
       const isFolded = this.folded.has(group);
-      if (group !== "" && group !== last) rows.push({ line: -1, name: "", title: group, colour: "", group, isFolded });
+      if (group !== "" && group !== lastGroup) rows.push({ line: -1, name: "", title: group, colour: "", group, isFolded });
       if (group === "" || !isFolded) rows.push({ line: numbers.get(name) || 0, name, title, colour, group, isFolded: false });
-      last = group;
+      lastGroup = group;
     }
     return rows;
   }
@@ -93,21 +93,22 @@ export class WaveRows {
    * Moves a row (or a whole group, by its heading) to the position of another row. A row that moves into a group joins the group.
    * @param {WaveRow[]} rows
    * @param {string[]} names the names of all visible lines, in row order
-   * @param {number} at
-   * @param {number} to
+   * @param {number} fromIndex
+   * @param {number} toIndex
    */
-  move(rows, names, at, to) {
-    const [moved, target] = [rows[at], rows[to]];
-    if (!moved || !target || moved === target || (moved.line < 0 && target.group === moved.group)) return;
-    const isDown = to > at;
-    const movedNames = moved.line < 0 ? names.filter((name) => this.groupOf(name) === moved.group) : [moved.name];
+  move(rows, names, fromIndex, toIndex) {
+    const [movedRow, targetRow] = [rows[fromIndex], rows[toIndex]];
+    if (!movedRow || !targetRow || movedRow === targetRow || (movedRow.line < 0 && targetRow.group === movedRow.group)) return;
+    const isDown = toIndex > fromIndex;
+    const movedNames = movedRow.line < 0 ? names.filter((name) => this.groupOf(name) === movedRow.group) : [movedRow.name];
     const otherNames = names.filter((name) => !movedNames.includes(name));
-    const isWhole = target.group !== "" && (moved.line < 0 || target.line < 0);
-    const near = isWhole ? otherNames.filter((name) => this.groupOf(name) === target.group) : [target.name];
-    const joins = moved.line >= 0 && target.group !== "" && (target.line >= 0 || (isDown && !target.isFolded));
-    if (moved.line >= 0) this.change(moved.name, { group: joins ? target.group : "" });
-    const isAfter = isDown && !(joins && target.line < 0);
-    const place = near.length === 0 ? otherNames.length : otherNames.indexOf(near[isAfter ? near.length - 1 : 0]) + Number(isAfter);
+    const isWhole = targetRow.group !== "" && (movedRow.line < 0 || targetRow.line < 0);
+    const neighbourNames = isWhole ? otherNames.filter((name) => this.groupOf(name) === targetRow.group) : [targetRow.name];
+    const joinsGroup = movedRow.line >= 0 && targetRow.group !== "" && (targetRow.line >= 0 || (isDown && !targetRow.isFolded));
+    if (movedRow.line >= 0) this.change(movedRow.name, { group: joinsGroup ? targetRow.group : "" });
+    const isAfter = isDown && !(joinsGroup && targetRow.line < 0);
+    const neighbour = neighbourNames[isAfter ? neighbourNames.length - 1 : 0];
+    const place = neighbourNames.length === 0 ? otherNames.length : otherNames.indexOf(neighbour) + Number(isAfter);
     otherNames.splice(place, 0, ...movedNames);
     this.order = [...otherNames, ...this.order.filter((name) => !otherNames.includes(name))];
   }

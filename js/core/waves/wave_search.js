@@ -1,9 +1,10 @@
-// Searches a recording for a value or an edge: `9` on the marked line, `r5 = 9`, `rom0 != 0`, `lamp15 rises`, `@LABEL`.
+// Searches a recording for a value or an edge. Examples of searches: `9` (on the marked line), `r5 = 9`, `rom0 != 0`, `lamp15 rises`,
+// `@LABEL`.
 
-import { numberOf } from "../bench/numbers.js";
-import { isDecoder, scannedBy } from "./decoders.js";
+import { parseNumber } from "../bench/numbers.js";
+import { isDecoder, readScan } from "./decoders.js";
 import { countUpTo } from "./growing.js";
-import { lineNamed } from "./trigger.js";
+import { findLineByName } from "./trigger.js";
 import * as say from "../../words/waves.js";
 
 /**
@@ -14,13 +15,13 @@ import * as say from "../../words/waves.js";
  * @typedef {{ line: number, matches: (value: number) => boolean, each: boolean }} Search
  */
 
-/** @type {Record<string, (is: number, than: number) => boolean>} */
+/** @type {Record<string, (is: number, than: number) => boolean>} the comparisons, by operator */
 const COMPARISONS = {
   "=": (is, than) => is === than, "!=": (is, than) => is !== than, "<": (is, than) => is < than, ">": (is, than) => is > than,
   "<=": (is, than) => is <= than, ">=": (is, than) => is >= than,
 };
 
-/** @type {Record<string, (value: number) => boolean>} */
+/** @type {Record<string, (value: number) => boolean>} the tests of the value after an edge, by kind of edge */
 const EDGES = { rises: (value) => value === 1, falls: (value) => value === 0, changes: () => true };
 
 /**
@@ -37,7 +38,7 @@ function searchError(fault) {
  * @param {Waves} waves
  * @param {string} name
  */
-function labelOf(waves, name) {
+function findLabel(waves, name) {
   const found = waves.program ? waves.program.labels.findIndex((label) => label.name === name) : -1;
   return found < 0 ? null : { address: waves.program ? waves.program.labels[found].address : 0, number: found + 1 };
 }
@@ -46,32 +47,33 @@ function labelOf(waves, name) {
  * Parses a search text. If the text has an error, `fault` is the message.
  * @param {string} text
  * @param {Waves} waves
- * @param {number} marked the index of the marked line; -1 for none
+ * @param {number} markedLine the index of the marked line; -1 for none
  * @returns {{ search: Search | null, fault: string }}
  */
-export function readSearch(text, waves, marked) {
+export function readSearch(text, waves, markedLine) {
   const trimmed = text.trim();
   if (trimmed === "") return searchError(say.searchQuestion(say.SEARCH_FORMS));
   if (trimmed.startsWith("@")) {
-    const label = labelOf(waves, trimmed.slice(1));
+    const label = findLabel(waves, trimmed.slice(1));
     const counter = waves.lines.findIndex(({ kind }) => kind === "pc");
     if (!label) return searchError(say.noLabel(trimmed.slice(1)));
     return { search: { line: counter, matches: (value) => value === label.address, each: false }, fault: "" };
   }
   const edge = /^(?:(.*\S)\s+)?(rises|falls|changes)$/.exec(trimmed);
-  if (edge) return readEdge(edge[1], edge[2], waves, marked);
-  const compared = /^(.*?)\s*(!=|<=|>=|=|<|>)\s*(\S+)$/.exec(trimmed);
-  return compared ? readValue(compared[1], compared[2], compared[3], waves, marked) : readValue("", "=", trimmed, waves, marked);
+  if (edge) return parseEdge(edge[1], edge[2], waves, markedLine);
+  const comparison = /^(.*?)\s*(!=|<=|>=|=|<|>)\s*(\S+)$/.exec(trimmed);
+  const [, name, sign, value] = comparison || ["", "", "=", trimmed];
+  return parseValue(name, sign, value, waves, markedLine);
 }
 
 /**
  * Returns the index of the line with a name; without a name, the marked line. If there is no such line, `fault` is the message.
  * @param {string} name
  * @param {Waves} waves
- * @param {number} marked
+ * @param {number} markedLine
  */
-function lineOf(name, waves, marked) {
-  const line = name ? lineNamed(name, waves.lines) : marked;
+function findSearchLine(name, waves, markedLine) {
+  const line = name ? findLineByName(name, waves.lines) : markedLine;
   if (line >= 0) return { line, fault: "" };
   return { line, fault: name ? say.notRecorded(name) : say.NO_LINE_MARKED };
 }
@@ -81,10 +83,10 @@ function lineOf(name, waves, marked) {
  * @param {string | undefined} name
  * @param {string} edge
  * @param {Waves} waves
- * @param {number} marked
+ * @param {number} markedLine
  */
-function readEdge(name, edge, waves, marked) {
-  const { line, fault } = lineOf(name || "", waves, marked);
+function parseEdge(name, edge, waves, markedLine) {
+  const { line, fault } = findSearchLine(name || "", waves, markedLine);
   if (fault) return searchError(fault);
   const { width } = waves.lines[line];
   if (edge !== "changes" && isDecoder(waves.lines[line])) return searchError(say.isDecoded(waves.lines[line].name));
@@ -98,16 +100,16 @@ function readEdge(name, edge, waves, marked) {
  * @param {string} sign the comparison operator
  * @param {string} value
  * @param {Waves} waves
- * @param {number} marked
+ * @param {number} markedLine
  */
-function readValue(name, sign, value, waves, marked) {
-  const { line, fault } = lineOf(name, waves, marked);
+function parseValue(name, sign, value, waves, markedLine) {
+  const { line, fault } = findSearchLine(name, waves, markedLine);
   if (fault) return searchError(fault);
   const { kind, width, name: lineName } = waves.lines[line];
-  if (isDecoder(waves.lines[line])) return readDecoded(waves.lines[line], line, sign, value);
-  const label = kind === "label" || kind === "pc" ? labelOf(waves, value.replace(/^@/, "")) : null;
+  if (isDecoder(waves.lines[line])) return parseKeySearch(waves.lines[line], line, sign, value);
+  const label = kind === "label" || kind === "pc" ? findLabel(waves, value.replace(/^@/, "")) : null;
   const binary = /^0b([01]+)$/i.exec(value);
-  const number = label ? (kind === "pc" ? label.address : label.number) : binary ? parseInt(binary[1], 2) : numberOf(value);
+  const number = label ? (kind === "pc" ? label.address : label.number) : binary ? parseInt(binary[1], 2) : parseNumber(value);
   if (kind === "label" && !label) return searchError(say.noLabel(value));
   if (Number.isNaN(number)) return searchError(say.noNumber(value, say.SEARCH_FORMS));
   const most = 2 ** width - 1;
@@ -123,9 +125,9 @@ function readValue(name, sign, value, waves, marked) {
  * @param {string} key
  * @returns {{ search: Search | null, fault: string }}
  */
-function readDecoded(decoder, line, sign, key) {
+function parseKeySearch(decoder, line, sign, key) {
   if (sign !== "=" || !decoder.places.includes(key)) return searchError(say.isDecoded(decoder.name));
-  return { search: { line, matches: (value) => scannedBy(decoder, value).keys.includes(key), each: false }, fault: "" };
+  return { search: { line, matches: (value) => readScan(decoder, value).keys.includes(key), each: false }, fault: "" };
 }
 
 /**
@@ -136,10 +138,11 @@ function readDecoded(decoder, line, sign, key) {
  * @param {boolean} isForward
  */
 export function find(waves, { line, matches, each }, moment, isForward) {
-  const track = waves.trackOf(line);
+  const track = waves.getTrack(line);
   const changes = track.moments.all;
-  const by = isForward ? 1 : -1;
-  for (let at = isForward ? countUpTo(changes, moment) : countUpTo(changes, moment - 1) - 1; at >= 0 && at < changes.length; at += by) {
+  const direction = isForward ? 1 : -1;
+  const first = isForward ? countUpTo(changes, moment) : countUpTo(changes, moment - 1) - 1;
+  for (let at = first; at >= 0 && at < changes.length; at += direction) {
     if (matches(track.valueAfter(at + 1)) && (each || !matches(track.valueAfter(at)))) return changes[at];
   }
   // The first value of the recording can also match.

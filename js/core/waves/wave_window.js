@@ -1,4 +1,4 @@
-// The visible part of a recording, and the positions of the two cursors. All moments are in cycles.
+// The visible range of a recording, and the positions of the two cursors. All moments are in cycles.
 
 /** The minimum number of visible cycles. */
 const MIN_CYCLES = 10;
@@ -41,10 +41,12 @@ export class WaveWindow {
     return Math.max(1, this.end - this.begin);
   }
 
+  /** The end of the visible range. */
   get to() {
     return this.from + this.span;
   }
 
+  /** The position of the active cursor. */
   get moment() {
     return this.cursors[this.active];
   }
@@ -54,12 +56,18 @@ export class WaveWindow {
     return Math.abs(this.cursors[1] - this.cursors[0]);
   }
 
-  /** @param {number} moment */
-  xOf(moment) {
+  /**
+   * Returns the horizontal position of a moment in pixels.
+   * @param {number} moment
+   */
+  xAt(moment) {
     return ((moment - this.from) / this.span) * this.width;
   }
 
-  /** @param {number} x */
+  /**
+   * Returns the moment at a horizontal position.
+   * @param {number} x
+   */
   cyclesAt(x) {
     return this.from + (x / this.width) * this.span;
   }
@@ -147,8 +155,8 @@ export class WaveWindow {
     const cycle = clamp(Math.floor(this.cyclesAt(x)), this.begin, this.end);
     if (line < 0) return cycle;
     const edges = [waves.changeBefore(line, cycle + 1), waves.changeAfter(line, cycle)];
-    const near = edges.filter((edge) => edge !== undefined && Math.abs(this.xOf(edge) - x) <= NEAR_PIXELS);
-    const [nearest] = near.sort((one, other) => Math.abs(this.xOf(Number(one)) - x) - Math.abs(this.xOf(Number(other)) - x));
+    const nearEdges = edges.filter((edge) => edge !== undefined && Math.abs(this.xAt(edge) - x) <= NEAR_PIXELS);
+    const [nearest] = nearEdges.sort((one, other) => Math.abs(this.xAt(Number(one)) - x) - Math.abs(this.xAt(Number(other)) - x));
     return nearest === undefined ? cycle : nearest;
   }
 }
@@ -156,12 +164,12 @@ export class WaveWindow {
 /**
  * Returns the moments of the ticks above the waves. The distance between ticks leaves enough room for their numbers.
  * @param {WaveWindow} view
- * @param {number} room the required width per number in pixels
+ * @param {number} labelWidth the required width per number in pixels
  */
-export function ticksOf(view, room) {
-  const least = (room / view.width) * view.span;
-  const power = 10 ** Math.floor(Math.log10(Math.max(1, least)));
-  const distance = [1, 2, 5, 10].map((each) => each * power).find((each) => each >= least) || 1;
+export function tickMoments(view, labelWidth) {
+  const minDistance = (labelWidth / view.width) * view.span;
+  const power = 10 ** Math.floor(Math.log10(Math.max(1, minDistance)));
+  const distance = [1, 2, 5, 10].map((each) => each * power).find((each) => each >= minDistance) || 1;
   const ticks = [];
   for (let tick = Math.ceil(view.from / distance) * distance; tick <= view.to; tick += distance) ticks.push(tick);
   return ticks;

@@ -1,13 +1,13 @@
-// Texts about recordings, and the parser for the number of cycles to record.
+// Formats texts about recordings. Also parses the number of cycles to record.
 
 import { counted, parseCount } from "../bench/numbers.js";
-import { timeOfCycles, wordsOfCycles } from "../time/cycles.js";
+import { formatCycleTime, formatCycles } from "../time/cycles.js";
 import * as say from "../../words/waves.js";
 
 /**
  * @typedef {import("./wave_recording.js").Instruction} Instruction
  * @typedef {import("./wave_recording.js").Waves} Waves
- * @typedef {"hex" | "decimal" | "binary"} Base
+ * @typedef {"hex" | "decimal" | "binary"} NumberBase
  */
 
 /** The maximum length of a recording in cycles. */
@@ -17,7 +17,7 @@ export const MAX_CYCLES = 10000000;
  * Formats a value.
  * @param {number} value
  * @param {number} width the width of the value in bits
- * @param {Base} base
+ * @param {NumberBase} base
  */
 export function valueText(value, width, base) {
   if (width === 1 || base === "decimal") return String(value);
@@ -25,12 +25,18 @@ export function valueText(value, width, base) {
   return value.toString(16).toUpperCase().padStart(Math.ceil(width / 4), "0");
 }
 
-/** @param {number} number the number; formatted with a comma between groups of three digits */
-export function grouped(number) {
+/**
+ * Formats a number with a comma between groups of three digits.
+ * @param {number} number
+ */
+export function formatNumber(number) {
   return String(number).replace(/\B(?=(\d{3})+$)/g, ",");
 }
 
-/** @param {number} cycles */
+/**
+ * Formats a number of cycles.
+ * @param {number} cycles
+ */
 export function cyclesText(cycles) {
   return counted(cycles, "cycle");
 }
@@ -39,11 +45,14 @@ export function cyclesText(cycles) {
  * Describes the cycles between the two cursors.
  * @param {number} cycles
  */
-export function betweenText(cycles) {
-  return say.aToB(wordsOfCycles(cycles));
+export function describeDistance(cycles) {
+  return say.aToB(formatCycles(cycles));
 }
 
-/** @param {Instruction} instruction */
+/**
+ * Describes the instruction at a moment.
+ * @param {Instruction} instruction
+ */
 export function instructionText({ listed, line, source, isSecond, isEnd }) {
   if (isSecond) return say.SECOND_CYCLE;
   const text = listed.replace(/ +/g, " ");
@@ -57,8 +66,8 @@ export function instructionText({ listed, line, source, isSecond, isEnd }) {
  * @param {number} moment
  * @param {Waves} waves
  */
-export function cursorText(name, moment, waves) {
-  return say.cursorAt(name, grouped(moment), timeOfCycles(moment), instructionText(waves.instructionAt(moment)));
+export function describeCursor(name, moment, waves) {
+  return say.cursorAt(name, formatNumber(moment), formatCycleTime(moment), instructionText(waves.instructionAt(moment)));
 }
 
 /**
@@ -67,22 +76,22 @@ export function cursorText(name, moment, waves) {
  * @param {Waves} waves
  * @param {number} line the index of the marked line; -1 for none
  */
-export function spokenText(moment, waves, line) {
+export function screenReaderText(moment, waves, line) {
   const value = line < 0 ? "" : say.valueIs(waves.lines[line].name, waves.valueAt(line, moment));
-  return say.cycleAt(value, grouped(moment), instructionText(waves.instructionAt(moment)));
+  return say.cycleAt(value, formatNumber(moment), instructionText(waves.instructionAt(moment)));
 }
 
 /**
  * Describes the length of a recording.
  * @param {Pick<Waves, "span" | "isStuck">} waves
- * @param {number} wanted the requested number of cycles
+ * @param {number} wantedCycles the requested number of cycles
  * @param {boolean} isBefore true for a recording of the past
  */
-export function recordedText({ span, isStuck }, wanted, isBefore) {
+export function describeRecording({ span, isStuck }, wantedCycles, isBefore) {
   if (span === 0 && isBefore) return say.NOTHING_BEFORE;
-  const recorded = say.recordedSpan(cyclesText(span), timeOfCycles(span));
+  const recorded = say.recordedSpan(cyclesText(span), formatCycleTime(span));
   if (isStuck) return say.codeFollows(recorded);
-  return span < wanted ? say.noFurtherBack(recorded) : recorded;
+  return span < wantedCycles ? say.noFurtherBack(recorded) : recorded;
 }
 
 /**

@@ -12,23 +12,23 @@ import { checkWritableFile } from "../user_files.mjs";
 const MAX_COMMANDS = 99999;
 /** The offsets of fields in a session file, as docs/FORMAT.md defines them. */
 const OFFSETS = { active: 8, slots: [16, 81936], log: 16384, logSize: 65536 };
-const COMMITTED = 1;
+const COMMITTED_BYTE = 1;
 /** The exit status of flock if another process holds the lock. */
-const IS_LOCKED = 75;
+const LOCKED_STATUS = 75;
 
 /**
  * Acquires the lock of a session file, as the native program does while it serves the file. Returns a function that releases the lock. The end of
  * this process also releases it.
  * @param {string} session the session's file name
  */
-async function lock(session) {
-  const child = spawn("flock", ["-n", "-E", String(IS_LOCKED), session, "sh", "-c", "echo; exec cat"], { stdio: ["pipe", "pipe", "ignore"] });
-  const isThere = await Promise.race([
+async function acquireLock(session) {
+  const child = spawn("flock", ["-n", "-E", String(LOCKED_STATUS), session, "sh", "-c", "echo; exec cat"], { stdio: ["pipe", "pipe", "ignore"] });
+  const lockResult = await Promise.race([
     once(child.stdout, "data").then(() => true), once(child, "close").then(([status]) => status),
   ]).catch(() => null);
-  if (isThere === null) throw new CommandError(say.NO_FLOCK);
-  if (isThere === IS_LOCKED) throw new CommandError(say.usedByAnother(session));
-  if (isThere !== true) throw new CommandError(say.cannotWrite(session));
+  if (lockResult === null) throw new CommandError(say.NO_FLOCK);
+  if (lockResult === LOCKED_STATUS) throw new CommandError(say.usedByAnother(session));
+  if (lockResult !== true) throw new CommandError(say.cannotWrite(session));
   return async () => {
     child.stdin.end();
     await once(child, "close");
@@ -40,9 +40,12 @@ async function lock(session) {
  * @param {Uint8Array} bytes the contents of a session file
  */
 function commitOffsets(bytes) {
-  const begin = OFFSETS.slots[bytes[OFFSETS.active] % 2] + OFFSETS.log;
+  const logStart = OFFSETS.slots[bytes[OFFSETS.active] % 2] + OFFSETS.log;
   const offsets = [];
-  for (let at = begin; at < begin + OFFSETS.logSize && bytes[at] === COMMITTED; at += 3 + bytes[at + 1] * 256 + bytes[at + 2]) offsets.push(at);
+  for (let offset = logStart; offset < logStart + OFFSETS.logSize && bytes[offset] === COMMITTED_BYTE;) {
+    offsets.push(offset);
+    offset += 3 + bytes[offset + 1] * 256 + bytes[offset + 2];
+  }
   return offsets;
 }
 
@@ -51,7 +54,7 @@ function commitOffsets(bytes) {
  * @param {string} session the session's file name
  * @param {number} offset the offset of the record's commit byte
  */
-function endLog(session, offset) {
+function truncateLog(session, offset) {
   try {
     const file = openSync(session, constants.O_RDWR);
     try {
@@ -60,8 +63,8 @@ function endLog(session, offset) {
     } finally {
       closeSync(file);
     }
-  } catch (thrown) {
-    throw new CommandError(`${say.cannotWrite(session)}: ${thrown.message}`);
+  } catch (error) {
+    throw new CommandError(`${say.cannotWrite(session)}: ${error.message}`);
   }
 }
 
@@ -70,7 +73,7 @@ function endLog(session, offset) {
  * @param {string} session the session's file name
  * @param {number} count the number of commands to remove; 0 only reports how many can be removed
  */
-async function goBack(session, count) {
+async function removeCommands(session, count) {
   const engine = await startEngine();
   const texts = new GivenTexts();
   const state = await openSession(engine, texts, session);
@@ -80,12 +83,12 @@ async function goBack(session, count) {
   if (count === 0) return say.howFarBack(commands, offsets.length);
   if (count > offsets.length) throw new CommandError(say.logIsShorter(session, offsets.length, commands, count));
   const offset = offsets[offsets.length - count];
-  const shorter = Uint8Array.from(bytes);
-  shorter[offset] = 0;
-  const { opened } = engine.ask(engine.stateOf(shorter), "seq\n");
-  if (opened !== `session ${commands - count}`) throw new CommandError(say.wouldDiffer(session, commands - count, opened));
-  endLog(session, offset);
-  return opened;
+  const shortenedBytes = Uint8Array.from(bytes);
+  shortenedBytes[offset] = 0;
+  const { opened: openingLine } = engine.ask(engine.stateOf(shortenedBytes), "seq\n");
+  if (openingLine !== `session ${commands - count}`) throw new CommandError(say.wouldDiffer(session, commands - count, openingLine));
+  truncateLog(session, offset);
+  return openingLine;
 }
 
 /** @type {import("./table.mjs").CommandModule["run"]} */
@@ -95,9 +98,9 @@ export async function run(_, positionals) {
   const count = word === undefined ? 0 : parseCount("N", word, MAX_COMMANDS);
   checkWritableFile(session);
   programPath();
-  const unlock = await lock(session);
+  const unlock = await acquireLock(session);
   try {
-    print(`${await goBack(session, count)}\n`);
+    print(`${await removeCommands(session, count)}\n`);
   } finally {
     await unlock();
   }

@@ -1,6 +1,6 @@
 // `mcs4 cover`: prints how often each line of a program ran.
-import { LineAccount } from "../../core/testing/account.js";
-import { coverageText, lcovOf } from "../../core/testing/coverage_text.js";
+import { LineRecorder } from "../../core/testing/account.js";
+import { coverageText, lcovText } from "../../core/testing/coverage_text.js";
 import { NO_LCOV } from "../../words/commands.js";
 import { print } from "../output.mjs";
 import { testOrCount } from "../test_commands.mjs";
@@ -13,13 +13,13 @@ const LCOV_BEGIN = "TN:";
 export function run({ folder, lcov, session }, positionals) {
   return testOrCount({
     name: "cover",
-    Counting: LineAccount,
+    Counting: LineRecorder,
     checkNames: (names) => {
       if (lcov !== undefined) checkOutputFile(lcov, LCOV_BEGIN, NO_LCOV, names);
     },
     report: ({ coverage }, program) => {
       print(coverageText(coverage, program));
-      if (lcov !== undefined) writeUserFile(lcov, lcovOf(coverage, program));
+      if (lcov !== undefined) writeUserFile(lcov, lcovText(coverage, program));
     },
   }, { folder, session }, positionals);
 }

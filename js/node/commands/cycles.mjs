@@ -4,10 +4,10 @@ import { runTimes } from "../../core/time/run_times.js";
 import { FIRST_AND_LAST, notALine } from "../../words/commands.js";
 import { checkArguments } from "../arguments.mjs";
 import { GivenTexts } from "../given_texts.mjs";
-import { addressDescriber, startEngine } from "../native_program.mjs";
+import { makeAddressDescriber, startEngine } from "../native_program.mjs";
 import { CommandError, UsageError, print } from "../output.mjs";
 
-const LINE = /^\d{1,9}$/;
+const LINE_NUMBER = /^\d{1,9}$/;
 
 /**
  * Parses the range of answer lines to add up. `last` is 0 for all lines from `first`.
@@ -16,7 +16,7 @@ const LINE = /^\d{1,9}$/;
 function parseRange(words) {
   if (words.length === 0) return { first: 1, last: 0 };
   checkArguments(words, ["FIRST", "LAST"]);
-  const invalid = words.find((word) => !LINE.test(word));
+  const invalid = words.find((word) => !LINE_NUMBER.test(word));
   if (invalid !== undefined) throw new UsageError(notALine(invalid));
   const [first, last] = words.map(Number);
   if (first < 1 || last < first) throw new UsageError(FIRST_AND_LAST);
@@ -30,10 +30,10 @@ export async function run({ source }, positionals) {
   const { first, last } = parseRange(words);
   const texts = new GivenTexts();
   const answers = texts.answers("cycles");
-  const placeOf = source === undefined ? null : await addressDescriber(texts, await startEngine(), source, session);
-  const byCounter = placeOf && ((counter) => placeOf(parseInt(counter, 16)));
-  const { runs, sum, words: error } = runTimes(answers, first, last, byCounter);
+  const describeAddress = source === undefined ? null : await makeAddressDescriber(texts, await startEngine(), source, session);
+  const describeCounter = describeAddress && ((counter) => describeAddress(parseInt(counter, 16)));
+  const { runs, sum, words: error } = runTimes(answers, first, last, describeCounter);
   if (error !== "") throw new CommandError(error);
-  print(joinLines(placeOf ? [...runs, sum] : [sum]));
+  print(joinLines(describeAddress ? [...runs, sum] : [sum]));
   return 0;
 }

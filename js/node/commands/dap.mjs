@@ -1,20 +1,20 @@
-// `mcs4 dap`: the debug adapter of js/core/adapter on standard input and output. It uses the WebAssembly module from the page.
+// `mcs4 dap`: the debug adapter of js/core/adapter on standard input and output. The adapter uses the WebAssembly module from the page.
 import { AdapterConnection } from "../../core/adapter/adapter_connection.js";
 import { DebugAdapter } from "../../core/adapter/debug_adapter.js";
 import { Engine } from "../../core/engine/engine.js";
 import { checkArguments, waitForExit } from "../arguments.mjs";
 import { host } from "../debug_host.mjs";
-import { exitAfterOutput, listen, explainAtTerminal } from "../message_server.mjs";
-import { dataOfPage, moduleOfPage } from "../page_parts.mjs";
+import { exitAfterOutput, listenToInput, explainAtTerminal } from "../message_server.mjs";
+import { readPageData, readPageModule } from "../page_parts.mjs";
 
 const end = exitAfterOutput("dap");
 
 async function serve() {
   const connection = new AdapterConnection((bytes) => process.stdout.write(bytes));
-  const adapter = new DebugAdapter(connection, await Engine.load(moduleOfPage()), dataOfPage(), { ...host, end });
+  const adapter = new DebugAdapter(connection, await Engine.load(readPageModule()), readPageData(), { ...host, end });
   // The client has ended without a disconnect request or has sent unreadable data. Save the work so far.
-  listen(connection, (words) => {
-    connection.turn.then(() => adapter.leave()).then((left) => end(1, words || left));
+  listenToInput(connection, (words) => {
+    connection.queueEnd.then(() => adapter.leave()).then((left) => end(1, words || left));
   });
   process.stdout.on("error", () => adapter.leave().then(() => process.exit(1)));
   for (const signal of ["SIGTERM", "SIGINT", "SIGHUP"]) process.on(signal, () => adapter.leave().then(() => process.exit(1)));

@@ -1,15 +1,15 @@
 // `mcs4 display`: prints the text on a board's display, from the bench's answers about lamps.
 import { joinLines } from "../../core/bench/inputs.js";
-import { shownAnswers } from "../../core/board/shown_answers.js";
-import { checkArguments, projectFor } from "../arguments.mjs";
-import { boardAndFace } from "../board_texts.mjs";
+import { convertLampAnswers } from "../../core/board/shown_answers.js";
+import { checkArguments, findProject } from "../arguments.mjs";
+import { readBoardAndFace } from "../board_texts.mjs";
 import { GivenTexts } from "../given_texts.mjs";
 import { startEngine } from "../native_program.mjs";
 import { CommandError, print } from "../output.mjs";
 
 /** @type {import("./table.mjs").CommandModule["run"]} */
 export async function run({ folder }, positionals) {
-  const project = await projectFor(folder, positionals, 1);
+  const project = await findProject(folder, positionals, 1);
   const words = project ? [project.board, ...positionals] : positionals;
   checkArguments(words, ["BOARD"], 1, true);
   const [name] = words;
@@ -17,8 +17,8 @@ export async function run({ folder }, positionals) {
   const boardText = texts.text(name, "wire");
   // Read standard input before the engine starts, so that a signal ends the waiting process immediately.
   const answers = texts.answers("display");
-  const { board, face } = await boardAndFace(await startEngine(), boardText);
-  const { lines, words: error } = shownAnswers(face, board, name, answers);
+  const { board, face } = await readBoardAndFace(await startEngine(), boardText);
+  const { lines, words: error } = convertLampAnswers(face, board, name, answers);
   if (error !== "") throw new CommandError(error);
   print(joinLines(lines));
   return 0;

@@ -1,10 +1,10 @@
 // `mcs4 explain`: prints the rejected lines of a script, with the reasons.
-import { answeredScript } from "../../core/bench/answered_script.js";
+import { matchScriptAnswers } from "../../core/bench/answered_script.js";
 import { joinLines } from "../../core/bench/inputs.js";
 import { otherAnswers } from "../../words/commands.js";
 import { checkArguments } from "../arguments.mjs";
 import { GivenTexts } from "../given_texts.mjs";
-import { addressDescriber, startEngine } from "../native_program.mjs";
+import { makeAddressDescriber, startEngine } from "../native_program.mjs";
 import { CommandError, print } from "../output.mjs";
 import { RefusedLines } from "../refused_lines.mjs";
 
@@ -16,11 +16,11 @@ export async function run({ source }, positionals) {
   const script = texts.script(positionals[positionals.length - 1]);
   const answers = texts.answers("explain");
   const engine = await startEngine();
-  const placeOf = source === undefined ? null : await addressDescriber(texts, engine, source, positionals[0]);
-  const { inputs, words } = answeredScript(script, answers);
+  const describeAddress = source === undefined ? null : await makeAddressDescriber(texts, engine, source, positionals[0]);
+  const { inputs, words } = matchScriptAnswers(script, answers);
   if (words !== "") throw new CommandError(otherAnswers(words));
   const lines = script.split("\n").map((line) => line.replace(/\r$/, ""));
-  const report = new RefusedLines(engine, lines, placeOf).reportLines(inputs, answers[0]);
+  const report = new RefusedLines(engine, lines, describeAddress).reportLines(inputs, answers[0]);
   print(joinLines(report));
   return report.length > 0 ? 1 : 0;
 }

@@ -1,8 +1,8 @@
-// `mcs4 explore`: searches for key sequences that break a property, with the modules of js/core/explore. It uses the WebAssembly module from the
-// page.
+// `mcs4 explore`: searches for key sequences that break a property, with the modules of js/core/explore. The search uses the WebAssembly module
+// from the page.
 import { join } from "node:path";
-import { isRight, tapOf, testsOfReport } from "../../core/explore/report.js";
-import { namesWithProperties, parseCount, checkArguments } from "../arguments.mjs";
+import { hasExpectedResult, formatTap, formatReportTests } from "../../core/explore/report.js";
+import { resolveFileNames, parseCount, checkArguments } from "../arguments.mjs";
 import { exploreAsJob, exploreTexts, jobSettings, mergeReports } from "../explore_processes.mjs";
 import { GivenTexts } from "../given_texts.mjs";
 import { UsageError, print } from "../output.mjs";
@@ -11,17 +11,17 @@ import { checkOutputFile, writeUserFile } from "../user_files.mjs";
 import { NO_FINDS, NO_REPORT, excludeEachOther } from "../../words/commands.js";
 
 /** The texts at the beginning of the files that the command writes. */
-const FINDS_BEGIN = "# Found by ";
-const REPORT_BEGIN = "{\"form\":\"explore 1\"";
+const FINDS_HEADER = "# Found by ";
+const REPORT_HEADER = "{\"form\":\"explore 1\"";
 /** The maximum and the default of each numeric option. */
-const SECONDS = { most: 86400, usual: 10 };
-const JOBS = { most: 64, usual: 1 };
-const SEED = { most: 99999999, usual: 1 };
+const SECONDS_RANGE = { max: 86400, defaultValue: 10 };
+const JOBS_RANGE = { max: 64, defaultValue: 1 };
+const SEED_RANGE = { max: 99999999, defaultValue: 1 };
 /** The options of a search, which are not allowed with --merge. */
 const SEARCH_OPTIONS = ["folder", "seconds", "jobs", "seed", "allow-model"];
 
-/** @type {(name: string, word: string | undefined, range: { most: number, usual: number }) => number} */
-const count = (name, word, { most, usual }) => (word === undefined ? usual : parseCount(name, word, most));
+/** @type {(name: string, word: string | undefined, range: { max: number, defaultValue: number }) => number} */
+const parseOption = (name, word, { max, defaultValue }) => (word === undefined ? defaultValue : parseCount(name, word, max));
 
 /** @type {import("./table.mjs").CommandModule["run"]} */
 export async function run(values, positionals) {
@@ -29,20 +29,22 @@ export async function run(values, positionals) {
   if (job) return exploreAsJob(job);
   const { folder, out, report: reportName, merge } = values;
   const limits = {
-    seconds: count("SECONDS", values.seconds, SECONDS), jobs: count("JOBS", values.jobs, JOBS), seed: count("SEED", values.seed, SEED),
+    seconds: parseOption("SECONDS", values.seconds, SECONDS_RANGE),
+    jobs: parseOption("JOBS", values.jobs, JOBS_RANGE),
+    seed: parseOption("SEED", values.seed, SEED_RANGE),
   };
   const unusedOption = merge && SEARCH_OPTIONS.find((name) => values[name] !== undefined);
   if (unusedOption) throw new UsageError(excludeEachOther("--merge", unusedOption === "folder" ? "-C" : `--${unusedOption}`));
-  const names = merge ? positionals : await namesWithProperties(folder, positionals);
+  const names = merge ? positionals : await resolveFileNames(folder, positionals);
   if (merge) checkArguments(names, ["REPORT"], Infinity);
   else checkArguments(names, ["BOARD", "PROGRAM", "PROPERTIES"], 3, true);
-  if (out !== undefined) checkOutputFile(out, FINDS_BEGIN, NO_FINDS, names);
-  if (reportName !== undefined) checkOutputFile(reportName, REPORT_BEGIN, NO_REPORT, names);
-  const report = merge ? mergeReports(names) : await explore(names, { ...limits, allowsModel: Boolean(values["allow-model"]) });
+  if (out !== undefined) checkOutputFile(out, FINDS_HEADER, NO_FINDS, names);
+  if (reportName !== undefined) checkOutputFile(reportName, REPORT_HEADER, NO_REPORT, names);
+  const report = merge ? mergeReports(names) : await searchTexts(names, { ...limits, allowsModel: Boolean(values["allow-model"]) });
   if (reportName !== undefined) writeUserFile(reportName, `${JSON.stringify(report)}\n`);
-  if (out !== undefined) writeUserFile(out, testsOfReport(report));
-  print(tapOf(report));
-  return report.properties.every(isRight) ? 0 : 1;
+  if (out !== undefined) writeUserFile(out, formatReportTests(report));
+  print(formatTap(report));
+  return report.properties.every(hasExpectedResult) ? 0 : 1;
 }
 
 /**
@@ -50,10 +52,10 @@ export async function run(values, positionals) {
  * @param {string[]} names the file names of board, program and properties
  * @param {Omit<import("../explore_processes.mjs").Settings, "folder" | "texts">} limits
  */
-function explore([board, program, properties], limits) {
+function searchTexts([board, program, properties], limits) {
   const texts = new GivenTexts();
-  const given = { board: texts.text(board, "wire"), program: texts.text(program, "asm") };
+  const commandTexts = { board: texts.text(board, "wire"), program: texts.text(program, "asm") };
   const source = texts.source(properties);
   const folder = temporaryFolder("explore");
-  return exploreTexts({ ...limits, folder: join(folder), texts: { ...given, properties: source } });
+  return exploreTexts({ ...limits, folder: join(folder), texts: { ...commandTexts, properties: source } });
 }

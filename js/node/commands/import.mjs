@@ -1,7 +1,7 @@
 // `mcs4 import`: converts a program from the syntax of Intel's assembler or of AS to the bench's syntax.
 import { importProgram } from "../../core/import/program_import.js";
 import { readProgram } from "../../core/engine/program_check.js";
-import { faultsOfText } from "../../core/testing/prepared.js";
+import { findTextErrors } from "../../core/testing/prepared.js";
 import { sentText } from "../../core/text/text_fault.js";
 import { checkArguments } from "../arguments.mjs";
 import { GivenTexts, MAX_TEXT_BYTES } from "../given_texts.mjs";
@@ -11,19 +11,19 @@ import { CommandError, printFile } from "../output.mjs";
 const UTF8_MARK = /^\u00ef\u00bb\u00bf/;
 
 /**
- * Throws an error if the bench rejects a converted program. Its lines have the same numbers as the lines of the source.
+ * Throws an error if the bench rejects a converted program. A converted line has the same number as its line in the source.
  * @param {string} name the file name of the source
  * @param {string} source
  * @param {string} text the converted program
  */
-async function tryOnBench(name, source, text) {
+async function checkOnBench(name, source, text) {
   const engine = await startEngine();
-  const unsent = faultsOfText("program", text);
-  const { refusal } = unsent.length > 0 ? { refusal: null } : readProgram(engine, sentText(text, ";"));
-  if (!refusal && unsent.length === 0) return;
+  const textFaults = findTextErrors("program", text);
+  const { refusal } = textFaults.length > 0 ? { refusal: null } : readProgram(engine, sentText(text, ";"));
+  if (!refusal && textFaults.length === 0) return;
   // Use the message of the refusal, because a message about the line would describe the bench's syntax.
-  const { wordsOfRefusal } = await import("../refused_texts.mjs");
-  const faults = refusal ? [{ text: /** @type {const} */ ("program"), ...refusal, words: wordsOfRefusal(refusal.number) }] : unsent;
+  const { describeRefusal } = await import("../refused_texts.mjs");
+  const faults = refusal ? [{ text: /** @type {const} */ ("program"), ...refusal, words: describeRefusal(refusal.number) }] : textFaults;
   throw await rejectedTextsError(engine, { program: { name, text: source, before: 0 } }, faults);
 }
 
@@ -35,7 +35,7 @@ export async function run(values, words) {
   const source = new GivenTexts().read(name, MAX_TEXT_BYTES).toString("latin1").replace(UTF8_MARK, "").replace(/\r\n?/g, "\n");
   const { text, faults } = importProgram(source);
   if (faults.length > 0) throw new CommandError(faults.map(({ line, words: why }) => `${name}:${line}: ${why}`).join("\n"));
-  await tryOnBench(name, source, text);
+  await checkOnBench(name, source, text);
   printFile(text, "latin1");
   return 0;
 }

@@ -1,10 +1,10 @@
 // `mcs4 keys`: prints session lines that press keys by name, or presses the keys in a session until a run stops.
-import { isStop, refusalOf } from "../../core/bench/answers.js";
+import { isStop, parseRefusal } from "../../core/bench/answers.js";
 import { joinLines } from "../../core/bench/inputs.js";
-import { USUAL_PACE } from "../../core/testing/press_lines.js";
+import { DEFAULT_PACE } from "../../core/testing/press_lines.js";
 import { benchRejected } from "../../words/commands.js";
-import { parseCount, checkArguments, projectFor } from "../arguments.mjs";
-import { boardAndFace, keyLines } from "../board_texts.mjs";
+import { parseCount, checkArguments, findProject } from "../arguments.mjs";
+import { readBoardAndFace, makeKeyLines } from "../board_texts.mjs";
 import { GivenTexts, MAX_TEXT_BYTES } from "../given_texts.mjs";
 import { programPath, startEngine } from "../native_program.mjs";
 import { CommandError, print, printFile } from "../output.mjs";
@@ -16,12 +16,12 @@ const MAX_CYCLES = 100000;
  * @param {string} session the session's file name
  * @param {string[]} lines
  */
-async function pressOn(session, lines) {
+async function pressInSession(session, lines) {
   const { openProgram } = await import("../program_on_file.mjs");
   const program = await openProgram("open", session);
   let answer = "";
   try {
-    print(`${program.opened}\n`);
+    print(`${program.openingLine}\n`);
     for (const line of lines) {
       [answer] = await program.ask(`${line}\n`, 1);
       print(`${answer}\n`);
@@ -30,19 +30,19 @@ async function pressOn(session, lines) {
   } finally {
     await program.end();
   }
-  const refusal = refusalOf(answer);
+  const refusal = parseRefusal(answer);
   if (!refusal) return 0;
-  const { wordsOfRefusal } = await import("../refused_texts.mjs");
-  throw new CommandError(benchRejected(answer, wordsOfRefusal(refusal.number)));
+  const { describeRefusal } = await import("../refused_texts.mjs");
+  throw new CommandError(benchRejected(answer, describeRefusal(refusal.number)));
 }
 
 /** @type {import("./table.mjs").CommandModule["run"]} */
 export async function run({ folder, down, up, "until-stop": session }, positionals) {
   const pace = {
-    down: down === undefined ? USUAL_PACE.down : parseCount("CYCLES of --down", down, MAX_CYCLES),
-    up: up === undefined ? USUAL_PACE.up : parseCount("CYCLES of --up", up, MAX_CYCLES),
+    down: down === undefined ? DEFAULT_PACE.down : parseCount("CYCLES of --down", down, MAX_CYCLES),
+    up: up === undefined ? DEFAULT_PACE.up : parseCount("CYCLES of --up", up, MAX_CYCLES),
   };
-  const project = positionals.length > 0 ? await projectFor(folder, positionals, 2) : null;
+  const project = positionals.length > 0 ? await findProject(folder, positionals, 2) : null;
   const words = project ? [project.board, ...positionals] : positionals;
   checkArguments(words, ["BOARD", "KEYS"], 2, true);
   const [boardName, keys] = words;
@@ -53,9 +53,9 @@ export async function run({ folder, down, up, "until-stop": session }, positiona
     programPath();
   }
   const engine = await startEngine();
-  const { face } = await boardAndFace(engine, boardText);
-  const lines = keyLines(face, boardName, keys, pace);
-  if (session !== undefined) return pressOn(session, lines);
+  const { face } = await readBoardAndFace(engine, boardText);
+  const lines = makeKeyLines(face, boardName, keys, pace);
+  if (session !== undefined) return pressInSession(session, lines);
   printFile(joinLines(lines), "utf8");
   return 0;
 }

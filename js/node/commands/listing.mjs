@@ -1,21 +1,21 @@
 // `mcs4 listing`: prints an assembler listing of a program, or the program's names with their values.
 import { joinLines } from "../../core/bench/inputs.js";
-import { namesOfProgram, programListing } from "../../core/machine/program_listing.js";
+import { programNames, programListing } from "../../core/machine/program_listing.js";
 import { excludeEachOther } from "../../words/commands.js";
-import { checkArguments, projectFor } from "../arguments.mjs";
+import { checkArguments, findProject } from "../arguments.mjs";
 import { GivenTexts } from "../given_texts.mjs";
-import { assembledProgram, startEngine } from "../native_program.mjs";
+import { assembleProgram, startEngine } from "../native_program.mjs";
 import { UsageError, printFile } from "../output.mjs";
 
 /** @type {import("./table.mjs").CommandModule["run"]} */
 export async function run({ folder, names, labels }, positionals) {
   if (names && labels) throw new UsageError(excludeEachOther("--names", "--labels"));
-  const project = await projectFor(folder, positionals, 1);
+  const project = await findProject(folder, positionals, 1);
   const words = project ? [project.program, ...positionals] : positionals;
   checkArguments(words, ["PROGRAM"], 1, true);
   const program = new GivenTexts().text(words[0], "asm");
-  const { map, bytes } = await assembledProgram(await startEngine(), program);
-  const lines = names || labels ? namesOfProgram(map, Boolean(labels)).map(({ name, value }) => `${name} ${value}`)
+  const { map, bytes } = await assembleProgram(await startEngine(), program);
+  const lines = names || labels ? programNames(map, Boolean(labels)).map(({ name, value }) => `${name} ${value}`)
     : programListing(program.text, map, bytes);
   printFile(joinLines(lines), program.encoding);
   return 0;

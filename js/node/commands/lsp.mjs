@@ -1,10 +1,10 @@
-// `mcs4 lsp`: the language server of js/core/server on standard input and output. It uses the WebAssembly module from the page.
+// `mcs4 lsp`: the language server of js/core/server on standard input and output. The server uses the WebAssembly module from the page.
 import { Connection } from "../../core/server/connection.js";
 import { LanguageServer } from "../../core/server/language_server.js";
 import { Engine } from "../../core/engine/engine.js";
 import { checkArguments, waitForExit } from "../arguments.mjs";
-import { exitAfterOutput, listen, explainAtTerminal } from "../message_server.mjs";
-import { dataOfPage, moduleOfPage } from "../page_parts.mjs";
+import { exitAfterOutput, listenToInput, explainAtTerminal } from "../message_server.mjs";
+import { readPageData, readPageModule } from "../page_parts.mjs";
 import { isInside, readUserText } from "../user_files.mjs";
 
 const end = exitAfterOutput("lsp");
@@ -25,9 +25,9 @@ const pause = () => new Promise((resume) => {
 
 async function serve() {
   const connection = new Connection((bytes) => process.stdout.write(bytes), end);
-  const server = new LanguageServer(connection, await Engine.load(moduleOfPage()), dataOfPage(), { readFile, pause });
+  const server = new LanguageServer(connection, await Engine.load(readPageModule()), readPageData(), { readFile, pause });
   // A client must send a shutdown request before it closes the stream. Otherwise the exit status is 1.
-  listen(connection, (words) => end(server.connection.state === "shut" && words === "" ? 0 : 1, words));
+  listenToInput(connection, (words) => end(server.connection.state === "shut" && words === "" ? 0 : 1, words));
 }
 
 /** @type {import("./table.mjs").CommandModule["run"]} */

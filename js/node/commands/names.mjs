@@ -1,19 +1,19 @@
 // `mcs4 names`: replaces a program's names in session lines with their addresses.
 import { replaceNames } from "../../core/bench/names_in_lines.js";
 import { inLine } from "../../words/commands.js";
-import { checkArguments, projectFor } from "../arguments.mjs";
+import { checkArguments, findProject } from "../arguments.mjs";
 import { GivenTexts } from "../given_texts.mjs";
-import { assembledProgram, startEngine } from "../native_program.mjs";
+import { assembleProgram, startEngine } from "../native_program.mjs";
 import { CommandError, printFile } from "../output.mjs";
 
 /** @type {import("./table.mjs").CommandModule["run"]} */
 export async function run({ folder }, positionals) {
-  const project = await projectFor(folder, positionals, 1);
+  const project = await findProject(folder, positionals, 1);
   const words = project ? [project.program, ...positionals] : positionals;
   checkArguments(words, ["PROGRAM"], 1, true);
   const texts = new GivenTexts();
   const { text, encoding } = texts.lines();
-  const { map } = await assembledProgram(await startEngine(), texts.text(words[0], "asm"));
+  const { map } = await assembleProgram(await startEngine(), texts.text(words[0], "asm"));
   const { lines, line, words: error } = replaceNames(text, map);
   if (error !== "") throw new CommandError(inLine(line, error));
   printFile(lines === "" || lines.endsWith("\n") ? lines : `${lines}\n`, encoding);

@@ -1,5 +1,5 @@
-// `mcs4 profile`: prints in which parts a program spends its machine cycles.
-import { Account } from "../../core/testing/account.js";
+// `mcs4 profile`: prints how many machine cycles a program spends below each label.
+import { ExecutionRecorder } from "../../core/testing/account.js";
 import { profileText } from "../../core/testing/profile_text.js";
 import { print } from "../output.mjs";
 import { testOrCount } from "../test_commands.mjs";
@@ -7,5 +7,5 @@ import { testOrCount } from "../test_commands.mjs";
 /** @type {import("./table.mjs").CommandModule["run"]} */
 export function run({ folder, session }, positionals) {
   const report = ({ profile }) => print(profileText(profile));
-  return testOrCount({ name: "profile", Counting: Account, report }, { folder, session }, positionals);
+  return testOrCount({ name: "profile", Counting: ExecutionRecorder, report }, { folder, session }, positionals);
 }

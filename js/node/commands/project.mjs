@@ -1,16 +1,16 @@
 // `mcs4 project`: splits the page's project file into the files of a folder, and joins such files into a project file.
 import { existsSync, realpathSync } from "node:fs";
 import { basename, join } from "node:path";
-import { MAX_PROJECT_BYTES, NotAProject, projectText, readProject, wordsOfLength } from "../../core/session/project_file.js";
-import { PART_NAMES, breakpointsIn, partsOfProject, valuesIn } from "../../core/session/project_parts.js";
+import { MAX_PROJECT_BYTES, InvalidProject, projectText, readProject, tooLongMessage } from "../../core/session/project_file.js";
+import { PROJECT_FILE_NAMES, parseBreakpoints, splitProject, parseWatchLines } from "../../core/session/project_parts.js";
 import { newSession } from "../../core/testing/prepared.js";
 import * as say from "../../words/commands.js";
-import { checkArguments, projectFor } from "../arguments.mjs";
+import { checkArguments, findProject } from "../arguments.mjs";
 import { MAX_TEXT_BYTES } from "../given_texts.mjs";
 import { SESSION_BYTES } from "../native_engine.mjs";
 import { endOnSignals, rejectedTextsError, startEngine } from "../native_program.mjs";
 import { CommandError, UsageError } from "../output.mjs";
-import { isInside, checkOutputFile, readUserFile, statOfInput, writeNewFiles, writeUserFile } from "../user_files.mjs";
+import { isInside, checkOutputFile, readUserFile, statInput, writeNewFiles, writeUserFile } from "../user_files.mjs";
 
 const PROJECT_BEGINS = "fethsaim project ";
 const SESSION_BEGINS = "MCS4BEN1";
@@ -18,16 +18,16 @@ const SESSION_BEGINS = "MCS4BEN1";
 const LIST_KINDS = /** @type {const} */ (["tests", "properties"]);
 
 /**
- * Calls `act` and returns its result. If a text is not a valid project, throws an error that names the file.
+ * Calls `operation` and returns its result. If a text is not a valid project, throws an error that names the file.
  * @template Result
  * @param {string} name
- * @param {() => Result} act
+ * @param {() => Result} operation
  */
-function withFileName(name, act) {
+function nameFileInErrors(name, operation) {
   try {
-    return act();
-  } catch (thrown) {
-    throw thrown instanceof NotAProject ? new CommandError(`${name}: ${thrown.message}`) : thrown;
+    return operation();
+  } catch (error) {
+    throw error instanceof InvalidProject ? new CommandError(`${name}: ${error.message}`) : error;
   }
 }
 
@@ -36,9 +36,9 @@ function withFileName(name, act) {
  * @param {string} name the name of the project file
  * @param {string} folder
  */
-function split(name, folder) {
-  const project = withFileName(name, () => readProject(readUserFile(name, MAX_PROJECT_BYTES), SESSION_BYTES, true));
-  writeNewFiles(folder, partsOfProject(project), Object.values(PART_NAMES));
+function writeProjectFiles(name, folder) {
+  const project = nameFileInErrors(name, () => readProject(readUserFile(name, MAX_PROJECT_BYTES), SESSION_BYTES, true));
+  writeNewFiles(folder, splitProject(project), Object.values(PROJECT_FILE_NAMES));
 }
 
 // --- join ---
@@ -48,7 +48,7 @@ function split(name, folder) {
  * @param {string} folder
  * @param {string} name the path of the file, including the folder
  */
-function readPart(folder, name) {
+function readFileIn(folder, name) {
   const bytes = readUserFile(name, MAX_TEXT_BYTES);
   if (!isInside(name, folder)) throw new CommandError(say.leadsOutOf(name, folder));
   return bytes;
@@ -60,7 +60,7 @@ function readPart(folder, name) {
  * @param {string} name the path of the file, including the folder
  */
 function readText(folder, name) {
-  const bytes = readPart(folder, name);
+  const bytes = readFileIn(folder, name);
   if (bytes.includes(0)) throw new CommandError(say.zeroBytes(name));
   try {
     return new TextDecoder("utf-8", { fatal: true }).decode(bytes);
@@ -70,17 +70,17 @@ function readText(folder, name) {
 }
 
 /**
- * Returns the paths of the texts. They come from `mcs4.toml`, or are the standard names of the files that exist.
+ * Returns the paths of the texts: those in `mcs4.toml`, or the standard names of the files that exist.
  * @param {string} folder
  * @returns {Promise<{ board: string, program: string, tests: string, properties: string }>} "" for a text that does not exist
  */
 async function textPaths(folder) {
-  const place = (/** @type {string} */ name) => join(folder, name);
-  if (!existsSync(place(PART_NAMES.project))) {
-    const [tests, properties] = LIST_KINDS.map((kind) => (existsSync(place(PART_NAMES[kind])) ? place(PART_NAMES[kind]) : ""));
-    return { board: place(PART_NAMES.board), program: place(PART_NAMES.program), tests, properties };
+  const inFolder = (/** @type {string} */ name) => join(folder, name);
+  if (!existsSync(inFolder(PROJECT_FILE_NAMES.project))) {
+    const [tests, properties] = LIST_KINDS.map((kind) => (existsSync(inFolder(PROJECT_FILE_NAMES[kind])) ? inFolder(PROJECT_FILE_NAMES[kind]) : ""));
+    return { board: inFolder(PROJECT_FILE_NAMES.board), program: inFolder(PROJECT_FILE_NAMES.program), tests, properties };
   }
-  const project = await projectFor(folder, [], 0);
+  const project = await findProject(folder, [], 0);
   for (const kind of LIST_KINDS) if (project[kind].length > 1) throw new CommandError(say.tooManyTexts(project.file, project[kind].length, kind));
   return { board: project.board, program: project.program, tests: project.tests[0] || "", properties: project.properties[0] || "" };
 }
@@ -91,19 +91,21 @@ async function textPaths(folder) {
  * @param {{ board: string, program: string }} names the paths of the texts
  * @param {{ boardText: string, programText: string }} texts
  */
-async function sessionOf(folder, names, texts) {
-  const name = join(folder, PART_NAMES.session);
+async function readSession(folder, names, texts) {
+  const name = join(folder, PROJECT_FILE_NAMES.session);
   if (existsSync(name)) {
-    const bytes = readPart(folder, name);
-    if (!bytes.equals(readPart(folder, name))) throw new CommandError(say.inUse(name));
+    const bytes = readFileIn(folder, name);
+    if (!bytes.equals(readFileIn(folder, name))) throw new CommandError(say.inUse(name));
     if (bytes.length === SESSION_BYTES && bytes.toString("latin1").startsWith(SESSION_BEGINS)) return bytes;
     throw new CommandError(say.noSessionFile(name));
   }
   const engine = await startEngine();
   const { file, faults } = newSession(engine, texts);
   if (faults.length === 0) return engine.bytesOf(file);
-  const given = (/** @type {string} */ each, /** @type {string} */ text) => ({ name: each, text, before: 0 });
-  throw await rejectedTextsError(engine, { board: given(names.board, texts.boardText), program: given(names.program, texts.programText) }, faults);
+  const makeGivenText = (/** @type {string} */ textName, /** @type {string} */ text) => ({ name: textName, text, before: 0 });
+  const board = makeGivenText(names.board, texts.boardText);
+  const program = makeGivenText(names.program, texts.programText);
+  throw await rejectedTextsError(engine, { board, program }, faults);
 }
 
 /**
@@ -111,7 +113,7 @@ async function sessionOf(folder, names, texts) {
  * @param {string} folder
  */
 function projectName(folder) {
-  const file = join(folder, PART_NAMES.name);
+  const file = join(folder, PROJECT_FILE_NAMES.name);
   if (!existsSync(file)) return basename(realpathSync(folder));
   const [name] = readText(folder, file).split(/\r?\n/);
   if (name.trim() === "") throw new CommandError(say.emptyName(file));
@@ -123,11 +125,11 @@ function projectName(folder) {
  * @template Item
  * @param {string} folder
  * @param {string} part
- * @param {(text: string) => Item[]} read
+ * @param {(text: string) => Item[]} parse
  */
-function listIn(folder, part, read) {
+function readList(folder, part, parse) {
   const name = join(folder, part);
-  return existsSync(name) ? withFileName(name, () => read(readText(folder, name))) : [];
+  return existsSync(name) ? nameFileInErrors(name, () => parse(readText(folder, name))) : [];
 }
 
 /**
@@ -136,19 +138,19 @@ function listIn(folder, part, read) {
  * @param {string} name the name of the project file
  */
 async function joinFiles(folder, name) {
-  if (!statOfInput(folder)?.isDirectory()) throw new CommandError(say.noFolder(folder));
+  if (!statInput(folder)?.isDirectory()) throw new CommandError(say.noFolder(folder));
   checkOutputFile(name, PROJECT_BEGINS, say.NO_PROJECT, []);
   const names = await textPaths(folder);
   const [boardText, programText, testText, propertiesText] = [names.board, names.program, names.tests, names.properties]
-    .map((each) => (each === "" ? "" : readText(folder, each)));
-  const words = wordsOfLength({ boardText, programText, testText, propertiesText });
+    .map((path) => (path === "" ? "" : readText(folder, path)));
+  const words = tooLongMessage({ boardText, programText, testText, propertiesText });
   if (words) throw new CommandError(`${folder}: ${words}`);
   const project = {
     name: projectName(folder),
     boardText, programText, testText, propertiesText,
-    breakpoints: listIn(folder, PART_NAMES.breakpoints, breakpointsIn),
-    watched: listIn(folder, PART_NAMES.values, valuesIn),
-    file: await sessionOf(folder, names, { boardText, programText }),
+    breakpoints: readList(folder, PROJECT_FILE_NAMES.breakpoints, parseBreakpoints),
+    watched: readList(folder, PROJECT_FILE_NAMES.values, parseWatchLines),
+    file: await readSession(folder, names, { boardText, programText }),
   };
   writeUserFile(name, projectText(project));
 }
@@ -158,10 +160,10 @@ export async function run(values, [action, ...words]) {
   if (action === undefined) throw new UsageError(say.SPLIT_OR_JOIN);
   if (action !== "split" && action !== "join") throw new UsageError(say.neitherSplitNorJoin(action));
   checkArguments(words, action === "split" ? ["FILE", "FOLDER"] : ["FOLDER", "FILE"]);
-  const [from, to] = words;
+  const [source, target] = words;
   // A signal must not leave a partially written file.
   endOnSignals();
-  if (action === "split") split(from, to);
-  else await joinFiles(from, to);
+  if (action === "split") writeProjectFiles(source, target);
+  else await joinFiles(source, target);
   return 0;
 }

@@ -1,11 +1,11 @@
 // `mcs4 script`: prints session lines that wire a board, load a program, press keys, and query the lamps.
 import { MAX_LINE_LENGTH, joinLines } from "../../core/bench/inputs.js";
-import { USUAL_PACE } from "../../core/testing/press_lines.js";
-import { prepare } from "../../core/testing/prepared.js";
+import { DEFAULT_PACE } from "../../core/testing/press_lines.js";
+import { prepareTests } from "../../core/testing/prepared.js";
 import { LONGEST_TEXT, alignedText, sentText } from "../../core/text/text_fault.js";
-import { BEFORE_KEYS_CYCLES } from "../../core/time/mcs4_time.js";
-import { checkArguments, projectFor } from "../arguments.mjs";
-import { keyLines } from "../board_texts.mjs";
+import { CYCLES_BEFORE_KEYS } from "../../core/time/mcs4_time.js";
+import { checkArguments, findProject } from "../arguments.mjs";
+import { makeKeyLines } from "../board_texts.mjs";
 import { GivenTexts } from "../given_texts.mjs";
 import { rejectedTextsError, startEngine } from "../native_program.mjs";
 import { printFile } from "../output.mjs";
@@ -15,15 +15,15 @@ import { printFile } from "../output.mjs";
  * @param {string} text
  * @param {import("../../core/text/text_fault.js").CommentMark} mark
  */
-function wholeText(text, mark) {
-  const whole = alignedText(text, mark);
-  const isTooLong = whole.length > LONGEST_TEXT || whole.split("\n").some((line) => line.length > MAX_LINE_LENGTH);
-  return isTooLong ? sentText(text, mark) : whole;
+function textForBench(text, mark) {
+  const fullText = alignedText(text, mark);
+  const isTooLong = fullText.length > LONGEST_TEXT || fullText.split("\n").some((line) => line.length > MAX_LINE_LENGTH);
+  return isTooLong ? sentText(text, mark) : fullText;
 }
 
 /** @type {import("./table.mjs").CommandModule["run"]} */
 export async function run({ folder }, positionals) {
-  const project = await projectFor(folder, positionals, 2);
+  const project = await findProject(folder, positionals, 2);
   const words = project ? [project.board, project.program, ...positionals] : positionals;
   checkArguments(words, ["BOARD", "PROGRAM", "KEYS?"], 3, true);
   const [boardName, programName, keys = ""] = words;
@@ -31,10 +31,10 @@ export async function run({ folder }, positionals) {
   const board = texts.text(boardName, "wire");
   const program = texts.text(programName, "asm");
   const engine = await startEngine();
-  const { prepared, faults } = prepare(engine, { boardText: board.text, programText: program.text });
-  if (!prepared) throw await rejectedTextsError(engine, { board, program }, faults);
-  const pressed = keyLines(prepared.names.face, boardName, keys, USUAL_PACE);
-  const lines = joinLines([`run ${BEFORE_KEYS_CYCLES}`, ...pressed]);
-  printFile(`wire\n${wholeText(board.text, "#")}.\nasm\n${wholeText(program.text, ";")}.\n${lines}`, "utf8");
+  const { prepared: preparation, faults } = prepareTests(engine, { boardText: board.text, programText: program.text });
+  if (!preparation) throw await rejectedTextsError(engine, { board, program }, faults);
+  const keyLines = makeKeyLines(preparation.names.face, boardName, keys, DEFAULT_PACE);
+  const lines = joinLines([`run ${CYCLES_BEFORE_KEYS}`, ...keyLines]);
+  printFile(`wire\n${textForBench(board.text, "#")}.\nasm\n${textForBench(program.text, ";")}.\n${lines}`, "utf8");
   return 0;
 }

@@ -16,12 +16,12 @@
  */
 
 /** @type {Option} */
-const FOLDER = { type: "string", short: "C", value: "FOLDER" };
+const FOLDER_OPTION = { type: "string", short: "C", value: "FOLDER" };
 
 /** @type {Option} */
-const SOURCE = { type: "string", value: "PROGRAM" };
+const SOURCE_OPTION = { type: "string", value: "PROGRAM" };
 /** @type {Option} */
-const CYCLES = { type: "string", value: "CYCLES" };
+const CYCLES_OPTION = { type: "string", value: "CYCLES" };
 
 /** @type {Record<string, Command>} */
 export const COMMANDS = {
@@ -34,13 +34,13 @@ export const COMMANDS = {
   cover: {
     group: "tests",
     usage: ["[-C FOLDER] [--lcov FILE] [BOARD PROGRAM] [TEST ..]", "[--lcov FILE] --session SESSION CYCLES PROGRAM"],
-    options: { folder: FOLDER, lcov: { type: "string", value: "FILE" }, session: { type: "string", value: "SESSION" } },
+    options: { folder: FOLDER_OPTION, lcov: { type: "string", value: "FILE" }, session: { type: "string", value: "SESSION" } },
     load: () => import("./cover.mjs"),
   },
   cycles: {
     group: "session",
     usage: ["[--source PROGRAM SESSION] [FIRST LAST] < ANSWERS"],
-    options: { source: SOURCE },
+    options: { source: SOURCE_OPTION },
     load: () => import("./cycles.mjs"),
   },
   dap: {
@@ -52,19 +52,19 @@ export const COMMANDS = {
   debug: {
     group: "session",
     usage: ["[-C FOLDER] [SESSION]", "BOARD PROGRAM [SESSION]"],
-    options: { folder: FOLDER },
+    options: { folder: FOLDER_OPTION },
     load: () => import("./debug.mjs"),
   },
   display: {
     group: "session",
     usage: ["[-C FOLDER] [BOARD] < ANSWERS"],
-    options: { folder: FOLDER },
+    options: { folder: FOLDER_OPTION },
     load: () => import("./display.mjs"),
   },
   explain: {
     group: "session",
     usage: ["[--source PROGRAM SESSION] SCRIPT < ANSWERS"],
-    options: { source: SOURCE },
+    options: { source: SOURCE_OPTION },
     load: () => import("./explain.mjs"),
   },
   explore: {
@@ -74,7 +74,7 @@ export const COMMANDS = {
       "--merge [--out FINDS.test] [--report REPORT] REPORT ..",
     ],
     options: {
-      folder: FOLDER,
+      folder: FOLDER_OPTION,
       seconds: { type: "string", value: "SECONDS" },
       jobs: { type: "string", value: "JOBS" },
       seed: { type: "string", value: "SEED" },
@@ -94,13 +94,13 @@ export const COMMANDS = {
   keys: {
     group: "session",
     usage: ["[-C FOLDER] [--down CYCLES] [--up CYCLES] [--until-stop SESSION] [BOARD] KEYS"],
-    options: { folder: FOLDER, down: CYCLES, up: CYCLES, "until-stop": { type: "string", value: "SESSION" } },
+    options: { folder: FOLDER_OPTION, down: CYCLES_OPTION, up: CYCLES_OPTION, "until-stop": { type: "string", value: "SESSION" } },
     load: () => import("./keys.mjs"),
   },
   listing: {
     group: "tests",
     usage: ["[-C FOLDER] [--names | --labels] [PROGRAM]"],
-    options: { folder: FOLDER, names: { type: "boolean" }, labels: { type: "boolean" } },
+    options: { folder: FOLDER_OPTION, names: { type: "boolean" }, labels: { type: "boolean" } },
     load: () => import("./listing.mjs"),
   },
   lsp: {
@@ -112,7 +112,7 @@ export const COMMANDS = {
   names: {
     group: "tests",
     usage: ["[-C FOLDER] [PROGRAM] < LINES"],
-    options: { folder: FOLDER },
+    options: { folder: FOLDER_OPTION },
     load: () => import("./names.mjs"),
   },
   new: {
@@ -130,13 +130,13 @@ export const COMMANDS = {
   panel: {
     group: "session",
     usage: ["[-C FOLDER] [--stopped] [--source PROGRAM] [BOARD] SESSION"],
-    options: { folder: FOLDER, stopped: { type: "boolean" }, source: SOURCE },
+    options: { folder: FOLDER_OPTION, stopped: { type: "boolean" }, source: SOURCE_OPTION },
     load: () => import("./panel.mjs"),
   },
   profile: {
     group: "tests",
     usage: ["[-C FOLDER] [BOARD PROGRAM] [TEST ..]", "--session SESSION CYCLES PROGRAM"],
-    options: { folder: FOLDER, session: { type: "string", value: "SESSION" } },
+    options: { folder: FOLDER_OPTION, session: { type: "string", value: "SESSION" } },
     load: () => import("./profile.mjs"),
   },
   project: {
@@ -148,7 +148,7 @@ export const COMMANDS = {
   prove: {
     group: "tests",
     usage: ["[-C FOLDER] [BOARD PROGRAM] [PROPERTIES] [--most N] [--memory MB]"],
-    options: { folder: FOLDER, most: { type: "string", value: "N" }, memory: { type: "string", value: "MB" } },
+    options: { folder: FOLDER_OPTION, most: { type: "string", value: "N" }, memory: { type: "string", value: "MB" } },
     load: () => import("./prove.mjs"),
   },
   resume: {
@@ -166,20 +166,20 @@ export const COMMANDS = {
   script: {
     group: "session",
     usage: ["BOARD PROGRAM [KEYS]", "[-C FOLDER] [KEYS]"],
-    options: { folder: FOLDER },
+    options: { folder: FOLDER_OPTION },
     load: () => import("./script.mjs"),
   },
   test: {
     group: "tests",
     usage: ["[-C FOLDER] [BOARD PROGRAM] [TEST ..]"],
-    options: { folder: FOLDER },
+    options: { folder: FOLDER_OPTION },
     load: () => import("./test.mjs"),
   },
   trace: {
     group: "session",
     usage: ["[-C FOLDER] [--names PROGRAM | --source PROGRAM] [--last N] SESSION CYCLES"],
     options: {
-      folder: FOLDER,
+      folder: FOLDER_OPTION,
       names: { type: "string", value: "PROGRAM" },
       source: { type: "string", value: "PROGRAM" },
       last: { type: "string", value: "N" },
@@ -194,7 +194,7 @@ export const COMMANDS = {
       "[-C FOLDER] --wav OUT [--board BOARD] SESSION CYCLES [LINE]",
     ],
     options: {
-      folder: FOLDER,
+      folder: FOLDER_OPTION,
       board: { type: "string", value: "BOARD" },
       names: { type: "string", value: "PROGRAM" },
       lines: { type: "boolean" },

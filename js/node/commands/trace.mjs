@@ -2,9 +2,9 @@
 import { romCodes } from "../../core/engine/rom_codes.js";
 import { SessionTrace } from "../../core/trace/session_trace.js";
 import { excludeEachOther } from "../../words/commands.js";
-import { parseCount, checkArguments, projectFor } from "../arguments.mjs";
+import { parseCount, checkArguments, findProject } from "../arguments.mjs";
 import { GivenTexts } from "../given_texts.mjs";
-import { yieldToMessages, openSession, checkedProgramMap, startEngine } from "../native_program.mjs";
+import { yieldToMessages, openSession, readCheckedMap, startEngine } from "../native_program.mjs";
 import { UsageError, print } from "../output.mjs";
 
 const MAX_CYCLES = 100000;
@@ -15,9 +15,9 @@ const MAX_CYCLES_WITH_LAST = 100000000;
  * Returns the file name of the program that supplies labels or source lines, or undefined if there is none.
  * @param {import("./table.mjs").Values} values
  */
-async function programFor({ folder, names, source }) {
+async function findProgramName({ folder, names, source }) {
   if (names !== undefined && source !== undefined) throw new UsageError(excludeEachOther("--names", "--source"));
-  const project = names === undefined && source === undefined && folder !== undefined ? await projectFor(folder, [], 0) : null;
+  const project = names === undefined && source === undefined && folder !== undefined ? await findProject(folder, [], 0) : null;
   return project ? project.program : names ?? source;
 }
 
@@ -25,18 +25,18 @@ async function programFor({ folder, names, source }) {
 export async function run(values, words) {
   checkArguments(words, ["SESSION", "CYCLES"]);
   const [session, word] = words;
-  const last = values.last === undefined ? 0 : parseCount("N", values.last, MAX_LAST);
-  const cycles = parseCount("CYCLES", word, last > 0 ? MAX_CYCLES_WITH_LAST : MAX_CYCLES);
-  const programName = await programFor(values);
+  const lastCount = values.last === undefined ? 0 : parseCount("N", values.last, MAX_LAST);
+  const cycles = parseCount("CYCLES", word, lastCount > 0 ? MAX_CYCLES_WITH_LAST : MAX_CYCLES);
+  const programName = await findProgramName(values);
   const texts = new GivenTexts();
   const program = programName === undefined ? null : texts.text(programName, "asm");
   const engine = await startEngine();
   const state = await openSession(engine, texts, session);
   const trace = new SessionTrace(engine, state, yieldToMessages);
-  const map = program && await checkedProgramMap(engine, romCodes(engine, state), program);
+  const map = program && await readCheckedMap(engine, romCodes(engine, state), program);
   const source = program && values.names === undefined ? { lines: program.text.split("\n"), before: program.before } : null;
   const names = map && { map, source };
-  const pieces = last > 0 ? trace.last(last, cycles, names) : trace.next(cycles, names);
+  const pieces = lastCount > 0 ? trace.last(lastCount, cycles, names) : trace.next(cycles, names);
   for await (const lines of pieces) print(lines.map((line) => `${line}\n`).join(""));
   return 0;
 }

@@ -3,17 +3,17 @@ import { readBoard } from "../../core/bench/answers.js";
 import { hasOutput } from "../../core/board/face_board.js";
 import { Face } from "../../core/board/face.js";
 import { romCodes } from "../../core/engine/rom_codes.js";
-import { withoutStops } from "../../core/engine/without_stops.js";
+import { copyWithoutStops } from "../../core/engine/without_stops.js";
 import { neededLines, recordPieces } from "../../core/engine/wave_stream.js";
-import { faultsOfNames, wiredBoard } from "../../core/testing/prepared.js";
-import { NoLine, chooseLines, offeredNames } from "../../core/waves/line_choice.js";
+import { findNameErrors, wireBoard } from "../../core/testing/prepared.js";
+import { UnknownLineError, chooseLines, listRequestableNames } from "../../core/waves/line_choice.js";
 import { VcdText } from "../../core/waves/vcd.js";
-import { programInWaves } from "../../core/waves/wave_program.js";
-import { wavOf } from "../../core/waves/wav.js";
+import { createRecordedProgram } from "../../core/waves/wave_program.js";
+import { createWav } from "../../core/waves/wav.js";
 import * as say from "../../words/commands.js";
-import { parseCount, checkArguments, projectFor } from "../arguments.mjs";
+import { parseCount, checkArguments, findProject } from "../arguments.mjs";
 import { GivenTexts } from "../given_texts.mjs";
-import { yieldToMessages, rejectedTextsError, openSession, checkedProgramMap, startEngine } from "../native_program.mjs";
+import { yieldToMessages, rejectedTextsError, openSession, readCheckedMap, startEngine } from "../native_program.mjs";
 import { CommandError, UsageError, print, printError } from "../output.mjs";
 import { checkOutputFile, writeUserFile } from "../user_files.mjs";
 
@@ -23,86 +23,86 @@ import { checkOutputFile, writeUserFile } from "../user_files.mjs";
  *
  * An opened session: its state without breakpoints and watches, its board, and the board's text. `program` is the program with its labels.
  * @typedef {{ engine: import("../../core/engine/engine_host.js").EngineHost, state: Uint8Array, board: import("../../core/bench/answers.js").Board,
- *   boardText: GivenText | null, face: Face, program: import("../../core/engine/wave_recorder.js").RecordedProgram | null }} Wired
+ *   boardText: GivenText | null, face: Face, program: import("../../core/engine/wave_recorder.js").RecordedProgram | null }} OpenedSession
  */
 
 const MAX_CYCLES = 10000000;
 /** The text at the beginning of a WAV file. */
-const WAV_BEGINS = "RIFF";
+const WAV_HEADER = "RIFF";
 
 /**
  * Returns the file names of board and program, from the options or from the project (undefined for none).
  * @param {Values} values
  */
-async function textsFor({ folder, board, names }) {
-  const project = folder === undefined ? null : await projectFor(folder, [], 0);
+async function resolveNames({ folder, board, names }) {
+  const project = folder === undefined ? null : await findProject(folder, [], 0);
   return { board: board ?? (project ? project.board : undefined), program: names ?? (project ? project.program : undefined) };
 }
 
 /**
- * Throws an error if a board's text does not describe the session's board, or if its front panel names parts that the board does not have.
- * @param {Wired["engine"]} engine
- * @param {GivenText} given
- * @param {string[]} wanted the session's answers to `board`
+ * Throws an error if a board's text does not describe the session's board, or if its front panel names chips or lines that the board does not have.
+ * @param {OpenedSession["engine"]} engine
+ * @param {GivenText} boardFile
+ * @param {string[]} wantedAnswers the session's answers to `board`
  */
-async function checkBoard(engine, given, wanted) {
-  const { faults, answers } = wiredBoard(engine, given.text);
-  if (faults.length > 0) throw await rejectedTextsError(engine, { board: given }, faults);
-  if (answers.join() !== wanted.join()) throw new CommandError(say.otherBoard(given.name));
-  const nameErrors = faultsOfNames(new Face(given.text), readBoard(answers));
-  if (nameErrors.length > 0) throw await rejectedTextsError(engine, { board: given }, nameErrors);
+async function checkBoard(engine, boardFile, wantedAnswers) {
+  const { faults, answers } = wireBoard(engine, boardFile.text);
+  if (faults.length > 0) throw await rejectedTextsError(engine, { board: boardFile }, faults);
+  if (answers.join() !== wantedAnswers.join()) throw new CommandError(say.otherBoard(boardFile.name));
+  const nameErrors = findNameErrors(new Face(boardFile.text), readBoard(answers));
+  if (nameErrors.length > 0) throw await rejectedTextsError(engine, { board: boardFile }, nameErrors);
 }
 
 /**
  * Opens a session and reads its board and program.
  * @param {string} session
  * @param {{ board: string | undefined, program: string | undefined }} names
- * @returns {Promise<Wired>}
+ * @returns {Promise<OpenedSession>}
  */
-async function wired(session, { board: boardName, program: programName }) {
+async function openWiredSession(session, { board: boardName, program: programName }) {
   const texts = new GivenTexts();
   const engine = await startEngine();
-  const opened = await openSession(engine, texts, session);
+  const openedState = await openSession(engine, texts, session);
   const boardText = boardName === undefined ? null : texts.text(boardName, "wire");
   const program = programName === undefined ? null : texts.text(programName, "asm");
-  const answers = engine.ask(opened, "board\n").answers;
+  const answers = engine.ask(openedState, "board\n").answers;
   if (boardText) await checkBoard(engine, boardText, answers);
-  const map = program && await checkedProgramMap(engine, romCodes(engine, opened), program);
-  const state = withoutStops(engine, opened);
+  const map = program && await readCheckedMap(engine, romCodes(engine, openedState), program);
+  const state = copyWithoutStops(engine, openedState);
   const face = new Face(boardText ? boardText.text : "");
-  return { engine, state, board: readBoard(answers), boardText, face, program: map && programInWaves(map, program.text) };
+  return { engine, state, board: readBoard(answers), boardText, face, program: map && createRecordedProgram(map, program.text) };
 }
 
-/** @type {(wanted: Wired) => string} */
-const boardTextOf = ({ boardText }) => (boardText ? boardText.text : "");
+/** @type {(session: OpenedSession) => string} */
+const readBoardText = ({ boardText }) => (boardText ? boardText.text : "");
 
 /**
  * Calls `choose` and returns its result. Throws a CommandError if a line does not exist on the board.
  * @template Result
  * @param {() => Result} choose
  */
-function withLineError(choose) {
+function convertLineErrors(choose) {
   try {
     return choose();
-  } catch (thrown) {
-    throw thrown instanceof NoLine ? new CommandError(thrown.message) : thrown;
+  } catch (error) {
+    throw error instanceof UnknownLineError ? new CommandError(error.message) : error;
   }
 }
 
 /** @param {import("../../core/waves/wave_recording.js").Waves} waves */
-function reportStop({ isStuck, cycles }, wanted) {
-  if (isStuck && cycles < wanted) printError(`wave: ${say.stoppedAtCode(cycles)}\n`);
+function reportStop({ isStuck, cycles }, wantedCycles) {
+  if (isStuck && cycles < wantedCycles) printError(`wave: ${say.stoppedAtCode(cycles)}\n`);
 }
 
 /**
  * Prints the recording as a VCD file.
- * @param {Wired} opened
+ * @param {OpenedSession} openedSession
  * @param {number} cycles
  * @param {string[]} words
  */
-async function printVcd(opened, cycles, words) {
-  const { engine, state, board, program } = opened;
-  const choice = withLineError(() => chooseLines(board, boardTextOf(opened), program !== null, words));
+async function printVcd(openedSession, cycles, words) {
+  const { engine, state, board, program } = openedSession;
+  const choice = convertLineErrors(() => chooseLines(board, readBoardText(openedSession), program !== null, words));
   const { lines, chosen } = neededLines(choice.lines, choice.chosen);
   /** @type {VcdText | null} */
   let text = null;
@@ -120,7 +120,7 @@ async function printVcd(opened, cycles, words) {
 
 /**
  * Returns the line that drives the buzzer: `word`, or the line that the front panel names.
- * @param {Wired} opened
+ * @param {OpenedSession} openedSession
  * @param {string | undefined} word
  */
 function buzzerLine({ board, boardText, face: { buzzer } }, word) {
@@ -137,25 +137,25 @@ function buzzerLine({ board, boardText, face: { buzzer } }, word) {
 
 /**
  * Writes the buzzer's sound as a WAV file.
- * @param {Wired} opened
+ * @param {OpenedSession} openedSession
  * @param {number} cycles
  * @param {string | undefined} word
  * @param {string} name the file name
  */
-async function writeWav(opened, cycles, word, name) {
-  const { engine, state, board } = opened;
-  const line = buzzerLine(opened, word);
-  const choice = withLineError(() => chooseLines(board, "", false, [line]));
+async function writeWav(openedSession, cycles, word, name) {
+  const { engine, state, board } = openedSession;
+  const line = buzzerLine(openedSession, word);
+  const choice = convertLineErrors(() => chooseLines(board, "", false, [line]));
   const { lines, chosen } = neededLines(choice.lines, choice.chosen);
   const edges = [];
-  let [level, done] = [-1, 0];
+  let [level, recordedCycles] = [-1, 0];
   for await (const waves of recordPieces(engine, state, { lines, program: null, cycles }, yieldToMessages)) {
     if (level < 0) level = waves.numberAt(chosen[0], 0);
     for (const edge of waves.changesOf(chosen[0])) edges.push(edge);
-    done = waves.cycles;
-    if (done < cycles && waves.isStuck) reportStop(waves, cycles);
+    recordedCycles = waves.cycles;
+    if (recordedCycles < cycles && waves.isStuck) reportStop(waves, cycles);
   }
-  writeUserFile(name, wavOf(level, edges, done));
+  writeUserFile(name, createWav(level, edges, recordedCycles));
 }
 
 /** @type {import("./table.mjs").CommandModule["run"]} */
@@ -166,11 +166,12 @@ export async function run(values, words) {
   checkArguments(words, isList ? ["SESSION"] : ["SESSION", "CYCLES"], isList ? 1 : wav === undefined ? Infinity : 3);
   const [session, word, ...lines] = words;
   const cycles = isList ? 0 : parseCount("CYCLES", word, MAX_CYCLES);
-  const names = await textsFor(values);
-  if (wav !== undefined) checkOutputFile(wav, WAV_BEGINS, say.NO_WAV, names.board === undefined ? [session] : [session, names.board]);
-  const opened = await wired(session, wav === undefined ? names : { ...names, program: undefined });
-  if (isList) print(offeredNames(opened.board, boardTextOf(opened), opened.program !== null).map((name) => `${name}\n`).join(""));
-  else if (wav === undefined) await printVcd(opened, cycles, lines);
-  else await writeWav(opened, cycles, lines[0], wav);
+  const names = await resolveNames(values);
+  if (wav !== undefined) checkOutputFile(wav, WAV_HEADER, say.NO_WAV, names.board === undefined ? [session] : [session, names.board]);
+  const openedSession = await openWiredSession(session, wav === undefined ? names : { ...names, program: undefined });
+  const { board, program } = openedSession;
+  if (isList) print(listRequestableNames(board, readBoardText(openedSession), program !== null).map((name) => `${name}\n`).join(""));
+  else if (wav === undefined) await printVcd(openedSession, cycles, lines);
+  else await writeWav(openedSession, cycles, lines[0], wav);
   return 0;
 }

@@ -4,7 +4,7 @@
 
 /**
  * @typedef {import("../../core/bench/bench_client.js").WorkerLike} WorkerLike
- * @typedef {import("../../core/bench/protocol.js").Early} Early
+ * @typedef {import("../../core/bench/protocol.js").EarlyReply} EarlyReply
  */
 
 /** Returns a random channel name that no other page can guess. */
@@ -16,7 +16,7 @@ function secretName() {
  * Returns the broadcast channel with this name. Returns null for an empty name, in older browsers, and in Firefox if site data is blocked.
  * @param {string} name
  */
-function channelOf(name) {
+function openChannel(name) {
   if (name === "" || typeof BroadcastChannel !== "function") return null;
   try {
     return new BroadcastChannel(name);
@@ -33,7 +33,7 @@ function channelOf(name) {
 export function startWorker(address) {
   const name = secretName();
   const worker = new Worker(address, { name });
-  const channel = channelOf(name);
+  const channel = openChannel(name);
   return {
     postMessage: (message, transfer) => worker.postMessage(message, transfer),
     addEventListener: (kind, listen) => {
@@ -50,9 +50,9 @@ export function startWorker(address) {
 /**
  * Returns the function that sends early replies from the worker. The channel copies the reply's contents.
  * @param {string} name the worker's name, which is also the channel name
- * @returns {(early: Early) => void}
+ * @returns {(early: EarlyReply) => void}
  */
 export function earlySender(name) {
-  const channel = channelOf(name);
+  const channel = openChannel(name);
   return (early) => channel && channel.postMessage(early);
 }

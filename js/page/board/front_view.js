@@ -1,13 +1,13 @@
 // The board's front panel: its title, displays, lamps, keys and the switch at its TEST pin.
 
-import { hintOfKeys, keysOf } from "../../core/board/board_keys.js";
+import { keyHint, boardKeys } from "../../core/board/board_keys.js";
 import { Brightness } from "../../core/board/brightness.js";
 import { EYE_MS } from "../../core/time/mcs4_time.js";
 import { DisplayView } from "./display_view.js";
 import { Cell, block, button, element, makeFirstTabStop, makeOneTabStop, pressedSwitch } from "../ui/dom.js";
-import { Face, moreFaults, sortedByLine } from "../../core/board/face.js";
+import { Face, moreErrors, sortByLine } from "../../core/board/face.js";
 import { missingParts } from "../../core/board/face_board.js";
-import { KeysDown } from "../../core/board/key_place.js";
+import { PressedKeys } from "../../core/board/key_place.js";
 import { LampsView } from "./lamps_view.js";
 import * as say from "../../words/board.js";
 
@@ -26,28 +26,28 @@ const MAX_FAULTS = 20;
  * @param {Board} board
  */
 function isEmptyBoard({ roms, banks, chains, lamps }) {
-  return [roms, banks, chains, lamps].every((parts) => parts.length === 0);
+  return [roms, banks, chains, lamps].every((components) => components.length === 0);
 }
 
-const AS_SEEN = say.averagedBrightness(EYE_MS);
+const AVERAGED_BRIGHTNESS = say.averagedBrightness(EYE_MS);
 
 /** The maximum length of a key legend in large letters. */
 const MAX_LARGE_LEGEND = 4;
 
 export class FrontView {
   /**
-   * @param {(button: HTMLButtonElement, key: BoardKey) => void} listen connects a button to its key
-   * @param {(face: string, number: number) => void} watch asks the bench to measure lamp duty cycles for a front panel (its comments and
-   *   its number)
+   * @param {(button: HTMLButtonElement, key: BoardKey) => void} connectKey connects a button to its key
+   * @param {(face: string, number: number) => void} watchLamps asks the bench to measure lamp duty cycles for a front panel (its comments
+   *   and its number)
    */
-  constructor(listen, watch) {
-    this.listen = listen;
-    this.watch = watch;
+  constructor(connectKey, watchLamps) {
+    this.connectKey = connectKey;
+    this.watchLamps = watchLamps;
     /** @type {ShownKey[]} the keys, including the switch at TEST if the front panel has one */
     this.keys = [];
-    this.down = new KeysDown();
+    this.keysDown = new PressedKeys();
     /** The level of the TEST pin: "0" or "1", or "" before the first answer. */
-    this.level = "";
+    this.testLevel = "";
     /** The last answer to `lamps`. */
     this.marks = "";
     /** The comments in the board's text that declare this front panel. */
@@ -55,18 +55,18 @@ export class FrontView {
     this.columns = 1;
     this.lamps = new LampsView();
     this.display = new DisplayView();
-    /** The number of front panels drawn so far. The current front panel has this number. */
-    this.faces = 0;
+    /** The number of the current front panel: front panels are numbered from 1 in drawing order. */
+    this.faceNumber = 0;
     this.brightness = new Brightness(new Face(""), 0);
     /** True if the lamps show the perceived brightness, false if they show an instant. */
-    this.isShining = false;
+    this.showsBrightness = false;
     this.brightnessStatus = new Cell(block("brightness-status"));
     this.block = block("keys");
     makeOneTabStop(this.block, () => this.columns);
   }
 
   /**
-   * Draws another board.
+   * Draws a board in place of the present one.
    * @param {Board} board
    * @param {Face} face
    */
@@ -82,7 +82,7 @@ export class FrontView {
    * @param {Board} board
    * @param {Face} face
    */
-  change(board, face) {
+  changeFace(board, face) {
     this.drawFaults(board, face);
     if (this.faceComments === face.comments || face.comments === "") return;
     this.faceComments = face.comments;
@@ -99,25 +99,25 @@ export class FrontView {
     (heading.querySelector("button") || heading).textContent = face.title || say.LAMPS_AND_KEYS;
     this.display.draw(board.lamps, face);
     this.lamps.draw(board.lamps, face);
-    this.faces += 1;
+    this.faceNumber += 1;
     this.brightness = new Brightness(face, board.lamps.length);
-    this.isShining = false;
+    this.showsBrightness = false;
     block("brightness-status").hidden = board.lamps.length === 0;
-    this.watch(face.comments, this.faces);
+    this.watchLamps(face.comments, this.faceNumber);
     this.drawKeys(board, face);
     this.drawFaults(board, face);
   }
 
   /**
-   * Lists the errors in the front panel's comments: malformed comments, and comments about parts that the board does not have.
+   * Lists the errors in the front panel's comments: malformed comments, and comments about components that the board does not have.
    * @param {Board} board
    * @param {Face} face
    */
   drawFaults(board, face) {
-    const faults = sortedByLine([...face.faults, ...missingParts(face, board)]);
+    const faults = sortByLine([...face.faults, ...missingParts(face, board)]);
     const root = block("face-faults");
     const messages = faults.slice(0, MAX_FAULTS).map(({ line, words }) => say.lineOfBoard(line, words));
-    root.replaceChildren(...[...messages, moreFaults(faults, MAX_FAULTS)].filter(Boolean).map((words) => element("li", {}, words)));
+    root.replaceChildren(...[...messages, moreErrors(faults, MAX_FAULTS)].filter(Boolean).map((words) => element("li", {}, words)));
     root.hidden = faults.length === 0;
   }
 
@@ -129,39 +129,39 @@ export class FrontView {
     this.columns = Math.max(1, board.columns);
     this.block.style.setProperty("--columns", String(this.columns));
     this.block.classList.toggle("many", this.columns > 5);
-    this.keys = keysOf(board, face).map((key) => this.shownKey(key));
+    this.keys = boardKeys(board, face).map((key) => this.makeKey(key));
     this.block.replaceChildren(...this.keys.map((key) => key.button));
     this.block.hidden = this.keys.length === 0;
     block("typing-label").hidden = this.keys.length === 0;
-    // A front panel with its own switch at TEST replaces the TEST button.
+    // A switch at TEST on the front panel replaces the page's TEST button.
     button("test").hidden = face.test !== null;
     makeFirstTabStop(this.block);
-    block("keys-hint").textContent = isEmptyBoard(board) ? "" : hintOfKeys(this.keys);
-    this.showDown();
+    block("keys-hint").textContent = isEmptyBoard(board) ? "" : keyHint(this.keys);
+    this.showKeysDown();
   }
 
   /**
    * @param {BoardKey} boardKey
    * @returns {ShownKey}
    */
-  shownKey(boardKey) {
-    const node = element("button", { type: "button", className: "key", disabled: boardKey.legend === "" },
+  makeKey(boardKey) {
+    const keyButton = element("button", { type: "button", className: "key", disabled: boardKey.legend === "" },
       element("b", {}, boardKey.legend));
-    node.classList.toggle("unnamed", !boardKey.isNamed);
-    node.classList.toggle("long", boardKey.legend.length > MAX_LARGE_LEGEND);
-    node.title = boardKey.legend.length > MAX_LARGE_LEGEND ? boardKey.legend : "";
-    node.classList.toggle("at-test", boardKey.key.kind === "pin");
-    node.classList.toggle("switch", boardKey.isSwitch);
-    if (boardKey.letter && boardKey.letter !== boardKey.legend) node.append(element("kbd", {}, boardKey.letter));
-    node.setAttribute("aria-label", boardKey.words);
-    this.listen(node, boardKey);
-    return { ...boardKey, button: node, down: pressedSwitch(node) };
+    keyButton.classList.toggle("unnamed", !boardKey.isNamed);
+    keyButton.classList.toggle("long", boardKey.legend.length > MAX_LARGE_LEGEND);
+    keyButton.title = boardKey.legend.length > MAX_LARGE_LEGEND ? boardKey.legend : "";
+    keyButton.classList.toggle("at-test", boardKey.key.kind === "pin");
+    keyButton.classList.toggle("switch", boardKey.isSwitch);
+    if (boardKey.letter && boardKey.letter !== boardKey.legend) keyButton.append(element("kbd", {}, boardKey.letter));
+    keyButton.setAttribute("aria-label", boardKey.words);
+    this.connectKey(keyButton, boardKey);
+    return { ...boardKey, button: keyButton, down: pressedSwitch(keyButton) };
   }
 
   /** @param {string} marks one character per lamp: `*` if the lamp is on at this instant */
   showLamps(marks) {
     this.marks = marks;
-    this.isShining = false;
+    this.showsBrightness = false;
     this.brightnessStatus.set(say.AT_INSTANT);
     this.lamps.show(marks);
     this.display.show(marks);
@@ -173,38 +173,38 @@ export class FrontView {
    * @param {LitShares} litShares
    * @param {number} time the duration of the frame in milliseconds
    */
-  shine(marks, litShares, time) {
-    if (!this.isShining) this.brightness.begin(this.marks);
-    this.isShining = true;
+  showBrightness(marks, litShares, time) {
+    if (!this.showsBrightness) this.brightness.begin(this.marks);
+    this.showsBrightness = true;
     this.marks = marks;
-    this.brightnessStatus.set(AS_SEEN);
+    this.brightnessStatus.set(AVERAGED_BRIGHTNESS);
     this.brightness.add(litShares, time);
-    this.lamps.shine(this.brightness);
-    this.display.shine(this.brightness);
+    this.lamps.showBrightness(this.brightness);
+    this.display.showBrightness(this.brightness);
   }
 
   /**
    * Shows which keys are down.
-   * @param {string[]} down the keys that the bench reports as down
+   * @param {string[]} downKeys the keys that the bench reports as down
    */
-  showKeys(down) {
-    this.down = new KeysDown(down);
-    this.showDown();
+  showKeys(downKeys) {
+    this.keysDown = new PressedKeys(downKeys);
+    this.showKeysDown();
   }
 
-  showDown() {
-    for (const shown of this.keys) shown.down.set(this.isDown(shown.key));
+  showKeysDown() {
+    for (const shownKey of this.keys) shownKey.down.set(this.isDown(shownKey.key));
   }
 
   /** @param {string} level the level of the TEST pin: "0" or "1" */
   showTest(level) {
-    if (this.level === level) return;
-    this.level = level;
-    this.showDown();
+    if (this.testLevel === level) return;
+    this.testLevel = level;
+    this.showKeysDown();
   }
 
   /** @param {import("../../core/board/key_place.js").Key} key */
   isDown(key) {
-    return this.down.has(key, this.level);
+    return this.keysDown.has(key, this.testLevel);
   }
 }

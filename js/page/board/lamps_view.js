@@ -2,32 +2,32 @@
 // names of their lines.
 
 import { block, element } from "../ui/dom.js";
-import { brightnessOf } from "../../core/board/brightness.js";
+import { perceivedBrightness } from "../../core/board/brightness.js";
 import { fittingGroups, isScanned, looseLamps } from "../../core/board/face_board.js";
 import { lampAt, scannedLampAt } from "../../core/board/seen_lamps.js";
-import { upTo } from "../../core/bench/numbers.js";
+import { indices } from "../../core/bench/numbers.js";
 import * as say from "../../words/board.js";
 
 /**
  * @typedef {import("../../core/board/brightness.js").Brightness} Brightness
  * @typedef {import("../../core/board/face.js").Face} Face
  * @typedef {import("../../core/board/face.js").Group} Group
- * @typedef {import("../../core/board/seen_lamps.js").SeenLamp} SeenLamp
+ * @typedef {import("../../core/board/seen_lamps.js").LampReader} LampReader
  */
 
-/** A drawn lamp. It updates the page only if the lamp's brightness has changed. */
+/** A drawn lamp. `show` updates the page only if the lamp's brightness has changed. */
 class Lamp {
   /**
-   * @param {SeenLamp} seen
+   * @param {LampReader} seenLamp
    * @param {string} name
    * @param {string} line
    * @param {string} colour
    */
-  constructor(seen, name, line, colour) {
-    this.seen = seen;
+  constructor(seenLamp, name, line, colour) {
+    this.seenLamp = seenLamp;
     this.isLit = false;
-    this.part = 0;
-    this.shine = 0;
+    this.dutyCycle = 0;
+    this.brightness = 0;
     this.words = { lit: say.lit(name), dark: say.dark(name) };
     this.node = element("span", { className: `bulb ${colour}`, title: line });
     this.node.setAttribute("role", "img");
@@ -35,36 +35,36 @@ class Lamp {
   }
 
   /**
-   * @param {number} part the duty cycle, from 0 to 1
+   * @param {number} dutyCycle the duty cycle, from 0 to 1
    * @param {boolean} isOn true if the lamp is shown as on
    */
-  show(part, isOn) {
-    if (part !== this.part) this.showShine(brightnessOf(part));
-    this.part = part;
+  show(dutyCycle, isOn) {
+    if (dutyCycle !== this.dutyCycle) this.setBrightness(perceivedBrightness(dutyCycle));
+    this.dutyCycle = dutyCycle;
     if (this.isLit === isOn) return;
     this.isLit = isOn;
     this.node.classList.toggle("lit", isOn);
     this.node.setAttribute("aria-label", isOn ? this.words.lit : this.words.dark);
   }
 
-  /** @param {number} shine */
-  showShine(shine) {
-    if (shine === this.shine) return;
-    this.shine = shine;
-    this.node.style.setProperty("--shine", String(shine));
-    this.node.classList.toggle("full", shine === 1);
+  /** @param {number} brightness */
+  setBrightness(brightness) {
+    if (brightness === this.brightness) return;
+    this.brightness = brightness;
+    this.node.style.setProperty("--shine", String(brightness));
+    this.node.classList.toggle("full", brightness === 1);
   }
 }
 
 /**
  * Returns the HTML list of the lamps in a group.
  * @param {Group} group
- * @param {(at: number, words: string) => HTMLElement} lamp returns the lamp element for an index in the group and a default name
+ * @param {(at: number, words: string) => HTMLElement} makeLampNode returns the lamp element for an index in the group and a default name
  */
-function listOf({ kind, rows, columns }, lamp) {
-  const cells = upTo(rows * columns).map((at) => {
+function lampList({ kind, rows, columns }, makeLampNode) {
+  const cells = indices(rows * columns).map((at) => {
     const defaultName = rows > 1 ? say.rowAndColumn(Math.floor(at / columns), at % columns) : say.lampOfRow(at + 1, columns);
-    return element("li", {}, lamp(at, defaultName));
+    return element("li", {}, makeLampNode(at, defaultName));
   });
   const list = element("ul", { className: `group ${kind}` }, ...cells);
   list.setAttribute("aria-label", kind);
@@ -73,7 +73,7 @@ function listOf({ kind, rows, columns }, lamp) {
 }
 
 /** @param {string} line for example `ram0.3.2`: line 2 of port `ram0.3` */
-function portOf(line) {
+function linePort(line) {
   return line.slice(0, line.lastIndexOf("."));
 }
 
@@ -97,37 +97,37 @@ export class LampsView {
     this.face = face;
     const groups = fittingGroups(face, lines.length);
     const grid = face.grid.filter(({ lamp }) => lamp < lines.length);
-    let scanned = 0;
-    const drawn = groups.filter(({ kind }) => kind !== "display").map((group) => (
-      isScanned(group) ? this.drawScanned(group, scanned++) : this.drawGroup(group)));
-    if (grid.length > 0) drawn.push(this.drawGrid(grid));
-    block("groups").replaceChildren(...drawn);
+    let scannedCount = 0;
+    const groupNodes = groups.filter(({ kind }) => kind !== "display").map((group) => (
+      isScanned(group) ? this.drawScanned(group, scannedCount++) : this.drawGroup(group)));
+    if (grid.length > 0) groupNodes.push(this.drawGrid(grid));
+    block("groups").replaceChildren(...groupNodes);
     block("lamps").replaceChildren(...this.drawRows(looseLamps(face, lines.length)));
   }
 
-  /** @param {number} at */
-  nameOf(at) {
-    const faceText = this.face && this.face.lamps.get(at);
+  /** @param {number} index */
+  lampName(index) {
+    const faceText = this.face && this.face.lamps.get(index);
     return faceText ? faceText.text.replace(/_/g, " ") : "";
   }
 
   /**
-   * @param {number} at
+   * @param {number} index
    * @param {string} name the lamp's default name
    */
-  lamp(at, name) {
-    return this.add(at, lampAt(at), this.nameOf(at) || name, this.lines[at]);
+  makeLamp(index, name) {
+    return this.addLamp(index, lampAt(index), this.lampName(index) || name, this.lines[index]);
   }
 
   /**
-   * @param {number} at the lamp that determines the colour
-   * @param {SeenLamp} seen
+   * @param {number} index the lamp that determines the colour
+   * @param {LampReader} seenLamp
    * @param {string} name
    * @param {string} line
    */
-  add(at, seen, name, line) {
-    const colour = this.face && this.face.colours.get(at);
-    const lamp = new Lamp(seen, name, line, colour ? colour.text : "red");
+  addLamp(index, seenLamp, name, line) {
+    const colour = this.face && this.face.colours.get(index);
+    const lamp = new Lamp(seenLamp, name, line, colour ? colour.text : "red");
     this.lamps.push(lamp);
     return lamp.node;
   }
@@ -137,49 +137,49 @@ export class LampsView {
    * @param {Group} group
    */
   drawGroup(group) {
-    return listOf(group, (at, words) => this.lamp(group.first + at, words));
+    return lampList(group, (index, words) => this.makeLamp(group.first + index, words));
   }
 
   /**
-   * Returns the HTML list for a multiplexed group. Each of its lamps is on for only a part of the time.
+   * Returns the HTML list for a multiplexed group, whose lamps are on only while their row is scanned.
    * @param {Group} group
    * @param {number} number the index of the group among the scanned groups
    */
   drawScanned(group, number) {
-    return listOf(group, (at, words) => {
-      const seen = scannedLampAt(group, number, at);
-      return this.add(seen.column, seen, words, say.both(this.lines[seen.column], this.lines[seen.row]));
+    return lampList(group, (index, words) => {
+      const seenLamp = scannedLampAt(group, number, index);
+      return this.addLamp(seenLamp.column, seenLamp, words, say.both(this.lines[seenLamp.column], this.lines[seenLamp.row]));
     });
   }
 
   /** @param {Face["grid"]} grid */
   drawGrid(grid) {
-    const named = grid.some(({ lamp }) => this.nameOf(lamp) !== "");
+    const hasNames = grid.some(({ lamp }) => this.lampName(lamp) !== "");
     const cells = grid.map(({ row, column, lamp }) => {
-      const node = element("li", {}, this.lamp(lamp, say.rowAndColumn(row, column)));
-      if (named) node.append(element("span", {}, this.nameOf(lamp)));
+      const node = element("li", {}, this.makeLamp(lamp, say.rowAndColumn(row, column)));
+      if (hasNames) node.append(element("span", {}, this.lampName(lamp)));
       node.style.setProperty("grid-row", String(row + 1));
       node.style.setProperty("grid-column", String(column + 1));
       return node;
     });
-    const list = element("ul", { className: named ? "group grid named" : "group grid" }, ...cells);
+    const list = element("ul", { className: hasNames ? "group grid named" : "group grid" }, ...cells);
     list.setAttribute("aria-label", say.LAMPS);
     return list;
   }
 
   /**
    * Returns the rows of lamps without a position. Neighbouring named lamps share a row, and so do unnamed lamps of the same port.
-   * @param {number[]} loose
+   * @param {number[]} lampNumbers
    */
-  drawRows(loose) {
+  drawRows(lampNumbers) {
     /** @type {{ port: string, cells: HTMLElement[] }[]} */
     const rows = [];
-    for (const at of loose) {
-      const name = this.nameOf(at);
-      const port = name ? "" : portOf(this.lines[at]);
+    for (const index of lampNumbers) {
+      const name = this.lampName(index);
+      const port = name ? "" : linePort(this.lines[index]);
       if (rows.length === 0 || rows[rows.length - 1].port !== port) rows.push({ port, cells: [] });
-      const shown = name || this.lines[at].slice(port.length + 1);
-      rows[rows.length - 1].cells.push(element("li", {}, this.lamp(at, this.lines[at]), element("span", {}, shown)));
+      const label = name || this.lines[index].slice(port.length + 1);
+      rows[rows.length - 1].cells.push(element("li", {}, this.makeLamp(index, this.lines[index]), element("span", {}, label)));
     }
     return rows.map(({ port, cells }) => {
       const list = element("ul", {}, ...cells);
@@ -193,13 +193,13 @@ export class LampsView {
   /** @param {string} marks one character per lamp: `*` if the lamp is on at this instant */
   show(marks) {
     for (const lamp of this.lamps) {
-      const isOn = lamp.seen.isLit(marks);
+      const isOn = lamp.seenLamp.isLit(marks);
       lamp.show(Number(isOn), isOn);
     }
   }
 
   /** @param {Brightness} brightness */
-  shine(brightness) {
-    for (const lamp of this.lamps) lamp.show(lamp.seen.part(brightness), lamp.seen.isOn(brightness));
+  showBrightness(brightness) {
+    for (const lamp of this.lamps) lamp.show(lamp.seenLamp.part(brightness), lamp.seenLamp.isOn(brightness));
   }
 }

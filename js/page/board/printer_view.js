@@ -1,12 +1,12 @@
 // The printout: the characters that the program has sent to the front panel's printer.
 
 import { block, button, element, onClick } from "../ui/dom.js";
-import { printerOf } from "../../core/board/face_board.js";
+import { findPrinter } from "../../core/board/face_board.js";
 import { printoutLines } from "../../core/board/strip.js";
 
 /**
  * @typedef {import("../../core/bench/answers.js").Board} Board
- * @typedef {import("../../core/engine/printing.js").Printed} Printed
+ * @typedef {import("../../core/engine/printing.js").PrintoutData} PrintoutData
  * @typedef {import("../../core/board/face.js").Face} Face
  * @typedef {import("../../core/board/face.js").Printer} Printer
  */
@@ -14,8 +14,8 @@ import { printoutLines } from "../../core/board/strip.js";
 /**
  * The callbacks of the printer view.
  * @typedef {object} PrinterCalls
- * @property {(printer: { strobe: string, port: string } | null) => void} printOn Asks the bench to report the codes sent to a printer; null
- *   for no printer.
+ * @property {(printer: { strobe: string, port: string } | null) => void} setPrinter Asks the bench to report the codes sent to a printer;
+ *   null for no printer.
  * @property {() => void} clear Clears the bench's copy of the printout.
  */
 
@@ -35,12 +35,12 @@ export class PrinterView {
     /** @type {string[]} the lines on the page */
     this.lines = [];
     this.root = block("strip");
-    this.paper = block("paper");
+    this.printoutBlock = block("paper");
     /** True if new lines scroll into view. */
-    this.follows = true;
-    this.paper.addEventListener("scroll", () => this.scrolled());
+    this.followsEnd = true;
+    this.printoutBlock.addEventListener("scroll", () => this.handleScroll());
     // Lines can arrive while the printout is hidden, so scroll again when its size changes.
-    new ResizeObserver(() => this.toEnd()).observe(this.paper);
+    new ResizeObserver(() => this.scrollToEnd()).observe(this.printoutBlock);
     onClick(button("clear-printout"), () => this.clear());
   }
 
@@ -50,22 +50,22 @@ export class PrinterView {
    * @param {Face} face
    */
   draw(board, face) {
-    const { printer: before } = this;
-    this.printer = printerOf(board, face);
+    const { printer: oldPrinter } = this;
+    this.printer = findPrinter(board, face);
     this.root.hidden = this.printer === null;
-    if (!before || !this.isPrinter(before)) this.codes = [];
-    this.calls.printOn(this.printer && { strobe: this.printer.strobe, port: this.printer.port });
+    if (!oldPrinter || !this.isPrinter(oldPrinter)) this.codes = [];
+    this.calls.setPrinter(this.printer && { strobe: this.printer.strobe, port: this.printer.port });
     this.show();
   }
 
   /**
-   * Draws a changed front panel of the same board. If its text has no front panel, or no printer on this board, the user may still be
-   * writing: the printout stays.
+   * Draws a changed front panel of the same board. The printout stays if the text has no front panel or no printer, because the user may
+   * still be writing.
    * @param {Board} board
    * @param {Face} face
    */
-  change(board, face) {
-    if (face.comments !== "" && (!this.printer || printerOf(board, face))) this.draw(board, face);
+  changeFace(board, face) {
+    if (face.comments !== "" && (!this.printer || findPrinter(board, face))) this.draw(board, face);
   }
 
   /**
@@ -76,8 +76,8 @@ export class PrinterView {
     return this.printer !== null && this.printer.strobe === strobe && this.printer.port === port;
   }
 
-  /** @param {Printed} printed */
-  take(printed) {
+  /** @param {PrintoutData} printed */
+  showPrinted(printed) {
     if (!this.isPrinter(printed)) return;
     this.codes = printed.codes.map(([, code]) => code);
     this.show();
@@ -88,29 +88,29 @@ export class PrinterView {
     this.codes = [];
     this.show();
     this.calls.clear();
-    this.paper.focus();
+    this.printoutBlock.focus();
   }
 
   /** Shows the lines of the printout. Reuses the elements of unchanged leading lines. */
   show() {
     const lines = this.printer ? printoutLines(this.codes, this.printer.words).slice(-MAX_LINES) : [];
     if (lines[lines.length - 1] === "") lines.pop();
-    let same = 0;
-    while (same < lines.length && lines[same] === this.lines[same]) same += 1;
-    if (same === lines.length && same === this.lines.length) return;
-    const { paper } = this;
-    while (paper.children.length > same) paper.children[same].remove();
-    paper.append(...lines.slice(same).map((line) => element("div", {}, line)));
+    let unchangedCount = 0;
+    while (unchangedCount < lines.length && lines[unchangedCount] === this.lines[unchangedCount]) unchangedCount += 1;
+    if (unchangedCount === lines.length && unchangedCount === this.lines.length) return;
+    const { printoutBlock } = this;
+    while (printoutBlock.children.length > unchangedCount) printoutBlock.children[unchangedCount].remove();
+    printoutBlock.append(...lines.slice(unchangedCount).map((line) => element("div", {}, line)));
     this.lines = lines;
-    this.toEnd();
+    this.scrollToEnd();
   }
 
-  scrolled() {
-    const { scrollHeight, scrollTop, clientHeight } = this.paper;
-    this.follows = scrollHeight - scrollTop - clientHeight <= END_DISTANCE;
+  handleScroll() {
+    const { scrollHeight, scrollTop, clientHeight } = this.printoutBlock;
+    this.followsEnd = scrollHeight - scrollTop - clientHeight <= END_DISTANCE;
   }
 
-  toEnd() {
-    if (this.follows) this.paper.scrollTop = this.paper.scrollHeight;
+  scrollToEnd() {
+    if (this.followsEnd) this.printoutBlock.scrollTop = this.printoutBlock.scrollHeight;
   }
 }

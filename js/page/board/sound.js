@@ -6,14 +6,14 @@ import { SoundPieces } from "../../core/board/sound_samples.js";
 import * as say from "../../words/board.js";
 
 /**
- * @typedef {import("../../core/engine/sounding.js").Heard} Heard
+ * @typedef {import("../../core/engine/sounding.js").BuzzerLevels} BuzzerLevels
  */
 
 /**
  * The callbacks of Sound.
  * @typedef {object} SoundCalls
- * @property {(line: string) => void} listen Asks the bench to report the edges of a line; "" for no line.
- * @property {() => boolean} isReal Returns true if time is running at the real chip's speed. At other speeds the buzzer is silent.
+ * @property {(line: string) => void} listenToLine Asks the bench to report the edges of a line; "" for no line.
+ * @property {() => boolean} isRealTime Returns true if time is running at the real chip's speed. At other speeds the buzzer is silent.
  */
 
 /** The number of cycles in one block of samples: 45 ms. */
@@ -24,7 +24,7 @@ const DELAY = 0.09;
 const MAX_DELAY = 0.4;
 /** The gain of the sound, from 0 to 1. */
 const VOLUME = 0.12;
-/** The cut-off frequency of the high-pass filter in hertz. The filter makes a line that stays at 1 silent. */
+/** The cut-off frequency of the high-pass filter in hertz. The filter silences a line that stays at 1. */
 const MIN_PITCH = 30;
 
 /** Plays blocks of samples in sequence. */
@@ -33,26 +33,26 @@ class Player {
     this.context = new AudioContext();
     this.pieces = new SoundPieces(BLOCK_CYCLES);
     /** The end time of the last block, in seconds of the audio context. */
-    this.end = 0;
+    this.endTime = 0;
     const volume = new GainNode(this.context, { gain: VOLUME });
     const filter = new BiquadFilterNode(this.context, { type: "highpass", frequency: MIN_PITCH });
     this.input = volume;
     volume.connect(filter).connect(this.context.destination);
   }
 
-  /** @param {Heard} heard */
+  /** @param {BuzzerLevels} heard */
   play(heard) {
     const samples = this.pieces.add(heard);
-    const now = this.context.currentTime;
-    if (!samples || this.end > now + MAX_DELAY) return;
+    const currentTime = this.context.currentTime;
+    if (!samples || this.endTime > currentTime + MAX_DELAY) return;
     // An audio context's time is 0 until it runs.
-    if (this.end <= now) this.end = now + DELAY;
+    if (this.endTime <= currentTime) this.endTime = currentTime + DELAY;
     const buffer = this.context.createBuffer(1, samples.length, CYCLES_PER_SECOND);
     buffer.copyToChannel(samples, 0);
     const source = new AudioBufferSourceNode(this.context, { buffer });
     source.connect(this.input);
-    source.start(this.end);
-    this.end += samples.length / CYCLES_PER_SECOND;
+    source.start(this.endTime);
+    this.endTime += samples.length / CYCLES_PER_SECOND;
   }
 }
 
@@ -64,7 +64,7 @@ export class Sound {
     /** @type {Player | null} null if sound is off */
     this.player = null;
     this.status = new Cell(block("sound-status"));
-    this.pressed = pressedSwitch(button("sound-button"));
+    this.isPressed = pressedSwitch(button("sound-button"));
     onClick(button("sound-button"), () => this.toggle());
   }
 
@@ -77,13 +77,13 @@ export class Sound {
     block("sound").hidden = line === "";
     button("sound-button").textContent = say.soundOf(buzzer ? buzzer.name : "");
     this.line = line;
-    if (line === "" && this.player) this.mute();
-    else this.check();
+    if (line === "" && this.player) this.switchOff();
+    else this.update();
   }
 
   /** Switches the sound on or off. */
   toggle() {
-    if (this.player) this.mute();
+    if (this.player) this.switchOff();
     else if (typeof AudioContext === "function") this.begin();
     else this.status.set(say.NO_SOUND);
   }
@@ -91,25 +91,25 @@ export class Sound {
   begin() {
     this.player = new Player();
     this.player.context.resume().catch(() => this.status.set(say.NO_SOUND));
-    this.check();
+    this.update();
   }
 
-  mute() {
+  switchOff() {
     if (this.player) this.player.context.close().catch(() => {});
     this.player = null;
-    this.check();
+    this.update();
   }
 
   /** Updates the button and the status, and asks the bench for the edges of the buzzer's line or for none. */
-  check() {
+  update() {
     const isOn = this.player !== null;
-    this.pressed.set(isOn);
-    this.status.set(isOn && !this.calls.isReal() ? say.SILENT : "");
-    this.calls.listen(isOn && this.calls.isReal() ? this.line : "");
+    this.isPressed.set(isOn);
+    this.status.set(isOn && !this.calls.isRealTime() ? say.SILENT : "");
+    this.calls.listenToLine(isOn && this.calls.isRealTime() ? this.line : "");
   }
 
-  /** @param {Heard | null} heard */
-  hear(heard) {
-    if (this.player && heard && this.calls.isReal()) this.player.play(heard);
+  /** @param {BuzzerLevels | null} heard */
+  playHeard(heard) {
+    if (this.player && heard && this.calls.isRealTime()) this.player.play(heard);
   }
 }

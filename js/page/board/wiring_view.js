@@ -1,10 +1,11 @@
-// The board's wiring: a picture that shows the level of each line, and a description as text.
+// The board's wiring: a picture that shows the level of each line, and a description as text. A part is a chip, a row of lamps, a key
+// matrix or another component of the board.
 
 import { BITS_PER_CHIP } from "../../core/bench/board_form.js";
 import { Switch, block, element } from "../ui/dom.js";
-import { upTo } from "../../core/bench/numbers.js";
+import { indices } from "../../core/bench/numbers.js";
 import { svgElement } from "../ui/svg.js";
-import { pathText, routeOf } from "../../core/board/routes.js";
+import { pathText, routeWire } from "../../core/board/routes.js";
 import { TITLE_HEIGHT, drawBoard, isHigh, isHighAtRom } from "../../core/board/wiring.js";
 import * as say from "../../words/board.js";
 
@@ -19,12 +20,12 @@ import * as say from "../../words/board.js";
  */
 
 /** The radius of a pin's clickable area. */
-const REACH = 9;
+const PIN_REACH = 9;
 /** The length of a chip's leg. */
 const LEG = 7;
 /** Half the width of the notch in a chip's outline. */
 const NOTCH = 6;
-/** The minimum size of the picture. Around a small board, the picture has room to drop parts. */
+/** The minimum size of the picture, in its own units. The space around a small board is for parts that the user drops there. */
 const MIN_WIDTH = 560;
 const MIN_HEIGHT = 240;
 
@@ -50,23 +51,23 @@ export class WiringView {
     this.chains = [];
     /** @type {Map<string, Levels>} the lines of each RAM chip, by `bank.chip` */
     this.rams = new Map();
-    this.marked = "";
+    this.markedName = "";
     /** The part or pin that the Tab key reaches. */
-    this.stop = "";
+    this.tabStop = "";
     /** @type {Ports | null} */
     this.ports = null;
     /** @type {Map<string, string>} */
     this.ramPorts = new Map();
     this.isTestHigh = false;
     /** True while the user drags a part. The picture keeps its size until the drop. */
-    this.isHeld = false;
+    this.isDragging = false;
     /** The SVG viewBox of the picture. */
     this.viewBox = "";
     /** The wire that the user is drawing. */
-    this.pencil = svgElement("path", { class: "wire pencil" });
+    this.newWire = svgElement("path", { class: "wire pencil" });
   }
 
-  /** Forgets the levels when another board comes into use. */
+  /** Forgets the levels before another board is used. */
   forget() {
     this.ports = null;
     this.ramPorts.clear();
@@ -77,46 +78,46 @@ export class WiringView {
     const { ports } = this;
     // While a session opens, its first levels can arrive before its board is drawn.
     if (ports && ports.roms.length === this.roms.length && ports.chains.length === this.chains.length) {
-      this.roms.forEach(({ mask, levels }, at) => setAll(levels, (line) => isHighAtRom(mask, ports.roms[at], line)));
-      this.chains.forEach((levels, at) => setAll(levels, (bit) => ports.chains[at][bit] === "1"));
+      this.roms.forEach(({ mask, levels }, index) => setLevels(levels, (line) => isHighAtRom(mask, ports.roms[index], line)));
+      this.chains.forEach((levels, index) => setLevels(levels, (bit) => ports.chains[index][bit] === "1"));
     }
-    for (const [name, digit] of this.ramPorts) setAll(this.rams.get(name) || [], (line) => isHigh(digit, line));
-    setAll([this.levels.get("")], () => this.isTestHigh);
+    for (const [name, digit] of this.ramPorts) setLevels(this.rams.get(name) || [], (line) => isHigh(digit, line));
+    setLevels([this.levels.get("")], () => this.isTestHigh);
   }
 
   /**
-   * Draws another board.
+   * Draws a board in place of the present one.
    * @param {Board} board
-   * @param {import("../../core/board/wiring.js").Appearance} look
-   * @param {{ moved: import("../../core/board/wiring.js").Moved, isWired: boolean }} how the positions of dragged parts, and whether this
-   *   board is the one in use, whose lines have levels
+   * @param {import("../../core/board/wiring.js").Appearance} appearance
+   * @param {{ moved: import("../../core/board/wiring.js").Positions, isWired: boolean }} state the positions of dragged parts, and whether
+   *   this board is the one in use, whose lines have levels
    */
-  draw(board, look, { moved, isWired }) {
-    const { parts, wires, ...size } = drawBoard(board, look, moved);
+  draw(board, appearance, { moved, isWired }) {
+    const { parts, wires, ...size } = drawBoard(board, appearance, moved);
     const [width, height] = [Math.max(MIN_WIDTH, size.width), Math.max(MIN_HEIGHT, size.height)];
-    const focused = document.activeElement instanceof Element ? this.nameAt(document.activeElement) : "";
+    const focusedName = document.activeElement instanceof Element ? this.nameAt(document.activeElement) : "";
     this.items.clear();
     this.levels.clear();
     this.parts = new Map(parts.map((part) => [part.id, part]));
     /** @type {Map<string, SVGElement[]>} */
     const nodes = new Map();
-    const wireNodes = wires.flatMap((wire, at) => this.drawWire(wire, pathText(routeOf(wire, parts, at)), nodes));
-    this.linePins = linePinsOf(wires);
+    const wireNodes = wires.flatMap((wire, index) => this.drawWire(wire, pathText(routeWire(wire, parts, index)), nodes));
+    this.linePins = groupPinsByLine(wires);
     const partNodes = parts.map((part) => this.drawPart(part, nodes));
     for (const [line, elements] of nodes) {
       this.levels.set(line, new Switch((isOn) => elements.forEach((node) => node.classList.toggle("high", isOn))));
     }
     this.groupLevels(isWired ? board : null);
-    if (!this.isHeld) {
+    if (!this.isDragging) {
       this.viewBox = `0 0 ${width} ${height}`;
       this.root.style.setProperty("--picture-width", `${width}px`);
     }
     const picture = svgElement("svg", { viewBox: this.viewBox, role: "group", "aria-label": say.PARTS_AND_WIRES });
-    picture.append(...wireNodes, ...partNodes, this.pencil);
+    picture.append(...wireNodes, ...partNodes, this.newWire);
     this.root.replaceChildren(picture);
-    this.words.replaceChildren(...parts.map(({ title, says }) => element("li", {}, `${title}: ${says.join("; ")}.`)));
-    this.setStop(this.items.has(focused) ? focused : this.stop);
-    if (focused) this.focus(this.stop);
+    this.words.replaceChildren(...parts.map(({ title, descriptions }) => element("li", {}, `${title}: ${descriptions.join("; ")}.`)));
+    this.setTabStop(this.items.has(focusedName) ? focusedName : this.tabStop);
+    if (focusedName) this.focus(this.tabStop);
     this.showMark();
     if (this.isShown()) this.showLevels();
   }
@@ -128,25 +129,25 @@ export class WiringView {
   groupLevels(board) {
     const { roms, chains, banks } = board || { roms: [], chains: [], banks: [] };
     /** @type {(owner: string, count: number) => Levels} */
-    const levelsOf = (owner, count) => upTo(count).map((line) => this.levels.get(`${owner}.${line}`));
-    this.roms = roms.map(({ chip, port }) => ({ mask: port, levels: levelsOf(`rom${chip}`, 4) }));
-    this.chains = chains.map(({ chips }, at) => levelsOf(`chain${at}`, BITS_PER_CHIP * chips));
-    const names = banks.flatMap(({ bank, chips }) => upTo(chips).map((chip) => `${bank}.${chip}`));
-    this.rams = new Map(names.map((name) => [name, levelsOf(`ram${name}`, 4)]));
+    const findLevels = (owner, count) => indices(count).map((line) => this.levels.get(`${owner}.${line}`));
+    this.roms = roms.map(({ chip, port }) => ({ mask: port, levels: findLevels(`rom${chip}`, 4) }));
+    this.chains = chains.map(({ chips }, index) => findLevels(`chain${index}`, BITS_PER_CHIP * chips));
+    const names = banks.flatMap(({ bank, chips }) => indices(chips).map((chip) => `${bank}.${chip}`));
+    this.rams = new Map(names.map((name) => [name, findLevels(`ram${name}`, 4)]));
   }
 
   /**
-   * Returns a wire's elements: its path, and a wider invisible path that makes the wire easier to hit.
+   * Returns a wire's elements: its path, and a wider invisible path as the clickable area.
    * @param {Wire} wire
    * @param {string} d the wire's SVG path
    * @param {Map<string, SVGElement[]>} nodes
    */
   drawWire(wire, d, nodes) {
     const path = svgElement("path", { class: "wire", d });
-    const reach = svgElement("path", { class: "reach", d });
-    this.names.set(reach, wire.to.id);
+    const hitArea = svgElement("path", { class: "reach", d });
+    this.names.set(hitArea, wire.to.id);
     nodes.set(wire.line, [...(nodes.get(wire.line) || []), path]);
-    return [path, reach];
+    return [path, hitArea];
   }
 
   /**
@@ -154,15 +155,15 @@ export class WiringView {
    * @param {Map<string, SVGElement[]>} nodes
    */
   drawPart(part, nodes) {
-    const { id, kind, title, x, y, width, height, says } = part;
-    const words = `${title}: ${says.join("; ")}`;
+    const { id, kind, title, x, y, width, height, descriptions } = part;
+    const words = `${title}: ${descriptions.join("; ")}`;
     const box = svgElement("g", { class: `part of-${kind}`, role: "button", tabindex: -1, "aria-label": words });
     const head = svgElement("text", { class: "title", x: x + width / 2, y: y + TITLE_HEIGHT - 9 }, title);
     const isChip = part.pins.some(({ number }) => number !== undefined);
     const [middle, notch] = [x + width / 2, NOTCH];
     box.append(svgElement("rect", { x, y, width, height, rx: isChip ? 2 : 4 }), head);
     if (isChip) box.append(svgElement("path", { class: "notch", d: `M${middle - notch},${y}a${notch},${notch},0,0,0,${2 * notch},0` }));
-    this.name(box, id);
+    this.registerNode(box, id);
     return svgElement("g", {}, box, ...part.pins.map((pin) => this.drawPin(part, pin, nodes)));
   }
 
@@ -170,7 +171,7 @@ export class WiringView {
    * @param {SVGElement} node
    * @param {string} name the name of a part or a pin
    */
-  name(node, name) {
+  registerNode(node, name) {
     this.items.set(name, node);
     this.names.set(node, name);
   }
@@ -185,20 +186,20 @@ export class WiringView {
     const isLeft = pin.x === part.x;
     const isLamp = part.kind === "lamps";
     const centre = { cx: pin.x, cy: pin.y };
-    const dot = svgElement("circle", { class: isLamp ? `lamp ${pin.colour}` : "pin", ...centre, r: isLamp ? 6 : 4 });
+    const circle = svgElement("circle", { class: isLamp ? `lamp ${pin.colour}` : "pin", ...centre, r: isLamp ? 6 : 4 });
     const side = isLeft ? "at-left" : "at-right";
     const label = svgElement("text", { class: side, x: pin.x + (isLeft ? 10 : -10), y: pin.y + 4 }, pin.label);
-    nodes.set(pin.line, [...(nodes.get(pin.line) || []), dot]);
-    const reach = svgElement("circle", { class: "reach", ...centre, r: REACH });
-    const words = `${part.title}, ${pin.label}, ${this.wordsOfPin(pin)}`;
+    nodes.set(pin.line, [...(nodes.get(pin.line) || []), circle]);
+    const hitArea = svgElement("circle", { class: "reach", ...centre, r: PIN_REACH });
+    const words = `${part.title}, ${pin.label}, ${this.describePin(pin)}`;
     const { number } = pin;
     const title = svgElement("title", {}, (pin.line || say.TEST_PIN) + (number === undefined ? "" : say.pinOf(number)));
     const leg = number === undefined ? [] : [
       svgElement("rect", { class: "leg", x: isLeft ? pin.x - LEG : pin.x, y: pin.y - 3, width: LEG, height: 6 }),
       svgElement("text", { class: `number ${isLeft ? "at-right" : ""}`, x: pin.x + (isLeft ? -LEG : LEG), y: pin.y - 5 }, String(number))];
     const node = svgElement("g", { "class": "at-pin", "role": "button", "tabindex": -1, "aria-label": words },
-      title, ...leg, dot, label, reach);
-    this.name(node, pin.id);
+      title, ...leg, circle, label, hitArea);
+    this.registerNode(node, pin.id);
     return node;
   }
 
@@ -206,7 +207,7 @@ export class WiringView {
    * Returns a text with the pins that a pin is wired to.
    * @param {Pin} pin
    */
-  wordsOfPin({ id, line }) {
+  describePin({ id, line }) {
     if (line !== "" && id !== line) return say.at(line);
     const pins = (this.linePins.get(line) || []).filter((pin) => pin !== id);
     return pins.length > 0 ? say.wiredTo(pins.join(say.AND)) : say.NOT_WIRED;
@@ -217,8 +218,8 @@ export class WiringView {
    * @param {Element | null} node
    */
   nameAt(node) {
-    for (let current = node; current && current !== this.root; current = current.parentElement) {
-      const name = this.names.get(current);
+    for (let ancestor = node; ancestor && ancestor !== this.root; ancestor = ancestor.parentElement) {
+      const name = this.names.get(ancestor);
       if (name !== undefined) return name;
     }
     return "";
@@ -228,12 +229,12 @@ export class WiringView {
    * Makes one item the picture's only tab stop.
    * @param {string} name
    */
-  setStop(name) {
-    const old = this.items.get(this.stop);
-    if (old) old.setAttribute("tabindex", "-1");
+  setTabStop(name) {
+    const oldStop = this.items.get(this.tabStop);
+    if (oldStop) oldStop.setAttribute("tabindex", "-1");
     const [first = ""] = this.items.keys();
-    this.stop = this.items.has(name) ? name : first;
-    const node = this.items.get(this.stop);
+    this.tabStop = this.items.has(name) ? name : first;
+    const node = this.items.get(this.tabStop);
     if (node) node.setAttribute("tabindex", "0");
   }
 
@@ -241,25 +242,25 @@ export class WiringView {
   focus(name) {
     const node = this.items.get(name);
     if (!node) return;
-    this.setStop(name);
+    this.setTabStop(name);
     node.focus();
   }
 
   /**
    * Shows the selection, the start pin of the wire in progress, and the pins where that wire can end.
-   * @param {string} chosen
-   * @param {string} begun
-   * @param {Set<string>} ends
+   * @param {string} selection
+   * @param {string} startPin
+   * @param {Set<string>} endPins
    */
-  showChoice(chosen, begun, ends) {
+  showChoice(selection, startPin, endPins) {
     for (const [name, node] of this.items) {
-      node.classList.toggle("chosen", name === chosen);
-      node.classList.toggle("begun", begun !== "" && name === begun);
-      node.classList.toggle("can-end", ends.has(name));
+      node.classList.toggle("chosen", name === selection);
+      node.classList.toggle("begun", startPin !== "" && name === startPin);
+      node.classList.toggle("can-end", endPins.has(name));
     }
-    this.root.classList.toggle("wiring-on", begun !== "");
-    if (chosen) this.setStop(chosen);
-    if (begun === "") this.drawPencil("", null);
+    this.root.classList.toggle("wiring-on", startPin !== "");
+    if (selection) this.setTabStop(selection);
+    if (startPin === "") this.drawPencil("", null);
   }
 
   /**
@@ -269,14 +270,14 @@ export class WiringView {
    */
   drawPencil(name, to) {
     const pin = [...this.parts.values()].flatMap(({ pins }) => pins).find(({ id }) => id === name);
-    this.pencil.setAttribute("d", pin && to ? pathText(routeOf({ from: pin, to }, [], 0)) : "");
+    this.newWire.setAttribute("d", pin && to ? pathText(routeWire({ from: pin, to }, [], 0)) : "");
   }
 
   /**
    * Converts window coordinates to picture coordinates.
    * @param {{ clientX: number, clientY: number }} event
    */
-  pointOf({ clientX, clientY }) {
+  toPicturePoint({ clientX, clientY }) {
     const picture = this.root.querySelector("svg");
     const matrix = picture && picture.getScreenCTM();
     if (!matrix) return { x: 0, y: 0 };
@@ -285,17 +286,17 @@ export class WiringView {
   }
 
   /**
-   * Marks the part that the line at the caret of the board's text describes.
+   * Marks the part that is described by the line at the caret of the board's text.
    * @param {string} name `rom 1`, `ram 0`, `lamp 3`, `test`; "" for none
    */
   mark(name) {
-    if (name === this.marked) return;
-    this.marked = name;
+    if (name === this.markedName) return;
+    this.markedName = name;
     this.showMark();
   }
 
   showMark() {
-    const id = this.marked.startsWith("lamp ") ? "lamps" : this.marked;
+    const id = this.markedName.startsWith("lamp ") ? "lamps" : this.markedName;
     for (const partId of this.parts.keys()) {
       const node = this.items.get(partId);
       if (node) node.classList.toggle("marked", id !== "" && (partId === id || partId.startsWith(`${id}.`)));
@@ -325,7 +326,7 @@ export class WiringView {
  * Returns the pins at the ends of wires, grouped by line.
  * @param {Wire[]} wires
  */
-function linePinsOf(wires) {
+function groupPinsByLine(wires) {
   /** @type {Map<string, string[]>} */
   const pins = new Map();
   for (const { line, to } of wires) pins.set(line, [...(pins.get(line) || []), to.id]);
@@ -334,8 +335,8 @@ function linePinsOf(wires) {
 
 /**
  * @param {Levels} levels
- * @param {(line: number) => boolean} levelOf
+ * @param {(line: number) => boolean} isLineHigh
  */
-function setAll(levels, levelOf) {
-  levels.forEach((level, line) => level && level.set(levelOf(line)));
+function setLevels(levels, isLineHigh) {
+  levels.forEach((level, line) => level && level.set(isLineHigh(line)));
 }

@@ -8,11 +8,11 @@ import * as say from "../../words/page_commands.js";
 
 /**
  * @typedef {import("../ui/icons.js").IconName} IconName
- * @typedef {"everywhere" | "texts" | "source" | "board" | "tests" | "properties"} KeyPlace the part of the page in which a key works
+ * @typedef {"everywhere" | "texts" | "source" | "board" | "tests" | "properties"} KeyPlace the texts in which a key works
  * @typedef {"system" | "light" | "dark"} Theme
  *
  * A command. `id` names it within the page's modules. `words` is its label. `group` is its group in lists. `icon` is its optional icon.
- * `keys` are its keys; lists show the first one. `place` is the part of the page in which the keys work. `act` executes the command.
+ * `keys` are its keys; lists show the first one. `place` says in which texts the keys work. `act` executes the command.
  * `wordsNow` returns a label that depends on whether time is running. `whyNot` returns the reason why the command cannot run now, or "" if
  * it can.
  * @typedef {{ id: string, words: string, group: keyof typeof say.GROUPS, icon?: IconName, keys: string[], place: KeyPlace,
@@ -75,17 +75,17 @@ import * as say from "../../words/page_commands.js";
  * @typedef {"program" | "board" | "tests" | "properties"} TextName
  */
 
-const never = () => "";
+const alwaysAvailable = () => "";
 
 /**
  * @param {CommandId} id
  * @param {Command["group"]} group
- * @param {Command["act"]} act
+ * @param {Command["act"]} action
  * @param {Partial<Command>} [options]
  * @returns {Command}
  */
-function command(id, group, act, options = {}) {
-  return { id, words: say.COMMANDS[id], group, keys: [], place: "everywhere", act, whyNot: never, ...options };
+function command(id, group, action, options = {}) {
+  return { id, words: say.COMMANDS[id], group, keys: [], place: "everywhere", act: action, whyNot: alwaysAvailable, ...options };
 }
 
 /**
@@ -93,28 +93,30 @@ function command(id, group, act, options = {}) {
  * @param {CommandId} id
  * @param {Command["group"]} group
  * @param {string} button
- * @param {string} shown the text or panel that has the button
- * @param {string} [why] the message that explains why the button is not available
+ * @param {string} containerName the text or panel that has the button
+ * @param {string} [reason] the message that explains why the button is not available
  * @param {Partial<Command>} [options]
  */
-function buttonCommand(id, group, button, shown, why = say.NOT_NOW, options = {}) {
-  return command(id, group, (calls) => calls.press(button, shown), { whyNot: (calls) => (calls.isOffered(button) ? "" : why), ...options });
+function buttonCommand(id, group, button, containerName, reason = say.NOT_NOW, options = {}) {
+  /** @param {CommandCalls} calls */
+  const whyNot = (calls) => (calls.isOffered(button) ? "" : reason);
+  return command(id, group, (calls) => calls.press(button, containerName), { whyNot, ...options });
 }
 
 /**
  * Returns a command that acts on the text in front.
  * @param {CommandId} id
- * @param {TextAct} what
+ * @param {TextAct} textAction
  * @param {string[]} keys
  * @param {boolean} [isSource] true if the command applies only to the source
  */
-function textCommand(id, what, keys, isSource = false) {
-  return command(id, "text", (calls) => calls.inText(what), { keys, place: isSource ? "source" : "texts",
+function textCommand(id, textAction, keys, isSource = false) {
+  return command(id, "text", (calls) => calls.inText(textAction), { keys, place: isSource ? "source" : "texts",
     whyNot: (calls) => (calls.hasText(isSource) ? "" : isSource ? say.NO_NAMES : say.NO_EDITOR) });
 }
 
 /** @type {Command[]} */
-const TIME = [
+const TIME_COMMANDS = [
   command("time.continue", "time", (calls) => calls.runOrStop(), {
     icon: "continue", keys: ["F5", "F8"], wordsNow: (calls) => say.COMMANDS[calls.isRunning() ? "time.pause" : "time.continue"] }),
   command("time.over", "time", (calls) => calls.goOn({ kind: "over" }), { icon: "over", keys: ["F10"] }),
@@ -134,7 +136,7 @@ const TIME = [
 ];
 
 /** @type {Command[]} */
-const PROJECT = [
+const PROJECT_COMMANDS = [
   command("project.open", "project", (calls) => calls.open(), { icon: "open", keys: ["Ctrl+O"] }),
   command("project.save", "project", (calls) => calls.save(), { icon: "save", keys: ["Ctrl+S"] }),
   command("project.saveSession", "project", (calls) => calls.saveSession(), { icon: "file" }),
@@ -147,7 +149,7 @@ const PROJECT = [
 ];
 
 /** @type {Command[]} */
-const SHOW = [
+const SHOW_COMMANDS = [
   command("settings.palette", "show", (calls) => calls.palette(">"), { icon: "search", keys: ["Ctrl+Shift+P", "Ctrl+K"] }),
   command("go.to", "show", (calls) => calls.palette(""), { icon: "goTo", keys: ["Ctrl+P"] }),
   command("go.notices", "show", (calls) => calls.notices(), { icon: "notices",
@@ -155,7 +157,7 @@ const SHOW = [
 ];
 
 /** @type {Command[]} */
-const BOARD = [
+const BOARD_COMMANDS = [
   command("board.apply", "board", (calls) => calls.send("board"), { keys: ["Ctrl+Enter"], place: "board" }),
   command("board.type", "board", (calls) => calls.toggle("typing")),
   buttonCommand("board.sound", "board", "sound-button", "front", say.NO_BUZZER),
@@ -165,7 +167,7 @@ const BOARD = [
 ];
 
 /** @type {Command[]} */
-const TEXT = [
+const TEXT_COMMANDS = [
   command("text.assembleAndRun", "text", (calls) => calls.send("program"), { icon: "assemble", keys: ["Ctrl+Enter"], place: "source" }),
   buttonCommand("text.assemble", "text", "assemble-only", "program"),
   buttonCommand("text.disassemble", "text", "from-rom", "program"),
@@ -189,7 +191,7 @@ const TEXT = [
 ];
 
 /** @type {Command[]} */
-const DEBUG = [
+const DEBUG_COMMANDS = [
   command("debug.breakpoint", "debug", (calls) => calls.breakpoint(), { icon: "breakpoint", keys: ["F9"] }),
   command("debug.condition", "debug", (calls) => calls.breakpoint("condition"), { keys: ["Shift+F9"] }),
   command("debug.hitCount", "debug", (calls) => calls.breakpoint("from")),
@@ -207,7 +209,7 @@ const DEBUG = [
 ];
 
 /** @type {Command[]} */
-const TESTS = [
+const TEST_COMMANDS = [
   command("tests.run", "tests", (calls) => calls.send("tests"), { icon: "tests", keys: ["Ctrl+Enter"], place: "tests" }),
   buttonCommand("tests.first", "tests", "first-test", "tests", say.HAS_TEXT),
   buttonCommand("tests.clear", "tests", "clear-tests", "tests", say.NO_RESULTS),
@@ -218,7 +220,7 @@ const TESTS = [
 ];
 
 /** @type {Command[]} */
-const WIRING = [
+const WIRING_COMMANDS = [
   buttonCommand("wiring.apply", "wiring", "drawing-wire", "wiring"),
   buttonCommand("wiring.undo", "wiring", "drawing-undo", "wiring"),
   buttonCommand("wiring.redo", "wiring", "drawing-redo", "wiring"),
@@ -237,7 +239,7 @@ const WIRING = [
 const waveCommand = (id, button) => buttonCommand(id, "waves", button, "waves", say.NO_WAVES);
 
 /** @type {Command[]} */
-const WAVES = [
+const WAVE_COMMANDS = [
   buttonCommand("waves.record", "waves", "record", "waves", "", { icon: "record" }),
   command("waves.trigger", "waves", (calls) => calls.enter("trigger", "waves")),
   waveCommand("waves.save", "save-waves"),
@@ -261,7 +263,7 @@ const WAVES = [
 ];
 
 /** @type {Command[]} */
-const HELP = [
+const HELP_COMMANDS = [
   command("help.open", "help", (calls) => calls.toggleHelp(), { icon: "help", keys: ["F1"] }),
   command("help.keys", "help", (calls) => calls.help(KEYBOARD)),
   command("help.welcome", "help", (calls) => calls.welcome(), { icon: "lamp" }),
@@ -273,22 +275,22 @@ const HELP = [
  * @param {string} id
  * @param {string} words
  * @param {Command["group"]} group
- * @param {Command["act"]} act
+ * @param {Command["act"]} action
  * @param {IconName} [icon]
  * @returns {Command}
  */
-export const labelledCommand = (id, words, group, act, icon) => (
-  { id, words, group, keys: [], place: "everywhere", act, whyNot: never, icon });
+export const labelledCommand = (id, words, group, action, icon) => (
+  { id, words, group, keys: [], place: "everywhere", act: action, whyNot: alwaysAvailable, icon });
 
 /** @type {Command[]} */
-const SHOWN = [...Object.entries(say.TEXTS), ...Object.entries(say.PANELS)].map(([name, words]) => (
+const PANEL_COMMANDS = [...Object.entries(say.TEXTS), ...Object.entries(say.PANELS)].map(([name, words]) => (
   labelledCommand(`show.${name}`, say.showText(words), "show", (calls) => calls.show(name))));
 
 /**
  * Commands that show, hide and maximise panels.
  * @type {Command[]}
  */
-const ARRANGED = [
+const LAYOUT_COMMANDS = [
   ...Object.entries(PANELS).flatMap(([id, name]) => [
     labelledCommand(`panel.${id}`, say.toggledPanel(name), "show", (calls) => calls.togglePanel(id)),
     labelledCommand(`full.${id}`, say.fullPanel(name), "show", (calls) => calls.fullPanel(id)),
@@ -297,7 +299,7 @@ const ARRANGED = [
 ];
 
 /** @type {Command[]} */
-const SETTINGS = [
+const SETTING_COMMANDS = [
   ...SPEEDS.map(({ id, words }) => labelledCommand(`speed.${id}`, say.atSpeed(words), "settings", (calls) => calls.setSpeed(id))),
   ...Object.entries(say.THEMES).map(([name, words]) => (
     labelledCommand(`theme.${name}`, words, "settings", (calls) => calls.setTheme(/** @type {Theme} */ (name)), "theme"))),
@@ -305,8 +307,8 @@ const SETTINGS = [
 
 /** The commands that do not depend on the session, in the order in which lists show them. */
 export const COMMANDS = [
-  ...TIME, ...TEXT, ...DEBUG, ...TESTS, ...PROJECT, ...BOARD, ...SHOW, ...SHOWN, ...WIRING, ...WAVES, ...ARRANGED,
-  ...SETTINGS, ...HELP,
+  ...TIME_COMMANDS, ...TEXT_COMMANDS, ...DEBUG_COMMANDS, ...TEST_COMMANDS, ...PROJECT_COMMANDS, ...BOARD_COMMANDS, ...SHOW_COMMANDS,
+  ...PANEL_COMMANDS, ...WIRING_COMMANDS, ...WAVE_COMMANDS, ...LAYOUT_COMMANDS, ...SETTING_COMMANDS, ...HELP_COMMANDS,
 ];
 
 /**
@@ -314,8 +316,8 @@ export const COMMANDS = [
  * @param {string} id
  * @returns {Command}
  */
-export function commandOf(id) {
-  const found = COMMANDS.find((entry) => entry.id === id);
-  if (!found) throw new Error(`there is no command ${id}`);
-  return found;
+export function commandById(id) {
+  const match = COMMANDS.find((entry) => entry.id === id);
+  if (!match) throw new Error(`there is no command ${id}`);
+  return match;
 }

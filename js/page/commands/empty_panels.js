@@ -1,24 +1,24 @@
 // Fills empty panels: says what each is for, and offers the command that fills it.
 
 import { block, element, onClick } from "../ui/dom.js";
-import { commandOf } from "./command_table.js";
+import { commandById } from "./command_table.js";
 import * as say from "../../words/page_commands.js";
 
 /** The id of the command that fills each panel, by the id of the panel's list or picture. */
-const FILLS = {
+const FILL_COMMANDS = {
   "watched-list": "debug.watch", "breakpoint-list": "debug.breakpoint", "waves": "waves.record", "log": "debug.console",
 };
 
 /**
  * Adds a text and a button after the list of each panel. The style sheet shows them while the list is empty.
- * @param {(command: import("./command_table.js").Command) => void} act
+ * @param {(command: import("./command_table.js").Command) => void} action
  */
-export function fillEmptyPanels(act) {
-  for (const [id, name] of Object.entries(FILLS)) {
-    const command = commandOf(name);
+export function fillEmptyPanels(action) {
+  for (const [id, name] of Object.entries(FILL_COMMANDS)) {
+    const command = commandById(name);
     const { words, button } = say.EMPTY[id];
-    const fill = element("button", { type: "button" }, button);
-    onClick(fill, () => act(command));
-    block(id).after(element("p", { className: "empty" }, words, " ", fill));
+    const fillButton = element("button", { type: "button" }, button);
+    onClick(fillButton, () => action(command));
+    block(id).after(element("p", { className: "empty" }, words, " ", fillButton));
   }
 }

@@ -1,4 +1,4 @@
-// The table of keys in the help. It has the command keys first, then the section's other keys.
+// The table of keys in the help: first the keys of commands, then the other keys of the section.
 
 import { COMMANDS } from "./command_table.js";
 import { KEYBOARD } from "../../words/help.js";
@@ -23,7 +23,7 @@ export function keyRows() {
  * @param {ManualSection[]} manual
  * @returns {ManualSection[]}
  */
-export function withKeys(manual) {
+export function addKeyRows(manual) {
   /** @type {ManualTable} */
   const table = { caption: say.KEY_TABLE, head: [say.KEY, say.DOES], rows: keyRows() };
   return manual.map((section) => (section.title === KEYBOARD ? { ...section, tables: [table, ...section.tables] } : section));

@@ -31,19 +31,19 @@ class MenuList {
   fill(items) {
     this.items = items;
     this.buttons = items.map((item) => this.makeItem(item));
-    this.node.replaceChildren(...this.buttons.map((button, at) => (
-      element("li", { role: "none", className: items[at].isNarrow ? "narrow" : "" }, button))));
+    this.node.replaceChildren(...this.buttons.map((button, index) => (
+      element("li", { role: "none", className: items[index].isNarrow ? "narrow" : "" }, button))));
   }
 
   /** @param {MenuItem} item */
-  makeItem({ id, words, icon: name, key, act, isChosen }) {
+  makeItem({ id, words, icon: name, key, act: action, isChosen }) {
     const button = element("button", { "type": "button", "role": isChosen ? "menuitemradio" : "menuitem", "tabIndex": -1 },
       ...(name ? [icon(name)] : []), element("span", { className: "grow" }, words),
       ...(key ? [element("kbd", { "aria-hidden": "true" }, key)] : []));
     if (id) button.id = id;
     button.addEventListener("click", () => {
       this.close();
-      act();
+      action();
     });
     return button;
   }
@@ -56,51 +56,51 @@ class MenuList {
   show(isOpen) {
     this.node.hidden = !isOpen;
     if (!isOpen) return;
-    this.buttons.forEach((button, at) => {
-      const { isChosen } = this.items[at];
+    this.buttons.forEach((button, index) => {
+      const { isChosen } = this.items[index];
       if (isChosen) button.setAttribute("aria-checked", String(isChosen()));
     });
   }
 
   /** The buttons that are visible at the window's present width. */
-  get shown() {
+  get visibleButtons() {
     return this.buttons.filter((button) => button.offsetParent !== null);
   }
 
-  /** @param {number} at */
-  focus(at) {
-    const { shown } = this;
-    shown[(at + shown.length) % shown.length].focus();
+  /** @param {number} index */
+  focus(index) {
+    const { visibleButtons } = this;
+    visibleButtons[(index + visibleButtons.length) % visibleButtons.length].focus();
   }
 
   /** @param {KeyboardEvent} event */
-  typed(event) {
-    const at = this.shown.findIndex((button) => button === document.activeElement);
+  handleKey(event) {
+    const index = this.visibleButtons.findIndex((button) => button === document.activeElement);
     /** @type {Record<string, () => void>} */
-    const acts = {
-      ArrowDown: () => this.focus(at + 1),
-      ArrowUp: () => this.focus(at < 0 ? -1 : at - 1),
+    const actions = {
+      ArrowDown: () => this.focus(index + 1),
+      ArrowUp: () => this.focus(index < 0 ? -1 : index - 1),
       Home: () => this.focus(0),
       End: () => this.focus(-1),
       Escape: this.close,
     };
-    const act = acts[event.key];
-    if (!act) return;
+    const action = actions[event.key];
+    if (!action) return;
     event.preventDefault();
     event.stopPropagation();
-    act();
+    action();
   }
 }
 
 /**
- * Calls `left` when the user clicks outside a menu or moves the focus out of it.
+ * Calls `onLeave` when the user clicks outside a menu or moves the focus out of it.
  * @param {HTMLElement} node
- * @param {() => void} left
+ * @param {() => void} onLeave
  */
-function listenToLeaving(node, left) {
-  addEventListener("pointerdown", ({ target }) => target instanceof Node && !node.contains(target) && left(), true);
+function listenToLeaving(node, onLeave) {
+  addEventListener("pointerdown", ({ target }) => target instanceof Node && !node.contains(target) && onLeave(), true);
   node.addEventListener("focusout", ({ relatedTarget }) => {
-    if (relatedTarget instanceof Node && !node.contains(relatedTarget)) left();
+    if (relatedTarget instanceof Node && !node.contains(relatedTarget)) onLeave();
   });
 }
 
@@ -125,7 +125,7 @@ export class MenuView {
     button.setAttribute("aria-controls", id);
     this.show(false);
     button.addEventListener("click", (event) => this.toggle(event.detail === 0));
-    this.node.addEventListener("keydown", (event) => this.typed(event));
+    this.node.addEventListener("keydown", (event) => this.handleKey(event));
     listenToLeaving(this.node, () => this.show(false));
   }
 
@@ -142,9 +142,9 @@ export class MenuView {
   }
 
   /** @param {KeyboardEvent} event */
-  typed(event) {
+  handleKey(event) {
     if (this.menu.isOpen) {
-      this.menu.typed(event);
+      this.menu.handleKey(event);
       return;
     }
     if (event.key !== "ArrowDown" && event.key !== "ArrowUp") return;
@@ -165,8 +165,8 @@ export class ContextMenu {
     const { node } = this.menu;
     document.body.append(node);
     /** @type {Element | null} the element that had the focus before the menu opened */
-    this.before = null;
-    node.addEventListener("keydown", (event) => this.menu.typed(event));
+    this.priorFocus = null;
+    node.addEventListener("keydown", (event) => this.menu.handleKey(event));
     listenToLeaving(node, () => this.menu.show(false));
   }
 
@@ -175,7 +175,7 @@ export class ContextMenu {
    * @param {{ left: number, bottom: number }} point
    */
   open(items, { left, bottom }) {
-    this.before = document.activeElement;
+    this.priorFocus = document.activeElement;
     this.menu.fill(items);
     this.menu.show(true);
     const { node } = this.menu;
@@ -185,7 +185,7 @@ export class ContextMenu {
 
   /** Closes the menu and returns the focus to the element that had it before. */
   close() {
-    if (this.before instanceof HTMLElement) this.before.focus();
+    if (this.priorFocus instanceof HTMLElement) this.priorFocus.focus();
     this.menu.show(false);
   }
 }

@@ -12,7 +12,7 @@ function isTextOrPanel(node) {
  * Returns true if a button is enabled and visible. A text or panel that is behind another one counts as visible.
  * @param {HTMLButtonElement} button
  */
-export function isOffered(button) {
+export function isAvailable(button) {
   if (button.disabled || button.getAttribute("aria-disabled") === "true") return false;
   for (let node = /** @type {HTMLElement | null} */ (button); node; node = node.parentElement) {
     if (node.hidden && !isTextOrPanel(node)) return false;

@@ -1,6 +1,6 @@
 // The destinations that the palette offers: texts, labels, addresses, source lines, projects and examples.
 
-import { goalOf } from "../../core/machine/go_to.js";
+import { parseGoal } from "../../core/machine/go_to.js";
 import { hex } from "../../core/bench/numbers.js";
 import * as say from "../../words/page_commands.js";
 
@@ -22,40 +22,40 @@ import * as say from "../../words/page_commands.js";
  * @property {(id: string) => void} project Shows the project with an id.
  */
 
-const LINE = /^:\s*(\d+)$/;
+const LINE_QUERY = /^:\s*(\d+)$/;
 
-/** @type {(words: string, hint: string, act: () => void, isFound?: boolean) => Entry} */
-const entry = (words, hint, act, isFound = false) => ({ words, hint, why: "", keys: [], isFound, act });
+/** @type {(words: string, hint: string, action: () => void, isFound?: boolean) => Entry} */
+const makeEntry = (words, hint, action, isFound = false) => ({ words, hint, why: "", keys: [], isFound, act: action });
 
 /**
  * Returns the entry for a typed line number, address, or name with an offset. Returns an empty list for any other text.
- * @param {string} wanted
+ * @param {string} query
  * @param {PlaceCalls} calls
  */
-function typedPlace(wanted, calls) {
-  const [, line = ""] = LINE.exec(wanted) || [];
-  if (line) return [entry(say.lineNamed(Number(line)), "", () => calls.line(Number(line)), true)];
+function typedDestination(query, calls) {
+  const [, line = ""] = LINE_QUERY.exec(query) || [];
+  if (line) return [makeEntry(say.lineNamed(Number(line)), "", () => calls.line(Number(line)), true)];
   const map = calls.map();
-  if (wanted === "" || (map && map.names.has(wanted))) return [];
-  const { address, words } = goalOf(wanted, map);
-  return words ? [] : [entry(say.addressNamed(hex(address, 3)), "", () => calls.address(address), true)];
+  if (query === "" || (map && map.names.has(query))) return [];
+  const { address, words } = parseGoal(query, map);
+  return words ? [] : [makeEntry(say.addressNamed(hex(address, 3)), "", () => calls.address(address), true)];
 }
 
 /**
  * Returns the entries of all destinations.
- * @param {string} wanted the typed text
+ * @param {string} query the typed text
  * @param {PlaceCalls} calls
  * @returns {Entry[]}
  */
-export function placesOf(wanted, calls) {
+export function listDestinations(query, calls) {
   const map = calls.map();
   const labels = map ? [...map.names.values()].filter(({ isLabel }) => isLabel) : [];
   return [
-    ...typedPlace(wanted, calls),
-    ...Object.entries(say.TEXTS).map(([name, words]) => entry(words, say.A_TEXT, () => calls.show(name))),
+    ...typedDestination(query, calls),
+    ...Object.entries(say.TEXTS).map(([name, words]) => makeEntry(words, say.A_TEXT, () => calls.show(name))),
     ...labels.map(({ name, value }) => (
-      entry(name, say.labelAt(map ? map.lineOf(value) : 0, hex(value, 3)), () => calls.address(value)))),
-    ...calls.projects().map(({ id, name }) => entry(name, say.A_PROJECT, () => calls.project(id))),
-    ...calls.examples().map((name) => entry(name, say.GROUPS.example, () => calls.example(name))),
+      makeEntry(name, say.labelAt(map ? map.lineOf(value) : 0, hex(value, 3)), () => calls.address(value)))),
+    ...calls.projects().map(({ id, name }) => makeEntry(name, say.A_PROJECT, () => calls.project(id))),
+    ...calls.examples().map((name) => makeEntry(name, say.GROUPS.example, () => calls.example(name))),
   ];
 }

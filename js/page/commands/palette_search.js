@@ -2,13 +2,13 @@
 
 /**
  * A palette entry. `words` is its label and `hint` the text next to it. `why` is the reason why it cannot run, or "" if it can. `isFound`
- * is true if another search has found the entry, which is then listed whatever its label is.
+ * is true if another search has found the entry, which is then listed even if its label does not match.
  * @typedef {{ words: string, hint: string, why: string, keys: string[], icon?: import("../ui/icons.js").IconName, isFound?: boolean,
  *   act: () => void }} Entry
  */
 
 /** @param {string} query */
-export function wordsOfQuery(query) {
+export function splitQuery(query) {
   return query.toLowerCase().split(/\s+/).filter(Boolean);
 }
 
@@ -16,16 +16,16 @@ export function wordsOfQuery(query) {
  * Returns an entry's rank, from best to worst: 0 if its label begins with the query; 1 if each query word begins a word of the label; 2 if
  * the label contains each query word; 3 if label, hint and keys together contain each query word. Returns -1 if the entry does not match.
  * @param {Entry} entry
- * @param {string[]} wanted
+ * @param {string[]} queryWords
  */
-export function rankOf({ words, hint, keys, isFound }, wanted) {
+export function rankEntry({ words, hint, keys, isFound }, queryWords) {
   const label = words.toLowerCase();
-  const searchable = `${label} ${hint} ${keys.join(" ")}`.toLowerCase();
-  if (isFound || label.startsWith(wanted.join(" "))) return 0;
+  const searchText = `${label} ${hint} ${keys.join(" ")}`.toLowerCase();
+  if (isFound || label.startsWith(queryWords.join(" "))) return 0;
   const labelWords = label.split(/[^a-z0-9]+/);
-  if (wanted.every((word) => labelWords.some((labelWord) => labelWord.startsWith(word)))) return 1;
-  if (wanted.every((word) => label.includes(word))) return 2;
-  return wanted.every((word) => searchable.includes(word)) ? 3 : -1;
+  if (queryWords.every((word) => labelWords.some((labelWord) => labelWord.startsWith(word)))) return 1;
+  if (queryWords.every((word) => label.includes(word))) return 2;
+  return queryWords.every((word) => searchText.includes(word)) ? 3 : -1;
 }
 
 /**
@@ -33,8 +33,8 @@ export function rankOf({ words, hint, keys, isFound }, wanted) {
  * @param {Entry[]} entries
  * @param {string} query
  */
-export function found(entries, query) {
-  const wanted = wordsOfQuery(query);
-  const ranked = entries.map((entry) => ({ entry, rank: rankOf(entry, wanted) })).filter(({ rank }) => rank >= 0);
-  return ranked.sort((first, second) => first.rank - second.rank).map(({ entry }) => entry);
+export function searchEntries(entries, query) {
+  const queryWords = splitQuery(query);
+  const rankedEntries = entries.map((entry) => ({ entry, rank: rankEntry(entry, queryWords) })).filter(({ rank }) => rank >= 0);
+  return rankedEntries.sort((first, second) => first.rank - second.rank).map(({ entry }) => entry);
 }

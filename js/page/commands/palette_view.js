@@ -3,12 +3,12 @@
 
 import { element } from "../ui/dom.js";
 import { icon } from "../ui/icons.js";
-import { found, wordsOfQuery } from "./palette_search.js";
+import { searchEntries, splitQuery } from "./palette_search.js";
 import * as say from "../../words/page_commands.js";
 
 /**
  * @typedef {import("./palette_search.js").Entry} Entry
- * @typedef {{ commands: () => Entry[], places: (wanted: string) => Entry[] }} Sources return the entries of commands and of destinations
+ * @typedef {{ commands: () => Entry[], places: (query: string) => Entry[] }} Sources return the entries of commands and of destinations
  */
 
 /** The first character of a query for commands. Without it, the query is for destinations. */
@@ -16,7 +16,7 @@ export const COMMAND_SIGN = ">";
 /** The maximum number of entries that are drawn. */
 const MAX_DRAWN = 500;
 /** The number of entries by which Page Up and Page Down move. */
-const PAGE = 8;
+const PAGE_STEP = 8;
 
 export class PaletteView {
   /** @param {Sources} sources */
@@ -24,7 +24,7 @@ export class PaletteView {
     this.sources = sources;
     /** @type {Entry[]} */
     this.entries = [];
-    this.chosen = 0;
+    this.selectedIndex = 0;
     this.field = element("input", { "type": "text", "role": "combobox", "aria-expanded": "true", "aria-controls": "palette-list",
       "aria-autocomplete": "list", "autocomplete": "off", "autocapitalize": "off", "spellcheck": false });
     this.list = element("ul", { id: "palette-list", role: "listbox" });
@@ -32,8 +32,8 @@ export class PaletteView {
     this.dialog = element("dialog", { id: "palette" }, element("label", {}, icon("search"), this.field), this.count, this.list);
     document.body.append(this.dialog);
     this.field.addEventListener("input", () => this.draw());
-    this.field.addEventListener("keydown", (event) => this.typed(event));
-    this.list.addEventListener("click", (event) => this.clicked(event));
+    this.field.addEventListener("keydown", (event) => this.handleKey(event));
+    this.list.addEventListener("click", (event) => this.handleClick(event));
     // A click on an entry leaves the focus in the field.
     this.list.addEventListener("pointerdown", (event) => event.preventDefault());
     // A click outside the palette closes it.
@@ -58,32 +58,32 @@ export class PaletteView {
 
   draw() {
     const { isCommands, field } = this;
-    const wanted = isCommands ? field.value.slice(COMMAND_SIGN.length) : field.value;
+    const query = isCommands ? field.value.slice(COMMAND_SIGN.length) : field.value;
     const title = isCommands ? say.PALETTE : say.GO_TO;
     this.dialog.setAttribute("aria-label", title);
     this.list.setAttribute("aria-label", title);
     field.setAttribute("aria-label", isCommands ? say.TYPE_COMMAND : say.TYPE_PLACE);
     field.placeholder = isCommands ? say.TYPE_COMMAND : say.TYPE_PLACE;
-    const all = isCommands ? this.sources.commands() : this.sources.places(wanted.trim());
-    this.entries = found(all, wanted).slice(0, MAX_DRAWN);
-    this.list.replaceChildren(...this.entries.map((entry, at) => this.option(entry, at)));
+    const allEntries = isCommands ? this.sources.commands() : this.sources.places(query.trim());
+    this.entries = searchEntries(allEntries, query).slice(0, MAX_DRAWN);
+    this.list.replaceChildren(...this.entries.map((entry, index) => this.makeOption(entry, index)));
     const { length } = this.entries;
-    const none = wordsOfQuery(wanted).length > 0 && length === 0 ? say.noneHas(wanted.trim()) : "";
-    this.count.textContent = none || (isCommands ? say.countOfCommands(length) : say.countOfPlaces(length));
-    if (none) this.list.append(element("li", { "role": "option", "aria-disabled": "true" }, none));
+    const noMatchText = splitQuery(query).length > 0 && length === 0 ? say.noneHas(query.trim()) : "";
+    this.count.textContent = noMatchText || (isCommands ? say.countOfCommands(length) : say.countOfPlaces(length));
+    if (noMatchText) this.list.append(element("li", { "role": "option", "aria-disabled": "true" }, noMatchText));
     this.choose(0);
   }
 
   /**
    * @param {Entry} entry
-   * @param {number} at
+   * @param {number} index
    */
-  option({ words, hint, why, keys, icon: name }, at) {
-    const option = element("li", { "id": `palette-${at}`, "role": "option", "aria-selected": "false" });
+  makeOption({ words, hint, why, keys, icon: name }, index) {
+    const option = element("li", { "id": `palette-${index}`, "role": "option", "aria-selected": "false" });
     if (why) option.setAttribute("aria-disabled", "true");
-    // An empty icon keeps the labels of all commands aligned.
-    const place = this.isCommands ? [element("span", { className: "icon" })] : [];
-    option.append(...(name ? [icon(name)] : place), element("span", { className: "grow" }, words), element("small", {}, why || hint),
+    // An empty icon aligns the label with the labels of other commands.
+    const iconSpace = this.isCommands ? [element("span", { className: "icon" })] : [];
+    option.append(...(name ? [icon(name)] : iconSpace), element("span", { className: "grow" }, words), element("small", {}, why || hint),
       ...keys.slice(0, 1).map((key) => element("kbd", {}, key)));
     return option;
   }
@@ -91,17 +91,17 @@ export class PaletteView {
   /** Lists the destinations again. The same index stays selected. */
   refresh() {
     if (!this.dialog.open || this.isCommands) return;
-    const { chosen } = this;
+    const { selectedIndex } = this;
     this.draw();
-    this.choose(chosen);
+    this.choose(selectedIndex);
   }
 
-  /** @param {number} at the index of the entry that Enter executes */
-  choose(at) {
+  /** @param {number} index the index of the entry that Enter executes */
+  choose(index) {
     const options = this.list.children;
-    if (options[this.chosen]) options[this.chosen].setAttribute("aria-selected", "false");
-    this.chosen = Math.max(0, Math.min(at, this.entries.length - 1));
-    const option = options[this.chosen];
+    if (options[this.selectedIndex]) options[this.selectedIndex].setAttribute("aria-selected", "false");
+    this.selectedIndex = Math.max(0, Math.min(index, this.entries.length - 1));
+    const option = options[this.selectedIndex];
     if (this.entries.length === 0 || !option) {
       this.field.removeAttribute("aria-activedescendant");
       return;
@@ -112,38 +112,38 @@ export class PaletteView {
   }
 
   /** @param {KeyboardEvent} event */
-  typed(event) {
+  handleKey(event) {
     if (event.isComposing) return;
-    const last = this.entries.length - 1;
+    const lastIndex = this.entries.length - 1;
     /** @type {Record<string, () => void>} */
-    const acts = {
-      ArrowDown: () => this.choose(this.chosen === last ? 0 : this.chosen + 1),
-      ArrowUp: () => this.choose(this.chosen === 0 ? last : this.chosen - 1),
-      PageDown: () => this.choose(this.chosen + PAGE),
-      PageUp: () => this.choose(this.chosen - PAGE),
-      Enter: () => this.act(this.chosen),
+    const actions = {
+      ArrowDown: () => this.choose(this.selectedIndex === lastIndex ? 0 : this.selectedIndex + 1),
+      ArrowUp: () => this.choose(this.selectedIndex === 0 ? lastIndex : this.selectedIndex - 1),
+      PageDown: () => this.choose(this.selectedIndex + PAGE_STEP),
+      PageUp: () => this.choose(this.selectedIndex - PAGE_STEP),
+      Enter: () => this.executeEntry(this.selectedIndex),
     };
-    const act = acts[event.key];
-    if (!act) return;
+    const action = actions[event.key];
+    if (!action) return;
     event.preventDefault();
-    act();
+    action();
   }
 
   /** @param {MouseEvent} event */
-  clicked(event) {
-    const at = [...this.list.children].findIndex((option) => event.target instanceof Node && option.contains(event.target));
-    if (at >= 0) this.act(at);
+  handleClick(event) {
+    const index = [...this.list.children].findIndex((option) => event.target instanceof Node && option.contains(event.target));
+    if (index >= 0) this.executeEntry(index);
   }
 
   /**
    * Closes the palette and executes an entry. For a disabled entry, the palette stays open and shows the reason.
-   * @param {number} at
+   * @param {number} index
    */
-  act(at) {
-    const entry = this.entries[at];
+  executeEntry(index) {
+    const entry = this.entries[index];
     if (!entry) return;
     if (entry.why) {
-      this.choose(at);
+      this.choose(index);
       this.count.textContent = `${entry.words}: ${entry.why}`;
       return;
     }

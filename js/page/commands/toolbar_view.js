@@ -2,7 +2,7 @@
 
 import { block, element, onClick } from "../ui/dom.js";
 import { icon } from "../ui/icons.js";
-import { commandOf } from "./command_table.js";
+import { commandById } from "./command_table.js";
 import { MenuView } from "./menu_view.js";
 import * as say from "../../words/page_commands.js";
 
@@ -14,20 +14,20 @@ import * as say from "../../words/page_commands.js";
  */
 
 /**
- * @typedef {{ id: string, tip?: string, isWide?: boolean }} ButtonLook the id and tooltip of a button; if `isWide`, its label is visible
+ * @typedef {{ id: string, tip?: string, isWide?: boolean }} ButtonOptions the id and tooltip of a button; if `isWide`, its label is visible
  */
 
 /** The id of each command's button. */
-const TRANSPORT = {
+const TRANSPORT_IDS = {
   "time.stepBack": "back-instruction", "time.continue": "run", "time.over": "over", "time.into": "step", "time.out": "out",
   "time.reset": "reset",
 };
-const FILE = {
+const FILE_MENU_IDS = {
   "project.open": "open-button", "project.save": "save-button", "project.saveSession": "save-session-button",
   "project.export": "export-button", "project.print": "print-button", "project.all": "projects-button",
 };
 /** The commands that a narrow window shows in the menu instead of the toolbar, with the ids of their menu items. */
-const NARROW = {
+const NARROW_MENU_IDS = {
   "project.examples": "examples-narrow", "project.share": "share-narrow", "settings.palette": "palette-narrow",
   "go.notices": "notices-narrow", "help.open": "help-narrow", "help.welcome": "welcome-narrow",
 };
@@ -40,28 +40,29 @@ export class ToolbarView {
   constructor(tips, theme) {
     this.tips = tips;
     /** @type {(command: Command) => void} executes a command; the page sets it after it has been created */
-    this.act = () => {};
-    this.word = element("span", { className: "word" });
-    this.transport = Object.entries(TRANSPORT).map(([command, id]) => this.button(commandOf(command), { id, tip: say.TIPS[command] }));
+    this.executeCommand = () => {};
+    this.runWord = element("span", { className: "word" });
+    this.transport = Object.entries(TRANSPORT_IDS).map(([command, id]) => (
+      this.button(commandById(command), { id, tip: say.TIPS[command] })));
     this.run = this.transport[1];
     this.run.classList.add("primary");
     this.showRunning(false);
-    this.notices = this.button(commandOf("go.notices"), { id: "notices-button" });
+    this.notices = this.button(commandById("go.notices"), { id: "notices-button" });
     this.notices.hidden = true;
-    this.help = this.button(commandOf("help.open"), { id: "help-button" });
+    this.help = this.button(commandById("help.open"), { id: "help-button" });
     this.help.setAttribute("aria-controls", "help");
     this.help.setAttribute("aria-expanded", "false");
     this.file = this.fileMenu();
-    block("session-bar").append(this.file.node, this.button(commandOf("project.examples"), { id: "sessions-button", isWide: true }));
+    block("session-bar").append(this.file.node, this.button(commandById("project.examples"), { id: "sessions-button", isWide: true }));
     block("steps").append(...this.transport);
-    block("tools").append(this.paletteButton(), this.button(commandOf("project.share"), { id: "share-button", isWide: true }), this.notices,
-      this.themeMenu(theme).node, this.help);
+    const share = this.button(commandById("project.share"), { id: "share-button", isWide: true });
+    block("tools").append(this.paletteButton(), share, this.notices, this.themeMenu(theme).node, this.help);
   }
 
   /**
    * Returns a button with an icon. Its accessible name is the command's label. Its tooltip shows the command's first key.
    * @param {Command} command
-   * @param {ButtonLook} look
+   * @param {ButtonOptions} options
    */
   button(command, { id, tip, isWide = false }) {
     const { icon: name, words, keys } = command;
@@ -69,7 +70,7 @@ export class ToolbarView {
     if (isWide) node.append(element("span", { className: "word" }, say.SHORT[command.id] || words));
     node.setAttribute("aria-label", words);
     if (keys.length > 0) node.setAttribute("aria-keyshortcuts", keys.map((key) => key.replace("Ctrl+", "Control+")).join(" "));
-    onClick(node, () => this.act(command));
+    onClick(node, () => this.executeCommand(command));
     this.tips.add(node, () => ({ words: tip || words, key: keys[0] || "" }));
     return node;
   }
@@ -80,15 +81,15 @@ export class ToolbarView {
    */
   showRunning(isRunning) {
     const words = say.COMMANDS[isRunning ? "time.pause" : "time.continue"];
-    this.word.textContent = words;
-    this.run.replaceChildren(icon(isRunning ? "pause" : "continue"), this.word);
+    this.runWord.textContent = words;
+    this.run.replaceChildren(icon(isRunning ? "pause" : "continue"), this.runWord);
     this.run.setAttribute("aria-label", words);
-    this.tips.add(this.run, () => ({ words, key: commandOf("time.continue").keys[0] }));
+    this.tips.add(this.run, () => ({ words, key: commandById("time.continue").keys[0] }));
   }
 
   paletteButton() {
-    const node = this.button(commandOf("settings.palette"), { id: "palette-button" });
-    node.append(element("span", { className: "word" }, say.PALETTE), element("kbd", {}, commandOf("settings.palette").keys[0]));
+    const node = this.button(commandById("settings.palette"), { id: "palette-button" });
+    node.append(element("span", { className: "word" }, say.PALETTE), element("kbd", {}, commandById("settings.palette").keys[0]));
     return node;
   }
 
@@ -109,17 +110,17 @@ export class ToolbarView {
   fileMenu() {
     /** @type {(command: Command, id: string, isNarrow: boolean) => import("./menu_view.js").MenuItem} */
     const item = (command, id, isNarrow) => ({ id, words: command.words, icon: command.icon, key: command.keys[0], isNarrow,
-      act: () => this.act(command) });
+      act: () => this.executeCommand(command) });
     return new MenuView(this.menuButton("menu-button", say.FILE, "file"), "menu", say.FILE, [
-      ...Object.entries(FILE).map(([command, id]) => item(commandOf(command), id, false)),
-      ...Object.entries(NARROW).map(([command, id]) => item(commandOf(command), id, true)),
+      ...Object.entries(FILE_MENU_IDS).map(([command, id]) => item(commandById(command), id, false)),
+      ...Object.entries(NARROW_MENU_IDS).map(([command, id]) => item(commandById(command), id, true)),
     ]);
   }
 
   /** @param {Theme} theme */
   themeMenu(theme) {
     const items = Object.entries(say.THEMES).map(([name, words]) => ({
-      words, act: () => this.act(commandOf(`theme.${name}`)), isChosen: () => theme.name === name,
+      words, act: () => this.executeCommand(commandById(`theme.${name}`)), isChosen: () => theme.name === name,
     }));
     return new MenuView(this.menuButton("theme-button", say.THEME, "theme"), "theme-menu", say.THEME, items);
   }

@@ -1,15 +1,15 @@
 // The controls around the board's picture: the shelf of parts, the fields of the selected part, and the message about the last action.
 
 import { Cell, block, button, element, field, onClick } from "../ui/dom.js";
-import { buzzerOf, lampColours } from "../../core/board/face_board.js";
+import { findBuzzer, lampColours } from "../../core/board/face_board.js";
 import { lampLabels } from "../../core/drawing/lamp_labels.js";
 import { ShelfDrag } from "./shelf_drag.js";
 import * as say from "../../words/drawing.js";
 
 /**
- * @typedef {import("../../core/drawing/acts.js").Act} Act
- * @typedef {import("../../core/drawing/acts.js").Shelved} Shelved
- * @typedef {import("../../core/drawing/board_drawing.js").Shown} Shown
+ * @typedef {import("../../core/drawing/acts.js").DrawingAction} DrawingAction
+ * @typedef {import("../../core/drawing/acts.js").ShelfPart} ShelfPart
+ * @typedef {import("../../core/drawing/board_drawing.js").DrawingState} DrawingState
  * @typedef {import("../../core/drawing/fields.js").Field} Field
  * @typedef {import("../board/wiring_view.js").WiringView} WiringView
  * @typedef {import("../../core/board/wiring.js").Point} Point
@@ -18,20 +18,21 @@ import * as say from "../../words/drawing.js";
 /**
  * The callbacks of the shelf, the buttons and the fields.
  * @typedef {object} ViewCalls
- * @property {(act: Act) => void} act Performs an action on the board's text, if the bench accepts the result.
+ * @property {(action: DrawingAction) => void} performAction Performs an action on the board's text, if the bench accepts the result.
  * @property {(which: "undo" | "redo") => void} undoOrRedo Undoes or redoes the last step.
- * @property {() => void} wire Applies the text as the board.
- * @property {(part: string) => void} find Shows the lines of a part in the text. The part is named as in the picture, for example `rom 1`.
- * @property {() => void} tidy Moves all parts to their default positions.
+ * @property {() => void} applyBoard Applies the text as the board.
+ * @property {(part: string) => void} showPartLines Shows the lines of a part in the text. The part is named as in the picture, for example
+ *   `rom 1`.
+ * @property {() => void} arrangeParts Moves all parts to their default positions.
  * @property {() => void} scanKeys Inserts a key scan routine into the source.
- * @property {(act: Act, point: Point | null) => void} drop Adds a part and focuses it. The part is at a point of the sheet, or at its
- *   default position for null.
+ * @property {(action: DrawingAction, point: Point | null) => void} dropPart Adds a part and focuses it. The part is at a point of the
+ *   sheet, or at its default position for null.
  */
 
 /** The parts for which the user chooses a number of digits. */
-const WITH_DIGITS = new Set(["digit", "segments", "scanned"]);
-/** The parts that are wired to the line on which the user drops them. */
-const AT_LINES = new Set(["lamp", "buzzer"]);
+const DIGIT_PARTS = new Set(["digit", "segments", "scanned"]);
+/** The parts that the user can drop on a line, to which they are then wired. */
+const LINE_PARTS = new Set(["lamp", "buzzer"]);
 
 export class DrawingView {
   /**
@@ -43,16 +44,16 @@ export class DrawingView {
     this.calls = calls;
     this.status = new Cell(block("drawing-status"));
     this.state = new Cell(block("drawing-state"));
-    /** @type {Map<Shelved, HTMLButtonElement>} */
+    /** @type {Map<ShelfPart, HTMLButtonElement>} */
     this.shelf = new Map();
     /** The input of the last drawing as JSON, to detect changes. */
-    this.drawn = "";
-    /** @type {import("../../core/board/wiring.js").Moved} */
-    this.moved = new Map();
-    /** @type {Shown | null} */
-    this.shown = null;
+    this.lastDrawn = "";
+    /** @type {import("../../core/board/wiring.js").Positions} */
+    this.movedParts = new Map();
+    /** @type {DrawingState | null} */
+    this.lastState = null;
     /** The layout of the current fields as JSON, to detect changes. */
-    this.form = "";
+    this.fieldLayout = "";
     /** @type {(HTMLInputElement | HTMLSelectElement)[]} */
     this.fields = [];
     /** @type {WeakMap<HTMLElement, string>} the value that each field last showed */
@@ -60,23 +61,23 @@ export class DrawingView {
     this.makeShelf();
     onClick(button("drawing-undo"), () => calls.undoOrRedo("undo"));
     onClick(button("drawing-redo"), () => calls.undoOrRedo("redo"));
-    onClick(button("drawing-wire"), () => calls.wire());
-    onClick(button("drawing-tidy"), () => calls.tidy());
+    onClick(button("drawing-wire"), () => calls.applyBoard());
+    onClick(button("drawing-tidy"), () => calls.arrangeParts());
   }
 
   makeShelf() {
     const { root } = this.picture;
     const drag = new ShelfDrag({
-      isSheet: (place) => root.contains(elementAt(place)),
-      dropped: (part, place) => {
+      isOnSheet: (place) => root.contains(elementAt(place)),
+      addDropped: (part, place) => {
         const name = this.picture.nameAt(elementAt(place));
-        const line = AT_LINES.has(part) && !name.includes(" ") ? name : "";
-        this.calls.drop(this.actOf(part, line), this.picture.pointOf(place));
+        const line = LINE_PARTS.has(part) && !name.includes(" ") ? name : "";
+        this.calls.dropPart(this.makeAddAct(part, line), this.picture.toPicturePoint(place));
       },
-      goTo: (part) => this.calls.drop(this.actOf(part), null),
-      over: (isOver) => root.classList.toggle("drop-here", isOver),
+      addAndFocus: (part) => this.calls.dropPart(this.makeAddAct(part), null),
+      showDropTarget: (isOver) => root.classList.toggle("drop-here", isOver),
     });
-    for (const [part, [word, title]] of /** @type {[Shelved, [string, string]][]} */ (Object.entries(say.SHELF))) {
+    for (const [part, [word, title]] of /** @type {[ShelfPart, [string, string]][]} */ (Object.entries(say.SHELF))) {
       const node = element("button", { type: "button", id: `shelf-${part}`, title }, word);
       drag.listen(node, part);
       onClick(node, () => this.add(part));
@@ -84,40 +85,40 @@ export class DrawingView {
     }
     const displays = block("shelf-displays");
     for (const [part, node] of this.shelf) {
-      if (WITH_DIGITS.has(part)) displays.lastElementChild?.before(node);
+      if (DIGIT_PARTS.has(part)) displays.lastElementChild?.before(node);
       else block("shelf").append(node);
     }
     block("shelf").append(displays);
   }
 
-  /** @param {Shelved} part */
+  /** @param {ShelfPart} part */
   add(part) {
-    const { shown } = this;
-    const line = shown && shown.fields.buttons.find(({ act }) => act.kind === "add" && act.part === part);
-    this.calls.act(line ? line.act : this.actOf(part));
+    const { lastState: state } = this;
+    const line = state && state.fields.buttons.find(({ act: action }) => action.kind === "add" && action.part === part);
+    this.calls.performAction(line ? line.act : this.makeAddAct(part));
   }
 
   /**
-   * @param {Shelved} part
+   * @param {ShelfPart} part
    * @param {string} [line] the line to which the part is wired; "" for the next free line
-   * @returns {Act}
+   * @returns {DrawingAction}
    */
-  actOf(part, line = "") {
-    if (WITH_DIGITS.has(part)) return { kind: "add", part, digits: Number(field("shelf-digits").value) };
+  makeAddAct(part, line = "") {
+    if (DIGIT_PARTS.has(part)) return { kind: "add", part, digits: Number(field("shelf-digits").value) };
     return { kind: "add", part, ...(line ? { line } : {}) };
   }
 
-  /** @param {Shown} shown */
-  show(shown) {
-    this.shown = shown;
-    this.status.set(shown.said);
-    this.showState(shown);
+  /** @param {DrawingState} state */
+  show(state) {
+    this.lastState = state;
+    this.status.set(state.lastMessage);
+    this.showState(state);
     this.showPicture();
-    this.showShelf(shown);
-    this.showFields(shown);
+    this.showShelf(state);
+    this.showFields(state);
   }
 
-  /** @param {Shown} shown */
+  /** @param {DrawingState} state */
   showState({ fault, isWired }) {
     this.state.set(fault || (isWired ? "" : say.NOT_WIRED));
     button("drawing-wire").classList.toggle("due", fault === "" && !isWired);
@@ -125,35 +126,36 @@ export class DrawingView {
 
   /** Draws the board if it has changed or if a part has been dragged. */
   showPicture() {
-    const { shown, moved } = this;
-    if (!shown) return;
-    const { board, face, isWired, chosen, begun, ends } = shown;
+    const { lastState: state, movedParts } = this;
+    if (!state) return;
+    const { board, face, isWired, chosen, begun, ends } = state;
     const count = board.lamps.length;
-    const look = { names: lampLabels(face, count), colours: lampColours(face, count), test: face.test, buzzer: buzzerOf(board, face) };
-    const drawn = JSON.stringify([board, look, isWired, [...moved]]);
-    if (drawn !== this.drawn) this.picture.draw(board, look, { moved, isWired });
-    this.drawn = drawn;
+    const names = lampLabels(face, count);
+    const appearance = { names, colours: lampColours(face, count), test: face.test, buzzer: findBuzzer(board, face) };
+    const drawnInput = JSON.stringify([board, appearance, isWired, [...movedParts]]);
+    if (drawnInput !== this.lastDrawn) this.picture.draw(board, appearance, { moved: movedParts, isWired });
+    this.lastDrawn = drawnInput;
     this.picture.showChoice(chosen, begun, ends);
   }
 
-  /** @param {Shown} shown */
+  /** @param {DrawingState} state */
   showShelf({ shelf, fault }) {
     for (const [part, node] of this.shelf) {
-      const why = fault || shelf.get(part) || "";
-      node.disabled = why !== "";
-      node.title = why || say.SHELF[part][1];
+      const reason = fault || shelf.get(part) || "";
+      node.disabled = reason !== "";
+      node.title = reason || say.SHELF[part][1];
     }
   }
 
   /**
    * Shows the fields of the selection. Fields whose layout is unchanged stay, so that typing is not interrupted.
-   * @param {Shown} shown
+   * @param {DrawingState} state
    */
   showFields({ fields: { title, part, fields, buttons }, fault }) {
-    const form = JSON.stringify([title, part, fields.map(({ label, options }) => [label, options]), buttons, fault !== ""]);
-    if (form !== this.form) this.drawFields(title, part, fields, buttons, fault !== "");
-    this.form = form;
-    fields.forEach(({ value }, at) => this.setValue(this.fields[at], value));
+    const fieldLayout = JSON.stringify([title, part, fields.map(({ label, options }) => [label, options]), buttons, fault !== ""]);
+    if (fieldLayout !== this.fieldLayout) this.drawFields(title, part, fields, buttons, fault !== "");
+    this.fieldLayout = fieldLayout;
+    fields.forEach(({ value }, index) => this.setValue(this.fields[index], value));
   }
 
   /**
@@ -173,48 +175,48 @@ export class DrawingView {
    * @param {string} part
    * @param {Field[]} fields
    * @param {import("../../core/drawing/fields.js").Button[]} buttons
-   * @param {boolean} disabled
+   * @param {boolean} isDisabled
    */
-  drawFields(title, part, fields, buttons, disabled) {
+  drawFields(title, part, fields, buttons, isDisabled) {
     const root = block("chosen");
-    const focused = document.activeElement instanceof HTMLElement && root.contains(document.activeElement)
+    const focusedLabel = document.activeElement instanceof HTMLElement && root.contains(document.activeElement)
       ? document.activeElement.getAttribute("aria-label") : null;
     const head = element("b", {}, title);
-    this.fields = fields.map((description, at) => this.fieldNode(description, at, disabled));
-    const rows = this.fields.map((node, at) => element("label", {}, `${fields[at].label} `, node));
-    const ends = buttons.map(({ word, act }) => this.buttonNode(word, () => this.calls.act(act), disabled));
-    if (part === "keys") ends.push(this.buttonNode(say.INSERT_SCAN, () => this.calls.scanKeys(), disabled));
-    if (part) ends.push(this.buttonNode(say.SHOW_IN_BOARD, () => this.calls.find(part), false));
-    root.replaceChildren(head, ...ends, ...(ends.length > 0 ? [element("hr")] : []), ...rows);
+    this.fields = fields.map((description, index) => this.fieldNode(description, index, isDisabled));
+    const rows = this.fields.map((node, index) => element("label", {}, `${fields[index].label} `, node));
+    const endButtons = buttons.map(({ word, act: action }) => this.buttonNode(word, () => this.calls.performAction(action), isDisabled));
+    if (part === "keys") endButtons.push(this.buttonNode(say.INSERT_SCAN, () => this.calls.scanKeys(), isDisabled));
+    if (part) endButtons.push(this.buttonNode(say.SHOW_IN_BOARD, () => this.calls.showPartLines(part), false));
+    root.replaceChildren(head, ...endButtons, ...(endButtons.length > 0 ? [element("hr")] : []), ...rows);
     const nodes = [...root.querySelectorAll("input, select, button")];
-    const again = focused && nodes.find((node) => node.getAttribute("aria-label") === focused);
-    if (again instanceof HTMLElement) again.focus();
+    const focusTarget = focusedLabel && nodes.find((node) => node.getAttribute("aria-label") === focusedLabel);
+    if (focusTarget instanceof HTMLElement) focusTarget.focus();
   }
 
   /**
    * @param {string} word
-   * @param {() => void} act
-   * @param {boolean} disabled
+   * @param {() => void} action
+   * @param {boolean} isDisabled
    */
-  buttonNode(word, act, disabled) {
-    const node = element("button", { "type": "button", disabled, "aria-label": word }, word);
-    onClick(node, act);
+  buttonNode(word, action, isDisabled) {
+    const node = element("button", { "type": "button", disabled: isDisabled, "aria-label": word }, word);
+    onClick(node, action);
     return node;
   }
 
   /**
-   * @param {Field} what
-   * @param {number} at the index of the field
-   * @param {boolean} disabled
+   * @param {Field} description
+   * @param {number} index the index of the field
+   * @param {boolean} isDisabled
    */
-  fieldNode({ label, options }, at, disabled) {
-    const attributes = { "aria-label": label, "autocomplete": "off", disabled };
+  fieldNode({ label, options }, index, isDisabled) {
+    const attributes = { "aria-label": label, "autocomplete": "off", disabled: isDisabled };
     const node = options
       ? element("select", attributes, ...options.map((option) => element("option", { value: option.value }, option.words)))
       : element("input", { ...attributes, size: 10, spellcheck: false });
     node.addEventListener("change", () => {
-      const now = this.shown && this.shown.fields.fields[at];
-      if (now && node.value !== now.value) this.calls.act(now.act(node.value));
+      const shownField = this.lastState && this.lastState.fields.fields[index];
+      if (shownField && node.value !== shownField.value) this.calls.performAction(shownField.act(node.value));
     });
     return node;
   }

@@ -6,18 +6,18 @@
  * @typedef {import("../../core/board/wiring.js").Point} Point
  *
  * The part or pin under the pressed pointer: its name, the point where the pointer went down, and the part's initial position.
- * @typedef {{ name: string, isPart: boolean, at: Point, start: Point, isDragged: boolean }} Held
+ * @typedef {{ name: string, isPart: boolean, downPoint: Point, startPosition: Point, isDragged: boolean }} HeldItem
  */
 
 /**
  * The callbacks of the picture's input. Parts and pins have the picture's names.
  * @typedef {object} InputCalls
- * @property {(name: string) => void} pressed Handles a click on a part or a pin.
- * @property {(from: string, to: string) => void} wired Draws a wire that was dragged from one pin to another.
- * @property {(part: string, point: Point) => void} moved Moves a part to a point in the picture's units.
- * @property {() => void} dropped Handles the end of a part's drag.
- * @property {(name: string) => void} deleted Deletes a part or a wire.
- * @property {() => void} left Cancels the wire in progress or the selection.
+ * @property {(name: string) => void} pressItem Handles a click on a part or a pin.
+ * @property {(from: string, to: string) => void} drawWire Draws a wire that was dragged from one pin to another.
+ * @property {(part: string, point: Point) => void} movePart Moves a part to a point in the picture's units.
+ * @property {() => void} handleDrop Handles the end of a part's drag.
+ * @property {(name: string) => void} deleteItem Deletes a part or a wire.
+ * @property {() => void} cancelAct Cancels the wire in progress or the selection.
  * @property {(which: "undo" | "redo") => void} undoOrRedo Undoes or redoes the last step.
  */
 
@@ -36,99 +36,101 @@ export class PictureInput {
   constructor(view, calls) {
     this.view = view;
     this.calls = calls;
-    /** @type {Held | null} */
-    this.held = null;
+    /** @type {HeldItem | null} */
+    this.heldItem = null;
     /** @type {Set<string>} the pins where the wire in progress can end */
-    this.ends = new Set();
-    this.begun = "";
+    this.endPins = new Set();
+    this.startPin = "";
     const { root } = view;
-    root.addEventListener("pointerdown", (event) => this.down(event));
-    root.addEventListener("pointermove", (event) => this.move(event));
-    root.addEventListener("pointerup", (event) => this.up(event));
-    root.addEventListener("pointercancel", () => this.cancel());
-    root.addEventListener("keydown", (event) => this.typed(event));
+    root.addEventListener("pointerdown", (event) => this.handlePointerDown(event));
+    root.addEventListener("pointermove", (event) => this.handlePointerMove(event));
+    root.addEventListener("pointerup", (event) => this.handlePointerUp(event));
+    root.addEventListener("pointercancel", () => this.handlePointerCancel());
+    root.addEventListener("keydown", (event) => this.onKeyDown(event));
     // A screen reader clicks without a pointer.
     root.addEventListener("click", (event) => event.detail === 0 && this.press(view.nameAt(/** @type {Element} */ (event.target))));
   }
 
   /**
-   * @param {string} begun
-   * @param {Set<string>} ends
+   * @param {string} startPin
+   * @param {Set<string>} endPins
    */
-  take(begun, ends) {
-    this.begun = begun;
-    this.ends = ends;
+  setWire(startPin, endPins) {
+    this.startPin = startPin;
+    this.endPins = endPins;
   }
 
   /** @param {string} name */
   press(name) {
-    if (name) this.calls.pressed(name);
-    else this.calls.left();
+    if (name) this.calls.pressItem(name);
+    else this.calls.cancelAct();
   }
 
   /** @param {PointerEvent} event */
-  down(event) {
+  handlePointerDown(event) {
     if (event.button !== 0 || !event.isPrimary) return;
     const name = this.view.nameAt(/** @type {Element} */ (event.target));
     const part = this.view.parts.get(name);
-    this.held = { name, isPart: part !== undefined, at: this.view.pointOf(event), start: part || { x: 0, y: 0 }, isDragged: false };
+    const startPosition = part || { x: 0, y: 0 };
+    this.heldItem = { name, isPart: part !== undefined, downPoint: this.view.toPicturePoint(event), startPosition, isDragged: false };
     // With the capture, the picture also receives pointer events from outside of it.
     if (event.pointerType !== "touch") this.view.root.setPointerCapture(event.pointerId);
     if (name) this.view.focus(name);
   }
 
   /** @param {PointerEvent} event */
-  move(event) {
-    const { held, view } = this;
-    if (!held) {
-      if (this.begun) view.drawPencil(this.begun, view.pointOf(event));
+  handlePointerMove(event) {
+    const { heldItem, view } = this;
+    if (!heldItem) {
+      if (this.startPin) view.drawPencil(this.startPin, view.toPicturePoint(event));
       return;
     }
-    const now = view.pointOf(event);
-    if (!held.isDragged && Math.hypot(now.x - held.at.x, now.y - held.at.y) < DRAG_DISTANCE) return;
+    const point = view.toPicturePoint(event);
+    if (!heldItem.isDragged && Math.hypot(point.x - heldItem.downPoint.x, point.y - heldItem.downPoint.y) < DRAG_DISTANCE) return;
     // A finger on a part scrolls the picture; a finger on a pin draws a wire.
-    if (held.name === "" || (held.isPart && event.pointerType === "touch")) return;
-    if (!held.isDragged && !held.isPart && this.begun !== held.name) this.calls.pressed(held.name);
-    held.isDragged = true;
+    if (heldItem.name === "" || (heldItem.isPart && event.pointerType === "touch")) return;
+    if (!heldItem.isDragged && !heldItem.isPart && this.startPin !== heldItem.name) this.calls.pressItem(heldItem.name);
+    heldItem.isDragged = true;
     // The part's position depends on the pointer, so the picture keeps its size until the drop.
-    view.isHeld = held.isPart;
-    if (held.isPart) this.calls.moved(held.name, { x: held.start.x + now.x - held.at.x, y: held.start.y + now.y - held.at.y });
-    else view.drawPencil(held.name, now);
+    view.isDragging = heldItem.isPart;
+    const { name, startPosition: { x, y }, downPoint } = heldItem;
+    if (heldItem.isPart) this.calls.movePart(name, { x: x + point.x - downPoint.x, y: y + point.y - downPoint.y });
+    else view.drawPencil(heldItem.name, point);
   }
 
   /** @param {PointerEvent} event */
-  up(event) {
-    const { held } = this;
+  handlePointerUp(event) {
+    const { heldItem } = this;
     this.release();
-    if (!held) return;
-    if (!held.isDragged) {
-      this.press(held.name);
+    if (!heldItem) return;
+    if (!heldItem.isDragged) {
+      this.press(heldItem.name);
       return;
     }
-    if (held.isPart) {
-      this.calls.dropped();
+    if (heldItem.isPart) {
+      this.calls.handleDrop();
       return;
     }
     const end = this.view.nameAt(document.elementFromPoint(event.clientX, event.clientY));
-    if (this.ends.has(end)) this.calls.wired(held.name, end);
-    else this.calls.left();
+    if (this.endPins.has(end)) this.calls.drawWire(heldItem.name, end);
+    else this.calls.cancelAct();
   }
 
   /** Ends a drag when the browser takes over the pointer, for example to scroll. The part stays where it is. */
-  cancel() {
-    const { held } = this;
+  handlePointerCancel() {
+    const { heldItem } = this;
     this.release();
-    if (held && held.isPart && held.isDragged) this.calls.dropped();
+    if (heldItem && heldItem.isPart && heldItem.isDragged) this.calls.handleDrop();
   }
 
   release() {
-    this.held = null;
-    this.view.isHeld = false;
+    this.heldItem = null;
+    this.view.isDragging = false;
     this.view.drawPencil("", null);
   }
 
   /** @param {KeyboardEvent} event */
-  typed(event) {
+  onKeyDown(event) {
     if (!this.handleKey(event)) return;
     event.preventDefault();
     event.stopPropagation();
@@ -144,8 +146,8 @@ export class PictureInput {
     if (event.ctrlKey || event.metaKey) return this.handleControlKey(event);
     if (key in ARROWS) return this.handleArrow(event, name);
     if (key === "Enter" || key === " ") this.press(name);
-    else if (key === "Escape") this.calls.left();
-    else if (key === "Delete" || key === "Backspace") this.calls.deleted(name);
+    else if (key === "Escape") this.calls.cancelAct();
+    else if (key === "Delete" || key === "Backspace") this.calls.deleteItem(name);
     else return false;
     return true;
   }
@@ -169,17 +171,17 @@ export class PictureInput {
     const { x, y } = ARROWS[key];
     const part = view.parts.get(name);
     if (shiftKey && part) {
-      this.calls.moved(name, { x: part.x + STEP * x, y: part.y + STEP * y });
-      this.calls.dropped();
+      this.calls.movePart(name, { x: part.x + STEP * x, y: part.y + STEP * y });
+      this.calls.handleDrop();
     }
     if (shiftKey) return part !== undefined;
-    /** @type {(stop: string) => boolean} */
-    const isStop = (stop) => (this.begun ? this.ends.has(stop) : x === 0 || view.parts.has(stop));
-    const stops = [...view.items.keys()].filter((stop) => stop === name || isStop(stop));
-    const count = stops.length;
-    const to = stops.indexOf(name) + x + y;
-    const next = stops[this.begun ? (to + count) % count : to];
-    if (next) view.focus(next);
+    /** @type {(item: string) => boolean} */
+    const canReceiveFocus = (item) => (this.startPin ? this.endPins.has(item) : x === 0 || view.parts.has(item));
+    const items = [...view.items.keys()].filter((item) => item === name || canReceiveFocus(item));
+    const count = items.length;
+    const targetIndex = items.indexOf(name) + x + y;
+    const nextItem = items[this.startPin ? (targetIndex + count) % count : targetIndex];
+    if (nextItem) view.focus(nextItem);
     return true;
   }
 }

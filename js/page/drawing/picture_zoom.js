@@ -1,10 +1,10 @@
-// The zoom of the board's picture. It fits the width of its panel until buttons, keys or the wheel change its size.
+// The zoom of the board's picture. The picture fits the width of its panel until buttons, keys or the wheel change its size.
 
 import { button, onClick } from "../ui/dom.js";
 
 /** The zoom factor of one click, key press or wheel step. */
 const STEP = 1.25;
-/** The minimum scale. A picture that still does not fit at this scale can be made smaller until it fits. */
+/** The minimum scale, unless the picture fits into its panel only at a smaller scale. */
 const MIN_SCALE = 0.35;
 /** The maximum scale. */
 const MAX_SCALE = 4;
@@ -15,13 +15,13 @@ export class PictureZoom {
   /** @param {HTMLElement} root the panel in which the picture scrolls */
   constructor(root) {
     this.root = root;
-    this.larger = button("picture-larger");
-    this.smaller = button("picture-smaller");
-    onClick(this.larger, () => this.zoom(STEP));
-    onClick(this.smaller, () => this.zoom(1 / STEP));
+    this.largerButton = button("picture-larger");
+    this.smallerButton = button("picture-smaller");
+    onClick(this.largerButton, () => this.zoom(STEP));
+    onClick(this.smallerButton, () => this.zoom(1 / STEP));
     onClick(button("picture-fit"), () => this.fit());
-    root.addEventListener("keydown", (event) => this.typed(event));
-    root.addEventListener("wheel", (event) => this.turn(event), { passive: false });
+    root.addEventListener("keydown", (event) => this.handleKey(event));
+    root.addEventListener("wheel", (event) => this.handleWheel(event), { passive: false });
   }
 
   /** The bounding box of the picture on the page. */
@@ -36,28 +36,28 @@ export class PictureZoom {
     return width > 0 ? this.box.width / width : 0;
   }
 
-  /** The minimum and maximum scale. They always include the present scale. */
+  /** The minimum and maximum scale. The range always includes the present scale. */
   get bounds() {
     const { root, scale, box } = this;
     const height = parseFloat(getComputedStyle(root).maxHeight) || root.clientHeight;
-    const whole = scale * Math.min(root.clientWidth / box.width, height / box.height);
-    return { min: Math.min(MIN_SCALE, whole, scale), max: Math.max(MAX_SCALE, scale) };
+    const fitScale = scale * Math.min(root.clientWidth / box.width, height / box.height);
+    return { min: Math.min(MIN_SCALE, fitScale, scale), max: Math.max(MAX_SCALE, scale) };
   }
 
   /**
-   * Zooms the picture. The point `at` of the picture stays under the same point of the panel.
+   * Zooms the picture. The point `fixedPoint` of the picture stays under the same point of the panel.
    * @param {number} factor
-   * @param {{ x: number, y: number }} [at] a point in the panel, by default its centre
+   * @param {{ x: number, y: number }} [fixedPoint] a point in the panel, by default its centre
    */
-  zoom(factor, at = { x: this.root.clientWidth / 2, y: this.root.clientHeight / 2 }) {
+  zoom(factor, fixedPoint = { x: this.root.clientWidth / 2, y: this.root.clientHeight / 2 }) {
     const { root, scale } = this;
     if (scale === 0) return;
     const { scrollLeft, scrollTop } = root;
     const { min, max } = this.bounds;
     root.style.setProperty("--picture-zoom", String(Math.min(max, Math.max(min, scale * factor))));
     root.classList.add("zoomed");
-    const grown = this.scale / scale;
-    root.scrollTo((scrollLeft + at.x) * grown - at.x, (scrollTop + at.y) * grown - at.y);
+    const growth = this.scale / scale;
+    root.scrollTo((scrollLeft + fixedPoint.x) * growth - fixedPoint.x, (scrollTop + fixedPoint.y) * growth - fixedPoint.y);
     this.showBounds();
   }
 
@@ -69,12 +69,12 @@ export class PictureZoom {
   /** Marks each button as disabled at its limit with aria-disabled, so that the button keeps the focus. */
   showBounds() {
     const { scale, bounds: { min, max } } = this;
-    this.smaller.setAttribute("aria-disabled", String(scale <= min + TOLERANCE));
-    this.larger.setAttribute("aria-disabled", String(scale >= max - TOLERANCE));
+    this.smallerButton.setAttribute("aria-disabled", String(scale <= min + TOLERANCE));
+    this.largerButton.setAttribute("aria-disabled", String(scale >= max - TOLERANCE));
   }
 
   /** @param {KeyboardEvent} event */
-  typed(event) {
+  handleKey(event) {
     if (event.ctrlKey || event.metaKey || event.altKey) return;
     /** @type {Record<string, () => void>} */
     const keys = { "+": () => this.zoom(STEP), "-": () => this.zoom(1 / STEP), 0: () => this.fit() };
@@ -84,7 +84,7 @@ export class PictureZoom {
   }
 
   /** @param {WheelEvent} event */
-  turn(event) {
+  handleWheel(event) {
     if (!event.ctrlKey && !event.metaKey) return;
     event.preventDefault();
     const { left, top } = this.root.getBoundingClientRect();

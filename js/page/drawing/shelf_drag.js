@@ -4,19 +4,19 @@
 import { element } from "../ui/dom.js";
 
 /**
- * @typedef {import("../../core/drawing/acts.js").Shelved} Shelved
+ * @typedef {import("../../core/drawing/acts.js").ShelfPart} ShelfPart
  * @typedef {{ clientX: number, clientY: number }} Place
  *
  * The part under the pressed pointer, with its button, the point where the pointer went down, and whether the part has been dragged since
  * then.
- * @typedef {{ part: Shelved, node: HTMLElement, from: Place, isDragged: boolean }} Held
+ * @typedef {{ part: ShelfPart, node: HTMLElement, start: Place, isDragged: boolean }} HeldPart
  *
  * The callbacks of the shelf.
  * @typedef {object} ShelfCalls
- * @property {(place: Place) => boolean} isSheet Returns true if a point of the window is on the sheet.
- * @property {(part: Shelved, place: Place) => void} dropped Adds a part that was dropped on the sheet.
- * @property {(part: Shelved) => void} goTo Adds a part and focuses it on the sheet.
- * @property {(isOver: boolean) => void} over Shows whether a dragged part is over the sheet.
+ * @property {(place: Place) => boolean} isOnSheet Returns true if a point of the window is on the sheet.
+ * @property {(part: ShelfPart, place: Place) => void} addDropped Adds a part that was dropped on the sheet.
+ * @property {(part: ShelfPart) => void} addAndFocus Adds a part and focuses it on the sheet.
+ * @property {(isOver: boolean) => void} showDropTarget Shows whether a dragged part is over the sheet.
  */
 
 /** The distance in pixels that the pointer must move to start a drag. */
@@ -26,14 +26,14 @@ export class ShelfDrag {
   /** @param {ShelfCalls} calls */
   constructor(calls) {
     this.calls = calls;
-    /** @type {Held | null} */
-    this.held = null;
+    /** @type {HeldPart | null} */
+    this.heldPart = null;
     this.wasDragged = false;
     /** The image of the dragged part, next to the pointer. */
-    this.ghost = element("div", { id: "shelf-ghost", hidden: true });
-    document.body.append(this.ghost);
+    this.dragImage = element("div", { id: "shelf-ghost", hidden: true });
+    document.body.append(this.dragImage);
     addEventListener("keydown", (event) => {
-      if (event.key !== "Escape" || !this.held || !this.held.isDragged) return;
+      if (event.key !== "Escape" || !this.heldPart || !this.heldPart.isDragged) return;
       event.preventDefault();
       this.release();
     }, true);
@@ -41,7 +41,7 @@ export class ShelfDrag {
 
   /**
    * @param {HTMLElement} node
-   * @param {Shelved} part
+   * @param {ShelfPart} part
    */
   listen(node, part) {
     // Browsers send a click after a drag, even if Escape has cancelled the drag. Ignore that click.
@@ -52,44 +52,44 @@ export class ShelfDrag {
     node.addEventListener("pointerdown", (event) => {
       this.wasDragged = false;
       if (event.button !== 0 || !event.isPrimary) return;
-      this.held = { part, node, from: event, isDragged: false };
+      this.heldPart = { part, node, start: event, isDragged: false };
       node.setPointerCapture(event.pointerId);
     });
-    node.addEventListener("pointermove", (event) => this.move(event));
-    node.addEventListener("pointerup", (event) => this.up(event));
+    node.addEventListener("pointermove", (event) => this.handlePointerMove(event));
+    node.addEventListener("pointerup", (event) => this.handlePointerUp(event));
     node.addEventListener("pointercancel", () => this.release());
     node.addEventListener("keydown", (event) => {
       if (event.key !== "Enter" || !event.shiftKey) return;
       event.preventDefault();
-      this.calls.goTo(part);
+      this.calls.addAndFocus(part);
     });
   }
 
   /** @param {PointerEvent} event */
-  move(event) {
-    const { held, ghost } = this;
-    if (!held) return;
+  handlePointerMove(event) {
+    const { heldPart, dragImage } = this;
+    if (!heldPart) return;
     const { clientX, clientY } = event;
-    if (!held.isDragged && Math.hypot(clientX - held.from.clientX, clientY - held.from.clientY) < DRAG_DISTANCE) return;
-    if (!held.isDragged) ghost.textContent = held.node.textContent;
-    held.isDragged = this.wasDragged = true;
-    ghost.hidden = false;
-    ghost.style.setProperty("left", `${clientX}px`);
-    ghost.style.setProperty("top", `${clientY}px`);
-    this.calls.over(this.calls.isSheet(event));
+    if (!heldPart.isDragged && Math.hypot(clientX - heldPart.start.clientX, clientY - heldPart.start.clientY) < DRAG_DISTANCE) return;
+    if (!heldPart.isDragged) dragImage.textContent = heldPart.node.textContent;
+    heldPart.isDragged = this.wasDragged = true;
+    dragImage.hidden = false;
+    dragImage.style.setProperty("left", `${clientX}px`);
+    dragImage.style.setProperty("top", `${clientY}px`);
+    this.calls.showDropTarget(this.calls.isOnSheet(event));
   }
 
   /** @param {PointerEvent} event */
-  up(event) {
-    const { held } = this;
+  handlePointerUp(event) {
+    const { heldPart } = this;
     this.release();
-    if (!held || !held.isDragged) return;
-    if (this.calls.isSheet(event)) this.calls.dropped(held.part, event);
+    if (!heldPart || !heldPart.isDragged) return;
+    if (this.calls.isOnSheet(event)) this.calls.addDropped(heldPart.part, event);
   }
 
   release() {
-    this.held = null;
-    this.ghost.hidden = true;
-    this.calls.over(false);
+    this.heldPart = null;
+    this.dragImage.hidden = true;
+    this.calls.showDropTarget(false);
   }
 }

@@ -1,9 +1,9 @@
 // The Properties tab: the properties with their errors, a button that searches for counterexamples in a separate worker, and the results.
 
-import { countOfFaults } from "../../core/bench/words.js";
+import { formatErrorCount } from "../../core/bench/words.js";
 import { Cell, button, field, onClick } from "../ui/dom.js";
 import { TextTab } from "../text/text_tab.js";
-import { completeProperty, firstProperties, helpForProperty, propertyForms } from "../../core/text/property_words.js";
+import { completeProperty, createFirstProperties, helpForProperty, propertyForms } from "../../core/text/property_words.js";
 import { wordsOfFaults } from "../../words/results.js";
 import { ExploreView } from "./explore_view.js";
 import { Proofs } from "../prove/proofs.js";
@@ -12,40 +12,40 @@ import * as say from "../../words/explore.js";
 
 /**
  * @typedef {import("../../core/testing/prepared.js").TextFault} TextFault
- * @typedef {import("../../core/explore/exploring.js").Asked} Asked
+ * @typedef {import("../../core/explore/exploring.js").RunOptions} RunOptions
  * @typedef {import("../../core/explore/exploring.js").ExploredTexts} ExploredTexts
  * @typedef {import("../../core/explore/exploring.js").Progress} Progress
  * @typedef {import("../../core/explore/report.js").Report} Report
- * @typedef {import("../../core/bench/own_worker.js").Ended} Ended
+ * @typedef {import("../../core/bench/own_worker.js").TaskResult} TaskResult
  * @typedef {import("../prove/proofs.js").ProofsCalls} ProofsCalls
  *
  * The results of a search: its texts, its report, and the session file of each counterexample, by property number.
- * @typedef {{ texts: ExploredTexts, report: Report | null, files: Map<number, Uint8Array>, isStopped: boolean }} Explored
+ * @typedef {{ texts: ExploredTexts, report: Report | null, files: Map<number, Uint8Array>, isStopped: boolean }} SearchResults
  */
 
 /**
- * The callbacks of the Properties tab. Its text editor also uses `labels`, `texts`, `edited` and `failed`.
+ * The callbacks of the Properties tab. Its text editor also uses `labels`, `texts`, `handleEdit` and `reportFailure`.
  * @typedef {object} ExploreCalls
  * @property {() => Omit<ExploredTexts, "propertiesText">} texts Returns the present texts of board, source and tests.
  * @property {() => string[]} labels Returns the labels of the program in ROM.
  * @property {(texts: ExploredTexts) => Promise<TextFault[]>} faults Resolves to the errors of all texts.
- * @property {(texts: ExploredTexts, asked: Asked, signal: AbortSignal, showProgress: (progress: Progress) => void) => Promise<Ended>}
- *   explore Searches until the time is up, every property has a counterexample, or `signal` is aborted. Calls `showProgress` with each
- *   progress report. Resolves to the errors in the texts and whether the search was stopped.
- * @property {(number: number) => string} wordsOfRefusal Returns the message of a refusal.
+ * @property {(texts: ExploredTexts, asked: RunOptions, signal: AbortSignal, showProgress: (progress: Progress) => void) =>
+ *   Promise<TaskResult>} explore Searches until the time is up, every property has a counterexample, or `signal` is aborted. Calls
+ *   `showProgress` with each progress report. Resolves to the errors in the texts and whether the search was stopped.
+ * @property {(number: number) => string} describeRefusal Returns the message of a refusal.
  * @property {(line: number) => void} goToSource Shows a line of the source, from 1.
  * @property {(name: string, file: Uint8Array, texts: ExploredTexts) => void} open Opens a new session from a file, with the texts of the
  *   search.
  * @property {ProofsCalls["prove"]} prove Proves properties.
- * @property {ProofsCalls["open"]} openAfter Opens a new session with the texts, and executes lines in it.
+ * @property {ProofsCalls["open"]} openWithLines Opens a new session with the texts, and executes lines in it.
  * @property {(test: string) => string} addTest Adds a test to the program's tests. Returns the message about the result.
- * @property {(words: string, isGood?: boolean) => void} mark Shows a short text on the tab; "" removes it. If `isGood`, the text reports a
- *   success.
- * @property {() => void} edited Handles an edit of the properties.
- * @property {(fault: unknown) => void} failed Reports an error that a call threw.
+ * @property {(words: string, isGood?: boolean) => void} showMark Shows a short text on the tab; "" removes it. If `isGood`, the text
+ *   reports a success.
+ * @property {() => void} handleEdit Handles an edit of the properties.
+ * @property {(fault: unknown) => void} reportFailure Reports an error that a call threw.
  */
 
-const NUMBERS = [
+const NUMBER_FIELDS = [
   { id: "explore-seconds", max: 86400, words: say.SECONDS_FORM },
   { id: "explore-seed", max: 99999999, words: say.SEED_FORM },
 ];
@@ -60,13 +60,13 @@ export class ExploreTab {
     this.textTab = new TextTab({
       name: "properties",
       firstButton: "first-properties",
-      firstText: firstProperties,
+      firstText: createFirstProperties,
       forms: propertyForms(manual),
       wordsAt: helpForProperty,
       complete: completeProperty,
     }, calls, {
       faults: () => calls.faults(this.texts),
-      counted: (count) => this.mark(count),
+      showFaultCount: (count) => this.showMark(count),
       send: () => this.exploreOrStop(),
       prove: () => this.proofs.proveOrCancel(),
     });
@@ -74,11 +74,11 @@ export class ExploreTab {
     this.view = new ExploreView({
       goTo: (line) => this.editor.editor.select({ from: line, to: line }),
       goToSource: (line) => this.goToSource(line),
-      open: (property) => this.open(property),
-      add: (property) => this.add(property),
+      openCounterexample: (property) => this.openCounterexample(property),
+      addTest: (property) => this.addTest(property),
     });
     /** The results of each session since the page was opened, by session id. */
-    this.explored = /** @type {Map<string, Explored>} */ (new Map());
+    this.resultsBySession = /** @type {Map<string, SearchResults>} */ (new Map());
     /** The id of the current session. */
     this.session = "";
     /** The last message about the search. */
@@ -101,11 +101,11 @@ export class ExploreTab {
       prove: calls.prove,
       goTo: (line) => editor.editor.select({ from: line, to: line }),
       showMessage: (words) => editor.showMessage(words),
-      refuse: (faults) => this.refuse(faults),
-      open: calls.openAfter,
+      showFaults: (faults) => this.showFaults(faults),
+      open: calls.openWithLines,
       addTest: calls.addTest,
-      changed: () => this.showProofs(),
-      failed: calls.failed,
+      handleVerdictChange: () => this.showProofs(),
+      reportFailure: calls.reportFailure,
     });
   }
 
@@ -115,8 +115,8 @@ export class ExploreTab {
   }
 
   /** The results of the current session. */
-  get shown() {
-    return this.explored.get(this.session) || null;
+  get currentResults() {
+    return this.resultsBySession.get(this.session) || null;
   }
 
   /** Checks the text when the tab comes to the front. */
@@ -125,12 +125,12 @@ export class ExploreTab {
   }
 
   /** @param {number} count the number of errors in the text */
-  mark(count) {
-    const { shown } = this;
+  showMark(count) {
+    const { currentResults } = this;
     this.faultCount = count;
-    const broken = shown && shown.report ? markOfReport(shown.report) : "";
-    if (count > 0) this.calls.mark(countOfFaults(count));
-    else this.calls.mark(broken || this.proofs.mark, broken === "" && this.proofs.isGood);
+    const reportMark = currentResults && currentResults.report ? markOfReport(currentResults.report) : "";
+    if (count > 0) this.calls.showMark(formatErrorCount(count));
+    else this.calls.showMark(reportMark || this.proofs.mark, reportMark === "" && this.proofs.isGood);
   }
 
   /**
@@ -149,7 +149,7 @@ export class ExploreTab {
   /** Clears the counterexamples and the verdicts. */
   clear() {
     this.stop();
-    this.explored.delete(this.session);
+    this.resultsBySession.delete(this.session);
     this.view.clear();
     this.proofs.clear();
     this.show();
@@ -157,25 +157,26 @@ export class ExploreTab {
 
   /** Updates the tab's mark and the button that clears results. */
   showProofs() {
-    this.mark(this.faultCount);
+    this.showMark(this.faultCount);
     this.offerClear();
   }
 
   /** Shows the button that clears results if there are results and nothing is running. */
   offerClear() {
     const { proofs } = this;
-    button("clear-finds").hidden = this.controller !== null || proofs.controller !== null || !(this.shown || proofs.shown);
+    const isRunning = this.controller !== null || proofs.controller !== null;
+    button("clear-finds").hidden = isRunning || !(this.currentResults || proofs.currentResults);
   }
 
   /** Shows the session's results so far. */
   show() {
-    const { shown } = this;
+    const { currentResults } = this;
     const isRunning = this.controller !== null;
     this.exploreButton.set(isRunning ? say.STOP : say.EXPLORE);
     this.offerClear();
-    if (shown && shown.report) this.view.show(shown.report, isRunning);
-    this.mark(0);
-    this.showMessage(this.wordsOf(shown, isRunning));
+    if (currentResults && currentResults.report) this.view.show(currentResults.report, isRunning);
+    this.showMark(0);
+    this.showMessage(this.describeSearch(currentResults, isRunning));
   }
 
   /**
@@ -188,11 +189,12 @@ export class ExploreTab {
   }
 
   /**
-   * @param {Explored | null} shown
+   * @param {SearchResults | null} currentResults
    * @param {boolean} isRunning
    */
-  wordsOf(shown, isRunning) {
-    if (shown && shown.report) return isRunning ? wordsSoFar(shown.report) : wordsOfEnd(shown.report, shown.isStopped);
+  describeSearch(currentResults, isRunning) {
+    const report = currentResults && currentResults.report;
+    if (report) return isRunning ? wordsSoFar(report) : wordsOfEnd(report, currentResults.isStopped);
     return isRunning ? say.BEGINS : "";
   }
 
@@ -202,83 +204,84 @@ export class ExploreTab {
 
   exploreOrStop() {
     if (this.controller) this.stop();
-    else this.explore().catch(this.calls.failed);
+    else this.explore().catch(this.calls.reportFailure);
   }
 
   /**
    * Returns the duration and the seed of the search. If a field has no valid number, shows a message and returns null.
-   * @returns {Asked | null}
+   * @returns {RunOptions | null}
    */
   readRequest() {
-    const wrong = NUMBERS.filter(({ id, max }) => {
+    const invalidFields = NUMBER_FIELDS.filter(({ id, max }) => {
       const { value } = field(id);
-      const isWrong = !/^\d{1,8}$/.test(value.trim()) || Number(value) < 1 || Number(value) > max;
-      field(id).setAttribute("aria-invalid", String(isWrong));
-      return isWrong;
+      const isInvalid = !/^\d{1,8}$/.test(value.trim()) || Number(value) < 1 || Number(value) > max;
+      field(id).setAttribute("aria-invalid", String(isInvalid));
+      return isInvalid;
     });
-    this.editor.showMessage(wrong.map(({ words }) => words).join(" "));
-    const [seconds, seed] = NUMBERS.map(({ id }) => Number(field(id).value));
-    return wrong.length > 0 ? null : { seconds, seed };
+    this.editor.showMessage(invalidFields.map(({ words }) => words).join(" "));
+    const [seconds, seed] = NUMBER_FIELDS.map(({ id }) => Number(field(id).value));
+    return invalidFields.length > 0 ? null : { seconds, seed };
   }
 
   async explore() {
     const request = this.readRequest();
     if (!request) return;
     const { texts, session } = this;
-    /** @type {Explored} */
-    const explored = { texts, report: null, files: new Map(), isStopped: false };
+    /** @type {SearchResults} */
+    const results = { texts, report: null, files: new Map(), isStopped: false };
     const controller = new AbortController();
     this.controller = controller;
-    this.explored.set(session, explored);
+    this.resultsBySession.set(session, results);
     this.view.clear();
     this.show();
-    let ended = /** @type {Ended} */ ({ faults: [], isStopped: true });
+    let searchEnd = /** @type {TaskResult} */ ({ faults: [], isStopped: true });
     try {
-      ended = await this.calls.explore(texts, request, controller.signal, (progress) => this.take(explored, progress));
+      searchEnd = await this.calls.explore(texts, request, controller.signal, (progress) => this.handleProgress(results, progress));
     } finally {
       this.controller = null;
-      explored.isStopped = ended.isStopped;
-      if (!explored.report) this.explored.delete(session);
+      results.isStopped = searchEnd.isStopped;
+      if (!results.report) this.resultsBySession.delete(session);
       this.show();
     }
-    if (ended.faults.length > 0) this.refuse(ended.faults);
-    else if (!explored.report) this.editor.showMessage(say.STOPPED_EARLY);
+    if (searchEnd.faults.length > 0) this.showFaults(searchEnd.faults);
+    else if (!results.report) this.editor.showMessage(say.STOPPED_EARLY);
   }
 
   /** @param {TextFault[]} faults the errors that prevented the search */
-  refuse(faults) {
+  showFaults(faults) {
     this.textTab.showFaults(faults);
-    this.editor.showMessage(wordsOfFaults(faults, this.calls.wordsOfRefusal));
+    this.editor.showMessage(wordsOfFaults(faults, this.calls.describeRefusal));
   }
 
   /**
-   * @param {Explored} explored
+   * @param {SearchResults} results
    * @param {Progress} progress
    */
-  take(explored, { report, found }) {
-    explored.report = report;
-    for (const { property, file } of found) explored.files.set(property, file);
-    if (explored === this.shown) this.show();
+  handleProgress(results, { report, found }) {
+    results.report = report;
+    for (const { property, file } of found) results.files.set(property, file);
+    if (results === this.currentResults) this.show();
   }
 
   /** @param {number} line */
   goToSource(line) {
-    const { shown } = this;
-    if (shown && shown.texts.programText === this.calls.texts().programText) this.calls.goToSource(line);
+    const { currentResults } = this;
+    if (currentResults && currentResults.texts.programText === this.calls.texts().programText) this.calls.goToSource(line);
     else this.editor.showMessage(say.OTHER_SOURCE);
   }
 
   /** @param {number} property */
-  open(property) {
-    const { shown } = this;
-    const file = shown && shown.files.get(property);
-    if (shown && shown.report && file) this.calls.open(shown.report.properties[property].text, file, shown.texts);
+  openCounterexample(property) {
+    const { currentResults } = this;
+    const file = currentResults && currentResults.files.get(property);
+    const report = currentResults && currentResults.report;
+    if (report && file) this.calls.open(report.properties[property].text, file, currentResults.texts);
   }
 
   /** @param {number} property */
-  add(property) {
-    const { shown } = this;
-    const found = shown && shown.report && shown.report.properties[property].found;
-    if (found) this.editor.showMessage(this.calls.addTest(found.test));
+  addTest(property) {
+    const { currentResults } = this;
+    const counterexample = currentResults && currentResults.report && currentResults.report.properties[property].found;
+    if (counterexample) this.editor.showMessage(this.calls.addTest(counterexample.test));
   }
 }

@@ -13,25 +13,25 @@ import { wordsOfLine } from "../../words/stops.js";
 
 /**
  * The callbacks of the search results. Properties are numbered from 0.
- * @typedef {object} FindCalls
+ * @typedef {object} CounterexampleCalls
  * @property {(line: number) => void} goTo Shows a line of the properties text, from 1.
  * @property {(line: number) => void} goToSource Shows a line of the source, from 1.
- * @property {(property: number) => void} open Opens a counterexample as a new session.
- * @property {(property: number) => void} add Adds a counterexample's test to the program's tests.
+ * @property {(property: number) => void} openCounterexample Opens a counterexample as a new session.
+ * @property {(property: number) => void} addTest Adds a counterexample's test to the program's tests.
  */
 
 /** The maximum number of lines listed as never executed. */
 const MAX_LINES = 60;
 
 /** A property's row. The counterexample is inserted only once, so that controls in use do not disappear. */
-class Row {
+class PropertyRow {
   /**
    * @param {PropertyResult} property
-   * @param {number} at
-   * @param {FindCalls} calls
+   * @param {number} index
+   * @param {CounterexampleCalls} calls
    */
-  constructor({ text, line }, at, calls) {
-    this.at = at;
+  constructor({ text, line }, index, calls) {
+    this.index = index;
     this.calls = calls;
     const mark = element("b", {});
     const words = element("span", { className: "time" });
@@ -40,9 +40,9 @@ class Row {
     this.node = element("li", {}, element("p", {}, mark, " ", name, " ", words));
     this.mark = new Cell(mark);
     this.words = new Cell(words);
-    this.isRight = new Switch((isOn) => mark.classList.toggle("ok", isOn));
-    this.isWrong = new Switch((isOn) => mark.classList.toggle("not-ok", isOn));
-    this.hasFind = false;
+    this.rightSwitch = new Switch((isOn) => mark.classList.toggle("ok", isOn));
+    this.wrongSwitch = new Switch((isOn) => mark.classList.toggle("not-ok", isOn));
+    this.hasCounterexample = false;
   }
 
   /**
@@ -53,21 +53,21 @@ class Row {
   show(property, report, isRunning) {
     const mark = markOf(property, isRunning);
     this.mark.set(mark);
-    this.isRight.set(mark === "ok");
-    this.isWrong.set(mark === "not ok");
+    this.rightSwitch.set(mark === "ok");
+    this.wrongSwitch.set(mark === "not ok");
     this.words.set(wordsOfProperty(property, report));
-    if (!property.found || this.hasFind) return;
-    this.hasFind = true;
+    if (!property.found || this.hasCounterexample) return;
+    this.hasCounterexample = true;
     this.node.append(
       element("details", {}, element("summary", {}, say.ITS_TEST), element("pre", { tabIndex: 0 }, property.found.test.trimEnd())),
       element("p", { className: "bar" },
-        buttonOf(say.OPEN_AS_SESSION, () => this.calls.open(this.at), { title: say.AS_IT_IS_THERE }),
-        buttonOf(say.ADD_TO_TESTS, () => this.calls.add(this.at), { title: say.AT_END })));
+        buttonOf(say.OPEN_AS_SESSION, () => this.calls.openCounterexample(this.index), { title: say.AS_IT_IS_THERE }),
+        buttonOf(say.ADD_TO_TESTS, () => this.calls.addTest(this.index), { title: say.AT_END })));
   }
 }
 
 export class ExploreView {
-  /** @param {FindCalls} calls */
+  /** @param {CounterexampleCalls} calls */
   constructor(calls) {
     this.calls = calls;
     this.block = block("explore-results");
@@ -77,10 +77,10 @@ export class ExploreView {
       const root = block(`explored-${name}`);
       return { name, root, bar: descendant(root, "progress", HTMLProgressElement), words: new Cell(descendant(root, "span", HTMLElement)) };
     });
-    this.left = block("never-run");
+    this.neverRunBlock = block("never-run");
     /** The line numbers in the list of lines that never ran, to detect changes. */
-    this.leftLines = "";
-    /** @type {Row[]} */
+    this.shownNeverRun = "";
+    /** @type {PropertyRow[]} */
     this.rows = [];
   }
 
@@ -89,7 +89,7 @@ export class ExploreView {
     this.rows = [];
     this.list.replaceChildren();
     this.figures.set("");
-    this.showLeft([]);
+    this.showNeverRun([]);
   }
 
   /**
@@ -98,11 +98,11 @@ export class ExploreView {
    */
   show(report, isRunning) {
     if (this.rows.length === 0) {
-      this.rows = report.properties.map((property, at) => new Row(property, at, this.calls));
+      this.rows = report.properties.map((property, index) => new PropertyRow(property, index, this.calls));
       this.list.replaceChildren(...this.rows.map(({ node }) => node));
     }
-    this.rows.forEach((row, at) => row.show(report.properties[at], report, isRunning));
-    // If proofs settle all properties, no search takes place.
+    this.rows.forEach((row, index) => row.show(report.properties[index], report, isRunning));
+    // If proofs decide all properties, there is no search.
     const isSearched = isRunning || report.steps > 0;
     this.figures.set(isSearched ? wordsOfFigures(report) : say.NO_STEPS);
     this.showCoverage(report, isRunning, isSearched);
@@ -115,26 +115,26 @@ export class ExploreView {
    * @param {boolean} isSearched true if the search has executed a step
    */
   showCoverage(report, isRunning, isSearched) {
-    const covered = coverageOf(report);
+    const coverage = coverageOf(report);
     for (const { name, root, bar, words } of this.bars) {
       root.hidden = !isSearched;
-      const { part, whole, words: label } = covered[name];
+      const { part, whole, words: label } = coverage[name];
       bar.max = Math.max(1, whole);
       bar.value = part;
       words.set(label);
     }
     // The list would change continuously during a search, so it is empty until the end.
-    this.showLeft(isRunning || !isSearched ? [] : covered.left);
+    this.showNeverRun(isRunning || !isSearched ? [] : coverage.left);
   }
 
   /** @param {number[]} lines the lines that never ran */
-  showLeft(lines) {
+  showNeverRun(lines) {
     const key = lines.join(" ");
-    if (key === this.leftLines) return;
-    this.leftLines = key;
-    const more = lines.length > MAX_LINES ? andMore(lines.length - MAX_LINES) : "";
+    if (key === this.shownNeverRun) return;
+    this.shownNeverRun = key;
+    const moreText = lines.length > MAX_LINES ? andMore(lines.length - MAX_LINES) : "";
     const buttons = lines.slice(0, MAX_LINES).flatMap((line) => [
       " ", buttonOf(String(line), () => this.calls.goToSource(line), { className: "name", ariaLabel: say.lineOfSource(line) })]);
-    this.left.replaceChildren(...(lines.length === 0 ? [] : [say.NEVER_RUN, ...buttons, more]));
+    this.neverRunBlock.replaceChildren(...(lines.length === 0 ? [] : [say.NEVER_RUN, ...buttons, moreText]));
   }
 }

@@ -1,13 +1,13 @@
 // The guide: the help, the tour with the first program, the example stories, and the console's input.
 
-import { withKeys } from "../commands/key_list.js";
+import { addKeyRows } from "../commands/key_list.js";
 import { HelpView } from "./help_view.js";
 import { LinesView } from "../lines/lines_view.js";
-import { linesOfBench } from "../../core/help/manual.js";
+import { readLineForms } from "../../core/help/manual.js";
 import { shortName } from "../../core/session/names.js";
-import { doAct } from "../../core/help/story_acts.js";
-import { stepsOfStory } from "../../core/help/story.js";
-import { isOfTour } from "../../core/help/tour.js";
+import { runAct } from "../../core/help/story_acts.js";
+import { parseStory } from "../../core/help/story.js";
+import { isTourText } from "../../core/help/tour.js";
 import { TourView } from "./tour_view.js";
 import * as say from "../../words/help.js";
 
@@ -23,15 +23,15 @@ import * as say from "../../words/help.js";
  * @property {(example: Example) => Promise<boolean>} begin Begins a new session from an example. Resolves to true if it was created.
  * @property {() => void} showSource Brings the source to the front.
  * @property {() => string} program Returns the text of the source.
- * @property {(program: string) => void} edit Replaces the source with a program, as one edit.
+ * @property {(program: string) => void} replaceSource Replaces the source with a program, as one edit.
  * @property {(target: import("../../core/help/tour.js").Target) => void} reveal Scrolls the target of a tour step into view.
  * @property {(program: string, words: string) => void} replace Replaces the source with a program, and shows a message that offers undo.
  * @property {import("../../core/help/story_acts.js").ActCalls} acts The callbacks for links in stories.
- * @property {() => void} left Handles the end of the tour or of a story.
- * @property {(words: string) => void} refuse Shows the reason why a story cannot be shown.
+ * @property {() => void} handleTourEnd Handles the end of the tour or of a story.
+ * @property {(words: string) => void} showRefusal Shows the reason why a story cannot be shown.
  */
 
-/** @typedef {Omit<LinesCalls, "help"> & GuideOwnCalls} GuideCalls */
+/** @typedef {Omit<LinesCalls, "openHelp"> & GuideOwnCalls} GuideCalls */
 
 export class Guide {
   /**
@@ -40,19 +40,19 @@ export class Guide {
    */
   constructor(manual, calls) {
     this.calls = calls;
-    this.help = new HelpView(withKeys(manual));
-    this.lines = new LinesView(linesOfBench(manual), {
+    this.help = new HelpView(addKeyRows(manual));
+    this.lines = new LinesView(readLineForms(manual), {
       send: calls.send,
-      wordsOf: calls.wordsOf,
-      help: (wanted) => this.help.open(wanted),
+      formatAnswer: calls.formatAnswer,
+      openHelp: (query) => this.help.open(query),
     });
     this.tour = new TourView({
       begin: (example) => this.beginTour(example),
-      put: (program) => this.put(program),
-      isPut: (program) => calls.program() === program,
+      putProgram: (program) => this.putProgram(program),
+      isProgramInSource: (program) => calls.program() === program,
       reveal: calls.reveal,
-      act: (act) => doAct(act, calls.acts),
-      left: calls.left,
+      executeAction: (action) => runAct(action, calls.acts),
+      handleTourEnd: calls.handleTourEnd,
     });
   }
 
@@ -73,9 +73,9 @@ export class Guide {
    */
   showStory(name, examples) {
     const { story = "" } = examples.find((example) => example.name === name) || {};
-    const steps = stepsOfStory(story);
+    const steps = parseStory(story);
     if (steps.length > 0) this.tour.open(steps);
-    else this.calls.refuse(say.noSuchStory(shortName(name)));
+    else this.calls.showRefusal(say.noSuchStory(shortName(name)));
   }
 
   /** Closes the story when another session is opened. */
@@ -84,10 +84,10 @@ export class Guide {
   }
 
   /** @param {string} program */
-  put(program) {
+  putProgram(program) {
     const { calls } = this;
     calls.showSource();
-    if (isOfTour(calls.program())) calls.edit(program);
+    if (isTourText(calls.program())) calls.replaceSource(program);
     else calls.replace(program, say.PROGRAM_IN_SOURCE);
   }
 }

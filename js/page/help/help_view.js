@@ -1,7 +1,7 @@
 // The help: the manual's tables, with a search.
 
 import { Cell, block, button, descendant, element, field, onClick } from "../ui/dom.js";
-import { piecesOf, searchManual } from "../../core/help/manual.js";
+import { splitCell, searchManual } from "../../core/help/manual.js";
 import * as say from "../../words/help.js";
 
 /**
@@ -10,19 +10,19 @@ import * as say from "../../words/help.js";
  */
 
 /** @param {string} cell */
-function nodesOf(cell) {
-  return piecesOf(cell).map(({ text, isCode }) => (isCode ? element("code", {}, text) : text));
+function textNodes(cell) {
+  return splitCell(cell).map(({ text, isCode }) => (isCode ? element("code", {}, text) : text));
 }
 
 /**
  * @param {ManualTable} table
  * @param {string} title the title of the table's section
  */
-function tableOf({ caption, head, rows }, title) {
-  const heads = head.map((cell) => element("th", { scope: "col" }, ...nodesOf(cell)));
-  const body = rows.map((row) => element("tr", {}, ...row.map((cell) => element("td", {}, ...nodesOf(cell)))));
+function makeTable({ caption, head, rows }, title) {
+  const headCells = head.map((cell) => element("th", { scope: "col" }, ...textNodes(cell)));
+  const body = rows.map((row) => element("tr", {}, ...row.map((cell) => element("td", {}, ...textNodes(cell)))));
   return element("table", { "aria-label": caption || title }, ...(caption ? [element("caption", {}, caption)] : []),
-    element("thead", {}, element("tr", {}, ...heads)), element("tbody", {}, ...body));
+    element("thead", {}, element("tr", {}, ...headCells)), element("tbody", {}, ...body));
 }
 
 export class HelpView {
@@ -30,12 +30,12 @@ export class HelpView {
   constructor(manual) {
     this.manual = manual;
     this.root = block("help");
-    this.switch = button("help-button");
+    this.helpButton = button("help-button");
     this.search = field("help-search");
     this.sections = descendant(this.root, "#help-sections", HTMLElement);
     this.status = new Cell(descendant(this.root, "#help-status", HTMLElement));
     /** @type {string | null} the query for which the sections are drawn; null before the first drawing */
-    this.drawn = null;
+    this.drawnQuery = null;
     this.isOpen = false;
     onClick(button("help-close"), () => this.close());
     this.search.addEventListener("input", () => this.draw());
@@ -48,40 +48,40 @@ export class HelpView {
 
   /**
    * Shows the help.
-   * @param {string} [wanted] the query; by default, the query stays
+   * @param {string} [query] the query; by default, the query stays
    */
-  open(wanted) {
-    if (wanted !== undefined) this.search.value = wanted;
+  open(query) {
+    if (query !== undefined) this.search.value = query;
     this.draw();
     this.isOpen = true;
     this.root.hidden = false;
-    this.switch.setAttribute("aria-expanded", "true");
+    this.helpButton.setAttribute("aria-expanded", "true");
     this.search.focus();
   }
 
-  /** @param {string} wanted the initial query; "" keeps the last query */
-  toggle(wanted) {
+  /** @param {string} query the initial query; "" for the last query */
+  toggle(query) {
     if (this.isOpen) this.close();
-    else this.open(wanted || undefined);
+    else this.open(query || undefined);
   }
 
   close() {
     this.isOpen = false;
     this.root.hidden = true;
-    this.switch.setAttribute("aria-expanded", "false");
+    this.helpButton.setAttribute("aria-expanded", "false");
     // On a phone, the help button is in the closed menu. The menu button receives the focus instead.
-    (this.switch.offsetParent ? this.switch : button("menu-button")).focus();
+    (this.helpButton.offsetParent ? this.helpButton : button("menu-button")).focus();
   }
 
   /** Draws the sections that match the query. Without a query, all sections are folded. */
   draw() {
-    const wanted = this.search.value.trim();
-    if (wanted === this.drawn) return;
-    this.drawn = wanted;
-    const found = searchManual(this.manual, wanted);
-    this.sections.replaceChildren(...found.map(({ title, tables }) => (
-      element("details", { open: wanted !== "" }, element("summary", {}, title), ...tables.map((table) => tableOf(table, title))))));
-    const count = found.reduce((sum, { tables }) => sum + tables.reduce((rows, table) => rows + table.rows.length, 0), 0);
-    this.status.set(wanted === "" ? "" : say.rowsFound(count));
+    const query = this.search.value.trim();
+    if (query === this.drawnQuery) return;
+    this.drawnQuery = query;
+    const sections = searchManual(this.manual, query);
+    this.sections.replaceChildren(...sections.map(({ title, tables }) => (
+      element("details", { open: query !== "" }, element("summary", {}, title), ...tables.map((table) => makeTable(table, title))))));
+    const count = sections.reduce((sum, { tables }) => sum + tables.reduce((rows, table) => rows + table.rows.length, 0), 0);
+    this.status.set(query === "" ? "" : say.rowsFound(count));
   }
 }

@@ -1,4 +1,4 @@
-// A ring around the target of a tour step. It scrolls the target into view and follows it when it moves.
+// A ring around the target of a tour step. The ring scrolls its target into view, and follows the target when the target moves.
 
 import { element } from "../ui/dom.js";
 
@@ -14,17 +14,17 @@ export class PointerRing {
     /** @type {() => Element | null} */
     this.target = () => null;
     /** @type {Element | null} the target that was last scrolled into view */
-    this.seen = null;
+    this.scrolledTarget = null;
     this.timer = 0;
   }
 
   /** @param {() => Element | null} target returns the element to surround */
-  point(target) {
+  pointAt(target) {
     this.target = target;
-    this.seen = null;
+    this.scrolledTarget = null;
     clearInterval(this.timer);
-    this.timer = window.setInterval(() => this.put(), MOVE_INTERVAL);
-    this.put();
+    this.timer = window.setInterval(() => this.updatePosition(), MOVE_INTERVAL);
+    this.updatePosition();
   }
 
   stop() {
@@ -32,13 +32,13 @@ export class PointerRing {
     this.node.hidden = true;
   }
 
-  put() {
+  updatePosition() {
     const target = this.target();
-    const isThere = target !== null && target.getClientRects().length > 0 && document.querySelector("dialog[open]") === null;
-    if (this.node.hidden === isThere) this.node.hidden = !isThere;
-    if (!target || !isThere) return;
-    if (this.seen !== target) target.scrollIntoView({ block: "nearest", inline: "nearest" });
-    this.seen = target;
+    const isVisible = target !== null && target.getClientRects().length > 0 && document.querySelector("dialog[open]") === null;
+    if (this.node.hidden === isVisible) this.node.hidden = !isVisible;
+    if (!target || !isVisible) return;
+    if (this.scrolledTarget !== target) target.scrollIntoView({ block: "nearest", inline: "nearest" });
+    this.scrolledTarget = target;
     const { left, top, width, height } = target.getBoundingClientRect();
     const { style } = this.node;
     style.setProperty("left", `${left - GAP}px`);

@@ -1,7 +1,7 @@
 // The console input. Enter sends lines, the arrow keys recall earlier lines, and a hint below shows how a line can continue.
 
 import { Cell, block, button, byId, onClick } from "../ui/dom.js";
-import { fittingLines } from "../../core/help/manual.js";
+import { matchLines } from "../../core/help/manual.js";
 import * as say from "../../words/page.js";
 
 /**
@@ -9,8 +9,8 @@ import * as say from "../../words/page.js";
  * @typedef {object} LinesCalls
  * @property {(lines: string) => Promise<string | null>} send Serves lines. Resolves to the first answer, or to null after a failure. A
  *   failure has already been reported.
- * @property {(answer: string) => string} wordsOf Returns an answer. A refusal is followed by its message.
- * @property {(wanted: string) => void} help Opens the help at an entry.
+ * @property {(answer: string) => string} formatAnswer Returns an answer. A refusal is followed by its message.
+ * @property {(wanted: string) => void} openHelp Opens the help at an entry.
  */
 
 /** The maximum number of sent lines that the arrow keys can recall. */
@@ -32,13 +32,13 @@ export class LinesView {
     /** The answer to the last line, for screen readers. */
     this.status = new Cell(block("answer-status"));
     /** @type {string[]} the sent lines, oldest first */
-    this.sent = [];
+    this.sentLines = [];
     /** The index of the recalled line, or the number of sent lines if none is recalled. */
-    this.at = 0;
+    this.recallIndex = 0;
     /** The text that was in the input before a sent line was recalled. */
-    this.typed = "";
+    this.draft = "";
     onClick(button("send"), () => this.send());
-    this.area.addEventListener("keydown", (event) => this.pressed(event));
+    this.area.addEventListener("keydown", (event) => this.handleKey(event));
     this.area.addEventListener("input", () => this.showHint());
   }
 
@@ -52,7 +52,7 @@ export class LinesView {
   }
 
   /** @param {KeyboardEvent} event */
-  pressed(event) {
+  handleKey(event) {
     if (event.isComposing) return;
     if (event.key === "Enter" && !event.shiftKey) {
       event.preventDefault();
@@ -78,15 +78,15 @@ export class LinesView {
   /**
    * Recalls the previous or the next line that was sent.
    * @param {KeyboardEvent} event
-   * @param {number} by -1 or 1
+   * @param {number} step -1 or 1
    */
-  recall(event, by) {
-    const next = this.at + by;
-    if (next < 0 || next > this.sent.length) return;
+  recall(event, step) {
+    const nextIndex = this.recallIndex + step;
+    if (nextIndex < 0 || nextIndex > this.sentLines.length) return;
     event.preventDefault();
-    if (this.at === this.sent.length) this.typed = this.text;
-    this.at = next;
-    this.text = next === this.sent.length ? this.typed : this.sent[next];
+    if (this.recallIndex === this.sentLines.length) this.draft = this.text;
+    this.recallIndex = nextIndex;
+    this.text = nextIndex === this.sentLines.length ? this.draft : this.sentLines[nextIndex];
     this.area.setSelectionRange(this.text.length, this.text.length);
   }
 
@@ -97,39 +97,39 @@ export class LinesView {
 
   /** Completes the typed word if it begins exactly one command. */
   complete() {
-    const words = new Set(fittingLines(this.lines, this.lastLine).map(({ form }) => form.split(" ")[0]));
+    const words = new Set(matchLines(this.lines, this.lastLine).map(({ form }) => form.split(" ")[0]));
     const [word] = words;
     if (words.size !== 1 || this.lastLine.includes(" ")) return;
     this.text = `${this.text.slice(0, this.text.lastIndexOf("\n") + 1)}${word} `;
   }
 
   showHint() {
-    const found = fittingLines(this.lines, this.lastLine);
-    const shown = found.slice(0, MAX_HINTS).map(({ form, does }) => `${form}: ${does}`);
-    if (found.length > MAX_HINTS) shown.push(found.slice(MAX_HINTS).map(({ form }) => form).join(", "));
-    this.hint.set(shown.length > 0 ? shown.join("\n") : say.LINES_HINT);
+    const matches = matchLines(this.lines, this.lastLine);
+    const shownForms = matches.slice(0, MAX_HINTS).map(({ form, does }) => `${form}: ${does}`);
+    if (matches.length > MAX_HINTS) shownForms.push(matches.slice(MAX_HINTS).map(({ form }) => form).join(", "));
+    this.hint.set(shownForms.length > 0 ? shownForms.join("\n") : say.LINES_HINT);
   }
 
   async send() {
     const lines = this.text;
     if (lines.trim() === "") return;
-    this.remember(lines);
+    this.rememberLines(lines);
     const words = lines.trim().split(/\s+/);
     if (words[0] === "help") {
       this.text = "";
-      this.calls.help(words.slice(1).join(" "));
+      this.calls.openHelp(words.slice(1).join(" "));
       return;
     }
     this.status.set("");
     const answer = await this.calls.send(lines.endsWith("\n") ? lines : `${lines}\n`);
-    if (answer !== null) this.status.set(this.calls.wordsOf(answer));
+    if (answer !== null) this.status.set(this.calls.formatAnswer(answer));
     if (answer !== null && this.text === lines) this.text = "";
   }
 
   /** @param {string} lines */
-  remember(lines) {
-    if (this.sent[this.sent.length - 1] !== lines) this.sent.push(lines);
-    if (this.sent.length > MAX_LINES) this.sent.shift();
-    this.at = this.sent.length;
+  rememberLines(lines) {
+    if (this.sentLines[this.sentLines.length - 1] !== lines) this.sentLines.push(lines);
+    if (this.sentLines.length > MAX_LINES) this.sentLines.shift();
+    this.recallIndex = this.sentLines.length;
   }
 }

@@ -1,67 +1,67 @@
 // The console log: the lines that were sent, and their answers. A line appears only after the session has been saved.
 
-import { refusalOf } from "../../core/bench/answers.js";
+import { parseRefusal } from "../../core/bench/answers.js";
 import { block, element } from "../ui/dom.js";
-import { RunLog, wordsOfRuns } from "../../core/bench/run_log.js";
+import { RunLog, formatRuns } from "../../core/bench/run_log.js";
 import * as say from "../../words/page.js";
 
 /**
- * @typedef {import("../../core/engine/worker_session.js").Answered} Answered
- * @typedef {import("../../core/bench/run_log.js").RanEntry} RanEntry
- * @typedef {import("../../core/bench/words.js").Words} Words
+ * @typedef {import("../../core/engine/worker_session.js").ServedInput} ServedInput
+ * @typedef {import("../../core/bench/run_log.js").RunEntry} RunEntry
+ * @typedef {import("../../core/bench/words.js").ErrorMessages} ErrorMessages
  */
 
 /** The maximum number of entries. Older entries are removed. */
 const MAX_ENTRIES = 400;
 
 export class LogView {
-  /** @param {Words} words */
+  /** @param {ErrorMessages} words */
   constructor(words) {
     this.words = words;
     this.block = block("log");
     /** The runs since the last save, which are not in the log yet. */
-    this.waiting = new RunLog();
-    /** @type {{ entry: RanEntry, node: HTMLElement } | null} the last entry of the log if it shows runs; further runs extend this entry */
-    this.runs = null;
+    this.unloggedRuns = new RunLog();
+    /** @type {{ entry: RunEntry, node: HTMLElement } | null} the last entry of the log if it shows runs; further runs extend this entry */
+    this.lastRuns = null;
   }
 
   /**
-   * Collects runs. They appear in the log after the next save.
-   * @param {RanEntry[]} entries
+   * Collects runs, which appear in the log after the next save.
+   * @param {RunEntry[]} entries
    */
   collect(entries) {
-    this.waiting.add(entries);
+    this.unloggedRuns.add(entries);
   }
 
   /** Removes and returns the collected runs. */
-  take() {
-    return this.waiting.take();
+  takeRuns() {
+    return this.unloggedRuns.take();
   }
 
   /**
-   * @param {RanEntry[]} entries
+   * @param {RunEntry[]} entries
    * @param {string} fault the reason why the runs could not be saved; "" if they were saved
    */
-  showRan(entries, fault) {
+  showRuns(entries, fault) {
     if (entries.length === 0) return;
-    const shown = new RunLog();
-    const { runs } = this;
+    const runLog = new RunLog();
+    const { lastRuns } = this;
     // Consecutive runs share one entry.
-    if (runs && entries[0].runs > 0 && fault === "" && runs.node === this.block.lastElementChild) {
-      shown.add([runs.entry]);
-      runs.node.remove();
+    if (lastRuns && entries[0].runs > 0 && fault === "" && lastRuns.node === this.block.lastElementChild) {
+      runLog.add([lastRuns.entry]);
+      lastRuns.node.remove();
     }
-    shown.add(entries);
-    const all = shown.take();
-    this.add(all.map((entry) => this.entry(wordsOfRuns(entry), [entry.answer], fault)));
-    const last = all[all.length - 1];
+    runLog.add(entries);
+    const runEntries = runLog.take();
+    this.add(runEntries.map((entry) => this.entry(formatRuns(entry), [entry.answer], fault)));
+    const lastEntry = runEntries[runEntries.length - 1];
     const node = this.block.lastElementChild;
-    this.runs = last.runs > 0 && fault === "" && node instanceof HTMLElement ? { entry: last, node } : null;
+    this.lastRuns = lastEntry.runs > 0 && fault === "" && node instanceof HTMLElement ? { entry: lastEntry, node } : null;
   }
 
   /**
    * Shows lines that the user or a button has sent, and their answers.
-   * @param {Answered[]} entries
+   * @param {ServedInput[]} entries
    * @param {string} fault the reason why the lines could not be saved; "" if they were saved
    */
   show(entries, fault) {
@@ -91,20 +91,20 @@ export class LogView {
 
   /** @param {string} answer */
   answer(answer) {
-    return element("p", { className: refusalOf(answer) ? "refused" : "" }, this.wordsOf(answer));
+    return element("p", { className: parseRefusal(answer) ? "refused" : "" }, this.formatAnswer(answer));
   }
 
   /**
    * Returns an answer. A refusal is followed by its message.
    * @param {string} answer
    */
-  wordsOf(answer) {
-    const refusal = refusalOf(answer);
-    return refusal ? `${answer}: ${this.words.ofRefusal(refusal.number)}` : answer;
+  formatAnswer(answer) {
+    const refusal = parseRefusal(answer);
+    return refusal ? `${answer}: ${this.words.refusalMeaning(refusal.number)}` : answer;
   }
 
   clear() {
-    this.waiting.take();
+    this.unloggedRuns.take();
     this.block.replaceChildren();
   }
 }

@@ -1,5 +1,5 @@
-// The form that edits a breakpoint's condition, hit count and log message. It appears below the breakpoint's source line, or in the list of
-// breakpoints if the breakpoint has no line. Enter applies the changes, Escape discards them.
+// The form that edits a breakpoint's condition, hit count and log message. The form appears below the breakpoint's source line, or in the
+// list of breakpoints if the breakpoint has no line. Enter applies the changes, Escape discards them.
 
 import { parseCount } from "../../core/bench/numbers.js";
 import { Cell, buttonOf, element } from "../ui/dom.js";
@@ -7,23 +7,23 @@ import * as say from "../../words/machine.js";
 
 /**
  * @typedef {import("../../core/debug/breakpoints.js").Breakpoint} Breakpoint
- * @typedef {import("../../core/debug/breakpoints.js").KeptBreakpoint} KeptBreakpoint
+ * @typedef {import("../../core/debug/breakpoints.js").SavedBreakpoint} SavedBreakpoint
  * @typedef {"condition" | "from" | "note"} BreakpointField
- * @typedef {Pick<KeptBreakpoint, BreakpointField>} BreakpointWords
+ * @typedef {Pick<SavedBreakpoint, BreakpointField>} BreakpointTexts
  */
 
 /**
  * The callbacks of the breakpoint form.
- * @typedef {object} RowCalls
- * @property {(id: number, changes: BreakpointWords) => void} change Changes a breakpoint, by its id, and sends the change to the bench.
- * @property {(id: number, changes: BreakpointWords) => void} type Shows the typed text in the breakpoint's mark and list entry, without
+ * @typedef {object} BreakpointFormCalls
+ * @property {(id: number, changes: BreakpointTexts) => void} change Changes a breakpoint, by its id, and sends the change to the bench.
+ * @property {(id: number, changes: BreakpointTexts) => void} type Shows the typed text in the breakpoint's mark and list entry, without
  *   sending it to the bench.
- * @property {() => Promise<void>} settled Resolves when the bench has received all changes.
- * @property {(breakpoint: Breakpoint, node: HTMLElement) => void} place Puts the form below the breakpoint's source line, or into the list
- *   of breakpoints if the breakpoint has no line.
- * @property {(act: () => void) => void} whenPlaced Calls `act` when the form is in the page and can receive the focus.
- * @property {(node: HTMLElement) => void} leave Removes the form.
- * @property {(breakpoint: Breakpoint) => void} left Returns the focus to the breakpoint.
+ * @property {() => Promise<void>} waitForChanges Resolves when the bench has received all changes.
+ * @property {(breakpoint: Breakpoint, node: HTMLElement) => void} placeForm Puts the form below the breakpoint's source line, or into the
+ *   list of breakpoints if the breakpoint has no line.
+ * @property {(action: () => void) => void} callWhenPlaced Calls `action` when the form is in the page and can receive the focus.
+ * @property {(node: HTMLElement) => void} removeForm Removes the form.
+ * @property {(breakpoint: Breakpoint) => void} returnFocus Returns the focus to the breakpoint.
  */
 
 const MAX_HITS = 999999999;
@@ -38,37 +38,37 @@ function makeField(label, properties) {
 }
 
 /** @param {Breakpoint} breakpoint */
-const wordsOf = ({ condition, from, note }) => ({ condition, from, note });
+const breakpointTexts = ({ condition, from, note }) => ({ condition, from, note });
 
-export class BreakpointRow {
-  /** @param {RowCalls} calls */
+export class BreakpointForm {
+  /** @param {BreakpointFormCalls} calls */
   constructor(calls) {
     this.calls = calls;
     /** @type {Breakpoint | null} the breakpoint before the edits; null if the form is closed */
-    this.edited = null;
-    const parts = {
+    this.originalBreakpoint = null;
+    const labelledFields = {
       condition: makeField(say.CONDITION, { "placeholder": say.CONDITION_EXAMPLE, "aria-description": say.CONDITION_HINT }),
       from: makeField(say.HIT_COUNT, { "size": 6, "inputMode": "numeric", "aria-description": say.STOPS_FROM_HIT }),
       note: makeField(say.LOG_MESSAGE, { "placeholder": say.NOTE_EXAMPLE, "aria-description": say.LOG_MESSAGE_HINT }),
     };
-    this.fields = { condition: parts.condition.field, from: parts.from.field, note: parts.note.field };
+    this.fields = { condition: labelledFields.condition.field, from: labelledFields.from.field, note: labelledFields.note.field };
     this.status = new Cell(element("p", { className: "fault", role: "alert" }));
     this.node = element("form", { "className": "breakpoint-row", "aria-label": say.BREAKPOINT_FIELDS },
-      ...Object.values(parts).map(({ label }) => label), element("div", { className: "bar" },
+      ...Object.values(labelledFields).map(({ label }) => label), element("div", { className: "bar" },
         element("button", { type: "submit", title: "Enter" }, say.APPLY),
         buttonOf(say.CANCEL, () => this.cancel(), { title: "Escape" })), this.status.node);
-    this.listen();
+    this.addListeners();
   }
 
-  listen() {
+  addListeners() {
     const { node } = this;
     node.addEventListener("submit", (event) => {
       event.preventDefault();
       void this.apply();
     });
     node.addEventListener("input", () => {
-      const changes = this.read();
-      if (this.edited && changes) this.calls.type(this.edited.id, changes);
+      const changes = this.readFields();
+      if (this.originalBreakpoint && changes) this.calls.type(this.originalBreakpoint.id, changes);
     });
     node.addEventListener("keydown", (event) => {
       if (event.key !== "Escape") return;
@@ -78,7 +78,7 @@ export class BreakpointRow {
     });
     // The form stays open when it loses the focus, so that nothing moves under the pointer.
     node.addEventListener("focusout", ({ relatedTarget }) => {
-      if (!(relatedTarget instanceof Node && node.contains(relatedTarget))) this.change();
+      if (!(relatedTarget instanceof Node && node.contains(relatedTarget))) this.applyFields();
     });
   }
 
@@ -86,25 +86,25 @@ export class BreakpointRow {
    * Opens the form for a breakpoint, with the caret in one of its fields.
    * @param {Breakpoint} breakpoint
    * @param {string} fault
-   * @param {BreakpointField} what
+   * @param {BreakpointField} fieldName
    */
-  open(breakpoint, fault, what) {
-    this.change();
-    this.edited = breakpoint;
+  open(breakpoint, fault, fieldName) {
+    this.applyFields();
+    this.originalBreakpoint = breakpoint;
     const { fields } = this;
     fields.condition.value = breakpoint.condition;
     fields.from.value = breakpoint.from > 1 ? String(breakpoint.from) : "";
     fields.note.value = breakpoint.note;
-    this.read();
+    this.readFields();
     this.showFault(fault);
-    this.calls.place(breakpoint, this.node);
+    this.calls.placeForm(breakpoint, this.node);
     const focus = () => {
-      fields[what].focus();
-      fields[what].select();
+      fields[fieldName].focus();
+      fields[fieldName].select();
     };
     // A line that is out of view has no position yet, so the focus must wait.
     if (this.node.isConnected) focus();
-    else this.calls.whenPlaced(focus);
+    else this.calls.callWhenPlaced(focus);
   }
 
   /**
@@ -113,14 +113,14 @@ export class BreakpointRow {
    * @param {Map<number, string>} faults
    */
   show(find, faults) {
-    if (!this.edited) return;
-    const now = find(this.edited.id);
-    if (!now) {
+    if (!this.originalBreakpoint) return;
+    const breakpoint = find(this.originalBreakpoint.id);
+    if (!breakpoint) {
       this.close();
       return;
     }
-    this.calls.place(now, this.node);
-    this.showFault(faults.get(now.id) || "");
+    this.calls.placeForm(breakpoint, this.node);
+    this.showFault(faults.get(breakpoint.id) || "");
   }
 
   /** @param {string} fault the error in the applied condition */
@@ -131,49 +131,49 @@ export class BreakpointRow {
 
   /**
    * Returns the contents of the fields, or null if the hit count is not a valid number.
-   * @returns {BreakpointWords | null}
+   * @returns {BreakpointTexts | null}
    */
-  read() {
+  readFields() {
     const { condition, from, note } = this.fields;
-    const count = from.value.trim() === "" ? 1 : parseCount(from.value, MAX_HITS);
-    from.setAttribute("aria-invalid", String(count < 1));
-    return count < 1 ? null : { condition: condition.value.trim(), from: count, note: note.value.trim() };
+    const hitCount = from.value.trim() === "" ? 1 : parseCount(from.value, MAX_HITS);
+    from.setAttribute("aria-invalid", String(hitCount < 1));
+    return hitCount < 1 ? null : { condition: condition.value.trim(), from: hitCount, note: note.value.trim() };
   }
 
   /** Applies the contents of the fields. Returns false if the hit count is not a valid number. */
-  change() {
-    const changes = this.edited && this.read();
-    if (this.edited && changes) this.calls.change(this.edited.id, changes);
+  applyFields() {
+    const changes = this.originalBreakpoint && this.readFields();
+    if (this.originalBreakpoint && changes) this.calls.change(this.originalBreakpoint.id, changes);
     return changes !== null;
   }
 
   /** Applies the contents of the fields. Closes the form if the condition has no error. */
   async apply() {
-    const { edited } = this;
-    if (!edited || !this.change()) return;
-    await this.calls.settled();
-    if (this.edited === edited && this.status.text === "") this.finish(edited);
+    const { originalBreakpoint } = this;
+    if (!originalBreakpoint || !this.applyFields()) return;
+    await this.calls.waitForChanges();
+    if (this.originalBreakpoint === originalBreakpoint && this.status.text === "") this.finish(originalBreakpoint);
   }
 
   /** Restores the breakpoint as it was before the edits, and closes the form. */
   cancel() {
-    const { edited } = this;
-    if (!edited) return;
-    this.calls.change(edited.id, wordsOf(edited));
-    this.finish(edited);
+    const { originalBreakpoint } = this;
+    if (!originalBreakpoint) return;
+    this.calls.change(originalBreakpoint.id, breakpointTexts(originalBreakpoint));
+    this.finish(originalBreakpoint);
   }
 
-  /** @param {Breakpoint} edited */
-  finish(edited) {
+  /** @param {Breakpoint} originalBreakpoint */
+  finish(originalBreakpoint) {
     const hadFocus = this.node.contains(document.activeElement);
     this.close();
-    if (hadFocus) this.calls.left(edited);
+    if (hadFocus) this.calls.returnFocus(originalBreakpoint);
   }
 
   /** Removes the form. */
   close() {
-    if (!this.edited) return;
-    this.edited = null;
-    this.calls.leave(this.node);
+    if (!this.originalBreakpoint) return;
+    this.originalBreakpoint = null;
+    this.calls.removeForm(this.node);
   }
 }

@@ -1,34 +1,34 @@
 // The list of breakpoints and the log below it. An entry has an enable switch, a location, an action and a hit count.
 
-import { wordsOfCycles } from "../../core/time/cycles.js";
+import { formatCycles } from "../../core/time/cycles.js";
 import { wordsOfAddress, wordsOfLine } from "../../words/stops.js";
 import { Cell, block, button, buttonOf, element, onClick } from "../ui/dom.js";
 import { counted, hex } from "../../core/bench/numbers.js";
 import { MAX_NOTES } from "../../core/debug/arrivals.js";
-import { detailsOfBreakpoint, markOf } from "../../core/machine/breakpoint_marks.js";
+import { describeDetails, breakpointMark } from "../../core/machine/breakpoint_marks.js";
 import * as say from "../../words/machine.js";
 
 /**
  * @typedef {import("../../core/debug/breakpoints.js").Breakpoint} Breakpoint
- * @typedef {import("../../core/debug/breakpoints.js").KeptBreakpoint} KeptBreakpoint
+ * @typedef {import("../../core/debug/breakpoints.js").SavedBreakpoint} SavedBreakpoint
  * @typedef {import("../../core/debug/debugger.js").Tally} Tally
  * @typedef {import("../../core/machine/source_map.js").SourceMap} SourceMap
  * @typedef {import("../../core/debug/breakpoint_keeper.js").BreakpointKeeper} BreakpointKeeper
  * @typedef {Pick<BreakpointKeeper, "list" | "faults" | "map">} Keeper
- * @typedef {{ root: HTMLLIElement, isOn: HTMLInputElement, mark: Cell, where: Cell, edit: HTMLButtonElement, hits: Cell, words: Cell,
+ * @typedef {{ root: HTMLLIElement, isOn: HTMLInputElement, mark: Cell, location: Cell, edit: HTMLButtonElement, hits: Cell, words: Cell,
  *   fault: Cell }} Row
  */
 
 /**
  * The callbacks of the breakpoint list.
  * @typedef {object} BreakpointCalls
- * @property {(id: number, changes: Partial<KeptBreakpoint>) => void} change Changes a breakpoint's properties, by its id; for example,
+ * @property {(id: number, changes: Partial<SavedBreakpoint>) => void} change Changes a breakpoint's properties, by its id; for example,
  *   enables or disables it.
  * @property {(breakpoint: Breakpoint) => void} edit Opens the form that edits a breakpoint.
  * @property {(id: number) => void} remove Removes the breakpoint with an id.
  * @property {(isOn: boolean) => void} switchAll Enables or disables all breakpoints.
  * @property {() => void} removeAll Removes all breakpoints.
- * @property {() => void} forgetHits Sets all hit counts to 0.
+ * @property {() => void} resetHits Sets all hit counts to 0.
  * @property {(breakpoint: Breakpoint) => void} goTo Shows a breakpoint's source line, or its address if it has no line.
  */
 
@@ -37,7 +37,7 @@ import * as say from "../../words/machine.js";
  * @param {Breakpoint} breakpoint
  * @param {SourceMap | null} map
  */
-export function whereBreakpointIs({ line, address }, map) {
+export function formatLocation({ line, address }, map) {
   if (map && address >= 0) return wordsOfAddress(hex(address, 3), map);
   return line > 0 ? wordsOfLine(line) : hex(address, 3);
 }
@@ -47,14 +47,14 @@ export class BreakpointsView {
   constructor(calls) {
     this.calls = calls;
     this.root = block("breakpoint-list");
-    this.none = block("breakpoints-none");
+    this.emptyNote = block("breakpoints-none");
     this.notes = block("breakpoint-notes");
     /** @type {Map<number, Row>} */
     this.rows = new Map();
     onClick(button("breakpoints-on"), () => calls.switchAll(true));
     onClick(button("breakpoints-off"), () => calls.switchAll(false));
     onClick(button("breakpoints-remove"), () => calls.removeAll());
-    onClick(button("breakpoints-hits"), () => calls.forgetHits());
+    onClick(button("breakpoints-hits"), () => calls.resetHits());
   }
 
   /** @param {Keeper} keeper */
@@ -65,12 +65,12 @@ export class BreakpointsView {
       root.remove();
       this.rows.delete(id);
     }
-    all.forEach((breakpoint, at) => {
+    all.forEach((breakpoint, index) => {
       const row = this.rows.get(breakpoint.id) || this.makeRow(breakpoint.id, keeper);
-      if (this.root.children[at] !== row.root) this.root.insertBefore(row.root, this.root.children[at] || null);
+      if (this.root.children[index] !== row.root) this.root.insertBefore(row.root, this.root.children[index] || null);
       this.showRow(row, breakpoint, faults.get(breakpoint.id) || "", map);
     });
-    this.none.hidden = all.length > 0;
+    this.emptyNote.hidden = all.length > 0;
     block("breakpoints-bar").hidden = all.length === 0;
   }
 
@@ -82,15 +82,15 @@ export class BreakpointsView {
    */
   showRow(row, breakpoint, fault, map) {
     const { isOn, hits } = breakpoint;
-    const { mark, words } = markOf(breakpoint, fault);
+    const { mark, words } = breakpointMark(breakpoint, fault);
     row.isOn.checked = isOn;
     row.mark.set(mark);
     row.mark.node.title = words;
-    const where = whereBreakpointIs(breakpoint, map);
-    row.where.set(where);
-    row.edit.setAttribute("aria-label", say.editBreakpoint(where));
+    const location = formatLocation(breakpoint, map);
+    row.location.set(location);
+    row.edit.setAttribute("aria-label", say.editBreakpoint(location));
     row.hits.set(hits > 0 ? counted(hits, "hit") : "");
-    row.words.set(detailsOfBreakpoint(breakpoint));
+    row.words.set(describeDetails(breakpoint));
     row.fault.set(fault && say.stopsEachTime(fault));
   }
 
@@ -110,19 +110,19 @@ export class BreakpointsView {
   makeRow(id, keeper) {
     const isOn = element("input", { "type": "checkbox", "aria-label": say.ON, "autocomplete": "off" });
     const place = element("button", { type: "button", className: "place" });
-    const [mark, where, hits, words, fault] = [element("i", { "aria-hidden": "true" }), place, element("span", { className: "hits" }),
+    const [mark, location, hits, words, fault] = [element("i", { "aria-hidden": "true" }), place, element("span", { className: "hits" }),
       element("p", { className: "words" }), element("p", { className: "fault" })].map((node) => new Cell(node));
-    const act = (/** @type {(found: Breakpoint) => void} */ call) => () => {
-      const found = keeper.list.get(id);
-      if (found) call(found);
+    const withBreakpoint = (/** @type {(breakpoint: Breakpoint) => void} */ call) => () => {
+      const breakpoint = keeper.list.get(id);
+      if (breakpoint) call(breakpoint);
     };
-    const edit = buttonOf(say.EDIT, act((found) => this.calls.edit(found)), { className: "edit" });
+    const edit = buttonOf(say.EDIT, withBreakpoint((breakpoint) => this.calls.edit(breakpoint)), { className: "edit" });
     const remove = buttonOf("\u00D7", () => this.calls.remove(id), { "aria-label": say.REMOVE_BREAKPOINT, "title": say.REMOVES_IT });
-    const root = element("li", {}, element("div", { className: "bar" }, isOn, mark.node, where.node, hits.node, edit, remove),
+    const root = element("li", {}, element("div", { className: "bar" }, isOn, mark.node, location.node, hits.node, edit, remove),
       words.node, fault.node);
     isOn.addEventListener("change", () => this.calls.change(id, { isOn: isOn.checked }));
-    onClick(where.node, act((found) => this.calls.goTo(found)));
-    const row = { root, isOn, mark, where, edit, hits, words, fault };
+    onClick(location.node, withBreakpoint((breakpoint) => this.calls.goTo(breakpoint)));
+    const row = { root, isOn, mark, location, edit, hits, words, fault };
     this.rows.set(id, row);
     return row;
   }
@@ -135,12 +135,12 @@ export class BreakpointsView {
   log({ notes, noted }, keeper) {
     if (notes.length === 0) return;
     const lines = notes.slice(-MAX_NOTES).map(({ id, cycles, words }) => {
-      const found = keeper.list.get(id);
-      const where = found ? whereBreakpointIs(found, keeper.map) : "";
-      return element("p", { title: say.loggedAt(wordsOfCycles(cycles)) }, element("b", {}, where), ` ${words}`);
+      const breakpoint = keeper.list.get(id);
+      const location = breakpoint ? formatLocation(breakpoint, keeper.map) : "";
+      return element("p", { title: say.loggedAt(formatCycles(cycles)) }, element("b", {}, location), ` ${words}`);
     });
-    const more = (noted - notes.length).toLocaleString("en");
-    if (noted > notes.length) lines.unshift(element("p", { className: "hint" }, say.moreNotes(more)));
+    const omittedCount = (noted - notes.length).toLocaleString("en");
+    if (noted > notes.length) lines.unshift(element("p", { className: "hint" }, say.moreNotes(omittedCount)));
     this.notes.hidden = false;
     this.notes.append(...lines);
     while (this.notes.children.length > MAX_NOTES) this.notes.children[0].remove();
@@ -151,7 +151,7 @@ export class BreakpointsView {
    * Returns the list element of a breakpoint, or undefined if there is none.
    * @param {number} id
    */
-  rootOf(id) {
+  rowElement(id) {
     const row = this.rows.get(id);
     return row && row.root;
   }

@@ -7,7 +7,7 @@ import * as say from "../../words/machine.js";
 
 /**
  * An editable cell: its place in the `poke` command, its name, and its number of digits.
- * @typedef {{ place: string, name: string, digits: number }} Poked
+ * @typedef {{ place: string, name: string, digits: number }} EditableCell
  */
 
 /**
@@ -15,7 +15,7 @@ import * as say from "../../words/machine.js";
  * @typedef {object} EditorCalls
  * @property {(place: string, value: string) => Promise<string>} poke Sets a place to a value, both in the syntax of the `poke` command.
  *   Resolves to "", or to the reason why the bench rejects the value.
- * @property {(words: string, at: HTMLElement) => void} showMessage Shows a message at a cell that cannot be edited at present.
+ * @property {(words: string, cell: HTMLElement) => void} showMessage Shows a message at a cell that cannot be edited at present.
  */
 
 
@@ -23,19 +23,19 @@ import * as say from "../../words/machine.js";
  * Returns a typed value in the syntax of the `poke` command, or "" if the text is not a hexadecimal number.
  * @param {string} text
  */
-export function valueOf(text) {
-  const found = /^(?:0x)?([0-9a-f]{1,8})$/i.exec(text.trim());
-  return found ? `0x${found[1].toUpperCase()}` : "";
+export function parseHexValue(text) {
+  const match = /^(?:0x)?([0-9a-f]{1,8})$/i.exec(text.trim());
+  return match ? `0x${match[1].toUpperCase()}` : "";
 }
 
 export class CellEditor {
   /** @param {EditorCalls} calls */
   constructor(calls) {
     this.calls = calls;
-    /** @type {WeakMap<HTMLElement, Poked>} */
-    this.poked = new WeakMap();
+    /** @type {WeakMap<HTMLElement, EditableCell>} */
+    this.editableCells = new WeakMap();
     /** @type {WeakMap<HTMLElement, string>} the reason why a cell cannot be edited */
-    this.fixed = new WeakMap();
+    this.fixedReasons = new WeakMap();
     /** @type {HTMLElement | null} the cell that is being edited */
     this.cell = null;
     this.label = element("span", { className: "unseen" });
@@ -45,27 +45,27 @@ export class CellEditor {
     this.field.setAttribute("aria-describedby", this.message.id);
     this.box = element("div", { id: "cell-editor", hidden: true }, element("label", {}, this.label, this.field), this.message);
     document.body.append(this.box);
-    this.field.addEventListener("keydown", (event) => this.typed(event));
+    this.field.addEventListener("keydown", (event) => this.handleKey(event));
     this.field.addEventListener("blur", () => this.close(false));
   }
 
   /**
    * Makes a cell editable.
    * @param {HTMLElement} cell
-   * @param {Poked} poked
+   * @param {EditableCell} target
    */
-  offer(cell, poked) {
-    this.poked.set(cell, poked);
+  makeEditable(cell, target) {
+    this.editableCells.set(cell, target);
     this.listen(cell);
   }
 
   /**
    * Makes a cell show a message when the user tries to edit it.
    * @param {HTMLElement} cell
-   * @param {string} why
+   * @param {string} reason
    */
-  refuse(cell, why) {
-    this.fixed.set(cell, why);
+  makeReadOnly(cell, reason) {
+    this.fixedReasons.set(cell, reason);
     this.listen(cell);
   }
 
@@ -82,14 +82,14 @@ export class CellEditor {
 
   /** @param {HTMLElement} cell */
   open(cell) {
-    const why = this.fixed.get(cell);
-    if (why) this.calls.showMessage(why, cell);
-    const poked = this.poked.get(cell);
-    if (!poked) return;
+    const reason = this.fixedReasons.get(cell);
+    if (reason) this.calls.showMessage(reason, cell);
+    const target = this.editableCells.get(cell);
+    if (!target) return;
     this.cell = cell;
-    this.label.textContent = say.inHexadecimal(poked.name);
+    this.label.textContent = say.inHexadecimal(target.name);
     this.field.value = cell.textContent || "";
-    this.field.size = Math.max(2, poked.digits);
+    this.field.size = Math.max(2, target.digits);
     this.showMessage("");
     this.box.hidden = false;
     const { left, top } = cell.getBoundingClientRect();
@@ -104,30 +104,30 @@ export class CellEditor {
     this.field.setAttribute("aria-invalid", String(words !== ""));
   }
 
-  /** @param {boolean} returns true if the focus returns to the cell */
-  close(returns) {
+  /** @param {boolean} returnsFocus true if the focus returns to the cell */
+  close(returnsFocus) {
     const { cell } = this;
     if (!cell) return;
     this.cell = null;
     this.box.hidden = true;
-    if (returns && cell.isConnected) cell.focus();
+    if (returnsFocus && cell.isConnected) cell.focus();
   }
 
   /** @param {KeyboardEvent} event */
-  typed(event) {
+  handleKey(event) {
     if (event.key !== "Enter" && event.key !== "Escape") return;
     event.preventDefault();
     event.stopPropagation();
     if (event.key === "Escape") this.close(true);
-    else this.poke();
+    else this.submitValue();
   }
 
-  async poke() {
+  async submitValue() {
     const { cell } = this;
-    const poked = cell && this.poked.get(cell);
-    if (!poked) return;
-    const value = valueOf(this.field.value);
-    const refusal = value === "" ? say.NOT_HEXADECIMAL : await this.calls.poke(poked.place, value);
+    const target = cell && this.editableCells.get(cell);
+    if (!target) return;
+    const value = parseHexValue(this.field.value);
+    const refusal = value === "" ? say.NOT_HEXADECIMAL : await this.calls.poke(target.place, value);
     // The user may have left the field in the meantime.
     if (this.cell !== cell) return;
     if (refusal === "") this.close(true);

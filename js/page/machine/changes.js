@@ -5,9 +5,9 @@
 export class Changes {
   constructor() {
     /** @type {Map<Cell, string>} the text of each cell at the last pause */
-    this.before = new Map();
+    this.textsAtPause = new Map();
     /** @type {Set<Cell>} */
-    this.marked = new Set();
+    this.markedCells = new Set();
   }
 
   /**
@@ -16,35 +16,35 @@ export class Changes {
    * @param {string} text
    */
   set(cell, text) {
-    if (!this.before.has(cell)) this.before.set(cell, text);
+    if (!this.textsAtPause.has(cell)) this.textsAtPause.set(cell, text);
     cell.set(text);
   }
 
   /** Clears the marks. Called for each snapshot while time is running. */
-  runs() {
-    if (this.marked.size > 0) this.clear();
+  handleRunning() {
+    if (this.markedCells.size > 0) this.clear();
   }
 
   /** Marks the changed values. Called for each snapshot while time is paused. If nothing has changed, the earlier marks stay. */
-  stops() {
-    const changed = [...this.before].filter(([cell, before]) => cell.text !== before).map(([cell]) => cell);
-    if (changed.length === 0) return;
+  handlePaused() {
+    const changedCells = [...this.textsAtPause].filter(([cell, oldText]) => cell.text !== oldText).map(([cell]) => cell);
+    if (changedCells.length === 0) return;
     this.clear();
-    for (const cell of changed) {
-      this.before.set(cell, cell.text);
-      this.marked.add(cell);
+    for (const cell of changedCells) {
+      this.textsAtPause.set(cell, cell.text);
+      this.markedCells.add(cell);
       cell.node.classList.add("changed");
     }
   }
 
   clear() {
-    for (const cell of this.marked) cell.node.classList.remove("changed");
-    this.marked.clear();
+    for (const cell of this.markedCells) cell.node.classList.remove("changed");
+    this.markedCells.clear();
   }
 
   /** Forgets all cells, because the page is about to replace them. */
   forget() {
     this.clear();
-    this.before.clear();
+    this.textsAtPause.clear();
   }
 }

@@ -1,47 +1,47 @@
 // The field that shows an address in the disassembly, and the button that sets a breakpoint there.
 
 import { Cell, block, button, byId, element, field, onClick } from "../ui/dom.js";
-import { goalOf } from "../../core/machine/go_to.js";
+import { parseGoal } from "../../core/machine/go_to.js";
 
 /**
  * @typedef {import("../../core/machine/source_map.js").SourceMap} SourceMap
- * @typedef {{ goTo: (address: number) => void }} Goes a view that can show an address
+ * @typedef {{ goTo: (address: number) => void }} AddressView a view that can show an address
  */
 
 export class GoToView {
   /**
-   * @param {Goes} listing
+   * @param {AddressView} listing
    * @param {(address: number) => void} toggleBreakpoint
-   * @param {(address: number) => void} went called after the disassembly has scrolled to an address
+   * @param {(address: number) => void} onGoTo called after the disassembly has scrolled to an address
    */
-  constructor(listing, toggleBreakpoint, went) {
+  constructor(listing, toggleBreakpoint, onGoTo) {
     this.listing = listing;
-    this.went = went;
+    this.onGoTo = onGoTo;
     this.field = field("go-to");
     this.names = byId("names", HTMLDataListElement);
     this.status = new Cell(block("go-to-status"));
     /** @type {SourceMap | null} */
     this.map = null;
-    this.field.addEventListener("change", () => this.go());
+    this.field.addEventListener("change", () => this.goToTypedAddress());
     // Enter also works if the text is unchanged.
-    this.field.addEventListener("keydown", (event) => event.key === "Enter" && this.go());
+    this.field.addEventListener("keydown", (event) => event.key === "Enter" && this.goToTypedAddress());
     const breakButton = button("break-there");
     onClick(breakButton, () => {
-      const address = this.go();
+      const address = this.goToTypedAddress();
       if (address !== null) toggleBreakpoint(address);
     });
   }
 
   /** @param {SourceMap | null} map the source map of the program in ROM; the field offers its names */
-  takeNames(map) {
+  setNames(map) {
     this.map = map;
     const names = map ? [...map.names.keys()].sort() : [];
     this.names.replaceChildren(...names.map((name) => element("option", { value: name })));
   }
 
   /** Shows the address in the field. Returns the address, or null if the field does not contain one. */
-  go() {
-    const { address, words } = goalOf(this.field.value, this.map);
+  goToTypedAddress() {
+    const { address, words } = parseGoal(this.field.value, this.map);
     this.status.set(words);
     this.field.setAttribute("aria-invalid", String(words !== ""));
     if (words !== "") return null;
@@ -52,6 +52,6 @@ export class GoToView {
   /** @param {number} address */
   show(address) {
     this.listing.goTo(address);
-    this.went(address);
+    this.onGoTo(address);
   }
 }

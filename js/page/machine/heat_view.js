@@ -3,26 +3,29 @@
 
 import { block, byId, field } from "../ui/dom.js";
 import { parseCount } from "../../core/bench/numbers.js";
-import { PassingHeat, heatLevels, wordsOfHeat, wordsOfChanges, wordsOfPassing, wordsOfSeen } from "../../core/machine/warmth.js";
+import {
+  PassingHeat, heatLevels, describeHeat, describeChanges, describeHeatStatus, describeSeenChanges,
+} from "../../core/machine/warmth.js";
 import * as say from "../../words/machine.js";
 
 /**
  * @typedef {import("../../core/engine/heat.js").Heat} Heat
- * @typedef {import("../../core/engine/heating.js").PassedHeat} PassedHeat
+ * @typedef {import("../../core/engine/heating.js").ChipHeat} ChipHeat
  * @typedef {import("../../core/machine/warmth.js").HeatKind} HeatKind
  * @typedef {import("../../core/machine/source_map.js").SourceMap} SourceMap
- * @typedef {{ warmth: number, words: string }} Warm
+ * @typedef {{ warmth: number, words: string }} CellHeat
  */
 
 /**
  * The callbacks of the heat map.
  * @typedef {object} HeatCalls
  * @property {() => boolean} isRunning Returns true if time is running.
- * @property {(cycles: number, signal: AbortSignal) => Promise<Heat | null>} count Counts the changes in the last `cycles` cycles. Resolves
- *   to null if `signal` is aborted or if the count fails. A failure has already been reported.
- * @property {(isOn: boolean) => void} watch Switches the bench's reports of RAM changes on or off.
- * @property {(warm: Map<string, Warm>) => void} show Shows the heat level of cells, by place. Cells that are not in the map have no colour.
- * @property {(place: string) => string} nameOf Returns the program's name for a place.
+ * @property {(cycles: number, signal: AbortSignal) => Promise<Heat | null>} countChanges Counts the changes in the last `cycles` cycles.
+ *   Resolves to null if `signal` is aborted or if the count fails. A failure has already been reported.
+ * @property {(isOn: boolean) => void} setWatch Switches the bench's reports of RAM changes on or off.
+ * @property {(heatByPlace: Map<string, CellHeat>) => void} showCells Shows the heat level of cells, by place. Cells that are not in the map
+ *   have no colour.
+ * @property {(place: string) => string} placeName Returns the program's name for a place.
  * @property {() => SourceMap | null} map Returns the source map of the program in ROM, or null if ROM does not match the source.
  */
 
@@ -44,33 +47,33 @@ export class HeatView {
     this.kind = byId("heat", HTMLSelectElement);
     this.cycles = field("heat-cycles");
     this.status = block("heat-status");
-    this.resting = 0;
+    this.countTimer = 0;
     this.request = new AbortController();
     /** True if the heat map may be out of date. */
-    this.isOld = true;
+    this.isStale = true;
     /** @type {Heat | null} the result of the last count */
     this.heat = null;
-    this.passing = new PassingHeat();
+    this.passingHeat = new PassingHeat();
     /** The time of the last update while time was running, in milliseconds. */
-    this.drawn = 0;
+    this.lastDrawTime = 0;
     this.kind.value = choices.get("heat");
     this.cycles.value = choices.get("heat-cycles") || this.cycles.value;
-    this.kind.addEventListener("change", () => this.choose());
-    this.cycles.addEventListener("change", () => this.choose());
+    this.kind.addEventListener("change", () => this.applyChoice());
+    this.cycles.addEventListener("change", () => this.applyChoice());
     // Input cancels a count, so that the user's next action does not wait for it.
-    for (const kind of ["keydown", "pointerdown"]) addEventListener(kind, () => this.wait(), true);
+    for (const kind of ["keydown", "pointerdown"]) addEventListener(kind, () => this.restartTimer(), true);
     this.showReach();
   }
 
-  choose() {
+  applyChoice() {
     this.choices.set("heat", this.kind.value);
     this.choices.set("heat-cycles", this.cycles.value);
     this.showReach();
     this.clear();
     this.updateWatch();
     if (this.kind.value !== "") this.readCycles();
-    this.isOld = true;
-    this.wait();
+    this.isStale = true;
+    this.restartTimer();
   }
 
   /** Returns the number of cycles in the field. If the number is not valid, shows a message and returns 0. */
@@ -89,7 +92,7 @@ export class HeatView {
    * changes.
    */
   updateWatch() {
-    this.calls.watch(this.kind.value !== "");
+    this.calls.setWatch(this.kind.value !== "");
   }
 
   showReach() {
@@ -98,36 +101,36 @@ export class HeatView {
 
   /**
    * Updates the heat map with a frame of running time.
-   * @param {{ warmed: PassedHeat | null, cycles: number }} frame
+   * @param {{ warmed: ChipHeat | null, cycles: number }} frame
    */
   handleFrame({ warmed, cycles }) {
     if (this.kind.value === "") return;
     // A message about the past does not apply while time is running. Without RAM, there is no other message.
     if (!warmed) this.showStatus("");
-    const limit = parseCount(this.cycles.value, MAX_CYCLES);
-    if (!warmed || limit === 0) return;
-    this.passing.add(warmed, cycles, limit);
-    if (performance.now() - this.drawn < DRAW_INTERVAL) return;
-    this.drawn = performance.now();
+    const maxCycles = parseCount(this.cycles.value, MAX_CYCLES);
+    if (!warmed || maxCycles === 0) return;
+    this.passingHeat.add(warmed, cycles, maxCycles);
+    if (performance.now() - this.lastDrawTime < DRAW_INTERVAL) return;
+    this.lastDrawTime = performance.now();
     this.heat = null;
-    this.showCells(this.passing.heat, wordsOfSeen);
-    this.showStatus(wordsOfPassing(warmed, warmed.cycles >= cycles));
+    this.showCells(this.passingHeat.heat, describeSeenChanges);
+    this.showStatus(describeHeatStatus(warmed, warmed.cycles >= cycles));
   }
 
   /** Marks the heat map as out of date after a new snapshot. */
   handleSnapshot() {
     if (this.kind.value === "") return;
-    this.isOld = true;
-    if (!this.calls.isRunning()) this.passing.clear();
-    this.wait();
+    this.isStale = true;
+    if (!this.calls.isRunning()) this.passingHeat.clear();
+    this.restartTimer();
   }
 
   clear() {
     this.heat = null;
-    this.passing.clear();
-    this.drawn = 0;
+    this.passingHeat.clear();
+    this.lastDrawTime = 0;
     this.showStatus("");
-    this.calls.show(new Map());
+    this.calls.showCells(new Map());
   }
 
   /** @param {string} words */
@@ -136,42 +139,43 @@ export class HeatView {
   }
 
   /** Cancels the current count. If the heat map is out of date and time is paused, starts another count after REST_TIME. */
-  wait() {
-    clearTimeout(this.resting);
+  restartTimer() {
+    clearTimeout(this.countTimer);
     this.request.abort();
-    if (this.isOld && this.kind.value !== "" && !this.calls.isRunning()) this.resting = window.setTimeout(() => this.count(), REST_TIME);
+    if (!this.isStale || this.kind.value === "" || this.calls.isRunning()) return;
+    this.countTimer = window.setTimeout(() => this.startCount(), REST_TIME);
   }
 
-  async count() {
+  async startCount() {
     const cycles = this.readCycles();
     if (cycles === 0) return;
     const request = new AbortController();
     this.request = request;
     if (!this.heat) this.showStatus(say.SEARCHING_PAST);
-    const heat = await this.calls.count(cycles, request.signal);
+    const heat = await this.calls.countChanges(cycles, request.signal);
     if (!heat || request.signal.aborted || this.calls.isRunning() || this.kind.value === "") return;
     this.heat = heat;
-    this.isOld = false;
-    this.show(heat, cycles);
+    this.isStale = false;
+    this.showHeat(heat, cycles);
   }
 
   /**
    * @param {Heat} heat
-   * @param {number} wanted
+   * @param {number} wantedCycles
    */
-  show(heat, wanted) {
-    this.showStatus(wordsOfHeat(heat, wanted, this.calls.nameOf, this.calls.map()));
-    this.showCells(heat, wordsOfChanges);
+  showHeat(heat, wantedCycles) {
+    this.showStatus(describeHeat(heat, wantedCycles, this.calls.placeName, this.calls.map()));
+    this.showCells(heat, describeChanges);
   }
 
   /**
    * @param {Heat} heat
-   * @param {(cell: import("../../core/engine/heat.js").Heated, map: SourceMap | null) => string} wordsOf
+   * @param {(cell: import("../../core/engine/heat.js").HeatCell, map: SourceMap | null) => string} describeCell
    */
-  showCells(heat, wordsOf) {
+  showCells(heat, describeCell) {
     const map = this.calls.map();
     const warmth = heatLevels(heat, /** @type {HeatKind} */ (this.kind.value));
-    this.calls.show(new Map(heat.cells.map((cell) => (
-      [cell.place, { warmth: warmth.get(cell.place) || 0, words: say.changedHow(wordsOf(cell, map)) }]))));
+    this.calls.showCells(new Map(heat.cells.map((cell) => (
+      [cell.place, { warmth: warmth.get(cell.place) || 0, words: say.changedHow(describeCell(cell, map)) }]))));
   }
 }

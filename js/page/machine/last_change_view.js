@@ -5,17 +5,17 @@ import { element } from "../ui/dom.js";
 import { putBelow } from "../ui/popup_message.js";
 
 /**
- * @typedef {import("./cell_editor.js").Poked} Poked
+ * @typedef {import("./cell_editor.js").EditableCell} EditableCell
  */
 
 /**
  * The callbacks of the tooltip.
  * @typedef {object} LastChangeCalls
  * @property {() => boolean} isRunning Returns true if time is running. The tooltip appears only while time is paused.
- * @property {(poked: Poked, signal: AbortSignal) => Promise<string>} wordsOf Resolves to a text about the last change of a place, or to ""
- *   if `signal` is aborted or the search fails.
- * @property {(cell: HTMLElement) => Poked | undefined} pokedAt Returns the place whose value a cell shows, or undefined if the cell shows
- *   none.
+ * @property {(editableCell: EditableCell, signal: AbortSignal) => Promise<string>} describeLastChange Resolves to a text about the last
+ *   change of a place, or to "" if `signal` is aborted or the search fails.
+ * @property {(cell: HTMLElement) => EditableCell | undefined} editableCellAt Returns the place whose value a cell shows, or undefined if
+ *   the cell shows none.
  */
 
 /** The time in milliseconds for which the pointer or the focus must stay on a cell before the tooltip opens. */
@@ -30,44 +30,44 @@ export class LastChangeView {
    */
   constructor(panels, calls) {
     this.calls = calls;
-    this.resting = 0;
+    this.tipTimer = 0;
     this.request = new AbortController();
     this.tip = element("p", { className: "value-tip", id: "change-tip", hidden: true });
     this.tip.setAttribute("role", "status");
     document.body.append(this.tip);
     for (const panel of panels) {
-      for (const kind of ["pointerover", "focusin"]) panel.addEventListener(kind, ({ target }) => this.point(target));
-      for (const kind of ["pointerout", "focusout"]) panel.addEventListener(kind, () => this.leave());
+      for (const kind of ["pointerover", "focusin"]) panel.addEventListener(kind, ({ target }) => this.startTimer(target));
+      for (const kind of ["pointerout", "focusout"]) panel.addEventListener(kind, () => this.hideTip());
     }
     // Input cancels the search, so that the user's next action does not wait for it.
-    for (const kind of ["keydown", "pointerdown"]) addEventListener(kind, () => this.leave(), true);
+    for (const kind of ["keydown", "pointerdown"]) addEventListener(kind, () => this.hideTip(), true);
   }
 
   /** @param {EventTarget | null} cell */
-  point(cell) {
-    this.leave();
-    const poked = cell instanceof HTMLElement ? this.calls.pokedAt(cell) : undefined;
-    if (!poked) return;
-    this.resting = window.setTimeout(() => this.showChange(/** @type {HTMLElement} */ (cell), poked), REST_TIME);
+  startTimer(cell) {
+    this.hideTip();
+    const editableCell = cell instanceof HTMLElement ? this.calls.editableCellAt(cell) : undefined;
+    if (!editableCell) return;
+    this.tipTimer = window.setTimeout(() => this.showChange(/** @type {HTMLElement} */ (cell), editableCell), REST_TIME);
   }
 
-  leave() {
-    clearTimeout(this.resting);
+  hideTip() {
+    clearTimeout(this.tipTimer);
     this.request.abort();
     this.tip.hidden = true;
   }
 
   /**
    * @param {HTMLElement} cell
-   * @param {Poked} poked
+   * @param {EditableCell} editableCell
    */
-  async showChange(cell, poked) {
+  async showChange(cell, editableCell) {
     if (this.calls.isRunning()) return;
     const request = new AbortController();
     this.request = request;
-    const text = await this.calls.wordsOf(poked, request.signal);
-    if (text === "" || request.signal.aborted || !cell.isConnected || this.calls.isRunning()) return;
-    this.tip.textContent = text;
+    const description = await this.calls.describeLastChange(editableCell, request.signal);
+    if (description === "" || request.signal.aborted || !cell.isConnected || this.calls.isRunning()) return;
+    this.tip.textContent = description;
     this.tip.hidden = false;
     putBelow(this.tip, cell.getBoundingClientRect(), BELOW_CELL);
   }

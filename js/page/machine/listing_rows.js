@@ -8,8 +8,8 @@ import * as say from "../../words/machine.js";
  *
  * @typedef {import("../../core/machine/breakpoint_marks.js").BreakpointMark} BreakpointMark
  *
- * A row. `marked` is the address of the breakpoint in the row's line, or the line's own address if there is no breakpoint.
- * @typedef {{ button: HTMLButtonElement, address: number, marked: number, mark: Cell, bytes: Cell, labels: Cell,
+ * A row. `markedAddress` is the address of the breakpoint in the row's line, or the line's address if there is no breakpoint.
+ * @typedef {{ button: HTMLButtonElement, address: number, markedAddress: number, mark: Cell, bytes: Cell, labels: Cell,
  *   instruction: Cell, breakpoint: Switch, next: Switch }} Row
  */
 
@@ -36,8 +36,8 @@ export class ListingRows {
     /** @type {Row[]} */
     this.rows = [];
     /** The number of visible rows. */
-    this.used = 0;
-    root.addEventListener("focusin", (event) => this.setStop(event.target));
+    this.visibleCount = 0;
+    root.addEventListener("focusin", (event) => this.setTabStop(event.target));
   }
 
   get count() {
@@ -52,7 +52,7 @@ export class ListingRows {
       this.root.append(row.button);
     }
     for (const row of this.rows.splice(count)) row.button.remove();
-    this.setStop(this.rows[0].button);
+    this.setTabStop(this.rows[0].button);
   }
 
   /** @returns {Row} */
@@ -66,17 +66,17 @@ export class ListingRows {
       else button.removeAttribute("aria-current");
     });
     /** @type {Row} */
-    const row = { button, address: 0, marked: 0, mark, bytes, labels, instruction, breakpoint: pressedSwitch(button), next };
-    onClick(button, () => this.toggleBreakpoint(row.marked));
+    const row = { button, address: 0, markedAddress: 0, mark, bytes, labels, instruction, breakpoint: pressedSwitch(button), next };
+    onClick(button, () => this.toggleBreakpoint(row.markedAddress));
     return row;
   }
 
   /**
    * Makes one row the only tab stop of the disassembly.
-   * @param {EventTarget | null} stop
+   * @param {EventTarget | null} tabStop
    */
-  setStop(stop) {
-    for (const { button } of this.rows) button.tabIndex = button === stop ? 0 : -1;
+  setTabStop(tabStop) {
+    for (const { button } of this.rows) button.tabIndex = button === tabStop ? 0 : -1;
   }
 
   /**
@@ -85,16 +85,16 @@ export class ListingRows {
    * @param {Map<string, BreakpointMark>} breakpoints the breakpoint marks, by address
    */
   show(lines, counter, breakpoints) {
-    this.used = Math.min(lines.length, this.rows.length);
-    this.rows.forEach((row, at) => {
-      const line = lines[at];
+    this.visibleCount = Math.min(lines.length, this.rows.length);
+    this.rows.forEach((row, index) => {
+      const line = lines[index];
       row.button.hidden = line === undefined;
       if (!line) return;
       const lineMark = breakpoints.get(line.first);
       const mark = lineMark || insideMark(line.second, breakpoints);
       const title = [mark ? mark.words : "", line.source].filter(Boolean).join("; ");
       row.address = line.address;
-      row.marked = mark && !lineMark ? parseInt(line.second, 16) : line.address;
+      row.markedAddress = mark && !lineMark ? parseInt(line.second, 16) : line.address;
       row.bytes.set(line.bytes);
       row.labels.set(line.labels);
       row.instruction.set(line.instruction);
@@ -110,22 +110,22 @@ export class ListingRows {
    * @param {Node} node
    */
   addressAt(node) {
-    const found = this.rows.find(({ button }) => button.contains(node));
-    return found ? found.address : null;
+    const row = this.rows.find(({ button }) => button.contains(node));
+    return row ? row.address : null;
   }
 
   /** The index of the row with the focus, or -1 if no row has it. */
-  get focused() {
+  get focusedIndex() {
     return this.rows.findIndex(({ button }) => button === document.activeElement);
   }
 
-  /** @param {number} at */
-  focus(at) {
-    this.rows[Math.max(0, Math.min(at, this.used - 1))].button.focus({ preventScroll: true });
+  /** @param {number} index */
+  focus(index) {
+    this.rows[Math.max(0, Math.min(index, this.visibleCount - 1))].button.focus({ preventScroll: true });
   }
 
   /** Moves the first row to the end. If it had the focus, the focus moves on, and a screen reader announces the new row. */
-  turn() {
+  rotateRows() {
     const [first] = this.rows.splice(0, 1);
     this.rows.push(first);
     this.root.append(first.button);

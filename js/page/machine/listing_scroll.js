@@ -1,16 +1,16 @@
 // Scrolling of the disassembly. The box is as high as all 4,096 rows, but only the visible rows exist. The browser handles the scroll bar,
 // the wheel and touch. Keys move by rows and by pages.
 
-import { ADDRESSES } from "../../core/bench/rom_bytes.js";
+import { ADDRESS_COUNT } from "../../core/bench/rom_bytes.js";
 import { element } from "../ui/dom.js";
 
 /**
  * The callbacks of the disassembly's scrolling.
  * @typedef {object} ScrollCalls
- * @property {(rows: number) => void} resized Handles a resize: the box now has room for `rows` rows.
- * @property {(address: number) => void} scrolled Shows the disassembly from the address to which the user has scrolled.
- * @property {(rows: number) => void} went Moves the focus by a number of rows; negative numbers move up.
- * @property {(end: "first" | "last") => void} wentTo Moves the focus to the first or last row of the disassembly.
+ * @property {(rows: number) => void} handleResize Handles a resize: the box now has room for `rows` rows.
+ * @property {(address: number) => void} showFrom Shows the disassembly from the address to which the user has scrolled.
+ * @property {(rows: number) => void} moveFocus Moves the focus by a number of rows; negative numbers move up.
+ * @property {(end: "first" | "last") => void} moveFocusToEnd Moves the focus to the first or last row of the disassembly.
  */
 
 /** The assumed height of a row in pixels before a row has been laid out. */
@@ -28,10 +28,10 @@ export class ListingScroll {
     this.length = element("div", { className: "length" }, this.rows);
     this.rowHeight = DEFAULT_HEIGHT;
     /** The last scroll position that is already handled. */
-    this.placed = 0;
+    this.handledScrollTop = 0;
     root.append(this.length);
-    root.addEventListener("scroll", () => this.scrolled(), { passive: true });
-    root.addEventListener("keydown", (event) => this.typed(event));
+    root.addEventListener("scroll", () => this.handleScroll(), { passive: true });
+    root.addEventListener("keydown", (event) => this.handleKey(event));
     // A ResizeObserver must not change sizes in its own callback.
     new ResizeObserver(() => requestAnimationFrame(() => this.measure())).observe(root);
   }
@@ -41,38 +41,38 @@ export class ListingScroll {
     if (clientHeight === 0) return;
     const row = this.rows.firstElementChild;
     this.rowHeight = (row instanceof HTMLElement && row.offsetHeight) || DEFAULT_HEIGHT;
-    this.length.style.setProperty("height", `${ADDRESSES * this.rowHeight}px`);
-    this.calls.resized(Math.max(1, Math.floor(clientHeight / this.rowHeight)));
+    this.length.style.setProperty("height", `${ADDRESS_COUNT * this.rowHeight}px`);
+    this.calls.handleResize(Math.max(1, Math.floor(clientHeight / this.rowHeight)));
   }
 
   /**
    * Scrolls the box so that an address is in the first row.
    * @param {number} address
    */
-  beginAt(address) {
+  scrollToAddress(address) {
     this.root.scrollTop = address * this.rowHeight;
-    this.placed = this.root.scrollTop;
+    this.handledScrollTop = this.root.scrollTop;
   }
 
-  scrolled() {
+  handleScroll() {
     const { scrollTop } = this.root;
-    if (Math.abs(scrollTop - this.placed) < this.rowHeight / 2) return;
-    this.placed = scrollTop;
-    this.calls.scrolled(Math.round(scrollTop / this.rowHeight));
+    if (Math.abs(scrollTop - this.handledScrollTop) < this.rowHeight / 2) return;
+    this.handledScrollTop = scrollTop;
+    this.calls.showFrom(Math.round(scrollTop / this.rowHeight));
   }
 
   /** @param {KeyboardEvent} event */
-  typed(event) {
+  handleKey(event) {
     if (event.ctrlKey || event.altKey || event.metaKey) return;
-    const screenful = Math.max(1, Math.floor(this.root.clientHeight / this.rowHeight) - 1);
+    const pageRows = Math.max(1, Math.floor(this.root.clientHeight / this.rowHeight) - 1);
     /** @type {Record<string, () => void>} */
     const actions = {
-      ArrowUp: () => this.calls.went(-1),
-      ArrowDown: () => this.calls.went(1),
-      PageUp: () => this.calls.went(-screenful),
-      PageDown: () => this.calls.went(screenful),
-      Home: () => this.calls.wentTo("first"),
-      End: () => this.calls.wentTo("last"),
+      ArrowUp: () => this.calls.moveFocus(-1),
+      ArrowDown: () => this.calls.moveFocus(1),
+      PageUp: () => this.calls.moveFocus(-pageRows),
+      PageDown: () => this.calls.moveFocus(pageRows),
+      Home: () => this.calls.moveFocusToEnd("first"),
+      End: () => this.calls.moveFocusToEnd("last"),
     };
     if (!Object.prototype.hasOwnProperty.call(actions, event.key)) return;
     event.preventDefault();

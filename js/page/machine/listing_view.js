@@ -1,15 +1,15 @@
 // The disassembly: around the program counter or from a chosen address, with breakpoints.
 
 import { block, field } from "../ui/dom.js";
-import { namedLine, widthOfLabels } from "../../core/machine/listing_names.js";
+import { addLineNames, labelsWidth } from "../../core/machine/listing_names.js";
 import { ListingReader } from "../../core/machine/listing_reader.js";
 import { ListingRows } from "./listing_rows.js";
 import { ListingScroll } from "./listing_scroll.js";
-import { isInsideLine, stretchOf } from "../../core/machine/listing_stretch.js";
+import { isInsideLine, visibleLines } from "../../core/machine/listing_stretch.js";
 import { LAST_ADDRESS } from "../../core/bench/numbers.js";
 
 /**
- * @typedef {import("../../core/bench/answers.js").Listed} Listed
+ * @typedef {import("../../core/bench/answers.js").ListingLine} ListingLine
  * @typedef {import("../../core/machine/listing_names.js").NamedLine} NamedLine
  * @typedef {import("../../core/machine/listing_stretch.js").Goal} Goal
  * @typedef {import("../../core/machine/source_map.js").SourceMap} SourceMap
@@ -18,9 +18,9 @@ import { LAST_ADDRESS } from "../../core/bench/numbers.js";
 /** The number of rows before the page has been laid out. */
 const DEFAULT_ROWS = 18;
 /** The number of bytes before the program counter, if they fit. */
-const BYTES_BEFORE = 10;
+const PRECEDING_BYTES = 10;
 /**
- * The interval in milliseconds at which the disassembly follows the program counter while time is running. It is long enough to read the
+ * The interval in milliseconds at which the disassembly follows the program counter while time is running, so that the user can read the
  * lines.
  */
 const FOLLOW_INTERVAL = 300;
@@ -29,27 +29,27 @@ export class ListingView {
   /**
    * @param {(lines: string) => Promise<string[]>} ask resolves to the bench's answers to queries
    * @param {(address: number) => void} toggleBreakpoint
-   * @param {() => void} moved called when the disassembly must show other lines
+   * @param {() => void} requestUpdate called when the disassembly must show other lines
    */
-  constructor(ask, toggleBreakpoint, moved) {
+  constructor(ask, toggleBreakpoint, requestUpdate) {
     this.reader = new ListingReader(ask);
-    this.moved = moved;
+    this.requestUpdate = requestUpdate;
     this.block = block("lines-of-program");
-    this.follows = true;
+    this.followsCounter = true;
     /**
      * The program counter when the user went to another address. When the counter changes, the disassembly follows it again. -1 if the
-     * disassembly is not waiting for such a change.
+     * disassembly is not waiting for the counter.
      */
-    this.leftAt = -1;
+    this.counterAtLeave = -1;
     /** The first address when the disassembly does not follow the program counter. */
-    this.from = 0;
+    this.firstAddress = 0;
     this.counter = 0;
     /** @type {Map<string, import("../../core/machine/breakpoint_marks.js").BreakpointMark>} the breakpoint marks, by address */
     this.breakpoints = new Map();
-    /** @type {Listed[]} */
+    /** @type {ListingLine[]} */
     this.lines = [];
     /** @type {NamedLine[]} the lines with their names */
-    this.named = [];
+    this.namedLines = [];
     /** @type {SourceMap | null} the program in ROM */
     this.map = null;
     // The number of requests. Lines that arrive after a newer request are discarded.
@@ -57,49 +57,49 @@ export class ListingView {
     /** True if time was running when the disassembly was last shown. */
     this.isRunning = false;
     /** The time in milliseconds when the disassembly last followed the program counter. */
-    this.followed = 0;
+    this.lastFollowTime = 0;
     this.scroll = new ListingScroll(this.block, {
-      resized: (rows) => this.resize(rows),
-      scrolled: (address) => this.scrolledTo(address),
-      went: (rows) => this.go(rows),
-      wentTo: (end) => this.goToEnd(end),
+      handleResize: (rows) => this.resize(rows),
+      showFrom: (address) => this.handleScroll(address),
+      moveFocus: (rows) => this.moveFocus(rows),
+      moveFocusToEnd: (end) => this.moveFocusToEnd(end),
     });
     this.rows = new ListingRows(this.scroll.rows, toggleBreakpoint);
     this.rows.resize(DEFAULT_ROWS);
-    this.listen();
+    this.addListeners();
   }
 
-  listen() {
+  addListeners() {
     const follow = field("follow");
-    follow.checked = this.follows;
+    follow.checked = this.followsCounter;
     follow.addEventListener("change", () => {
-      this.follows = follow.checked;
-      this.leftAt = -1;
-      this.readAgain();
+      this.followsCounter = follow.checked;
+      this.counterAtLeave = -1;
+      this.rereadLines();
     });
   }
 
   /** Reads the lines again from the same address. */
-  readAgain() {
-    if (!this.follows && this.lines.length > 0) this.from = this.lines[0].address;
+  rereadLines() {
+    if (!this.followsCounter && this.lines.length > 0) this.firstAddress = this.lines[0].address;
     this.forget();
-    this.moved();
+    this.requestUpdate();
   }
 
   /** @param {number} rows the number of rows that fit */
   resize(rows) {
     if (rows === this.rows.count) return;
     this.rows.resize(rows);
-    if (this.lines.length > 0) this.readAgain();
+    if (this.lines.length > 0) this.rereadLines();
   }
 
   /**
    * Fixes the disassembly's first address. The disassembly no longer follows the program counter.
    * @param {number} address
    */
-  stayAt(address) {
-    this.from = address;
-    this.follows = field("follow").checked = false;
+  fixFirstAddress(address) {
+    this.firstAddress = address;
+    this.followsCounter = field("follow").checked = false;
   }
 
   /**
@@ -108,32 +108,32 @@ export class ListingView {
    * @param {number} address
    */
   goTo(address) {
-    if (this.follows && !this.isRunning) this.leftAt = this.counter;
-    this.stayAt(address);
+    if (this.followsCounter && !this.isRunning) this.counterAtLeave = this.counter;
+    this.fixFirstAddress(address);
     this.forget();
   }
 
   /** @param {SourceMap | null} map */
   nameLines(map) {
     this.map = map;
-    this.block.style.setProperty("--label-width", `${widthOfLabels(map)}ch`);
-    this.take(this.lines);
+    this.block.style.setProperty("--label-width", `${labelsWidth(map)}ch`);
+    this.setLines(this.lines);
   }
 
   /** Discards all lines, because the contents of ROM may have changed. */
   forget() {
-    this.take([]);
+    this.setLines([]);
     this.requestCount += 1;
   }
 
-  /** @param {Listed[]} lines */
-  take(lines) {
+  /** @param {ListingLine[]} lines */
+  setLines(lines) {
     this.lines = lines;
-    this.named = lines.map((line) => namedLine(line, this.map));
+    this.namedLines = lines.map((line) => addLineNames(line, this.map));
   }
 
   showRows() {
-    this.rows.show(this.named, this.counter, this.breakpoints);
+    this.rows.show(this.namedLines, this.counter, this.breakpoints);
   }
 
   /**
@@ -141,20 +141,20 @@ export class ListingView {
    * @param {boolean} isRunning
    */
   async show(isRunning) {
-    const { counter, from } = this;
+    const { counter, firstAddress } = this;
     this.isRunning = isRunning;
-    if (this.leftAt >= 0 && counter !== this.leftAt) {
-      this.leftAt = -1;
-      this.follows = field("follow").checked = true;
+    if (this.counterAtLeave >= 0 && counter !== this.counterAtLeave) {
+      this.counterAtLeave = -1;
+      this.followsCounter = field("follow").checked = true;
     }
-    if (this.lines.length > 0 && !this.mustMove(isRunning)) {
+    if (this.lines.length > 0 && !this.mustReadLines(isRunning)) {
       this.showRows();
-    } else if (this.follows) {
-      this.followed = performance.now();
-      const before = Math.min(BYTES_BEFORE, Math.floor(this.rows.count / 2));
-      await this.read({ from: Math.max(0, counter - before), anchor: counter });
+    } else if (this.followsCounter) {
+      this.lastFollowTime = performance.now();
+      const bytesBefore = Math.min(PRECEDING_BYTES, Math.floor(this.rows.count / 2));
+      await this.read({ from: Math.max(0, counter - bytesBefore), anchor: counter });
     } else {
-      await this.read({ from, anchor: from });
+      await this.read({ from: firstAddress, anchor: firstAddress });
     }
   }
 
@@ -163,21 +163,21 @@ export class ListingView {
    * one of them.
    * @param {boolean} isRunning
    */
-  mustMove(isRunning) {
-    if (!this.follows) return !isRunning && isInsideLine(this.lines, this.counter);
-    if (this.showsCounter(this.counter)) return false;
-    return !isRunning || performance.now() - this.followed > FOLLOW_INTERVAL;
+  mustReadLines(isRunning) {
+    if (!this.followsCounter) return !isRunning && isInsideLine(this.lines, this.counter);
+    if (this.isCounterVisible(this.counter)) return false;
+    return !isRunning || performance.now() - this.lastFollowTime > FOLLOW_INTERVAL;
   }
 
   /**
    * Returns true if the visible lines include the program counter's line and some lines around it.
    * @param {number} counter
    */
-  showsCounter(counter) {
-    const at = this.lines.findIndex((line) => line.address === counter);
-    if (at < 0) return false;
+  isCounterVisible(counter) {
+    const index = this.lines.findIndex((line) => line.address === counter);
+    if (index < 0) return false;
     const isAtEnd = this.lines[this.lines.length - 1].address >= LAST_ADDRESS - 1;
-    return (at >= 1 || counter === 0) && (at < this.lines.length - 3 || isAtEnd);
+    return (index >= 1 || counter === 0) && (index < this.lines.length - 3 || isAtEnd);
   }
 
   /**
@@ -192,37 +192,37 @@ export class ListingView {
     let lines = await this.reader.read(goal, rows);
     if (goal.anchor !== counter && isInsideLine(lines, counter)) lines = await this.reader.read({ ...goal, anchor: counter }, rows);
     if (requestCount !== this.requestCount) return false;
-    this.take(stretchOf(lines, goal.from, rows));
+    this.setLines(visibleLines(lines, goal.from, rows));
     this.showRows();
-    if (!isScrolled && this.lines.length > 0) this.scroll.beginAt(this.lines[0].address);
+    if (!isScrolled && this.lines.length > 0) this.scroll.scrollToAddress(this.lines[0].address);
     return true;
   }
 
   // --- moving through the listing ---
 
   /** @param {number} address */
-  scrolledTo(address) {
-    this.stayAt(Math.max(0, Math.min(address, LAST_ADDRESS)));
+  handleScroll(address) {
+    this.fixFirstAddress(Math.max(0, Math.min(address, LAST_ADDRESS)));
     // If the address is near the visible lines, their instruction boundaries are used.
-    const known = this.lines.find((line) => line.address >= this.from);
-    const isNear = known && Math.abs(this.lines[0].address - this.from) <= this.rows.count;
-    this.read({ from: this.from, anchor: known && isNear ? known.address : null }, true);
+    const nearLine = this.lines.find((line) => line.address >= this.firstAddress);
+    const isNear = nearLine && Math.abs(this.lines[0].address - this.firstAddress) <= this.rows.count;
+    this.read({ from: this.firstAddress, anchor: nearLine && isNear ? nearLine.address : null }, true);
   }
 
   /**
    * Moves the focus by a number of rows. Scrolls if the focus leaves the visible lines.
    * @param {number} rows
    */
-  async go(rows) {
-    const { focused } = this.rows;
-    if (focused < 0 || this.lines.length === 0) return;
-    const goal = focused + rows;
-    const last = this.lines.length - 1;
-    if (goal >= 0 && goal <= last) {
-      this.rows.focus(goal);
+  async moveFocus(rows) {
+    const { focusedIndex } = this.rows;
+    if (focusedIndex < 0 || this.lines.length === 0) return;
+    const targetIndex = focusedIndex + rows;
+    const lastIndex = this.lines.length - 1;
+    if (targetIndex >= 0 && targetIndex <= lastIndex) {
+      this.rows.focus(targetIndex);
       return;
     }
-    if (await this.goBy(goal < 0 ? goal : goal - last)) this.focusRow(rows < 0 ? 0 : last);
+    if (await this.moveBy(targetIndex < 0 ? targetIndex : targetIndex - lastIndex)) this.focusRow(rows < 0 ? 0 : lastIndex);
   }
 
   /**
@@ -230,32 +230,33 @@ export class ListingView {
    * meantime.
    * @param {number} count
    */
-  async goBy(count) {
-    const [top] = this.lines;
+  async moveBy(count) {
+    const [topLine] = this.lines;
     if (count > 0) {
-      this.stayAt(this.lines[Math.min(count, this.lines.length - 1)].address);
-      return this.read({ from: this.from, anchor: this.from });
+      this.fixFirstAddress(this.lines[Math.min(count, this.lines.length - 1)].address);
+      return this.read({ from: this.firstAddress, anchor: this.firstAddress });
     }
     // A line has one or two bytes.
-    const before = await this.reader.read({ from: Math.max(0, top.address + 2 * count), anchor: top.address }, this.rows.count);
-    const at = before.findIndex((line) => line.address >= top.address);
-    this.stayAt((before[Math.max(0, at + count)] || top).address);
-    return this.read({ from: this.from, anchor: top.address });
+    const from = Math.max(0, topLine.address + 2 * count);
+    const precedingLines = await this.reader.read({ from, anchor: topLine.address }, this.rows.count);
+    const index = precedingLines.findIndex((line) => line.address >= topLine.address);
+    this.fixFirstAddress((precedingLines[Math.max(0, index + count)] || topLine).address);
+    return this.read({ from: this.firstAddress, anchor: topLine.address });
   }
 
   /** @param {"first" | "last"} end */
-  async goToEnd(end) {
-    this.stayAt(end === "first" ? 0 : LAST_ADDRESS);
-    if (await this.read({ from: this.from, anchor: null })) this.focusRow(end === "first" ? 0 : this.lines.length - 1);
+  async moveFocusToEnd(end) {
+    this.fixFirstAddress(end === "first" ? 0 : LAST_ADDRESS);
+    if (await this.read({ from: this.firstAddress, anchor: null })) this.focusRow(end === "first" ? 0 : this.lines.length - 1);
   }
 
   /**
    * Focuses a row after the disassembly has moved. The focus gets a new element, so a screen reader announces it.
-   * @param {number} at the index of the row
+   * @param {number} index the index of the row
    */
-  focusRow(at) {
-    this.rows.turn();
+  focusRow(index) {
+    this.rows.rotateRows();
     this.showRows();
-    this.rows.focus(at);
+    this.rows.focus(index);
   }
 }

@@ -1,7 +1,7 @@
 // The views of registers, ports and shift-register chains. Each view shows one answer of the bench.
 
 import { Cell, Switch, block, element, makeFirstTabStop, makeOneTabStop } from "../ui/dom.js";
-import { upTo } from "../../core/bench/numbers.js";
+import { indices } from "../../core/bench/numbers.js";
 import * as say from "../../words/machine.js";
 
 /**
@@ -18,18 +18,18 @@ import * as say from "../../words/machine.js";
  * @param {string[]} words
  * @param {Explain} explain
  */
-function headOf(words, explain) {
-  const heads = words.map((word) => element("th", { scope: "col", title: explain(word) }, word));
-  return element("thead", {}, element("tr", {}, ...heads));
+function tableHead(words, explain) {
+  const headCells = words.map((word) => element("th", { scope: "col", title: explain(word) }, word));
+  return element("thead", {}, element("tr", {}, ...headCells));
 }
 
 /** @param {number} count */
-function cells(count) {
-  return upTo(count).map(() => new Cell(element("span")));
+function makeCells(count) {
+  return indices(count).map(() => new Cell(element("span")));
 }
 
 /** @param {Cell[]} cellList */
-function nodesOf(cellList) {
+function cellNodes(cellList) {
   return cellList.map((cell) => cell.node);
 }
 
@@ -48,8 +48,8 @@ export class RegistersView {
     this.explain = explain;
     /** @type {Map<string, Cell>} */
     this.cells = new Map();
-    const numbered = upTo(16).map((number) => `R${number}`);
-    block("registers").append(this.group(["acc", "cy", "pc", "dcl", "owed"]), this.group(numbered, "cells of-eight"));
+    const registerNames = indices(16).map((number) => `R${number}`);
+    block("registers").append(this.group(["acc", "cy", "pc", "dcl", "owed"]), this.group(registerNames, "cells of-eight"));
   }
 
   /**
@@ -62,8 +62,8 @@ export class RegistersView {
       const value = element("button", { type: "button", id: `value-${name}` });
       value.setAttribute("aria-labelledby", `${title.id} ${value.id}`);
       this.cells.set(name, new Cell(value));
-      if (name === "owed") this.editor.refuse(value, say.PENDING_CYCLE_IS_READ_ONLY);
-      else this.editor.offer(value, { place: name.toLowerCase(), name, digits: DIGITS.get(name) || 1 });
+      if (name === "owed") this.editor.makeReadOnly(value, say.PENDING_CYCLE_IS_READ_ONLY);
+      else this.editor.makeEditable(value, { place: name.toLowerCase(), name, digits: DIGITS.get(name) || 1 });
       return element("div", {}, title, element("dd", {}, value));
     }));
     makeOneTabStop(group, () => 8);
@@ -101,7 +101,7 @@ export class PortsView {
     this.sourceCells = new Map();
     /** @type {Cell[][]} */
     this.roms = [];
-    /** @type {{ bits: Cell[], ones: Switch[], shown: string }[]} */
+    /** @type {{ bits: Cell[], oneSwitches: Switch[], shownBits: string }[]} */
     this.chains = [];
   }
 
@@ -111,30 +111,30 @@ export class PortsView {
    */
   draw(board, face) {
     /** @type {(place: string) => string} */
-    const nameOf = (place) => (face.ports.get(place) || { text: "" }).text;
+    const placeName = (place) => (face.ports.get(place) || { text: "" }).text;
     this.sources = element("dl", { className: "cells" });
     this.sourceCells.clear();
-    this.roms = board.roms.map(() => cells(2));
-    for (const cell of this.roms.flat()) this.editor.refuse(cell.node, say.PORTS_ARE_READ_ONLY);
+    this.roms = board.roms.map(() => makeCells(2));
+    for (const cell of this.roms.flat()) this.editor.makeReadOnly(cell.node, say.PORTS_ARE_READ_ONLY);
     this.chains = board.chains.map((chain) => {
-      const bits = upTo(chain.chips * 10).map(() => new Cell(element("i")));
-      const ones = bits.map(({ node }) => new Switch((isOne) => node.classList.toggle("one", isOne)));
-      return { bits, ones, shown: "" };
+      const bits = indices(chain.chips * 10).map(() => new Cell(element("i")));
+      const oneSwitches = bits.map(({ node }) => new Switch((isOne) => node.classList.toggle("one", isOne)));
+      return { bits, oneSwitches, shownBits: "" };
     });
-    const lines = this.chains.map(({ bits }, at) => this.chainLine(`chain ${at}`, nameOf(`chain${at}`), nodesOf(bits)));
-    this.block.replaceChildren(this.sources, ...(board.roms.length > 0 ? [this.romTable(board.roms, nameOf)] : []), ...lines);
+    const lines = this.chains.map(({ bits }, index) => this.chainLine(`chain ${index}`, placeName(`chain${index}`), cellNodes(bits)));
+    this.block.replaceChildren(this.sources, ...(board.roms.length > 0 ? [this.romTable(board.roms, placeName)] : []), ...lines);
   }
 
   /**
    * @param {Board["roms"]} roms
-   * @param {(place: string) => string} nameOf
+   * @param {(place: string) => string} placeName
    */
-  romTable(roms, nameOf) {
-    const rows = roms.map((rom, at) => element("tr", {},
-      element("th", { scope: "row" }, String(rom.chip), element("small", {}, nameOf(`rom${rom.chip}`))),
+  romTable(roms, placeName) {
+    const rows = roms.map((rom, index) => element("tr", {},
+      element("th", { scope: "row" }, String(rom.chip), element("small", {}, placeName(`rom${rom.chip}`))),
       element("td", {}, rom.port),
-      ...nodesOf(this.roms[at]).map((node) => element("td", {}, node))));
-    const head = headOf(["ROM", say.LINES_3_TO_0, "latch", "reads"], this.explain);
+      ...cellNodes(this.roms[index]).map((node) => element("td", {}, node))));
+    const head = tableHead(["ROM", say.LINES_3_TO_0, "latch", "reads"], this.explain);
     return element("table", { className: "roms", "aria-label": say.PORTS_OF_ROMS }, head, element("tbody", {}, ...rows));
   }
 
@@ -145,7 +145,7 @@ export class PortsView {
    */
   chainLine(chain, name, bits) {
     const groups = [];
-    for (let from = 0; from < bits.length; from += 10) groups.push(element("span", {}, ...bits.slice(from, from + 10)));
+    for (let start = 0; start < bits.length; start += 10) groups.push(element("span", {}, ...bits.slice(start, start + 10)));
     return element("p", { className: "chain" }, element("b", {}, chain, element("small", {}, name)), ...groups);
   }
 
@@ -157,13 +157,13 @@ export class PortsView {
     for (const source of sources) {
       const [first, second] = source.split(".");
       const name = second === undefined ? say.SRC_OF_ROMS : `bank ${first}`;
-      const cell = this.sourceCells.get(name) || this.newSource(name);
+      const cell = this.sourceCells.get(name) || this.addSourceCell(name);
       this.changes.set(cell, second === undefined ? first : second);
     }
   }
 
   /** @param {string} name */
-  newSource(name) {
+  addSourceCell(name) {
     const cell = new Cell(element("dd"));
     this.sourceCells.set(name, cell);
     this.sources.append(element("div", {}, element("dt", { title: this.explain(name) }, name), cell.node));
@@ -173,16 +173,16 @@ export class PortsView {
   /** @param {Ports} answer */
   show(answer) {
     this.showSources(answer.sources);
-    answer.roms.forEach((rom, at) => {
-      this.changes.set(this.roms[at][0], rom.out);
-      this.changes.set(this.roms[at][1], rom.in);
+    answer.roms.forEach((rom, index) => {
+      this.changes.set(this.roms[index][0], rom.out);
+      this.changes.set(this.roms[index][1], rom.in);
     });
-    answer.chains.forEach((bits, at) => {
-      const chain = this.chains[at];
-      if (chain.shown === bits) return;
-      chain.shown = bits;
-      chain.bits.forEach((cell, index) => cell.set(bits[index]));
-      chain.ones.forEach((one, index) => one.set(bits[index] === "1"));
+    answer.chains.forEach((bits, index) => {
+      const chain = this.chains[index];
+      if (chain.shownBits === bits) return;
+      chain.shownBits = bits;
+      chain.bits.forEach((cell, bit) => cell.set(bits[bit]));
+      chain.oneSwitches.forEach((one, bit) => one.set(bits[bit] === "1"));
     });
   }
 }

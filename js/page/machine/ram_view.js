@@ -1,8 +1,8 @@
 // The board's RAM as a table for each bank. A click on a nibble watches the nibble. Nibbles can be edited in place.
 
 import { Cell, block, byId, element, makeFirstTabStop, makeOneTabStop, pressedSwitch } from "../ui/dom.js";
-import { hex, upTo } from "../../core/bench/numbers.js";
-import { CHARACTERS, STATUS } from "../../core/conditions/places.js";
+import { hex, indices } from "../../core/bench/numbers.js";
+import { CHARACTERS, STATUS_COUNT } from "../../core/conditions/places.js";
 import * as say from "../../words/machine.js";
 
 /**
@@ -10,14 +10,14 @@ import * as say from "../../words/machine.js";
  * @typedef {import("../../core/bench/answers.js").Ram} Ram
  * @typedef {import("./cell_editor.js").CellEditor} CellEditor
  * @typedef {import("./changes.js").Changes} Changes
- * @typedef {import("./heat_view.js").Warm} Warm
+ * @typedef {import("./heat_view.js").CellHeat} CellHeat
  * @typedef {import("../ui/dom.js").Switch} Switch
  * @typedef {{ bank: number, chip: number, register: number }} Register the location of a register
- * @typedef {{ characters: Cell[], status: Cell[], names: HTMLElement, shown: string }} ShownRegister
+ * @typedef {{ characters: Cell[], status: Cell[], names: HTMLElement, shownText: string }} ShownRegister
  */
 
 /** @param {Register} register */
-function wordsOf({ bank, chip, register }) {
+function describeRegister({ bank, chip, register }) {
   return say.registerOfChip(bank, chip, register);
 }
 
@@ -26,22 +26,22 @@ function wordsOf({ bank, chip, register }) {
  * @param {string} register the register as `bank.chip.register`
  * @param {ReadonlyMap<string, string[]>} names
  */
-function namesIn(register, names) {
+function nibbleLabels(register, names) {
   const [bank, chip, number] = register.split(".").map(Number);
-  const at = chip * 4 + number;
+  const registerIndex = chip * 4 + number;
   /** @type {(place: string, label: string) => string[]} */
-  const labelled = (place, label) => (names.get(place) || []).map((name) => `${label} ${name}`);
+  const labelNames = (place, label) => (names.get(place) || []).map((name) => `${label} ${name}`);
   return [
-    ...upTo(CHARACTERS).flatMap((nibble) => labelled(`ram.${bank}.0x${hex(at * CHARACTERS + nibble, 2)}`, hex(nibble, 1))),
-    ...upTo(STATUS).flatMap((index) => labelled(`st.${bank}.${at}.${index}`, `status ${index}`)),
+    ...indices(CHARACTERS).flatMap((nibble) => labelNames(`ram.${bank}.0x${hex(registerIndex * CHARACTERS + nibble, 2)}`, hex(nibble, 1))),
+    ...indices(STATUS_COUNT).flatMap((index) => labelNames(`st.${bank}.${registerIndex}.${index}`, `status ${index}`)),
   ];
 }
 
 /** The number of nibbles in a group that does not wrap. */
-const HALF = CHARACTERS / 2;
+const GROUP_SIZE = CHARACTERS / 2;
 
 /** @param {Cell[]} cells */
-function groupOf(cells) {
+function nibbleGroup(cells) {
   return element("span", { className: "nibbles" }, ...cells.map(({ node }) => node));
 }
 
@@ -56,23 +56,23 @@ export class RamView {
     this.editor = editor;
     this.toggleWatch = toggleWatch;
     /** @type {Map<string, Switch>} the watch mark of each nibble, by the nibble's name in the bench's answers */
-    this.watched = new Map();
+    this.watchSwitches = new Map();
     /** @type {Map<string, ShownRegister>} */
     this.registers = new Map();
     /** @type {Map<string, { node: HTMLElement, title: string }>} the nibbles, by their places in the `poke` command */
     this.characters = new Map();
     /** @type {ReadonlyMap<string, string[]>} the names of nibbles, by place */
     this.names = new Map();
-    /** @type {ReadonlyMap<string, Warm>} the nibbles that changed recently, by place */
-    this.warm = new Map();
+    /** @type {ReadonlyMap<string, CellHeat>} the nibbles that changed recently, by place */
+    this.heatByPlace = new Map();
     /** @type {Map<string, Cell>} */
     this.ports = new Map();
     this.block = block("banks");
     /** @type {HTMLElement[]} the table of each bank */
     this.tables = [];
-    this.chooser = byId("bank", HTMLSelectElement);
-    this.chooser.addEventListener("change", () => this.showBank());
-    makeOneTabStop(this.block, () => CHARACTERS + STATUS);
+    this.bankSelect = byId("bank", HTMLSelectElement);
+    this.bankSelect.addEventListener("change", () => this.showBank());
+    makeOneTabStop(this.block, () => CHARACTERS + STATUS_COUNT);
   }
 
   /**
@@ -80,84 +80,85 @@ export class RamView {
    * @param {Board} board
    */
   draw(board) {
-    this.watched.clear();
+    this.watchSwitches.clear();
     this.registers.clear();
     this.characters.clear();
     this.ports.clear();
-    this.warm = new Map();
+    this.heatByPlace = new Map();
     this.tables = board.banks.map((bank) => this.drawBank(bank));
     this.block.replaceChildren(...this.tables);
-    this.offerBanks(board.banks.map(({ bank }) => bank));
+    this.showBankChoices(board.banks.map(({ bank }) => bank));
     block("memory-hint").hidden = board.banks.length === 0;
     if (board.banks.length === 0) this.block.textContent = say.NO_RAM;
     makeFirstTabStop(this.block);
   }
 
   /** @param {number[]} banks the banks that have chips */
-  offerBanks(banks) {
-    this.chooser.replaceChildren(...banks.map((bank, at) => element("option", { value: String(at) }, say.bankOf(bank))));
+  showBankChoices(banks) {
+    this.bankSelect.replaceChildren(...banks.map((bank, index) => element("option", { value: String(index) }, say.bankOf(bank))));
     block("bank-chooser").hidden = banks.length < 2;
     this.showBank();
   }
 
   /** Shows only the selected bank. */
   showBank() {
-    this.tables.forEach((table, at) => {
-      table.hidden = this.chooser.value !== String(at);
+    this.tables.forEach((table, index) => {
+      table.hidden = this.bankSelect.value !== String(index);
     });
   }
 
   /** @param {{ bank: number, chips: number }} bank */
   drawBank({ bank, chips }) {
-    const rows = upTo(chips).flatMap((chip) => upTo(4).map((register) => this.drawRegister({ bank, chip, register })));
-    const heads = [say.CHARACTERS, "status"].map((word) => element("th", { scope: "col" }, word));
-    const head = element("thead", {}, element("tr", {}, element("td"), ...heads));
+    const rows = indices(chips).flatMap((chip) => indices(4).map((register) => this.drawRegister({ bank, chip, register })));
+    const headCells = [say.CHARACTERS, "status"].map((word) => element("th", { scope: "col" }, word));
+    const head = element("thead", {}, element("tr", {}, element("td"), ...headCells));
     return element("table", { "className": "ram", "aria-label": say.bankOf(bank) }, head, element("tbody", {}, ...rows));
   }
 
-  /** @param {Register} at */
-  drawRegister(at) {
-    const { bank, chip, register } = at;
-    const characters = upTo(CHARACTERS).map((character) => this.drawCharacter(at, character));
-    const status = upTo(STATUS).map((character) => this.drawStatus(at, character));
+  /** @param {Register} location */
+  drawRegister(location) {
+    const { bank, chip, register } = location;
+    const characters = indices(CHARACTERS).map((character) => this.drawCharacter(location, character));
+    const status = indices(STATUS_COUNT).map((character) => this.drawStatus(location, character));
     const names = element("small", { className: "cell-names", hidden: true });
-    this.registers.set(`${bank}.${chip}.${register}`, { characters, status, names, shown: "" });
-    const halves = [characters.slice(0, HALF), characters.slice(HALF), status].map(groupOf);
+    this.registers.set(`${bank}.${chip}.${register}`, { characters, status, names, shownText: "" });
+    const halves = [characters.slice(0, GROUP_SIZE), characters.slice(GROUP_SIZE), status].map(nibbleGroup);
     const cells = [element("td", {}, ...halves.slice(0, 2), names), element("td", {}, halves[2])];
     if (register === 0) cells[1].append(this.drawPort(bank, chip));
-    return element("tr", {}, element("th", { scope: "row", title: wordsOf(at) }, `${chip}.${register}`), ...cells);
+    return element("tr", {}, element("th", { scope: "row", title: describeRegister(location) }, `${chip}.${register}`), ...cells);
   }
 
   /**
-   * @param {Register} at
+   * @param {Register} location
    * @param {number} character
    */
-  drawCharacter(at, character) {
-    const { bank } = at;
-    const source = at.chip * 64 + at.register * 16 + character;
-    const button = element("button", { type: "button", title: say.characterTitle(wordsOf(at), character, hex(source, 2)) });
-    const watched = pressedSwitch(button);
-    this.watched.set(`${bank}.${hex(source, 2)}`, watched);
-    this.offer(`ram.${bank}.0x${hex(source, 2)}`, button);
-    let wasOn = false;
+  drawCharacter(location, character) {
+    const { bank } = location;
+    const source = location.chip * 64 + location.register * 16 + character;
+    const button = element("button", { type: "button", title: say.characterTitle(describeRegister(location), character, hex(source, 2)) });
+    const watchSwitch = pressedSwitch(button);
+    this.watchSwitches.set(`${bank}.${hex(source, 2)}`, watchSwitch);
+    this.makeEditable(`ram.${bank}.0x${hex(source, 2)}`, button);
+    let wasWatched = false;
     button.addEventListener("click", (event) => {
       if (event.detail > 0) button.blur();
       if (event.detail > 2) return;
       // The second click of a double click undoes the first.
-      wasOn = event.detail === 2 ? !wasOn : watched.isOn;
-      this.toggleWatch(bank, source, wasOn, button);
+      wasWatched = event.detail === 2 ? !wasWatched : watchSwitch.isOn;
+      this.toggleWatch(bank, source, wasWatched, button);
     });
     return new Cell(button);
   }
 
   /**
-   * @param {Register} at
+   * @param {Register} location
    * @param {number} character
    */
-  drawStatus(at, character) {
-    const button = element("button", { type: "button", className: "status", title: say.statusTitle(wordsOf(at), character) });
-    const place = `st.${at.bank}.${at.chip * 4 + at.register}.${character}`;
-    this.offer(place, button);
+  drawStatus(location, character) {
+    const title = say.statusTitle(describeRegister(location), character);
+    const button = element("button", { type: "button", className: "status", title });
+    const place = `st.${location.bank}.${location.chip * 4 + location.register}.${character}`;
+    this.makeEditable(place, button);
     return new Cell(button);
   }
 
@@ -166,8 +167,8 @@ export class RamView {
    * @param {string} place the nibble's place in the `poke` command
    * @param {HTMLButtonElement} node
    */
-  offer(place, node) {
-    this.editor.offer(node, { place, name: node.title, digits: 1 });
+  makeEditable(place, node) {
+    this.editor.makeEditable(node, { place, name: node.title, digits: 1 });
     this.characters.set(place, { node, title: node.title });
   }
 
@@ -177,7 +178,7 @@ export class RamView {
    */
   drawPort(bank, chip) {
     const cell = new Cell(element("span", { title: say.portTitle(bank, chip) }));
-    this.editor.refuse(cell.node, say.RAM_PORTS_ARE_READ_ONLY);
+    this.editor.makeReadOnly(cell.node, say.RAM_PORTS_ARE_READ_ONLY);
     this.ports.set(`${bank}.${chip}`, cell);
     return element("p", { className: "port" }, say.PORT, cell.node);
   }
@@ -185,11 +186,11 @@ export class RamView {
   /** @param {Ram} ram */
   show(ram) {
     for (const [name, { characters, status }] of ram.registers) {
-      const shown = this.registers.get(name);
-      if (!shown || shown.shown === characters + status) continue;
-      shown.shown = characters + status;
-      shown.characters.forEach((cell, at) => this.changes.set(cell, characters[at]));
-      shown.status.forEach((cell, at) => this.changes.set(cell, status[at]));
+      const register = this.registers.get(name);
+      if (!register || register.shownText === characters + status) continue;
+      register.shownText = characters + status;
+      register.characters.forEach((cell, index) => this.changes.set(cell, characters[index]));
+      register.status.forEach((cell, index) => this.changes.set(cell, status[index]));
     }
     for (const [name, value] of ram.ports) {
       const port = this.ports.get(name);
@@ -201,33 +202,33 @@ export class RamView {
    * Returns a RAM nibble's name, or its description if it has no name.
    * @param {string} place the nibble's place in the `poke` command
    */
-  nameOf(place) {
+  placeName(place) {
     const [name] = this.names.get(place) || [];
-    const found = this.characters.get(place);
-    return name || (found ? found.title : place);
+    const nibble = this.characters.get(place);
+    return name || (nibble ? nibble.title : place);
   }
 
   /** @param {ReadonlyMap<string, string[]>} names the names of nibbles, by place */
   showNames(names) {
     this.names = names;
-    for (const place of this.characters.keys()) this.titleOf(place);
-    for (const [name, { names: line }] of this.registers) {
-      line.textContent = namesIn(name, names).join("  ");
-      line.hidden = line.textContent === "";
+    for (const place of this.characters.keys()) this.updateTitle(place);
+    for (const [name, { names: namesLine }] of this.registers) {
+      namesLine.textContent = nibbleLabels(name, names).join("  ");
+      namesLine.hidden = namesLine.textContent === "";
     }
   }
 
-  /** @param {ReadonlyMap<string, Warm>} warm the nibbles that changed recently, by place */
-  showWarm(warm) {
-    const before = this.warm;
-    this.warm = warm;
-    for (const place of new Set([...before.keys(), ...warm.keys()])) {
-      const found = this.characters.get(place);
-      if (!found) continue;
-      const { warmth } = warm.get(place) || { warmth: 0 };
-      if (warmth > 0) found.node.dataset.warmth = String(warmth);
-      else delete found.node.dataset.warmth;
-      this.titleOf(place);
+  /** @param {ReadonlyMap<string, CellHeat>} heatByPlace the nibbles that changed recently, by place */
+  showHeat(heatByPlace) {
+    const oldHeat = this.heatByPlace;
+    this.heatByPlace = heatByPlace;
+    for (const place of new Set([...oldHeat.keys(), ...heatByPlace.keys()])) {
+      const nibble = this.characters.get(place);
+      if (!nibble) continue;
+      const { warmth } = heatByPlace.get(place) || { warmth: 0 };
+      if (warmth > 0) nibble.node.dataset.warmth = String(warmth);
+      else delete nibble.node.dataset.warmth;
+      this.updateTitle(place);
     }
   }
 
@@ -235,18 +236,18 @@ export class RamView {
    * Sets a RAM nibble's tooltip: its name, its description and its last change.
    * @param {string} place
    */
-  titleOf(place) {
-    const found = this.characters.get(place);
-    if (!found) return;
+  updateTitle(place) {
+    const nibble = this.characters.get(place);
+    if (!nibble) return;
     const names = this.names.get(place) || [];
-    const { words } = this.warm.get(place) || { words: "" };
-    found.node.title = [...names, found.title].join(", ") + (words && `; ${words}`);
-    found.node.classList.toggle("named", names.length > 0);
+    const { words } = this.heatByPlace.get(place) || { words: "" };
+    nibble.node.title = [...names, nibble.title].join(", ") + (words && `; ${words}`);
+    nibble.node.classList.toggle("named", names.length > 0);
   }
 
   /** @param {string[]} names */
   showWatches(names) {
-    const watched = new Set(names);
-    for (const [name, isWatched] of this.watched) isWatched.set(watched.has(name));
+    const watchedNames = new Set(names);
+    for (const [name, isWatched] of this.watchSwitches) isWatched.set(watchedNames.has(name));
   }
 }

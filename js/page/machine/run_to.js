@@ -1,17 +1,17 @@
 // Runs to a line. In the disassembly, the user runs to a line by a click with Control, a right click, or Control and Enter. In the source,
 // a key runs to the caret's line.
 
-import { commandOf } from "../commands/command_table.js";
-import { keyNameOf } from "../commands/keys.js";
+import { commandById } from "../commands/command_table.js";
+import { formatKey } from "../commands/keys.js";
 
 /**
  * @param {HTMLElement} root the disassembly
  * @param {(node: Node) => number | null} addressAt returns the address of the line that contains a node, or null if there is none
  * @param {(address: number) => void} runTo
  */
-export function listenToHere(root, addressAt, runTo) {
+export function listenForRunToLine(root, addressAt, runTo) {
   /** @param {Event} event */
-  const act = (event) => {
+  const runToEventLine = (event) => {
     const address = event.target instanceof Node ? addressAt(event.target) : null;
     if (address === null) return;
     event.preventDefault();
@@ -19,11 +19,11 @@ export function listenToHere(root, addressAt, runTo) {
     runTo(address);
   };
   root.addEventListener("click", (event) => {
-    if (event.ctrlKey || event.metaKey) act(event);
+    if (event.ctrlKey || event.metaKey) runToEventLine(event);
   }, { capture: true });
-  root.addEventListener("contextmenu", act);
+  root.addEventListener("contextmenu", runToEventLine);
   root.addEventListener("keydown", (event) => {
-    if (event.key === "Enter" && (event.ctrlKey || event.metaKey)) act(event);
+    if (event.key === "Enter" && (event.ctrlKey || event.metaKey)) runToEventLine(event);
   }, { capture: true });
 }
 
@@ -31,10 +31,10 @@ export function listenToHere(root, addressAt, runTo) {
  * @param {HTMLElement} root the source editor
  * @param {() => void} runToCaret
  */
-export function listenToCaret(root, runToCaret) {
-  const { keys } = commandOf("time.toCursor");
+export function listenForRunToCaret(root, runToCaret) {
+  const { keys } = commandById("time.toCursor");
   root.addEventListener("keydown", (event) => {
-    if (!keys.includes(keyNameOf(event))) return;
+    if (!keys.includes(formatKey(event))) return;
     event.preventDefault();
     runToCaret();
   }, { capture: true });

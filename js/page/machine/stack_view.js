@@ -3,19 +3,19 @@
 import { Cell, Switch, block, element, makeFirstTabStop, makeOneTabStop, onClick } from "../ui/dom.js";
 import { joinLines, matchAnswers, readInputs } from "../../core/bench/inputs.js";
 import { hex } from "../../core/bench/numbers.js";
-import { areLive, callBefore, noteOfCounter, noteOfReturn } from "../../core/machine/returns.js";
+import { findLiveReturns, callAddress, describeCounter, describeReturn } from "../../core/machine/returns.js";
 import * as say from "../../words/machine.js";
 
 /**
  * @typedef {import("../../core/bench/answers.js").Registers} Registers
  * @typedef {import("./changes.js").Changes} Changes
- * @typedef {import("../../core/machine/returns.js").Note} Note
+ * @typedef {import("../../core/machine/returns.js").AddressNote} AddressNote
  * @typedef {import("../../core/machine/source_map.js").SourceMap} SourceMap
  * @typedef {{ button: HTMLButtonElement, value: Cell, note: Cell, isLive: Switch }} Row
  */
 
 /** The columns of the first ROM byte in a line of the bench's `list` answer. */
-const BYTE_FROM = 4;
+const BYTE_START = 4;
 const BYTE_END = 6;
 
 export class StackView {
@@ -31,13 +31,13 @@ export class StackView {
     /** @type {number[]} the program counter, then the return addresses, newest first */
     this.addresses = [];
     /** The addresses that the current notes describe. */
-    this.noted = "";
+    this.describedAddresses = "";
     /** @type {SourceMap | null} */
     this.map = null;
     // The number of requests. An answer for earlier addresses is discarded.
     this.requestCount = 0;
-    this.rows = ["pc", "ret 1", "ret 2", "ret 3"].map((name, at) => (
-      this.makeRow(name, explain(name), () => goTo(this.addressOf(at)))));
+    this.rows = ["pc", "ret 1", "ret 2", "ret 3"].map((name, index) => (
+      this.makeRow(name, explain(name), () => goTo(this.rowAddress(index)))));
     const root = element("div", { className: "stack" }, ...this.rows.map((row) => row.button));
     root.setAttribute("role", "group");
     root.setAttribute("aria-label", say.COUNTER_AND_RETURNS);
@@ -49,37 +49,37 @@ export class StackView {
   /**
    * @param {string} name
    * @param {string} title the tooltip of the row's name
-   * @param {() => void} act
+   * @param {() => void} action
    * @returns {Row}
    */
-  makeRow(name, title, act) {
+  makeRow(name, title, action) {
     const value = new Cell(element("span", { className: "value" }));
     const note = new Cell(element("span", { className: "note" }));
     const head = element("span", { className: "name", title }, name);
     const button = element("button", { type: "button" }, head, value.node, note.node);
-    onClick(button, act);
+    onClick(button, action);
     return { button, value, note, isLive: new Switch((isLive) => button.classList.toggle("left-over", !isLive)) };
   }
 
   /**
    * Returns the address that a click on a row shows: the program counter, or the address of the call that pushed the return address.
-   * @param {number} at
+   * @param {number} index
    */
-  addressOf(at) {
-    const address = this.addresses[at] || 0;
-    return at > 0 && this.rows[at].isLive.isOn ? callBefore(address) : address;
+  rowAddress(index) {
+    const address = this.addresses[index] || 0;
+    return index > 0 && this.rows[index].isLive.isOn ? callAddress(address) : address;
   }
 
   /** @param {Registers} registers */
   show(registers) {
-    const texts = [registers.counter, ...registers.returns];
-    texts.forEach((text, at) => this.changes.set(this.rows[at].value, text));
-    this.addresses = texts.map((text) => parseInt(text, 16));
+    const addressTexts = [registers.counter, ...registers.returns];
+    addressTexts.forEach((addressText, index) => this.changes.set(this.rows[index].value, addressText));
+    this.addresses = addressTexts.map((addressText) => parseInt(addressText, 16));
   }
 
   /** Makes the next `explain` read ROM again, because its contents may have changed. */
   forget() {
-    this.noted = "";
+    this.describedAddresses = "";
   }
 
   /**
@@ -92,21 +92,21 @@ export class StackView {
       this.clear();
       return;
     }
-    const noted = this.addresses.join(" ");
-    if (noted === this.noted && map === this.map) return;
-    this.noted = noted;
+    const addressKey = this.addresses.join(" ");
+    if (addressKey === this.describedAddresses && map === this.map) return;
+    this.describedAddresses = addressKey;
     this.map = map;
     this.requestCount += 1;
     const { requestCount } = this;
     const [counter, ...returns] = this.addresses;
-    const bytes = await this.bytesAt(returns.map(callBefore));
+    const bytes = await this.readBytes(returns.map(callAddress));
     if (requestCount !== this.requestCount) return;
-    const live = areLive(returns, bytes, map);
-    this.showNotes([noteOfCounter(counter, map), ...returns.map((address, at) => noteOfReturn(address, live[at], map))]);
+    const liveFlags = findLiveReturns(returns, bytes, map);
+    this.showNotes([describeCounter(counter, map), ...returns.map((address, index) => describeReturn(address, liveFlags[index], map))]);
   }
 
   clear() {
-    this.noted = "";
+    this.describedAddresses = "";
     this.requestCount += 1;
     for (const { note, isLive } of this.rows) {
       note.set("");
@@ -115,16 +115,16 @@ export class StackView {
   }
 
   /** @param {number[]} addresses */
-  async bytesAt(addresses) {
+  async readBytes(addresses) {
     const lines = joinLines(addresses.map((address) => `list 0x${hex(address, 3)} 1`));
     const answers = matchAnswers(readInputs(lines), await this.ask(lines));
-    return answers.map(([line = ""]) => line.slice(BYTE_FROM, BYTE_END));
+    return answers.map(([line = ""]) => line.slice(BYTE_START, BYTE_END));
   }
 
-  /** @param {Note[]} notes */
+  /** @param {AddressNote[]} notes */
   showNotes(notes) {
-    notes.forEach(({ isLive, words, title }, at) => {
-      const row = this.rows[at];
+    notes.forEach(({ isLive, words, title }, index) => {
+      const row = this.rows[index];
       row.note.set(words);
       row.isLive.set(isLive);
       if (row.button.title !== title) row.button.title = title;

@@ -1,5 +1,5 @@
-// The list of common mistakes that the bench has reported since time last started. Each row has the line of the mistake, and a check box
-// that makes time stop at the next mistake of this kind.
+// The list of common mistakes that the bench has reported since time last started. Each row has the line of the mistake, and a check box to
+// stop time at the next mistake of this kind.
 
 import { block, element, onClick } from "../ui/dom.js";
 import { KINDS } from "../../words/debug.js";
@@ -13,12 +13,12 @@ import * as say from "../../words/machine.js";
 /**
  * The callbacks of the list of common mistakes.
  * @typedef {object} MistakesCalls
- * @property {(address: number) => string} wordsOf Returns a text with an address, its name and its source line.
+ * @property {(address: number) => string} describeAddress Returns a text with an address, its name and its source line.
  * @property {(address: number) => void} goTo Shows an address in the source and in the disassembly.
- * @property {(kinds: Kind[]) => void} stopAt Asks the bench to stop time at mistakes of these kinds.
- * @property {(count: number) => void} counted Reports the number of mistakes in the list.
- * @property {() => string} chosen Returns the kinds that `choose` stored last, or "".
- * @property {(kinds: string) => void} choose Stores the chosen kinds, separated by spaces.
+ * @property {(kinds: Kind[]) => void} stopAtMistakes Asks the bench to stop time at mistakes of these kinds.
+ * @property {(count: number) => void} showCount Reports the number of mistakes in the list.
+ * @property {() => string} storedKinds Returns the kinds that `storeKinds` stored last, or "".
+ * @property {(kinds: string) => void} storeKinds Stores the chosen kinds, separated by spaces.
  */
 
 export class MistakesView {
@@ -27,34 +27,34 @@ export class MistakesView {
     this.calls = calls;
     this.block = block("usual");
     this.list = block("usual-list");
-    const chosen = calls.chosen().split(" ");
+    const storedKinds = calls.storedKinds().split(" ");
     /** @type {Set<Kind>} */
-    this.stops = new Set(/** @type {Kind[]} */ (Object.keys(KINDS)).filter((kind) => chosen.includes(kind)));
+    this.stopKinds = new Set(/** @type {Kind[]} */ (Object.keys(KINDS)).filter((kind) => storedKinds.includes(kind)));
   }
 
-  /** Clears the list when time starts or another session is opened. The worker may be a new one, so it receives the chosen kinds again. */
+  /** Clears the list when time starts or another session is opened. Sends the chosen kinds again, because the worker may be a new one. */
   clear() {
-    this.calls.stopAt([...this.stops]);
+    this.calls.stopAtMistakes([...this.stopKinds]);
     this.block.hidden = true;
     this.list.replaceChildren();
-    this.calls.counted(0);
+    this.calls.showCount(0);
   }
 
   /** @param {CommonMistake[]} mistakes */
   show(mistakes) {
     if (mistakes.length === 0) return;
-    this.list.append(...mistakes.map((mistake) => this.row(mistake)));
+    this.list.append(...mistakes.map((mistake) => this.makeRow(mistake)));
     this.block.hidden = false;
-    this.calls.counted(this.list.children.length);
+    this.calls.showCount(this.list.children.length);
   }
 
   /** @param {CommonMistake} mistake */
-  row({ kind, address, words }) {
-    const button = element("button", { type: "button", className: "place" }, this.calls.wordsOf(address));
+  makeRow({ kind, address, words }) {
+    const button = element("button", { type: "button", className: "place" }, this.calls.describeAddress(address));
     onClick(button, () => this.calls.goTo(address));
-    const stops = element("input", { type: "checkbox", checked: this.stops.has(kind), autocomplete: "off" });
-    stops.addEventListener("change", () => this.choose(kind, stops.checked));
-    const label = element("label", { className: "check", title: say.stopsBefore(KINDS[kind]) }, stops, say.STOP_AT_THIS);
+    const stopBox = element("input", { type: "checkbox", checked: this.stopKinds.has(kind), autocomplete: "off" });
+    stopBox.addEventListener("change", () => this.setStop(kind, stopBox.checked));
+    const label = element("label", { className: "check", title: say.stopsBefore(KINDS[kind]) }, stopBox, say.STOP_AT_THIS);
     return element("li", {}, element("span", { className: "words" }, button, ` ${words}`), label);
   }
 
@@ -62,10 +62,10 @@ export class MistakesView {
    * @param {Kind} kind
    * @param {boolean} isStop
    */
-  choose(kind, isStop) {
-    if (isStop) this.stops.add(kind);
-    else this.stops.delete(kind);
-    this.calls.choose([...this.stops].join(" "));
-    this.calls.stopAt([...this.stops]);
+  setStop(kind, isStop) {
+    if (isStop) this.stopKinds.add(kind);
+    else this.stopKinds.delete(kind);
+    this.calls.storeKinds([...this.stopKinds].join(" "));
+    this.calls.stopAtMistakes([...this.stopKinds]);
   }
 }

@@ -2,35 +2,35 @@
 // its texts are unchanged.
 
 import { Cell, button, field, onClick } from "../ui/dom.js";
-import { lineNow, stillStands } from "../../core/prove/still_valid.js";
+import { findPropertyLine, isStillValid } from "../../core/prove/still_valid.js";
 import { isRight, markOfTab, wordsOfEnd } from "../../words/proved.js";
 import * as say from "../../words/prove.js";
 import { ProofsView } from "./proofs_view.js";
 
 /**
  * @typedef {import("../../core/explore/exploring.js").ExploredTexts} ExploredTexts
- * @typedef {import("../../core/bench/own_worker.js").Ended} Ended
+ * @typedef {import("../../core/bench/own_worker.js").TaskResult} TaskResult
  * @typedef {import("../../core/prove/prover.js").Progress} Progress
  * @typedef {import("../../core/prove/bounded_proof.js").JudgedLine} JudgedLine
  * @typedef {import("../../core/testing/prepared.js").TextFault} TextFault
  *
  * The proof of a session's properties: its texts, the maximum number of states for each question, and its progress.
- * @typedef {{ texts: ExploredTexts, maxStates: number, progress: Progress }} Proved
+ * @typedef {{ texts: ExploredTexts, maxStates: number, progress: Progress }} ProofResults
  *
  * The callbacks of Proofs.
  * @typedef {object} ProofsCalls
  * @property {() => ExploredTexts} texts Returns the current texts.
- * @property {(texts: ExploredTexts, maxStates: number, signal: AbortSignal, report: (progress: Progress) => void) => Promise<Ended>} prove
- *   Proves properties with at most `maxStates` states for each question. Calls `report` with each progress report. Resolves to the errors
- *   in the texts and whether `signal` has cancelled the proof.
+ * @property {(texts: ExploredTexts, maxStates: number, signal: AbortSignal, report: (progress: Progress) => void) => Promise<TaskResult>}
+ *   prove Proves properties with at most `maxStates` states for each question. Calls `report` with each progress report. Resolves to the
+ *   errors in the texts and whether `signal` has cancelled the proof.
  * @property {(line: number) => void} goTo Shows a line of the properties text, from 1.
  * @property {(words: string) => void} showMessage Shows a message next to the buttons.
- * @property {(faults: TextFault[]) => void} refuse Shows the errors that prevented the proof.
+ * @property {(faults: TextFault[]) => void} showFaults Shows the errors that prevented the proof.
  * @property {(name: string, lines: string, texts: ExploredTexts, words: string) => Promise<void>} open Opens a new session with the texts,
  *   executes lines in it, and shows a message.
  * @property {(test: string) => string} addTest Adds a test to the program's tests. Returns the message about the result.
- * @property {() => void} changed Handles changed verdicts, for example updates the tab's mark.
- * @property {(fault: unknown) => void} failed Reports an error that a call threw.
+ * @property {() => void} handleVerdictChange Handles changed verdicts, for example updates the tab's mark.
+ * @property {(fault: unknown) => void} reportFailure Reports an error that a call threw.
  */
 
 const MAX_STATES = 999999999;
@@ -41,18 +41,18 @@ export class Proofs {
     this.calls = calls;
     this.view = new ProofsView({
       goTo: ({ text }) => {
-        const line = lineNow(text, calls.texts().propertiesText);
+        const line = findPropertyLine(text, calls.texts().propertiesText);
         if (line > 0) calls.goTo(line);
       },
-      open: ({ text, isGoal }, { before }) => {
-        const { shown } = this;
+      openCounterexample: ({ text, isGoal }, { before }) => {
+        const { currentResults } = this;
         const description = isGoal ? say.nextStepReaches(text) : say.nextStepBreaks(text);
-        if (shown) calls.open(text, before, shown.texts, description).catch(calls.failed);
+        if (currentResults) calls.open(text, before, currentResults.texts, description).catch(calls.reportFailure);
       },
-      add: (found) => calls.showMessage(calls.addTest(found.text)),
+      addTest: (counterexample) => calls.showMessage(calls.addTest(counterexample.text)),
     });
     /** The results of each session since the page was opened, by session id. */
-    this.proved = /** @type {Map<string, Proved>} */ (new Map());
+    this.resultsBySession = /** @type {Map<string, ProofResults>} */ (new Map());
     /** The id of the current session. */
     this.session = "";
     /** @type {AbortController | null} the controller that cancels the current proof; null if no proof is running */
@@ -63,8 +63,8 @@ export class Proofs {
   }
 
   /** The results of the current session. */
-  get shown() {
-    return this.proved.get(this.session) || null;
+  get currentResults() {
+    return this.resultsBySession.get(this.session) || null;
   }
 
   /**
@@ -81,25 +81,25 @@ export class Proofs {
   /** Cancels the proof, and clears the verdicts. */
   clear() {
     this.cancel();
-    this.proved.delete(this.session);
+    this.resultsBySession.delete(this.session);
     this.view.clear();
     this.show();
   }
 
-  /** Updates the verdicts after an edit. A verdict about other texts is hidden until the user restores those texts. */
-  edited() {
-    if (this.shown) this.show();
+  /** Updates the verdicts after an edit. A verdict about other texts is hidden until the user restores these texts. */
+  handleEdit() {
+    if (this.currentResults) this.show();
   }
 
   /** The verdicts about the current texts. */
   get currentVerdicts() {
-    const { shown } = this;
-    return shown ? shown.progress.judged.filter(this.isCurrent(shown)) : [];
+    const { currentResults } = this;
+    return currentResults ? currentResults.progress.judged.filter(this.isCurrent(currentResults)) : [];
   }
 
   /** A short text about the current verdicts. */
   get mark() {
-    return this.shown ? markOfTab(this.currentVerdicts) : "";
+    return this.currentResults ? markOfTab(this.currentVerdicts) : "";
   }
 
   /** True if no current verdict is a counterexample. */
@@ -109,20 +109,20 @@ export class Proofs {
 
   /**
    * Returns a predicate that is true if a verdict is about the current texts.
-   * @param {Proved} shown
+   * @param {ProofResults} currentResults
    * @returns {(judged: JudgedLine) => boolean}
    */
-  isCurrent(shown) {
-    const now = this.calls.texts();
-    return (judged) => stillStands(judged, shown.texts, now);
+  isCurrent(currentResults) {
+    const currentTexts = this.calls.texts();
+    return (judged) => isStillValid(judged, currentResults.texts, currentTexts);
   }
 
   show() {
-    const { shown } = this;
+    const { currentResults } = this;
     const isRunning = this.controller !== null;
     this.button.set(isRunning ? say.CANCEL : say.PROVE);
-    if (shown) this.view.show(shown.progress, shown.maxStates, isRunning, this.isCurrent(shown));
-    this.calls.changed();
+    if (currentResults) this.view.show(currentResults.progress, currentResults.maxStates, isRunning, this.isCurrent(currentResults));
+    this.calls.handleVerdictChange();
   }
 
   cancel() {
@@ -131,7 +131,7 @@ export class Proofs {
 
   proveOrCancel() {
     if (this.controller) this.cancel();
-    else this.prove().catch(this.calls.failed);
+    else this.prove().catch(this.calls.reportFailure);
   }
 
   /** Returns the maximum number of states for each question. If the field has no valid number, shows a message and returns 0. */
@@ -148,34 +148,34 @@ export class Proofs {
     if (maxStates === 0) return;
     const { calls, session } = this;
     const texts = calls.texts();
-    /** @type {Proved} */
-    const proved = { texts, maxStates, progress: { judged: [], count: 0, states: 0 } };
+    /** @type {ProofResults} */
+    const results = { texts, maxStates, progress: { judged: [], count: 0, states: 0 } };
     const controller = new AbortController();
     this.controller = controller;
-    this.proved.set(session, proved);
+    this.resultsBySession.set(session, results);
     this.view.clear();
     this.show();
-    let ended = /** @type {Ended} */ ({ faults: [], isStopped: true });
+    let proofEnd = /** @type {TaskResult} */ ({ faults: [], isStopped: true });
     try {
-      ended = await calls.prove(texts, maxStates, controller.signal, (progress) => {
-        proved.progress = progress;
-        if (proved === this.shown) this.show();
+      proofEnd = await calls.prove(texts, maxStates, controller.signal, (progress) => {
+        results.progress = progress;
+        if (results === this.currentResults) this.show();
       });
     } finally {
       this.controller = null;
-      if (proved.progress.judged.length === 0) this.proved.delete(session);
-      if (session === this.session) this.end(proved, ended);
+      if (results.progress.judged.length === 0) this.resultsBySession.delete(session);
+      if (session === this.session) this.finish(results, proofEnd);
     }
   }
 
   /**
-   * @param {Proved} proved
-   * @param {Ended} ended
+   * @param {ProofResults} results
+   * @param {TaskResult} proofEnd
    */
-  end({ progress: { judged } }, { faults, isStopped }) {
+  finish({ progress: { judged } }, { faults, isStopped }) {
     if (judged.length === 0) this.view.clear();
     this.show();
-    if (faults.length > 0) this.calls.refuse(faults);
+    if (faults.length > 0) this.calls.showFaults(faults);
     else if (judged.length > 0) this.calls.showMessage(wordsOfEnd(judged, isStopped));
     else this.calls.showMessage(isStopped ? say.CANCELLED_EARLY : "");
   }

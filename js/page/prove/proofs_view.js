@@ -12,56 +12,57 @@ import { wordsOfLine } from "../../words/stops.js";
  *
  * The callbacks of the proof results.
  * @typedef {object} ProofCalls
- * @property {(judged: JudgedLine) => void} goTo Shows the line of a property in the properties text.
- * @property {(judged: JudgedLine, found: Counterexample) => void} open Opens a counterexample in the debugger.
- * @property {(found: Counterexample) => void} add Adds a counterexample's test to the program's tests.
+ * @property {(judgedLine: JudgedLine) => void} goTo Shows the line of a property in the properties text.
+ * @property {(judgedLine: JudgedLine, counterexample: Counterexample) => void} openCounterexample Opens a counterexample in the debugger.
+ * @property {(counterexample: Counterexample) => void} addTest Adds a counterexample's test to the program's tests.
  */
 
 /** A property's row. The verdict is inserted only once, so that controls in use do not disappear. */
-class Row {
+class VerdictRow {
   /**
-   * @param {JudgedLine} judged
+   * @param {JudgedLine} judgedLine
    * @param {ProofCalls} calls
    */
-  constructor(judged, calls) {
-    this.judged = judged;
-    const { text, line, isGoal, verdict } = judged;
+  constructor(judgedLine, calls) {
+    this.judgedLine = judgedLine;
+    const { text, line, isGoal, verdict } = judgedLine;
     const mark = element("b", {});
     const words = element("span", { className: "time" });
     // A common mistake has no line in the text, because all programs are checked for it.
     const name = line === 0 ? element("span", { className: "name" }, text)
-      : buttonOf(text, () => calls.goTo(judged), { className: "name", title: wordsOfLine(line) });
+      : buttonOf(text, () => calls.goTo(judgedLine), { className: "name", title: wordsOfLine(line) });
     this.node = element("li", {}, element("p", {}, mark, " ", name, " ", words));
     this.mark = new Cell(mark);
     this.words = new Cell(words);
-    this.isLit = new Switch((isOn) => mark.classList.toggle("lit", isOn));
-    this.isWrong = new Switch((isOn) => mark.classList.toggle("not-ok", isOn));
-    if (verdict.kind === "found") this.node.append(...this.partsOf(isGoal, verdict.found, calls));
+    this.litSwitch = new Switch((isOn) => mark.classList.toggle("lit", isOn));
+    this.wrongSwitch = new Switch((isOn) => mark.classList.toggle("not-ok", isOn));
+    if (verdict.kind === "found") this.node.append(...this.counterexampleNodes(isGoal, verdict.found, calls));
   }
 
   /**
    * @param {boolean} isGoal
-   * @param {Counterexample} found
+   * @param {Counterexample} counterexample
    * @param {ProofCalls} calls
    */
-  partsOf(isGoal, found, calls) {
-    const { isTest, text } = found;
+  counterexampleNodes(isGoal, counterexample, calls) {
+    const { isTest, text } = counterexample;
     const [openWords, title] = isGoal ? [say.OPEN_WAY, say.BEFORE_GOAL] : [say.OPEN_FOUND, say.BEFORE_IT];
-    const add = isTest ? [buttonOf(say.ADD_TO_TESTS, () => calls.add(found), { title: say.AT_END })] : [];
+    const add = isTest ? [buttonOf(say.ADD_TO_TESTS, () => calls.addTest(counterexample), { title: say.AT_END })] : [];
     const name = isTest ? say.ITS_TEST : say.ITS_LINES;
     return [
       element("details", {}, element("summary", {}, name), element("pre", { tabIndex: 0 }, text.trimEnd())),
-      element("p", { className: "bar" }, buttonOf(openWords, () => calls.open(this.judged, found), { title }), ...add),
+      element("p", { className: "bar" },
+        buttonOf(openWords, () => calls.openCounterexample(this.judgedLine, counterexample), { title }), ...add),
     ];
   }
 
   /** @param {boolean} isCurrent true if the verdict is about the current texts */
   show(isCurrent) {
-    const { judged } = this;
-    this.mark.set(isCurrent ? markOf(judged) : "");
-    this.words.set(isCurrent ? wordsOfVerdict(judged) : say.CHANGED);
-    this.isLit.set(isCurrent && judged.verdict.kind === "proved" && isRight(judged));
-    this.isWrong.set(isCurrent && judged.verdict.kind !== "open" && !isRight(judged));
+    const { judgedLine } = this;
+    this.mark.set(isCurrent ? markOf(judgedLine) : "");
+    this.words.set(isCurrent ? wordsOfVerdict(judgedLine) : say.CHANGED);
+    this.litSwitch.set(isCurrent && judgedLine.verdict.kind === "proved" && isRight(judgedLine));
+    this.wrongSwitch.set(isCurrent && judgedLine.verdict.kind !== "open" && !isRight(judgedLine));
   }
 }
 
@@ -73,8 +74,8 @@ export class ProofsView {
     this.list = block("proof-list");
     this.progress = block("proof-progress");
     this.bar = descendant(this.progress, "progress", HTMLProgressElement);
-    this.soFar = new Cell(descendant(this.progress, "span", HTMLElement));
-    /** @type {Row[]} */
+    this.progressText = new Cell(descendant(this.progress, "span", HTMLElement));
+    /** @type {VerdictRow[]} */
     this.rows = [];
   }
 
@@ -88,17 +89,17 @@ export class ProofsView {
    * @param {Progress} progress
    * @param {number} maxStates the maximum number of states for each question
    * @param {boolean} isRunning true if a proof is running
-   * @param {(judged: JudgedLine) => boolean} isCurrent returns true if a verdict is about the current texts
+   * @param {(judgedLine: JudgedLine) => boolean} isCurrent returns true if a verdict is about the current texts
    */
   show(progress, maxStates, isRunning, isCurrent) {
-    const more = progress.judged.slice(this.rows.length).map((judged) => new Row(judged, this.calls));
-    this.list.append(...more.map(({ node }) => node));
-    this.rows.push(...more);
-    for (const row of this.rows) row.show(isCurrent(row.judged));
+    const newRows = progress.judged.slice(this.rows.length).map((judgedLine) => new VerdictRow(judgedLine, this.calls));
+    this.list.append(...newRows.map(({ node }) => node));
+    this.rows.push(...newRows);
+    for (const row of this.rows) row.show(isCurrent(row.judgedLine));
     this.progress.hidden = !isRunning;
     this.bar.max = maxStates;
     this.bar.value = progress.states;
-    this.soFar.set(isRunning ? wordsSoFar(progress) : "");
+    this.progressText.set(isRunning ? wordsSoFar(progress) : "");
     this.block.hidden = this.rows.length === 0 && !isRunning;
   }
 }

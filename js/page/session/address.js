@@ -1,10 +1,10 @@
-// The page's address. The part after `#` names a saved session, an example, or the texts of a link. The part after `?` names the example
-// whose story is open.
+// The page's address. The text after `#` names a saved session or an example, or contains the texts of a link. The text after `?` names the
+// example whose story is open.
 
 /** @typedef {"session" | "example" | "link"} AddressKind */
 
 /** @param {string} text */
-function decoded(text) {
+function decodeText(text) {
   try {
     return decodeURIComponent(text);
   } catch {
@@ -17,7 +17,7 @@ function decoded(text) {
  * folder name.
  * @param {string} search
  */
-export function storyOf(search) {
+export function requestedStory(search) {
   return new URLSearchParams(search).get("story")?.replace(/_/g, " ") || "";
 }
 
@@ -39,13 +39,13 @@ export function forgetStory() {
  */
 export function readAddress(hash) {
   const [, kind, value] = /^#(session|example|link)=(.*?)(?:%20|%09|%0A|%0D|\s)*$/i.exec(hash) || [];
-  return { kind: /** @type {AddressKind | ""} */ (kind || ""), value: kind === "example" ? decoded(value) : value || "" };
+  return { kind: /** @type {AddressKind | ""} */ (kind || ""), value: kind === "example" ? decodeText(value) : value || "" };
 }
 
 /**
  * @param {AddressKind} kind
  * @param {string} value
  */
-export function addressOf(kind, value) {
+export function formatAddress(kind, value) {
   return `#${kind}=${kind === "example" ? encodeURIComponent(value) : value}`;
 }

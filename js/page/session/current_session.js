@@ -3,8 +3,8 @@
 import { field, block } from "../ui/dom.js";
 import { wordsOfInterrupted } from "../../words/stops.js";
 import { NO_CYCLES } from "../../core/time/cycles.js";
-import { addressOf } from "./address.js";
-import { KeptSession } from "./kept_session.js";
+import { formatAddress } from "./address.js";
+import { OpenSession } from "./kept_session.js";
 import { shortName } from "../../core/session/names.js";
 import * as say from "../../words/session.js";
 
@@ -13,9 +13,9 @@ import * as say from "../../words/session.js";
  * @typedef {import("../../core/engine/file_requests.js").FileRequests} FileRequests
  * @typedef {import("../../core/engine/session_requests.js").SessionRequests} SessionRequests
  * @typedef {import("../../core/bench/bench_client.js").Caller<FileRequests & SessionRequests>} Bench
- * @typedef {import("../../core/bench/run_log.js").RanEntry} RanEntry
- * @typedef {import("./kept_past.js").KeptPast} KeptPast
- * @typedef {import("../../core/bench/protocol.js").Shown} Shown
+ * @typedef {import("../../core/bench/run_log.js").RunEntry} RunEntry
+ * @typedef {import("./kept_past.js").StoredHistory} StoredHistory
+ * @typedef {import("../../core/bench/protocol.js").PageState} PageState
  * @typedef {import("./store.js").SessionRecord} SessionRecord
  * @typedef {import("./store.js").SessionStore} SessionStore
  */
@@ -24,21 +24,21 @@ import * as say from "../../words/session.js";
  * The callbacks of CurrentSession.
  * @typedef {object} CurrentCalls
  * @property {(record: SessionRecord) => void} begin Shows the texts and the settings of another session, from its record.
- * @property {(shown: Shown) => void} show Shows the current state of the session.
+ * @property {(state: PageState) => void} show Shows the current state of the session.
  * @property {() => Promise<void>} checkSource Compares the source with ROM. Resolves when the program's names are visible.
  * @property {() => void} run Resumes time in a session that was left while time was running.
- * @property {(words: string) => void} halted Shows that time is paused, and the reason.
- * @property {() => Promise<void>} standStill Stops time. Resolves when the worker has stopped.
- * @property {() => string} where Returns a text with the program counter, its name and its source line.
- * @property {() => void} touched Called when the user changes the session.
- * @property {() => RanEntry[]} ran Removes and returns the log entries of the runs since the last call.
- * @property {(ran: RanEntry[], fault: string) => void} showRan Logs runs. `fault` is the reason why the session could not be saved, or ""
+ * @property {(words: string) => void} showPaused Shows that time is paused, and the reason.
+ * @property {() => Promise<void>} stopTime Stops time. Resolves when the worker has stopped.
+ * @property {() => string} describeCounter Returns a text with the program counter, its name and its source line.
+ * @property {() => void} handleSessionChange Called when the user changes the session.
+ * @property {() => RunEntry[]} takeRuns Removes and returns the log entries of the runs since the last call.
+ * @property {(runs: RunEntry[], fault: string) => void} logRuns Logs runs. `fault` is the reason why the session could not be saved, or ""
  *   if it was saved.
- * @property {(words: string) => void} notKept Shows the reason why the session is not saved; "" hides the reason.
- * @property {(state: "example" | "saved" | "failed") => void} saved Shows in the status line whether the session is saved.
+ * @property {(words: string) => void} showSaveError Shows the reason why the session is not saved; "" hides the reason.
+ * @property {(state: "example" | "saved" | "failed") => void} showSaveState Shows in the status line whether the session is saved.
  */
 
-/** The parts of the page that stay hidden until a session is open. */
+/** The ids of the elements that stay hidden until a session is open. */
 const SHOWN_WITH_SESSION = ["bench", "session-bar", "clock", "tools", "statusbar"];
 
 export class CurrentSession {
@@ -46,18 +46,18 @@ export class CurrentSession {
    * @param {Bench} bench
    * @param {SessionStore} store
    * @param {CurrentCalls} calls
-   * @param {KeptPast} past
+   * @param {StoredHistory} storedHistory
    */
-  constructor(bench, store, calls, past) {
+  constructor(bench, store, calls, storedHistory) {
     this.bench = bench;
     this.store = store;
     this.calls = calls;
-    this.past = past;
-    /** @type {KeptSession | null} */
+    this.storedHistory = storedHistory;
+    /** @type {OpenSession | null} */
     this.session = null;
     /** The time of the last save, in milliseconds. */
-    this.kept = 0;
-    /** True while a session is being opened in which time will run. In this time, no source line is marked as the next one. */
+    this.lastSaveTime = 0;
+    /** True while a session is being opened in which time will run. Until then, no source line is marked as the next one. */
     this.willRun = false;
   }
 
@@ -70,25 +70,25 @@ export class CurrentSession {
   async use(record, release, example) {
     const { bench, store, calls } = this;
     await bench.call("settled", [record.file]);
-    const old = this.session;
-    if (old) await this.leave();
-    const shown = await this.open(record);
-    if (old) old.release();
-    this.session = new KeptSession(store, record, release, example);
+    const oldSession = this.session;
+    if (oldSession) await this.leaveSession();
+    const state = await this.open(record);
+    if (oldSession) oldSession.release();
+    this.session = new OpenSession(store, record, release, example);
     calls.begin(record);
-    calls.show(shown);
+    calls.show(state);
     this.showName();
     const { goal, runs } = record;
     this.willRun = runs && !goal;
     await this.showParts();
     await this.keep();
     if (this.willRun) calls.run();
-    else calls.halted(goal ? wordsOfInterrupted(goal, runs, calls.where()) : say.PAUSED);
+    else calls.showPaused(goal ? wordsOfInterrupted(goal, runs, calls.describeCounter()) : say.PAUSED);
     this.willRun = false;
-    await this.remember();
+    await this.restoreHistory();
   }
 
-  /** Shows the parts of the page. They stay invisible until the source's names have arrived, because the names would move them. */
+  /** Shows the elements of the page. The elements stay invisible until the source's names have arrived, because the names move them. */
   async showParts() {
     const isFirst = block("bench").hidden;
     document.body.classList.toggle("settling", isFirst);
@@ -98,35 +98,35 @@ export class CurrentSession {
   }
 
   /** Restores the history from before a page reload, so that the user can go back to it. */
-  async remember() {
-    const { bench, past } = this;
-    const recalled = past.recalled();
-    const count = recalled.length > 0 ? await bench.call("recall", [recalled]).catch(() => -1) : -1;
-    if (count >= 0) past.goOn(recalled, count);
+  async restoreHistory() {
+    const { bench, storedHistory } = this;
+    const segments = storedHistory.storedSegments();
+    const count = segments.length > 0 ? await bench.call("recall", [segments]).catch(() => -1) : -1;
+    if (count >= 0) storedHistory.continueFrom(segments, count);
   }
 
-  /** Stops and saves the session that the user leaves. Its record keeps whether time was running, so that time can resume on return. */
-  async leave() {
-    await this.calls.standStill();
+  /** Stops and saves the session that the user leaves. The record says whether time was running, so that time can resume on return. */
+  async leaveSession() {
+    await this.calls.stopTime();
     await this.keep();
   }
 
   /**
    * @param {SessionRecord} record
-   * @returns {Promise<Shown>}
+   * @returns {Promise<PageState>}
    */
   async open(record) {
     try {
       return await this.callOpen(record);
     } catch (fault) {
-      if (this.session) this.calls.halted(say.PAUSED);
+      if (this.session) this.calls.showPaused(say.PAUSED);
       throw fault;
     }
   }
 
   /**
    * @param {SessionRecord} record
-   * @returns {Promise<Shown>}
+   * @returns {Promise<PageState>}
    */
   callOpen({ file, cycles = NO_CYCLES, printed }) {
     return this.bench.call("open", [file, cycles.total, cycles.reset, printed || null]);
@@ -150,7 +150,7 @@ export class CurrentSession {
     const { record, example } = this.session;
     this.showTitle();
     block("hello").hidden = example === "";
-    location.replace(example ? addressOf("example", example) : addressOf("session", record.id));
+    location.replace(example ? formatAddress("example", example) : formatAddress("session", record.id));
   }
 
   /**
@@ -177,7 +177,7 @@ export class CurrentSession {
   /** Records that the user has changed the session. From then on, the session is saved. */
   touch() {
     if (!this.session) return;
-    this.calls.touched();
+    this.calls.handleSessionChange();
     if (!this.session.touch()) return;
     this.showName();
     this.keep();
@@ -196,12 +196,12 @@ export class CurrentSession {
   async keep() {
     if (!this.session) return "";
     const { calls } = this;
-    this.kept = performance.now();
-    const ran = calls.ran();
+    this.lastSaveTime = performance.now();
+    const runs = calls.takeRuns();
     const fault = await this.session.keep();
-    calls.showRan(ran, fault);
-    calls.notKept(fault && say.notKept(fault));
-    calls.saved(fault || !this.store.keeps ? "failed" : this.session.isUntouched ? "example" : "saved");
+    calls.logRuns(runs, fault);
+    calls.showSaveError(fault && say.notKept(fault));
+    calls.showSaveState(fault || !this.store.isPersistent ? "failed" : this.session.isUntouched ? "example" : "saved");
     return fault;
   }
 
@@ -209,6 +209,6 @@ export class CurrentSession {
   keepNow() {
     if (!this.session) return;
     this.session.keepNow();
-    this.past.leave();
+    this.storedHistory.leave();
   }
 }

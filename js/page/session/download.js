@@ -3,16 +3,16 @@
 import { element } from "../ui/dom.js";
 
 /** The time in milliseconds for which the file's bytes stay available to the browser. */
-const HELD_TIME = 10000;
+const URL_LIFETIME = 10000;
 
 /**
  * @param {string} name
- * @param {string} ending the file extension
+ * @param {string} extension the file extension
  * @param {Blob} bytes
  */
-export function download(name, ending, bytes) {
+export function download(name, extension, bytes) {
   const link = element("a", { href: URL.createObjectURL(bytes) });
-  link.download = `${name.replace(/[^\w .,()-]/g, "_").trim() || "session"}${ending}`;
+  link.download = `${name.replace(/[^\w .,()-]/g, "_").trim() || "session"}${extension}`;
   link.click();
-  setTimeout(() => URL.revokeObjectURL(link.href), HELD_TIME);
+  setTimeout(() => URL.revokeObjectURL(link.href), URL_LIFETIME);
 }

@@ -1,4 +1,4 @@
-// The dialog that exports a part of the session as a file: a text, or the contents of ROM.
+// The dialog that exports a text of the session, or the contents of ROM, as a file.
 
 import { element, onClick } from "../ui/dom.js";
 import { download } from "./download.js";
@@ -6,7 +6,7 @@ import * as say from "../../words/session.js";
 
 /**
  * A file to export: its extension, its description, and a function that returns its contents.
- * @typedef {{ ending: string, what: string, make: () => string | Uint8Array | Promise<string | Uint8Array> }} ExportedFile
+ * @typedef {{ extension: string, description: string, make: () => string | Uint8Array | Promise<string | Uint8Array> }} ExportedFile
  */
 
 /**
@@ -17,7 +17,7 @@ import * as say from "../../words/session.js";
  * @property {() => string} program Returns the source.
  * @property {() => Promise<string>} hex Resolves to the bytes of all ROM chips in Intel HEX format.
  * @property {() => Promise<Uint8Array>} image Resolves to the concatenated bytes of all ROM chips.
- * @property {(fault: unknown) => void} failed Reports an error that a call threw.
+ * @property {(fault: unknown) => void} reportFailure Reports an error that a call threw.
  */
 
 export class ExportView {
@@ -37,18 +37,18 @@ export class ExportView {
   files() {
     const { calls } = this;
     return [
-      { ending: ".asm", what: say.SOURCE_FILE, make: calls.program },
-      { ending: ".toml", what: say.BOARD_FILE, make: calls.board },
-      { ending: ".hex", what: say.HEX_FILE, make: calls.hex },
-      { ending: ".bin", what: say.BIN_FILE, make: calls.image },
+      { extension: ".asm", description: say.SOURCE_FILE, make: calls.program },
+      { extension: ".toml", description: say.BOARD_FILE, make: calls.board },
+      { extension: ".hex", description: say.HEX_FILE, make: calls.hex },
+      { extension: ".bin", description: say.BIN_FILE, make: calls.image },
     ];
   }
 
   /** @param {ExportedFile} file */
   row(file) {
-    const save = element("button", { type: "button" }, say.saveAs(file.ending));
-    onClick(save, () => this.save(file).catch(this.calls.failed));
-    return element("li", {}, save, element("span", { className: "grow" }, file.what));
+    const save = element("button", { type: "button" }, say.saveAs(file.extension));
+    onClick(save, () => this.save(file).catch(this.calls.reportFailure));
+    return element("li", {}, save, element("span", { className: "grow" }, file.description));
   }
 
   open() {
@@ -57,13 +57,13 @@ export class ExportView {
   }
 
   /** @param {ExportedFile} file */
-  async save({ ending, what, make }) {
+  async save({ extension, description, make }) {
     const contents = await make();
     if (contents.length === 0) {
-      this.status.textContent = say.nothingSaved(what);
+      this.status.textContent = say.nothingSaved(description);
       return;
     }
-    download(this.calls.name(), ending, new Blob([contents], { type: "application/octet-stream" }));
+    download(this.calls.name(), extension, new Blob([contents], { type: "application/octet-stream" }));
     this.dialog.close();
   }
 }

@@ -13,7 +13,7 @@ const MAX_DEPTH = 6;
  * @param {DataTransfer | null} data
  * @returns {FileSystemDirectoryEntry[]}
  */
-export function foldersOf(data) {
+export function droppedFolders(data) {
   const items = (data ? [...data.items] : []).filter((item) => item.kind === "file" && item.webkitGetAsEntry);
   const entries = items.map((item) => item.webkitGetAsEntry());
   return entries.flatMap((entry) => (entry && entry.isDirectory ? [/** @type {FileSystemDirectoryEntry} */ (entry)] : []));
@@ -24,28 +24,28 @@ export function foldersOf(data) {
  * @param {FileSystemDirectoryEntry} folder
  * @returns {Promise<FileSystemEntry[]>}
  */
-async function entriesIn(folder) {
+async function readEntries(folder) {
   const reader = folder.createReader();
   /** @type {FileSystemEntry[]} */
-  const all = [];
+  const entries = [];
   for (;;) {
     /** @type {FileSystemEntry[]} */
     const batch = await new Promise((resolve, reject) => { reader.readEntries(resolve, reject); });
-    if (batch.length === 0 || all.length > MAX_FILES) return all;
-    all.push(...batch);
+    if (batch.length === 0 || entries.length > MAX_FILES) return entries;
+    entries.push(...batch);
   }
 }
 
 /**
  * @param {FileSystemDirectoryEntry} folder
- * @param {string} before the folder's path in the dropped folder, with a trailing slash
+ * @param {string} pathPrefix the folder's path in the dropped folder, with a trailing slash
  * @param {Map<string, File>} files
  * @param {number} depth
  */
-async function readInto(folder, before, files, depth) {
-  for (const entry of await entriesIn(folder)) {
+async function readInto(folder, pathPrefix, files, depth) {
+  for (const entry of await readEntries(folder)) {
     if (files.size >= MAX_FILES) return;
-    const path = before + entry.name;
+    const path = pathPrefix + entry.name;
     if (entry.isFile) {
       const fileEntry = /** @type {FileSystemFileEntry} */ (entry);
       files.set(path, await new Promise((resolve, reject) => { fileEntry.file(resolve, reject); }));
@@ -71,7 +71,7 @@ export async function readFolder(entry) {
  * @param {File[]} files
  * @returns {Folder | null}
  */
-export function folderOfFiles(files) {
+export function folderFromFiles(files) {
   const isProject = files.length > 1 && files.some(({ name }) => name === PROJECT_FILE);
   return isProject ? { name: "", files: new Map(files.map((file) => [file.name, file])) } : null;
 }

@@ -1,8 +1,8 @@
 // Reads the texts of a project folder for a new session.
 
-import { ProjectFault, readProject } from "../../core/project/project_folder.js";
+import { ProjectError, readProject } from "../../core/project/project_folder.js";
 import { LONGEST_PROJECT_FILE, PROJECT_FILE } from "../../core/project/project_toml.js";
-import { NotForTheBench, openedFile } from "../../core/session/opened_file.js";
+import { UnusableFile, readOpenedFile } from "../../core/session/opened_file.js";
 import { MAX_PROJECT_BYTES } from "../../core/session/project_file.js";
 import * as say from "../../words/session.js";
 
@@ -20,7 +20,7 @@ import * as say from "../../words/session.js";
  * @param {File} file
  * @param {number} limit
  */
-async function bytesOf(file, limit) {
+async function readBytes(file, limit) {
   return new Uint8Array(await file.slice(0, limit + 1).arrayBuffer());
 }
 
@@ -30,12 +30,12 @@ async function bytesOf(file, limit) {
  * @param {string} path
  * @param {"board" | "program" | "tests" | "properties"} kind
  */
-async function textIn(files, path, kind) {
+async function readText(files, path, kind) {
   const file = files.get(path);
   if (!file) return "";
-  const opened = openedFile(path, await bytesOf(file, MAX_PROJECT_BYTES));
-  const text = opened.kind === "texts" ? opened.texts[kind] : null;
-  if (text === null) throw new NotForTheBench(say.noText(path, kind.endsWith("s") ? kind : `a ${kind}`));
+  const contents = readOpenedFile(path, await readBytes(file, MAX_PROJECT_BYTES));
+  const text = contents.kind === "texts" ? contents.texts[kind] : null;
+  if (text === null) throw new UnusableFile(say.noText(path, kind.endsWith("s") ? kind : `a ${kind}`));
   return text;
 }
 
@@ -43,9 +43,9 @@ async function textIn(files, path, kind) {
  * Returns a message about the omitted files, or "" if there are none. A session has only one text of each kind.
  * @param {string[][]} lists
  */
-function leftOut(lists) {
-  const omitted = lists.flatMap((paths) => paths.slice(1));
-  return omitted.length === 0 ? "" : say.leftOut(omitted.join(", "), omitted.length === 1);
+function omittedMessage(lists) {
+  const omittedPaths = lists.flatMap((paths) => paths.slice(1));
+  return omittedPaths.length === 0 ? "" : say.leftOut(omittedPaths.join(", "), omittedPaths.length === 1);
 }
 
 /**
@@ -53,21 +53,21 @@ function leftOut(lists) {
  * @param {Folder} folder
  * @returns {Promise<FolderTexts>}
  */
-export async function textsOfFolder({ name, files }) {
+export async function readFolderTexts({ name, files }) {
   const projectFile = files.get(PROJECT_FILE);
-  if (!projectFile) throw new ProjectFault(PROJECT_FILE, say.NO_PROJECT_FILE);
+  if (!projectFile) throw new ProjectError(PROJECT_FILE, say.NO_PROJECT_FILE);
   /** @type {(path: string) => string} */
-  const look = (path) => (files.has(path) ? "" : say.noFile(path));
-  const { board, program, tests, properties, speed } = readProject(await bytesOf(projectFile, LONGEST_PROJECT_FILE), look);
+  const checkPath = (path) => (files.has(path) ? "" : say.noFile(path));
+  const { board, program, tests, properties, speed } = readProject(await readBytes(projectFile, LONGEST_PROJECT_FILE), checkPath);
   const texts = {
     name: name || program.replace(/^.*\//, "").replace(/\.[^.]*$/, ""),
     title: "",
-    board: await textIn(files, board, "board"),
-    program: await textIn(files, program, "program"),
-    tests: await textIn(files, tests[0], "tests"),
-    properties: await textIn(files, properties[0], "properties"),
+    board: await readText(files, board, "board"),
+    program: await readText(files, program, "program"),
+    tests: await readText(files, tests[0], "tests"),
+    properties: await readText(files, properties[0], "properties"),
     lines: "",
     project: "",
   };
-  return { texts, speed, words: leftOut([tests, properties]) };
+  return { texts, speed, words: omittedMessage([tests, properties]) };
 }

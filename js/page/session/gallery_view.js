@@ -10,7 +10,7 @@ import { svgElement } from "../ui/svg.js";
  * @param {Shape} shape
  * @returns {SVGElement[]}
  */
-function nodesOf(shape) {
+function shapeNodes(shape) {
   if (shape.kind === "lamp") {
     return [svgElement("circle", { class: `lamp ${shape.colour}${shape.isLit ? " lit" : ""}`, cx: shape.x, cy: shape.y, r: shape.size })];
   }
@@ -34,8 +34,8 @@ function emptyPicture() {
  * Returns a picture of a board's front panel. Screen readers skip the picture, because a description is next to it.
  * @param {string} boardText
  */
-export function pictureOf(boardText) {
+export function boardPicture(boardText) {
   const { width, height, shapes } = galleryPicture(boardText);
   if (shapes.length === 0) return emptyPicture();
-  return svgElement("svg", { class: "picture", viewBox: `0 0 ${width} ${height}`, "aria-hidden": "true" }, ...shapes.flatMap(nodesOf));
+  return svgElement("svg", { class: "picture", viewBox: `0 0 ${width} ${height}`, "aria-hidden": "true" }, ...shapes.flatMap(shapeNodes));
 }

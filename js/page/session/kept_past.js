@@ -1,5 +1,5 @@
 // The recent history of the current session, for going back after a page reload. A history segment is the session's file at one moment and
-// the commands since then. The history comes from the worker's reports. When the user leaves the page, it is written to the tab's session
+// the commands since then. The worker reports the history. When the user leaves the page, it is written to the tab's session
 // storage.
 
 import { fromBase64, toBase64 } from "../../core/session/base64.js";
@@ -8,7 +8,7 @@ import * as say from "../../words/session.js";
 /**
  * @typedef {import("../../core/engine/timeline.js").News} News
  * @typedef {import("../../core/engine/timeline.js").Entry} Entry
- * @typedef {import("../../core/engine/timeline.js").Recalled} Recalled
+ * @typedef {import("../../core/engine/timeline.js").StoredSegment} StoredSegment
  * @typedef {Pick<Storage, "getItem" | "setItem" | "removeItem">} TabStore
  */
 
@@ -17,7 +17,7 @@ const KEY = "fethsaim.past";
 const MAX_CYCLES = 4000000;
 const MAX_ENTRIES = 4000;
 const MAX_CHARACTERS = 200000;
-/** The maximum number of cycles in one report. A longer report restarts the history at the current state. */
+/** The most cycles that one report can add to the history. A longer report restarts the history at the current state. */
 const MAX_REPORT_CYCLES = 16000000;
 /** The maximum number of stored segments. */
 const SEGMENTS = 2;
@@ -32,7 +32,7 @@ function tabStore() {
 }
 
 /** @param {Entry[]} entries */
-function cyclesOf(entries) {
+function sumCycles(entries) {
   return entries.reduce((sum, { cycles }) => sum + cycles, 0);
 }
 
@@ -46,20 +46,20 @@ function isEntry(entry) {
 }
 
 /**
- * @param {any} kept
- * @returns {Recalled}
+ * @param {any} storedSegment
+ * @returns {StoredSegment}
  */
-function segmentOf({ file, total, reset, entries }) {
+function parseSegment({ file, total, reset, entries }) {
   if (typeof total !== "number" || typeof reset !== "number" || !entries.every(isEntry)) throw new Error(say.NO_PAST);
   return { file: fromBase64(file), total, reset, entries };
 }
 
-export class KeptPast {
+export class StoredHistory {
   /** @param {TabStore | null} store */
   constructor(store = tabStore()) {
     this.store = store;
     this.session = "";
-    /** @type {Recalled[]} */
+    /** @type {StoredSegment[]} */
     this.segments = [];
     /** The number of cycles in the last segment. */
     this.cycles = 0;
@@ -76,23 +76,23 @@ export class KeptPast {
   /**
    * Adds a report's entries to the history.
    * @param {News} news
-   * @param {{ file: Uint8Array, total: number, reset: number }} present the session after the report's entries
+   * @param {{ file: Uint8Array, total: number, reset: number }} currentState the session after the report's entries
    */
-  take({ isNewPast, entries }, present) {
-    const cycles = cyclesOf(entries);
-    const last = this.segments[this.segments.length - 1];
-    if (isNewPast || !last || cycles > MAX_REPORT_CYCLES) {
+  take({ isNewPast, entries }, currentState) {
+    const cycles = sumCycles(entries);
+    const lastSegment = this.segments[this.segments.length - 1];
+    if (isNewPast || !lastSegment || cycles > MAX_REPORT_CYCLES) {
       this.segments = [];
-      this.add(present);
+      this.add(currentState);
       return;
     }
-    last.entries.push(...entries);
+    lastSegment.entries.push(...entries);
     this.cycles += cycles;
     this.characters += entries.reduce((sum, { line }) => sum + line.length, 0);
-    if (this.cycles >= MAX_CYCLES || last.entries.length >= MAX_ENTRIES || this.characters >= MAX_CHARACTERS) this.add(present);
+    if (this.cycles >= MAX_CYCLES || lastSegment.entries.length >= MAX_ENTRIES || this.characters >= MAX_CHARACTERS) this.add(currentState);
   }
 
-  /** @param {{ file: Uint8Array, total: number, reset: number }} present */
+  /** @param {{ file: Uint8Array, total: number, reset: number }} currentState */
   add({ file, total, reset }) {
     this.segments = [...this.segments, { file: file.slice(), total, reset, entries: [] }].slice(-SEGMENTS);
     this.cycles = 0;
@@ -101,41 +101,41 @@ export class KeptPast {
 
   /** Writes the history to the storage when the user leaves the page. */
   leave() {
-    const segments = this.segments.map(({ file, ...more }) => ({ file: toBase64(file), ...more }));
+    const segments = this.segments.map(({ file, ...fields }) => ({ file: toBase64(file), ...fields }));
     this.change((store) => store.setItem(KEY, JSON.stringify({ session: this.session, segments })));
   }
 
   /** Removes the session's history from the storage and returns it. Returns an empty list if the storage has none for this session. */
-  recalled() {
-    /** @type {Recalled[]} */
-    let found = [];
+  storedSegments() {
+    /** @type {StoredSegment[]} */
+    let segments = [];
     this.change((store) => {
-      const { session, segments } = JSON.parse(store.getItem(KEY) || "{}");
+      const stored = JSON.parse(store.getItem(KEY) || "{}");
       store.removeItem(KEY);
-      if (session === this.session && Array.isArray(segments)) found = segments.map(segmentOf);
+      if (stored.session === this.session && Array.isArray(stored.segments)) segments = stored.segments.map(parseSegment);
     });
-    return found;
+    return segments;
   }
 
   /**
    * Continues a history that the bench has restored. The entries since the reload are appended to it.
-   * @param {Recalled[]} recalled
+   * @param {StoredSegment[]} restoredSegments
    * @param {number} count the number of restored entries in the last segment
    */
-  goOn(recalled, count) {
-    const [{ entries }, ...more] = this.segments;
-    const last = recalled[recalled.length - 1];
-    last.entries.splice(count, Infinity, ...entries);
-    this.segments = [...recalled, ...more].slice(-SEGMENTS);
-    if (more.length > 0) return;
-    this.cycles = cyclesOf(last.entries);
-    this.characters = last.entries.reduce((sum, { line }) => sum + line.length, 0);
+  continueFrom(restoredSegments, count) {
+    const [{ entries }, ...laterSegments] = this.segments;
+    const lastSegment = restoredSegments[restoredSegments.length - 1];
+    lastSegment.entries.splice(count, Infinity, ...entries);
+    this.segments = [...restoredSegments, ...laterSegments].slice(-SEGMENTS);
+    if (laterSegments.length > 0) return;
+    this.cycles = sumCycles(lastSegment.entries);
+    this.characters = lastSegment.entries.reduce((sum, { line }) => sum + line.length, 0);
   }
 
-  /** @param {(store: TabStore) => void} act */
-  change(act) {
+  /** @param {(store: TabStore) => void} action */
+  change(action) {
     try {
-      if (this.store) act(this.store);
+      if (this.store) action(this.store);
     } catch {
       // Without a stored history, the user can go back only to the reload.
     }

@@ -1,7 +1,7 @@
 // A session that is open in this tab: its record, which has the last state from the bench, and the writes of the record to the store.
 
 import { shortName } from "../../core/session/names.js";
-import { inTime, wordsOfStoreFault } from "./store.js";
+import { withTimeout, describeStoreError } from "./store.js";
 
 /**
  * @typedef {import("./locks.js").Release} Release
@@ -29,7 +29,7 @@ export function newRecord(name, file, content, runs = false) {
   return { ...record, ...(breakpoints ? { breakpoints } : {}), ...(watched ? { watched } : {}), ...(wired ? { wired } : {}) };
 }
 
-export class KeptSession {
+export class OpenSession {
   /**
    * @param {SessionStore} store
    * @param {SessionRecord} record
@@ -42,9 +42,9 @@ export class KeptSession {
     this.release = release;
     this.example = example;
     /** @type {Promise<string>} the write in progress */
-    this.writing = Promise.resolve("");
+    this.currentWrite = Promise.resolve("");
     /** @type {Promise<string> | null} the next write after the one in progress; null if there is none */
-    this.waiting = null;
+    this.nextWrite = null;
   }
 
   /**
@@ -53,9 +53,9 @@ export class KeptSession {
    * @returns {ArrayBuffer}
    */
   take(file) {
-    const old = this.record.file.buffer;
+    const oldBuffer = this.record.file.buffer;
     this.record.file = new Uint8Array(file);
-    return old;
+    return oldBuffer;
   }
 
   /**
@@ -64,19 +64,19 @@ export class KeptSession {
    * @returns {Promise<string>}
    */
   keep() {
-    return this.isUntouched ? Promise.resolve("") : inTime(this.writeNext()).catch(wordsOfStoreFault);
+    return this.isUntouched ? Promise.resolve("") : withTimeout(this.writeNext()).catch(describeStoreError);
   }
 
   /** @returns {Promise<string>} */
   writeNext() {
-    if (this.waiting === null) {
-      this.waiting = this.writing.then(() => {
-        this.waiting = null;
-        this.writing = this.write();
-        return this.writing;
+    if (this.nextWrite === null) {
+      this.nextWrite = this.currentWrite.then(() => {
+        this.nextWrite = null;
+        this.currentWrite = this.write();
+        return this.currentWrite;
       });
     }
-    return this.waiting;
+    return this.nextWrite;
   }
 
   /**
@@ -84,7 +84,7 @@ export class KeptSession {
    * the answer would arrive too late, and the unfinished write would block other pages.
    */
   keepNow() {
-    return this.store.isWhole && !this.isUntouched ? this.write() : Promise.resolve("");
+    return this.store.isAtomic && !this.isUntouched ? this.write() : Promise.resolve("");
   }
 
   get isUntouched() {
@@ -105,7 +105,7 @@ export class KeptSession {
       await this.store.put(this.record);
       return "";
     } catch (fault) {
-      return wordsOfStoreFault(fault);
+      return describeStoreError(fault);
     }
   }
 }

@@ -1,12 +1,12 @@
 // Session locks: a session can be open in only one tab at a time.
 
-import { inTime } from "./store.js";
+import { withTimeout } from "./store.js";
 
 /** The number of attempts to acquire a lock, and the time in milliseconds between attempts. */
-const TRIES = 6;
-const WAIT = 150;
+const MAX_ATTEMPTS = 6;
+const RETRY_DELAY = 150;
 /** The name of a lock that tests whether locks work. A browser that blocks site data rejects all lock requests. */
-const PROBE = "fethsaim probe";
+const PROBE_NAME = "fethsaim probe";
 
 /** @typedef {() => void} Release releases a lock */
 
@@ -15,7 +15,7 @@ export class Locks {
   static async find() {
     if (!navigator.locks) return new Locks(null);
     try {
-      await inTime(navigator.locks.request(PROBE, { mode: "shared" }, () => {}));
+      await withTimeout(navigator.locks.request(PROBE_NAME, { mode: "shared" }, () => {}));
       return new Locks(navigator.locks);
     } catch {
       return new Locks(null);
@@ -35,10 +35,10 @@ export class Locks {
    * @returns {Promise<Release | null>}
    */
   async take(id) {
-    for (let tries = 0; tries < TRIES; tries++) {
-      const release = await this.tryOnce(`fethsaim session ${id}`);
+    for (let attempt = 0; attempt < MAX_ATTEMPTS; attempt++) {
+      const release = await this.requestLock(`fethsaim session ${id}`);
       if (release) return release;
-      await new Promise((done) => setTimeout(done, WAIT));
+      await new Promise((resolve) => setTimeout(resolve, RETRY_DELAY));
     }
     return null;
   }
@@ -47,20 +47,20 @@ export class Locks {
    * @param {string} name
    * @returns {Promise<Release | null>}
    */
-  tryOnce(name) {
+  requestLock(name) {
     const { manager } = this;
-    return new Promise((done, fail) => {
+    return new Promise((resolve, reject) => {
       if (!manager) {
-        done(() => {});
+        resolve(() => {});
         return;
       }
       manager.request(name, { ifAvailable: true }, (lock) => {
         if (lock === null) {
-          done(null);
+          resolve(null);
           return undefined;
         }
-        return new Promise((release) => done(() => release(undefined)));
-      }).catch(fail);
+        return new Promise((release) => resolve(() => release(undefined)));
+      }).catch(reject);
     });
   }
 }

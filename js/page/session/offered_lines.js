@@ -1,4 +1,4 @@
-// Puts the lines of an example or a file into the console's input. If the input had the user's own text, a notice offers to restore it.
+// Puts the lines of an example or a file into the console's input. If the user had typed a text, a notice offers to restore that text.
 
 import { byId } from "../ui/dom.js";
 import * as say from "../../words/session.js";
@@ -10,24 +10,24 @@ export class OfferedLines {
   constructor(notice) {
     this.notice = notice;
     this.area = byId("lines", HTMLTextAreaElement);
-    /** The lines that were put into the input last. */
-    this.offered = "";
+    /** The lines that this class last put into the input. */
+    this.lastOfferedText = "";
   }
 
   /** @param {string} lines the lines; "" for a session without lines */
   offer(lines) {
-    const typed = this.area.value;
-    const isOwn = typed.trim() !== "" && typed !== this.offered;
-    this.offered = lines;
-    if (isOwn && lines === "") return;
-    this.put(lines);
-    if (!isOwn) return;
+    const userText = this.area.value;
+    const hasUserText = userText.trim() !== "" && userText !== this.lastOfferedText;
+    this.lastOfferedText = lines;
+    if (hasUserText && lines === "") return;
+    this.setLines(lines);
+    if (!hasUserText) return;
     this.notice.show(say.OTHER_LINES, "undo",
-      { word: say.UNDO, act: () => this.put(typed) });
+      { word: say.UNDO, act: () => this.setLines(userText) });
   }
 
   /** @param {string} lines */
-  put(lines) {
+  setLines(lines) {
     this.area.value = lines;
     this.area.dispatchEvent(new Event("input"));
   }

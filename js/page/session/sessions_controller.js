@@ -1,7 +1,7 @@
 // Controls the sessions of the page: opens the first session, handles the sessions dialog, and follows changes of the page's address.
 
 import { readAddress } from "./address.js";
-import { Trash, namesOf } from "./trash.js";
+import { Trash, formatNames } from "./trash.js";
 import { shortName } from "../../core/session/names.js";
 import { Openings } from "./openings.js";
 import { SessionManager } from "./session_manager.js";
@@ -13,33 +13,33 @@ import * as say from "../../words/session.js";
 
 /**
  * @typedef {import("../../core/engine/examples.js").Example} Example
- * @typedef {import("./kept_session.js").KeptSession} KeptSession
+ * @typedef {import("./kept_session.js").OpenSession} OpenSession
  * @typedef {import("./locks.js").Release} Release
  * @typedef {import("./store.js").SessionRecord} SessionRecord
  * @typedef {{ bench: import("../../core/bench/bench_client.js").Bench, store: import("./store.js").SessionStore,
- *   locks: import("./locks.js").Locks, words: import("../../core/bench/words.js").Words,
- *   notice: import("../ui/notice.js").Notice, examples: Example[] }} Parts
+ *   locks: import("./locks.js").Locks, words: import("../../core/bench/words.js").ErrorMessages,
+ *   notice: import("../ui/notice.js").Notice, examples: Example[] }} SessionServices
  */
 
 /**
  * The callbacks of SessionsController.
  * @typedef {object} ControllerCalls
- * @property {() => KeptSession | null} session Returns the current session, or null if there is none.
+ * @property {() => OpenSession | null} session Returns the current session, or null if there is none.
  * @property {() => Promise<string>} keep Saves the session. Resolves to the reason why it could not be saved, or to "".
  * @property {(name: string) => void} rename Renames the current session.
- * @property {(id: string) => void} speed Sets the speed that a project requests, by its id.
- * @property {(name: string, texts: import("../../core/session/opened_file.js").FileTexts) => Promise<void>} texts Loads the texts of a file
- *   into the editors.
- * @property {(name: string, bytes: Int16Array) => Promise<void>} image Loads the bytes of a file into ROM; -1 leaves a byte unchanged.
- * @property {(record: SessionRecord, release: Release, example: string) => Promise<void>} use Makes a session the current one. `release`
- *   releases its lock. `example` is the example's name if the session is still unchanged, otherwise "".
+ * @property {(id: string) => void} setSpeed Sets the speed that a project requests, by its id.
+ * @property {(name: string, texts: import("../../core/session/opened_file.js").FileTexts) => Promise<void>} loadTexts Loads the texts of a
+ *   file into the editors.
+ * @property {(name: string, bytes: Int16Array) => Promise<void>} loadImage Loads the bytes of a file into ROM; -1 leaves a byte unchanged.
+ * @property {(record: SessionRecord, release: Release, example: string) => Promise<void>} useSession Makes a session the current one.
+ *   `release` releases its lock. `example` is the example's name if the session is still unchanged, otherwise "".
  * @property {() => void} showLines Brings the console to the front, for an example that consists only of lines.
- * @property {(text: string) => Promise<void>} link Opens the session of a link, given the link's contents.
+ * @property {(text: string) => Promise<void>} openLink Opens the session of a link, given the link's contents.
  */
 
 export class SessionsController {
   /**
-   * @param {Parts} parts
+   * @param {SessionServices} services
    * @param {ControllerCalls} calls
    */
   constructor({ bench, store, locks, words, notice, examples }, calls) {
@@ -51,7 +51,7 @@ export class SessionsController {
     /** @type {(example: Example) => void} shows the story of an example */
     this.showExample = () => {};
     /** Called after another session has been opened. */
-    this.used = () => {};
+    this.onSessionOpened = () => {};
     this.persistence = new Persistence();
     this.openings = new Openings();
     this.openings.listen(window);
@@ -61,28 +61,28 @@ export class SessionsController {
     this.manager = new SessionManager(bench, store, locks, words, {
       ...calls,
       refuse,
-      left: (record) => this.reportLeft(record),
-      use: async (record, release, example) => {
-        await this.openings.during(record.id, () => calls.use(record, release, example));
+      reportLeft: (record) => this.reportLeft(record),
+      useSession: async (record, release, example) => {
+        await this.openings.runOpening(record.id, () => calls.useSession(record, release, example));
         notice.hide("left");
-        this.used();
+        this.onSessionOpened();
         this.lines.offer("");
       },
     });
-    this.bin = new Trash(store, locks, refuse);
+    this.trash = new Trash(store, locks, refuse);
     this.view = this.makeView();
   }
 
   makeView() {
-    const { manager, bin, calls } = this;
+    const { manager, trash, calls } = this;
     return new SessionsView(this.examples, this.notice, {
-      kept: () => manager.kept(),
+      savedSessions: () => manager.savedSessions(),
       isShown: (id) => this.isShown(id),
       open: (id) => this.open(id),
       copy: (id) => manager.copy(id),
       remove: (records) => this.remove(records),
-      deleted: () => bin.deleted,
-      bringBack: (records) => bin.bringBack(records),
+      deleted: () => trash.deleted,
+      restoreSessions: (records) => trash.restoreSessions(records),
       begin: (example) => this.begin(example),
       beginStory: async (example) => {
         const isDone = await this.begin(example);
@@ -92,7 +92,8 @@ export class SessionsController {
       openFile: (file) => manager.openFile(file),
       openFolder: (read) => manager.openFolder(read),
       rename: (name) => calls.rename(name),
-      keptWhere: () => (this.store.keeps ? say.KEPT_HERE + (this.persistence.isPromised ? say.PROMISED : "") : say.NOT_SAVED_ANYWHERE),
+      describeStorage: () => (
+        this.store.isPersistent ? say.KEPT_HERE + (this.persistence.isPromised ? say.PROMISED : "") : say.NOT_SAVED_ANYWHERE),
     });
   }
 
@@ -108,13 +109,13 @@ export class SessionsController {
    * @param {SessionRecord} record
    */
   reportLeft({ id, name }) {
-    this.notice.show(say.sessionLeft(name, this.store.keeps), "left", { word: say.BACK_TO_IT, act: () => this.open(id) });
+    this.notice.show(say.sessionLeft(name, this.store.isPersistent), "left", { word: say.BACK_TO_IT, act: () => this.open(id) });
   }
 
   /** Called when the user changes the session. The user now has data to lose, and has accepted this session. */
-  touched() {
+  handleSessionChange() {
     this.notice.hide("left");
-    if (this.store.keeps) this.persistence.ask();
+    if (this.store.isPersistent) this.persistence.ask();
   }
 
   /** @param {string} id */
@@ -147,35 +148,35 @@ export class SessionsController {
    * @param {SessionRecord[]} records
    */
   async remove(records) {
-    const done = await this.bin.remove(records);
-    if (done.length === 0) return;
-    for (const { id } of done) this.openings.forget(id);
-    this.notice.show(say.deleted(namesOf(done)), "undo", { word: say.UNDO, act: () => this.bringBack(done) });
+    const deletedRecords = await this.trash.remove(records);
+    if (deletedRecords.length === 0) return;
+    for (const { id } of deletedRecords) this.openings.forget(id);
+    this.notice.show(say.deleted(formatNames(deletedRecords)), "undo", { word: say.UNDO, act: () => this.restoreSessions(deletedRecords) });
   }
 
   /** @param {SessionRecord[]} records */
-  async bringBack(records) {
-    await this.bin.bringBack(records);
+  async restoreSessions(records) {
+    await this.trash.restoreSessions(records);
     if (this.view.isOpen) await this.view.draw();
   }
 
   /**
-   * Opens the first session of the page. This is the address's target, the example whose story is requested, the last used session that is
-   * not open in another tab, or the first example.
+   * Opens the first session of the page: the address's target, the example whose story is requested, the last used session that is not open
+   * in another tab, or the first example.
    * @param {string} story the name of the example whose story is requested; "" for none
    */
   async openFirst(story) {
     const { hash } = location;
-    const named = readAddress(hash);
-    const isStory = named.kind === "" && this.examples.some((example) => example.name === story && example.story);
-    const { kind, value } = isStory ? { kind: "example", value: story } : named;
-    const isQuiet = kind === "" || kind === "link" || (kind === "session" && this.openings.isUnended(value));
+    const address = readAddress(hash);
+    const isStory = address.kind === "" && this.examples.some((example) => example.name === story && example.story);
+    const { kind, value } = isStory ? { kind: "example", value: story } : address;
+    const isQuiet = kind === "" || kind === "link" || (kind === "session" && this.openings.hasUnendedOpening(value));
     if (isQuiet || !(await this.openNamed(kind, value))) await this.openLast(isQuiet);
-    if (kind === "link") await this.calls.link(value);
+    if (kind === "link") await this.calls.openLink(value);
     if (kind === "") this.refuseAddress(hash);
   }
 
-  /** @param {string} hash a part of the address that names nothing on the page */
+  /** @param {string} hash the text after `#` in an address that names no session, example or link */
   refuseAddress(hash) {
     if (hash.length > 1) this.notice.show(say.namesNothing(shortName(hash)), "session");
   }
@@ -191,10 +192,10 @@ export class SessionsController {
 
   /** @param {boolean} isQuiet true if sessions that are open in other tabs are skipped without a notice */
   async openLast(isQuiet) {
-    const records = await this.manager.kept();
-    const unended = records.filter(({ id }) => this.openings.isUnended(id));
-    for (const record of unended) await this.reportUnended(record);
-    for (const record of records.filter((candidate) => !unended.includes(candidate))) {
+    const records = await this.manager.savedSessions();
+    const unendedRecords = records.filter(({ id }) => this.openings.hasUnendedOpening(id));
+    for (const record of unendedRecords) await this.reportUnended(record);
+    for (const record of records.filter((candidate) => !unendedRecords.includes(candidate))) {
       if (await this.open(record.id)) return;
       if (isQuiet) this.notice.hide("session");
     }
@@ -216,12 +217,12 @@ export class SessionsController {
   }
 
   /** Opens the target of a changed address, unless it is already open. */
-  async follow() {
+  async followAddress() {
     const { kind, value } = readAddress(location.hash);
     const session = this.calls.session();
     if (!session) return;
     if (kind === "") this.refuseAddress(location.hash);
-    else if (kind === "link") await this.calls.link(value);
+    else if (kind === "link") await this.calls.openLink(value);
     else if (kind === "session" && !this.isShown(value)) await this.open(value);
     else if (kind === "example" && session.example !== value) await this.beginNamed(value);
   }

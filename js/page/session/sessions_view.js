@@ -1,9 +1,9 @@
 // The sessions dialog: the saved sessions, the examples, the deleted sessions, the button that opens a file, and the session's name field.
 
-import { pictureOf } from "./gallery_view.js";
+import { boardPicture } from "./gallery_view.js";
 import { block, button, byId, element, field, onClick } from "../ui/dom.js";
-import { folderOfFiles, foldersOf, readFolder } from "./folder_files.js";
-import { KeptList } from "./kept_list.js";
+import { folderFromFiles, droppedFolders, readFolder } from "./folder_files.js";
+import { SessionList } from "./kept_list.js";
 import { ORDER, TO_DO, exampleWords } from "../../words/example_notes.js";
 import * as say from "../../words/session.js";
 
@@ -16,32 +16,32 @@ import * as say from "../../words/session.js";
 /**
  * The callbacks of the sessions dialog. A call that opens something resolves to false if that fails.
  * @typedef {object} SessionsCalls
- * @property {() => Promise<SessionRecord[]>} kept Resolves to the saved sessions.
+ * @property {() => Promise<SessionRecord[]>} savedSessions Resolves to the saved sessions.
  * @property {(id: string) => boolean} isShown Returns true if a session, by its id, is the current one.
  * @property {(id: string) => Promise<boolean>} open Opens a session by its id.
  * @property {(id: string) => Promise<boolean>} copy Copies a session, by its id, and opens the copy.
  * @property {(records: SessionRecord[]) => Promise<void>} remove Deletes sessions. Deleted sessions can be restored.
  * @property {() => SessionRecord[]} deleted Returns the sessions that can be restored.
- * @property {(records: SessionRecord[]) => Promise<void>} bringBack Restores deleted sessions.
+ * @property {(records: SessionRecord[]) => Promise<void>} restoreSessions Restores deleted sessions.
  * @property {(example: Example) => Promise<boolean>} begin Begins a new session from an example.
  * @property {(example: Example) => Promise<boolean>} beginStory Begins a new session from an example, and shows its story.
  * @property {(file: File) => Promise<boolean>} openFile Opens a file: a project, a session or a text.
  * @property {(read: () => Promise<import("./folder_files.js").Folder>) => Promise<boolean>} openFolder Opens a project in a folder, which
  * Opens the project in the folder that `read` reads.
  * @property {(name: string) => void} rename Renames the current session.
- * @property {() => string} keptWhere Returns a text about where the browser stores sessions.
+ * @property {() => string} describeStorage Returns a text about where the browser stores sessions.
  */
 
 /**
  * Returns the examples in page order: first the empty bench, on which the user can build a board, then the others in the order of ORDER.
  * @param {Example[]} examples
  */
-function inOrder(examples) {
+function orderExamples(examples) {
   /** @type {(example: Example) => boolean} */
   const isEmpty = ({ board, program, lines, project }) => [board, program, lines, project].every((text) => text === "");
   /** @type {(example: Example) => number} */
-  const placeOf = (example) => (isEmpty(example) ? -1 : ORDER.indexOf(example.name));
-  return [...examples].sort((first, second) => placeOf(first) - placeOf(second));
+  const orderIndex = (example) => (isEmpty(example) ? -1 : ORDER.indexOf(example.name));
+  return [...examples].sort((first, second) => orderIndex(first) - orderIndex(second));
 }
 
 export class SessionsView {
@@ -55,20 +55,20 @@ export class SessionsView {
     this.notice = notice;
     this.dialog = byId("sessions", HTMLDialogElement);
     /** True if the user pressed the dialog's last button by pointer. */
-    this.byPointer = false;
-    this.keptList = new KeptList({
+    this.isByPointer = false;
+    this.sessionList = new SessionList({
       ...calls,
-      choose: (act) => this.choose(act),
-      remove: (records) => this.changeKept(() => calls.remove(records)),
-      bringBack: (records) => this.changeKept(() => calls.bringBack(records)),
-      button: (word, label, act) => this.button(word, label, act),
+      runAndClose: (action) => this.runAndClose(action),
+      remove: (records) => this.changeAndDraw(() => calls.remove(records)),
+      restoreSessions: (records) => this.changeAndDraw(() => calls.restoreSessions(records)),
+      button: (word, label, action) => this.button(word, label, action),
     });
     onClick(button("first-example"), () => this.openExamples());
     onClick(button("close-sessions"), () => this.close());
-    field("file").addEventListener("change", () => this.take(field("file")));
+    field("file").addEventListener("change", () => this.openChosenFiles(field("file")));
     field("name").addEventListener("change", () => this.calls.rename(field("name").value));
-    block("examples").replaceChildren(...inOrder(examples).map((example) => this.exampleLine(example)));
-    this.dialog.addEventListener("close", () => this.closed());
+    block("examples").replaceChildren(...orderExamples(examples).map((example) => this.makeExampleEntry(example)));
+    this.dialog.addEventListener("close", () => this.handleClose());
     this.listenToDrops();
   }
 
@@ -93,65 +93,65 @@ export class SessionsView {
     if (this.dialog.open) this.dialog.close();
   }
 
-  closed() {
+  handleClose() {
     this.notice.moveTo(document.body);
     // The browser returns the focus to the button that opened the dialog. After a click by pointer, drop the focus so that the board
     // receives the keys.
-    if (this.byPointer && document.activeElement instanceof HTMLElement) document.activeElement.blur();
+    if (this.isByPointer && document.activeElement instanceof HTMLElement) document.activeElement.blur();
   }
 
   async draw() {
-    block("kept-where").textContent = this.calls.keptWhere();
-    this.keptList.draw(await this.calls.kept());
+    block("kept-where").textContent = this.calls.describeStorage();
+    this.sessionList.draw(await this.calls.savedSessions());
   }
 
   /**
    * Changes the saved sessions and draws their list again.
-   * @param {() => Promise<void>} act
+   * @param {() => Promise<void>} action
    */
-  async changeKept(act) {
-    await act();
+  async changeAndDraw(action) {
+    await action();
     await this.draw();
   }
 
   /** @param {Example} example */
-  exampleLine(example) {
-    const open = this.button(example.name, say.newSession(example.name), () => this.choose(() => this.calls.begin(example)));
-    open.prepend(pictureOf(example.board));
-    const toDo = Object.entries(TO_DO).find(([name]) => name === example.name);
-    const title = element("span", { className: "grow" }, toDo ? exampleWords(example.title, toDo[1]) : example.title);
+  makeExampleEntry(example) {
+    const open = this.button(example.name, say.newSession(example.name), () => this.runAndClose(() => this.calls.begin(example)));
+    open.prepend(boardPicture(example.board));
+    const hint = Object.entries(TO_DO).find(([name]) => name === example.name);
+    const title = element("span", { className: "grow" }, hint ? exampleWords(example.title, hint[1]) : example.title);
     if (!example.story) return element("li", {}, open, title);
     const description = say.newStory(example.name);
-    const story = this.button(say.WITH_STORY, description, () => this.choose(() => this.calls.beginStory(example)));
+    const story = this.button(say.WITH_STORY, description, () => this.runAndClose(() => this.calls.beginStory(example)));
     return element("li", {}, open, title, story);
   }
 
   /**
    * @param {string} word
    * @param {string} label
-   * @param {() => void} act
+   * @param {() => void} action
    */
-  button(word, label, act) {
+  button(word, label, action) {
     const node = element("button", { type: "button" }, word);
     node.setAttribute("aria-label", label);
     node.addEventListener("click", (event) => {
-      this.byPointer = event.detail > 0;
-      act();
+      this.isByPointer = event.detail > 0;
+      action();
     });
     return node;
   }
 
   /**
    * Executes an action. Closes the dialog if it succeeds, otherwise draws the dialog again.
-   * @param {() => Promise<boolean>} act
+   * @param {() => Promise<boolean>} action
    */
-  async choose(act) {
-    if (await act()) this.close();
+  async runAndClose(action) {
+    if (await action()) this.close();
     else await this.draw();
   }
 
   /** @param {HTMLInputElement} input */
-  async take(input) {
+  async openChosenFiles(input) {
     await this.openAll(input.files ? [...input.files] : []);
     // With an empty value, the user can choose the same file again.
     input.value = "";
@@ -159,7 +159,7 @@ export class SessionsView {
 
   /** @param {File[]} files the files, which are opened in sequence */
   async openAll(files) {
-    const folder = folderOfFiles(files);
+    const folder = folderFromFiles(files);
     if (folder) return this.openFolder(async () => folder);
     for (const file of files) {
       if (await this.calls.openFile(file)) this.close();
@@ -179,7 +179,7 @@ export class SessionsView {
     addEventListener("drop", (event) => {
       if (!hasFiles(event)) return;
       event.preventDefault();
-      const folders = foldersOf(event.dataTransfer);
+      const folders = droppedFolders(event.dataTransfer);
       if (folders.length > 0) this.openFolder(() => readFolder(folders[0]));
       else this.openAll(event.dataTransfer ? [...event.dataTransfer.files] : []);
     });

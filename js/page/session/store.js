@@ -7,22 +7,22 @@ import * as say from "../../words/session.js";
  * A session in the store: its file, its name, and the texts of the editors, which the file does not contain. Older sessions have no text of
  * tests or of properties. `runs`: whether time is running, so that a reload continues. `cycles`: the cycle counts. `breakpoints`: the
  * breakpoints of the source. `watched`: the watch list. `isTitled`: whether the name is the title in the texts, because the user has given
- * none. `goal`: the goal of a move under way. `places`: the positions of dragged parts. `printed`: the codes that were sent to the board's
- * printer. `wired`: the texts of the last boards, the one in use first. `rows`: the arrangement of the rows of waves.
+ * none. `goal`: the goal of a move in progress. `places`: the positions of dragged parts. `printed`: the codes that were sent to the
+ * board's printer. `wired`: the texts of the last boards, the one in use first. `rows`: the arrangement of the rows of waves.
  * @typedef {{ id: string, name: string, file: Uint8Array, boardText: string, programText: string, testText?: string,
- *   propertiesText?: string, runs: boolean, revision: number, changed: number, cycles?: import("../../core/time/cycles.js").KeptCycles,
- *   isTitled?: boolean, breakpoints?: import("../../core/debug/breakpoints.js").KeptBreakpoint[], watched?: string[],
+ *   propertiesText?: string, runs: boolean, revision: number, changed: number, cycles?: import("../../core/time/cycles.js").StoredCycles,
+ *   isTitled?: boolean, breakpoints?: import("../../core/debug/breakpoints.js").SavedBreakpoint[], watched?: string[],
  *   goal?: import("../../core/debug/goals.js").Goal, places?: [string, import("../../core/board/wiring.js").Point][],
- *   printed?: import("../../core/engine/printing.js").Printed, rows?: import("../../core/waves/wave_rows.js").KeptRows,
+ *   printed?: import("../../core/engine/printing.js").PrintoutData, rows?: import("../../core/waves/wave_rows.js").StoredRows,
  *   wired?: import("../../core/board/wired_text.js").WiredText[] }} SessionRecord
  *
- * @typedef {{ keeps: boolean, isWhole: boolean, all: () => Promise<SessionRecord[]>, get: (id: string) => Promise<SessionRecord |
- * undefined>, put: (record: SessionRecord) => Promise<void>, remove: (id: string) => Promise<void> }} SessionStore `isWhole`: `put`
- * makes all its requests at once
+ * @typedef {{ isPersistent: boolean, isAtomic: boolean, all: () => Promise<SessionRecord[]>, get: (id: string) => Promise<SessionRecord |
+ * undefined>, put: (record: SessionRecord) => Promise<void>, remove: (id: string) => Promise<void> }} SessionStore `isAtomic`: `put`
+ * sends all its requests together
  */
 
 /** The error of a session that could not be saved or read. Its message is a text for the user. */
-export class NotKept extends Error {}
+export class StoreError extends Error {}
 
 /** The time in milliseconds after which a store that does not answer counts as failed. Its requests may still succeed later. */
 const STORE_TIMEOUT = 10000;
@@ -33,10 +33,10 @@ const STORE_TIMEOUT = 10000;
  * @param {Promise<Result>} answer
  * @returns {Promise<Result>}
  */
-export function inTime(answer) {
-  return new Promise((done, fail) => {
-    const late = setTimeout(() => fail(new NotKept(say.STORE_SILENT)), STORE_TIMEOUT);
-    answer.then(done, fail).finally(() => clearTimeout(late));
+export function withTimeout(answer) {
+  return new Promise((resolve, reject) => {
+    const timer = setTimeout(() => reject(new StoreError(say.STORE_SILENT)), STORE_TIMEOUT);
+    answer.then(resolve, reject).finally(() => clearTimeout(timer));
   });
 }
 
@@ -45,10 +45,10 @@ export function inTime(answer) {
  * @param {IDBRequest<Result>} request
  * @returns {Promise<Result>}
  */
-function resultOf(request) {
-  return new Promise((done, fail) => {
-    request.onsuccess = () => done(request.result);
-    request.onerror = () => fail(request.error);
+function requestResult(request) {
+  return new Promise((resolve, reject) => {
+    request.onsuccess = () => resolve(request.result);
+    request.onerror = () => reject(request.error);
   });
 }
 
@@ -59,12 +59,12 @@ export class Store {
    * @returns {Promise<Store>}
    */
   static open(hasLocks) {
-    return new Promise((done, fail) => {
+    return new Promise((resolve, reject) => {
       const request = indexedDB.open("fethsaim", 1);
       request.onupgradeneeded = () => request.result.createObjectStore("sessions", { keyPath: "id" });
-      request.onsuccess = () => done(new Store(request.result, hasLocks));
-      request.onerror = () => fail(request.error);
-      request.onblocked = () => fail(new Error(say.OLDER_STORE));
+      request.onsuccess = () => resolve(new Store(request.result, hasLocks));
+      request.onerror = () => reject(request.error);
+      request.onblocked = () => reject(new Error(say.OLDER_STORE));
     });
   }
 
@@ -74,8 +74,8 @@ export class Store {
    */
   constructor(database, hasLocks) {
     this.database = database;
-    this.keeps = true;
-    this.isWhole = hasLocks;
+    this.isPersistent = true;
+    this.isAtomic = hasLocks;
     // Without this handler, a newer page in another tab would wait forever.
     database.onversionchange = () => database.close();
   }
@@ -86,7 +86,7 @@ export class Store {
 
   /** @returns {Promise<SessionRecord[]>} */
   async all() {
-    return inTime(resultOf(this.sessions.getAll()));
+    return withTimeout(requestResult(this.sessions.getAll()));
   }
 
   /**
@@ -94,22 +94,22 @@ export class Store {
    * @returns {Promise<SessionRecord | undefined>}
    */
   async get(id) {
-    return inTime(resultOf(this.sessions.get(id)));
+    return withTimeout(requestResult(this.sessions.get(id)));
   }
 
   /**
-   * Stores a record. Resolves when the record is on the disk. With locks, all requests are made at once, so they complete even while the
+   * Stores a record. Resolves when the record is on the disk. With locks, all requests are sent together, so they complete even while the
    * page is closing.
    * @param {SessionRecord} record
    * @returns {Promise<void>}
    */
   async put(record) {
-    if (!this.isWhole) return this.putNext(record);
-    return new Promise((done, fail) => {
-      const change = this.change(done, fail);
+    if (!this.isAtomic) return this.putChecked(record);
+    return new Promise((resolve, reject) => {
+      const transaction = this.openTransaction(resolve, reject);
       record.revision += 1;
-      change.objectStore("sessions").put(record);
-      change.commit();
+      transaction.objectStore("sessions").put(record);
+      transaction.commit();
     });
   }
 
@@ -119,39 +119,39 @@ export class Store {
    * @param {SessionRecord} record
    * @returns {Promise<void>}
    */
-  putNext(record) {
-    return new Promise((done, fail) => {
+  putChecked(record) {
+    return new Promise((resolve, reject) => {
       /** @type {Error | null} */
       let fault = null;
       // The record's bytes may change before the answer arrives, so copy them.
-      const written = { ...record, file: record.file.slice(), revision: record.revision + 1 };
-      const keep = () => {
-        record.revision = written.revision;
-        done();
+      const nextRecord = { ...record, file: record.file.slice(), revision: record.revision + 1 };
+      const finish = () => {
+        record.revision = nextRecord.revision;
+        resolve();
       };
-      const change = this.change(keep, (error) => fail(fault || error));
-      const request = change.objectStore("sessions").get(record.id);
+      const transaction = this.openTransaction(finish, (error) => reject(fault || error));
+      const request = transaction.objectStore("sessions").get(record.id);
       request.onsuccess = () => {
         if ((request.result ? request.result.revision : 0) === record.revision) {
-          change.objectStore("sessions").put(written);
+          transaction.objectStore("sessions").put(nextRecord);
         } else {
-          fault = new NotKept(say.CHANGED_ELSEWHERE);
-          change.abort();
+          fault = new StoreError(say.CHANGED_ELSEWHERE);
+          transaction.abort();
         }
       };
     });
   }
 
   /**
-   * Returns a transaction. Calls `done` when the transaction is on the disk, or `fail` if the transaction is aborted.
-   * @param {() => void} done
-   * @param {(fault: Error) => void} fail
+   * Returns a transaction. Calls `resolve` when the transaction is on the disk, or `reject` if the transaction is aborted.
+   * @param {() => void} resolve
+   * @param {(fault: Error) => void} reject
    */
-  change(done, fail) {
-    const change = this.database.transaction("sessions", "readwrite", { durability: "strict" });
-    change.oncomplete = () => done();
-    change.onabort = () => fail(new NotKept(wordsOfStoreFault(change.error)));
-    return change;
+  openTransaction(resolve, reject) {
+    const transaction = this.database.transaction("sessions", "readwrite", { durability: "strict" });
+    transaction.oncomplete = () => resolve();
+    transaction.onabort = () => reject(new StoreError(describeStoreError(transaction.error)));
+    return transaction;
   }
 
   /**
@@ -159,8 +159,8 @@ export class Store {
    * @returns {Promise<void>}
    */
   remove(id) {
-    return new Promise((done, fail) => {
-      this.change(done, fail).objectStore("sessions").delete(id);
+    return new Promise((resolve, reject) => {
+      this.openTransaction(resolve, reject).objectStore("sessions").delete(id);
     });
   }
 }
@@ -169,8 +169,8 @@ export class Store {
  * Returns a text about why a session could not be saved.
  * @param {unknown} error
  */
-export function wordsOfStoreFault(error) {
-  if (error instanceof NotKept) return error.message;
+export function describeStoreError(error) {
+  if (error instanceof StoreError) return error.message;
   const name = error instanceof DOMException || error instanceof Error ? error.name : say.UNKNOWN_REASON;
   if (name === "QuotaExceededError") return say.NO_SPACE;
   return say.storeFailed(name);
@@ -184,8 +184,8 @@ export class MemoryStore {
   constructor() {
     /** @type {Map<string, SessionRecord>} */
     this.records = new Map();
-    this.keeps = false;
-    this.isWhole = true;
+    this.isPersistent = false;
+    this.isAtomic = true;
   }
 
   async all() {

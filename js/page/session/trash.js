@@ -1,6 +1,6 @@
-// Deleted sessions. They can be restored as long as the page is open.
+// The deleted sessions, which can be restored until the page is closed.
 
-import { wordsOfStoreFault } from "./store.js";
+import { describeStoreError } from "./store.js";
 import * as say from "../../words/session.js";
 
 /**
@@ -10,7 +10,7 @@ import * as say from "../../words/session.js";
  */
 
 /** @param {SessionRecord[]} records */
-export function namesOf(records) {
+export function formatNames(records) {
   return records.length === 1 ? `"${records[0].name}"` : say.manySessions(records.length);
 }
 
@@ -29,18 +29,18 @@ export class Trash {
   }
 
   /**
-   * Deletes sessions. Resolves to the deleted ones. Reports a session that is open in another tab, and keeps it.
+   * Deletes sessions. Resolves to the deleted ones. Does not delete a session that is open in another tab, but reports that session.
    * @param {SessionRecord[]} records
    */
   async remove(records) {
-    const done = [];
-    for (const record of records) if (await this.removeOne(record)) done.push(record);
-    this.deleted = [...done, ...this.deleted];
-    return done;
+    const deletedRecords = [];
+    for (const record of records) if (await this.removeSession(record)) deletedRecords.push(record);
+    this.deleted = [...deletedRecords, ...this.deleted];
+    return deletedRecords;
   }
 
   /** @param {SessionRecord} record */
-  async removeOne(record) {
+  async removeSession(record) {
     const release = await this.locks.take(record.id);
     if (!release) {
       this.refuse(say.openElsewhere(record.name));
@@ -48,12 +48,12 @@ export class Trash {
     }
     try {
       // Include changes that another tab has made since the session was listed.
-      const newest = await this.store.get(record.id);
-      if (newest) Object.assign(record, newest);
+      const newestRecord = await this.store.get(record.id);
+      if (newestRecord) Object.assign(record, newestRecord);
       await this.store.remove(record.id);
       return true;
     } catch (fault) {
-      this.refuse(say.notDeleted(record.name, wordsOfStoreFault(fault)));
+      this.refuse(say.notDeleted(record.name, describeStoreError(fault)));
       return false;
     } finally {
       release();
@@ -64,7 +64,7 @@ export class Trash {
    * Restores sessions. If the store rejects a session, reports that, and the session stays deleted.
    * @param {SessionRecord[]} records
    */
-  async bringBack(records) {
+  async restoreSessions(records) {
     for (const record of records.filter((candidate) => this.deleted.includes(candidate))) {
       try {
         // The store has no earlier revision of the record.
@@ -72,7 +72,7 @@ export class Trash {
         await this.store.put(record);
         this.deleted = this.deleted.filter((candidate) => candidate !== record);
       } catch (fault) {
-        this.refuse(say.notRestored(record.name, wordsOfStoreFault(fault)));
+        this.refuse(say.notRestored(record.name, describeStoreError(fault)));
       }
     }
   }

@@ -1,6 +1,6 @@
-// The dialog of the first visit: six cards, each with a way to begin.
+// The dialog of the first visit. Each of its six cards starts something: the tour, an example or a drawing.
 
-import { pictureOf } from "./gallery_view.js";
+import { boardPicture } from "./gallery_view.js";
 import { buttonOf, element } from "../ui/dom.js";
 import { icon } from "../ui/icons.js";
 import { TOUR_BOARD } from "../../words/help.js";
@@ -16,8 +16,8 @@ import * as say from "../../words/example_notes.js";
  * @property {() => void} beginTour Begins the tour with the first program.
  * @property {(name: string) => Promise<boolean>} begin Begins a new session from an example, by its name. Resolves to true if the session
  *   was created.
- * @property {() => void} draw Brings the Wiring tab's picture to the front.
- * @property {() => void} seen Stores that the cards were shown.
+ * @property {() => void} showWiring Brings the Wiring tab's picture to the front.
+ * @property {() => void} storeSeen Stores that the cards were shown.
  */
 
 export class WelcomeView {
@@ -28,13 +28,13 @@ export class WelcomeView {
   constructor(examples, calls) {
     this.calls = calls;
     /** @type {(name: string) => Example | undefined} */
-    const named = (name) => examples.find((example) => example.name === name);
-    this.cards = Object.entries(say.CARDS).map(([name, card]) => this.card(name, card, named(card.example)));
+    const findExample = (name) => examples.find((example) => example.name === name);
+    this.cards = Object.entries(say.CARDS).map(([name, card]) => this.card(name, card, findExample(card.example)));
     const title = element("h2", { id: "welcome-title" }, say.WELCOME);
     this.dialog = element("dialog", { "id": "welcome", "aria-labelledby": "welcome-title" },
       element("div", { className: "bar" }, title, buttonOf(say.CLOSE, () => this.dialog.close())),
       element("ul", {}, ...this.cards.map((card) => element("li", {}, card))), element("p", { className: "hint" }, say.WELCOME_HINT));
-    this.dialog.addEventListener("close", () => calls.seen());
+    this.dialog.addEventListener("close", () => calls.storeSeen());
     document.body.append(this.dialog);
   }
 
@@ -43,24 +43,24 @@ export class WelcomeView {
    * @param {{ title: string, words: string, example: string }} card
    * @param {Example | undefined} example
    */
-  card(name, { title, words, example: begun }, example) {
+  card(name, { title, words, example: exampleName }, example) {
     const node = element("button", { type: "button", className: "card" });
-    const picture = name === "draw" ? icon("chip") : pictureOf(example ? example.board : TOUR_BOARD);
+    const picture = name === "draw" ? icon("chip") : boardPicture(example ? example.board : TOUR_BOARD);
     node.append(picture, element("b", {}, title), element("span", {}, words));
     node.addEventListener("click", () => {
       this.dialog.close();
-      if (!begun) this.calls.beginTour();
-      else this.begin(begun, name === "draw");
+      if (!exampleName) this.calls.beginTour();
+      else this.begin(exampleName, name === "draw");
     });
     return node;
   }
 
   /**
    * @param {string} name the name of an example
-   * @param {boolean} draws
+   * @param {boolean} showsWiring
    */
-  async begin(name, draws) {
-    if ((await this.calls.begin(name)) && draws) this.calls.draw();
+  async begin(name, showsWiring) {
+    if ((await this.calls.begin(name)) && showsWiring) this.calls.showWiring();
   }
 
   open() {

@@ -1,7 +1,7 @@
 // The Tests tab: the tests with their errors, a button that runs them in the worker, and the results.
 
-import { Cancelled } from "../../core/bench/faults.js";
-import { countOfFaults } from "../../core/bench/words.js";
+import { CancelledError } from "../../core/bench/faults.js";
+import { formatErrorCount } from "../../core/bench/words.js";
 import { button, onClick } from "../ui/dom.js";
 import { TextTab } from "../text/text_tab.js";
 import { completeTest, helpForTest, testForms } from "../../core/text/test_words.js";
@@ -18,23 +18,23 @@ import * as say from "../../words/testing.js";
  */
 
 /**
- * The callbacks of the Tests tab. Its text editor also uses `labels`, `edited` and `failed`.
+ * The callbacks of the Tests tab. Its text editor also uses `labels`, `handleEdit` and `reportFailure`.
  * @typedef {object} TestsCalls
  * @property {() => { boardText: string, programText: string }} texts Returns the current texts of board and source.
  * @property {() => string[]} labels Returns the labels of the program in ROM.
  * @property {(texts: TestedTexts) => Promise<TextFault[]>} faults Resolves to the errors of all texts.
  * @property {(texts: Texts) => Promise<string>} sample Resolves to a sample test for a board and a source.
- * @property {(texts: TestedTexts) => Promise<Report>} run Runs the tests. Resolves to their results. Rejects with `Cancelled` if the user
- *   cancels the run.
- * @property {(number: number) => string} wordsOfRefusal Returns the message of a refusal.
+ * @property {(texts: TestedTexts) => Promise<Report>} run Runs the tests. Resolves to their results. Rejects with `CancelledError` if the
+ *   user cancels the run.
+ * @property {(number: number) => string} describeRefusal Returns the message of a refusal.
  * @property {(report: Report | null, programText: string) => void} showCounts Shows the execution counts of a program's lines in the
  *   margin; null removes the counts.
  * @property {(address: number) => void} goTo Shows an address in the source and in the disassembly.
  * @property {(name: string, file: Uint8Array, texts: TestedTexts) => void} open Opens a new session from a file, with the tested texts.
- * @property {(words: string, isGood?: boolean) => void} mark Shows a short text on the tab; "" removes it. If `isGood`, the text reports a
- *   success.
- * @property {() => void} edited Handles an edit of the tests.
- * @property {(fault: unknown) => void} failed Reports an error that a call threw.
+ * @property {(words: string, isGood?: boolean) => void} showMark Shows a short text on the tab; "" removes it. If `isGood`, the text
+ *   reports a success.
+ * @property {() => void} handleEdit Handles an edit of the tests.
+ * @property {(fault: unknown) => void} reportFailure Reports an error that a call threw.
  */
 
 export class TestsTab {
@@ -53,20 +53,20 @@ export class TestsTab {
       complete: completeTest,
     }, calls, {
       faults: () => calls.faults(this.texts),
-      counted: (count) => this.mark(count),
-      send: () => this.run().catch(calls.failed),
+      showFaultCount: (count) => this.showMark(count),
+      send: () => this.run().catch(calls.reportFailure),
     });
     this.editor = this.textTab.editor;
     this.view = new TestsView({
       goTo: (line) => this.editor.editor.select({ from: line, to: line }),
       goToAddress: (address) => calls.goTo(address),
-      open: (outcome) => this.open(outcome),
+      openFailure: (outcome) => this.openFailure(outcome),
     });
     /** @type {TestedTexts | null} the texts of the last run; null if there are no results */
-    this.tested = null;
+    this.testedTexts = null;
     this.isRunning = false;
     /** The number of sessions opened so far. Results of an earlier session are discarded. */
-    this.round = 0;
+    this.sessionNumber = 0;
     onClick(button("clear-tests"), () => this.clear());
   }
 
@@ -81,23 +81,23 @@ export class TestsTab {
   }
 
   /** @param {number} count the number of errors in the text */
-  mark(count) {
-    if (count > 0) this.calls.mark(countOfFaults(count));
-    else if (!this.tested) this.calls.mark("");
+  showMark(count) {
+    if (count > 0) this.calls.showMark(formatErrorCount(count));
+    else if (!this.testedTexts) this.calls.showMark("");
   }
 
   /** Clears the results, because another session has been opened. */
   forget() {
-    this.round += 1;
+    this.sessionNumber += 1;
     this.clear();
     this.refresh();
   }
 
   clear() {
-    this.tested = null;
+    this.testedTexts = null;
     this.view.clear();
     this.editor.showMessage("");
-    this.calls.mark("");
+    this.calls.showMark("");
     this.calls.showCounts(null, "");
     button("clear-tests").hidden = true;
   }
@@ -105,13 +105,13 @@ export class TestsTab {
   async run() {
     if (this.isRunning) return;
     this.isRunning = true;
-    const { texts, round } = this;
+    const { texts, sessionNumber } = this;
     this.editor.showMessage("");
     try {
       const report = await this.calls.run(texts);
-      if (round === this.round) this.show(report, texts);
+      if (sessionNumber === this.sessionNumber) this.show(report, texts);
     } catch (fault) {
-      if (!(fault instanceof Cancelled)) throw fault;
+      if (!(fault instanceof CancelledError)) throw fault;
       this.editor.showMessage(say.WAS_CANCELLED);
     } finally {
       this.isRunning = false;
@@ -126,19 +126,19 @@ export class TestsTab {
     if (report.faults.length > 0) {
       this.clear();
       this.textTab.showFaults(report.faults);
-      this.editor.showMessage(wordsOfFaults(report.faults, this.calls.wordsOfRefusal));
+      this.editor.showMessage(wordsOfFaults(report.faults, this.calls.describeRefusal));
       return;
     }
-    this.tested = texts;
+    this.testedTexts = texts;
     this.view.show(report);
     this.editor.showMessage(wordsOfOutcomes(report.outcomes));
-    this.calls.mark(markOfOutcomes(report.outcomes), report.outcomes.every(({ failure }) => !failure));
+    this.calls.showMark(markOfOutcomes(report.outcomes), report.outcomes.every(({ failure }) => !failure));
     this.calls.showCounts(report, texts.programText);
     button("clear-tests").hidden = false;
   }
 
   /** @param {Outcome} outcome */
-  open({ name, failure }) {
-    if (failure && failure.file && this.tested) this.calls.open(`${name}, line ${failure.line}`, failure.file, this.tested);
+  openFailure({ name, failure }) {
+    if (failure && failure.file && this.testedTexts) this.calls.open(`${name}, line ${failure.line}`, failure.file, this.testedTexts);
   }
 }

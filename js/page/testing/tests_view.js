@@ -19,11 +19,11 @@ import * as say from "../../words/testing.js";
  * @typedef {object} ResultCalls
  * @property {(line: number) => void} goTo Shows a line of the tests text, from 1.
  * @property {(address: number) => void} goToAddress Shows an address in the source and in the disassembly.
- * @property {(outcome: Outcome) => void} open Opens the session of a failed test as a new session.
+ * @property {(outcome: Outcome) => void} openFailure Opens the session of a failed test as a new session.
  */
 
 /** @param {number} cycles */
-function milliseconds(cycles) {
+function formatCycles(cycles) {
   return say.cyclesAndTime(cycles.toLocaleString("en"), (cycles * CYCLE_MS).toFixed(1));
 }
 
@@ -46,33 +46,33 @@ export class TestsView {
 
   /** @param {Report} report */
   show(report) {
-    this.list.replaceChildren(...report.outcomes.map((outcome) => this.row(outcome)));
+    this.list.replaceChildren(...report.outcomes.map((outcome) => this.makeRow(outcome)));
     this.coverage.set(wordsOfCounts(report));
     if (report.profile) this.showProfile(report.profile);
     this.block.hidden = false;
   }
 
   /** @param {Outcome} outcome */
-  row(outcome) {
+  makeRow(outcome) {
     const { name, line, failure } = outcome;
     const mark = element("b", { className: failure ? "not-ok" : "ok" }, failure ? say.NOT_OK : "ok");
     const head = element("p", {}, mark, " ", buttonOf(name, () => this.calls.goTo(line), { className: "name", title: wordsOfLine(line) }),
       element("span", { className: "time" }, ` ${wordsOfTime(outcome)}`));
-    return element("li", {}, head, ...(failure ? this.failed(outcome, failure) : []));
+    return element("li", {}, head, ...(failure ? this.failureNodes(outcome, failure) : []));
   }
 
   /**
    * @param {Outcome} outcome
    * @param {Failure} failure
    */
-  failed(outcome, { line, text, words, lamps, registers, trace, file }) {
+  failureNodes(outcome, { line, text, words, lamps, registers, trace, file }) {
     const paragraph = element("p", { className: "wrong" }, buttonOf(wordsOfLine(line), () => this.calls.goTo(line)), ` ${text}: ${words}`);
     if (!file) return [paragraph];
     const state = `${lamps && `lamps ${lamps}\n`}${registers}\n`;
-    const last = element("pre", { tabIndex: 0 }, `${state}${trace.join("\n")}`);
+    const lastLines = element("pre", { tabIndex: 0 }, `${state}${trace.join("\n")}`);
     return [paragraph,
-      element("details", {}, element("summary", {}, say.LAST_INSTRUCTIONS), last),
-      element("p", { className: "bar" }, buttonOf(say.OPEN_AT_FAILURE, () => this.calls.open(outcome)))];
+      element("details", {}, element("summary", {}, say.LAST_INSTRUCTIONS), lastLines),
+      element("p", { className: "bar" }, buttonOf(say.OPEN_AT_FAILURE, () => this.calls.openFailure(outcome)))];
   }
 
   /** @param {Profile} profile */
@@ -81,13 +81,13 @@ export class TestsView {
     const percent = (/** @type {number} */ part) => ((100 * part) / total).toFixed(1);
     const tableRows = rows.map(({ label, address, own, calls }) => {
       const name = address < 0 ? say.NO_LABEL : buttonOf(label, () => this.calls.goToAddress(address), { className: "name" });
-      const called = calls ? [calls.times, calls.withCalls, calls.longest].map((count) => count.toLocaleString("en")) : ["", "", ""];
-      return cells(name, address < 0 ? "" : hex(address, 3), own.toLocaleString("en"), percent(own), ...called);
+      const callCells = calls ? [calls.times, calls.withCalls, calls.longest].map((count) => count.toLocaleString("en")) : ["", "", ""];
+      return cells(name, address < 0 ? "" : hex(address, 3), own.toLocaleString("en"), percent(own), ...callCells);
     });
     if (begunBefore > 0) tableRows.push(cells(say.BEGUN_BEFORE, "", begunBefore.toLocaleString("en"), percent(begunBefore), "", "", ""));
     this.labels.replaceChildren(...tableRows);
     this.keys.hidden = keys.length === 0;
     descendant(this.keys, "tbody", HTMLElement).replaceChildren(...keys.map(({ key, presses, answered, first, last }) => (
-      cells(key, String(presses), String(answered), ...(answered > 0 ? [milliseconds(first), milliseconds(last)] : ["", ""])))));
+      cells(key, String(presses), String(answered), ...(answered > 0 ? [formatCycles(first), formatCycles(last)] : ["", ""])))));
   }
 }

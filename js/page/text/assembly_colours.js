@@ -1,6 +1,6 @@
 // Syntax colouring of assembly source.
 
-import { tokensOf } from "../../core/text/assembly.js";
+import { tokenizeLine } from "../../core/text/assembly.js";
 
 /** @type {Record<string, string>} the style class of each token kind */
 const STYLES = {
@@ -13,5 +13,5 @@ const STYLES = {
  * @returns {import("./line_colours.js").Colours}
  */
 export function assemblyColours(mnemonics) {
-  return (line) => tokensOf(line, (word) => mnemonics.has(word)).map(({ from, to, kind }) => ({ from, to, style: STYLES[kind] }));
+  return (line) => tokenizeLine(line, (word) => mnemonics.has(word)).map(({ from, to, kind }) => ({ from, to, style: STYLES[kind] }));
 }

@@ -2,17 +2,17 @@
 
 import { tomlWords } from "../../core/text/toml_words.js";
 
-/** @typedef {import("./line_colours.js").Coloured} Coloured */
+/** @typedef {import("./line_colours.js").ColouredRange} ColouredRange */
 
 /**
  * Returns the comment at the end of a line, or an empty list if there is none.
  * @param {string} line
  * @param {number} from the column after the line's last token
- * @returns {Coloured[]}
+ * @returns {ColouredRange[]}
  */
-function commentAfter(line, from) {
-  const at = line.indexOf("#", from);
-  return at < 0 ? [] : [{ from: at, to: line.length, style: "comment" }];
+function findComment(line, from) {
+  const index = line.indexOf("#", from);
+  return index < 0 ? [] : [{ from: index, to: line.length, style: "comment" }];
 }
 
 /**
@@ -20,7 +20,7 @@ function commentAfter(line, from) {
  * @param {import("../../core/text/toml_words.js").TomlWord} word
  * @param {boolean} isKey
  */
-function styleOf({ kind, text }, isKey) {
+function tokenStyle({ kind, text }, isKey) {
   if (kind === "mark") return text === "[" || text === "]" ? "bracket" : "";
   if (isKey) return "property";
   if (kind === "string" || kind === "bad") return "string";
@@ -29,17 +29,17 @@ function styleOf({ kind, text }, isKey) {
 
 /**
  * @param {string} line
- * @returns {Coloured[]}
+ * @returns {ColouredRange[]}
  */
 export function boardColours(line) {
   const words = tomlWords([line]).filter(({ kind }) => kind !== "end");
-  const last = words[words.length - 1];
-  const comment = commentAfter(line, last ? last.to : 0);
+  const lastWord = words[words.length - 1];
+  const comment = findComment(line, lastWord ? lastWord.to : 0);
   const table = /^\s*\[[^\]]*\]?\]?/.exec(line);
   if (table) return [{ from: 0, to: table[0].length, style: "atom" }, ...comment];
-  const equals = words.find(({ kind, text }) => kind === "mark" && text === "=");
+  const equalsSign = words.find(({ kind, text }) => kind === "mark" && text === "=");
   /** @param {{ from: number }} word */
-  const isKey = ({ from }) => equals !== undefined && from < equals.from;
-  const coloured = words.map((word) => ({ from: word.from, to: word.to, style: styleOf(word, isKey(word)) }));
-  return [...coloured.filter(({ style }) => style !== ""), ...comment];
+  const isKey = ({ from }) => equalsSign !== undefined && from < equalsSign.from;
+  const ranges = words.map((word) => ({ from: word.from, to: word.to, style: tokenStyle(word, isKey(word)) }));
+  return [...ranges.filter(({ style }) => style !== ""), ...comment];
 }

@@ -4,30 +4,30 @@ import * as say from "../../words/text.js";
 
 /**
  * @typedef {import("./line_editor.js").LineEditor} LineEditor
- * @typedef {import("../../core/testing/coverage.js").Covered} Covered
+ * @typedef {import("../../core/testing/coverage.js").LineCoverage} LineCoverage
  */
 
 /**
  * Returns the margin text of a line: its count. For a jump, also how often the jump was taken and not taken.
- * @param {Covered} covered
+ * @param {LineCoverage} covered
  */
-export function textOfCount({ count, isJump, taken }) {
+export function formatCount({ count, isJump, taken }) {
   if (count === 0) return "never";
   return isJump ? `${count} ${taken}/${count - taken}` : String(count);
 }
 
 /** @param {number} number */
-function times(number) {
+function formatTimes(number) {
   return say.timesOf(number);
 }
 
 /**
  * Returns a sentence about a line's execution count.
- * @param {Covered} covered
+ * @param {LineCoverage} covered
  */
-export function wordsOfCount({ count, isJump, taken }) {
+export function describeCount({ count, isJump, taken }) {
   if (count === 0) return say.NO_TEST_RUNS;
-  return say.ran(times(count)) + (isJump ? say.jumped(times(taken), times(count - taken)) : "");
+  return say.ran(formatTimes(count)) + (isJump ? say.jumped(formatTimes(taken), formatTimes(count - taken)) : "");
 }
 
 export class CountMarks {
@@ -42,19 +42,20 @@ export class CountMarks {
     editor.onEdit(() => this.clear());
   }
 
-  /** @param {Covered[]} covered the execution counts of lines */
+  /** @param {LineCoverage[]} covered the execution counts of lines */
   show(covered) {
     this.clear();
     const lines = new Map(covered.map((entry) => [entry.line, entry]));
     const { editor } = this;
     this.isShown = true;
-    const longest = Math.max(...covered.map((entry) => textOfCount(entry).length), 1);
+    const maxLength = Math.max(...covered.map((entry) => formatCount(entry).length), 1);
     editor.container.classList.add("counted");
-    editor.container.style.setProperty("--counts-width", `${longest + 1}ch`);
-    this.marks.showAt("counts", (line) => textAt(lines.get(line), textOfCount), (line) => textAt(lines.get(line), wordsOfCount));
+    editor.container.style.setProperty("--counts-width", `${maxLength + 1}ch`);
+    this.marks.showTexts("counts", (line) => formatEntry(lines.get(line), formatCount),
+      (line) => formatEntry(lines.get(line), describeCount));
     // Highlight lines that never ran, and jumps that were always or never taken.
-    const lacking = covered.filter(({ count, isJump, taken }) => count === 0 || (isJump && (taken === 0 || taken === count)));
-    editor.showLineStyle("lacking", lacking.map(({ line }) => line - 1).filter((line) => line <= editor.lastLine()));
+    const incompleteLines = covered.filter(({ count, isJump, taken }) => count === 0 || (isJump && (taken === 0 || taken === count)));
+    editor.showLineStyle("lacking", incompleteLines.map(({ line }) => line - 1).filter((line) => line <= editor.lastLine()));
     editor.refresh();
   }
 
@@ -63,16 +64,16 @@ export class CountMarks {
     const { editor } = this;
     this.isShown = false;
     editor.container.classList.remove("counted");
-    this.marks.showAt("counts", () => "");
+    this.marks.showTexts("counts", () => "");
     editor.showLineStyle("lacking", []);
     editor.refresh();
   }
 }
 
 /**
- * @param {Covered | undefined} covered
- * @param {(covered: Covered) => string} textOf
+ * @param {LineCoverage | undefined} covered
+ * @param {(covered: LineCoverage) => string} format
  */
-function textAt(covered, textOf) {
-  return covered ? textOf(covered) : "";
+function formatEntry(covered, format) {
+  return covered ? format(covered) : "";
 }

@@ -1,19 +1,19 @@
-// The editors of the board's text and of the source. They check their texts while the user types, and send them to the bench.
+// The editors of the board's text and of the source. The editors check the texts while the user types, and send the texts to the bench.
 
-import { readBoard, refusalOf } from "../../core/bench/answers.js";
+import { readBoard, parseRefusal } from "../../core/bench/answers.js";
 import { counted } from "../../core/bench/numbers.js";
-import { AllFaultsOfTexts, faultsOfFace, refusalOfText } from "../../core/text/all_faults.js";
-import { programTexts, wordsOfAssembled } from "../../core/text/assembling.js";
+import { TextErrorFinder, findFrontPanelErrors, keepTextRefusal } from "../../core/text/all_faults.js";
+import { programTexts, describeAssembled } from "../../core/text/assembling.js";
 import { assemblyColours } from "./assembly_colours.js";
 import { boardColours } from "./board_colours.js";
 import { completeBoard } from "../../core/text/board_completion.js";
 import { completeProgram } from "../../core/text/completion.js";
 import { block, button, onClick } from "../ui/dom.js";
 import { EditorView } from "./text_editor_view.js";
-import { moreFaults } from "../../core/board/face.js";
+import { moreErrors } from "../../core/board/face.js";
 import { PARTS } from "../../core/text/folding.js";
 import { LiveFaults } from "./live_faults.js";
-import { instructionsOf } from "../../core/help/manual.js";
+import { readInstructions } from "../../core/help/manual.js";
 import { isNoProgram } from "../../core/text/program_faults.js";
 import { boardTables, helpForBoard, helpForProgram } from "../../core/text/text_help.js";
 import { TOUR_BOARD } from "../../words/help.js";
@@ -28,32 +28,33 @@ import * as say from "../../words/text.js";
  * @typedef {import("../../core/text/program_faults.js").AllFaults} AllFaults
  * @typedef {import("../../core/debug/breakpoints.js").Edit} Edit
  * @typedef {import("../../core/text/text_fault.js").Fault} Fault
- * @typedef {import("../../core/bench/words.js").Words} Words
+ * @typedef {import("../../core/bench/words.js").ErrorMessages} ErrorMessages
  * @typedef {import("../machine/breakpoint_row.js").BreakpointField} BreakpointField
  */
 
 /**
  * The callbacks of the two editors. Lines count from 1.
  * @typedef {object} EditorsCalls
- * @property {(edits: Edit[]) => void} edited Handles an edit: the edits of the source, or an empty list for an edit of the board's text.
- * @property {(isBegun: boolean) => Promise<void>} assembled Handles a program that was loaded into ROM; `isBegun` is true if the processor
- *   was reset. Resolves when the breakpoints are at their lines.
- * @property {(lines: string) => Promise<string | null>} act Serves lines. Resolves to the first answer, or to null after a failure. A
- *   failure has already been reported.
- * @property {() => Promise<void>} stop Pauses time. Resolves when time is paused.
- * @property {() => void} run Resumes time.
+ * @property {(edits: Edit[]) => void} handleEdits Handles an edit: the edits of the source, or an empty list for an edit of the board's
+ *   text.
+ * @property {(isBegun: boolean) => Promise<void>} handleAssembly Handles a program that was loaded into ROM; `isBegun` is true if the
+ *   processor was reset. Resolves when the breakpoints are at their lines.
+ * @property {(lines: string) => Promise<string | null>} serveLines Serves lines. Resolves to the first answer, or to null after a failure.
+ *   A failure has already been reported.
+ * @property {() => Promise<void>} pauseTime Pauses time. Resolves when time is paused.
+ * @property {() => void} resumeTime Resumes time.
  * @property {() => string} counter Returns the program counter on the page, as three hexadecimal digits.
  * @property {(line: number) => void} toggleBreakpoint Sets or removes the breakpoint at a source line.
- * @property {(line: number, what: BreakpointField) => void} editBreakpoint Opens a field of the breakpoint at a line.
- * @property {(line: number, point: { left: number, bottom: number }) => void} askedMargin Opens the margin menu of a line at a point of the
- *   window, in pixels.
- * @property {(name: string) => string} meaningOf Returns the description of a name in the program, or "" if the name is unknown.
- * @property {(text: string, at: number) => import("../../core/debug/value_words.js").Piece[]} valuesAt Returns the current values of the
- *   word at an offset in a line. Returns an empty list while time is running.
- * @property {import("./meaning_view.js").Offer} offer Makes a cell that shows a value editable.
- * @property {(name: "program" | "board", count: number) => void} hasFaults Shows the number of errors in a text on its tab.
+ * @property {(line: number, fieldName: BreakpointField) => void} editBreakpoint Opens a field of the breakpoint at a line.
+ * @property {(line: number, point: { left: number, bottom: number }) => void} openMarginMenu Opens the margin menu of a line at a point of
+ *   the window, in pixels.
+ * @property {(name: string) => string} describeName Returns the description of a name in the program, or "" if the name is unknown.
+ * @property {(text: string, offset: number) => import("../../core/debug/value_words.js").Piece[]} valuesAt Returns the current values of
+ *   the word at an offset in a line. Returns an empty list while time is running.
+ * @property {import("./meaning_view.js").MakeEditable} makeEditable Makes a cell that shows a value editable.
+ * @property {(name: "program" | "board", count: number) => void} showFaultCount Shows the number of errors in a text on its tab.
  * @property {(text: string, words: string) => void} replaceBoard Replaces the board's text and shows a message that offers undo.
- * @property {(fault: unknown) => void} failed Reports an error that a call threw.
+ * @property {(fault: unknown) => void} reportFailure Reports an error that a call threw.
  */
 
 /** The maximum number of errors in the list below a text. */
@@ -62,7 +63,7 @@ const MAX_FAULTS = 20;
 export class Editors {
   /**
    * @param {Bench} bench
-   * @param {Words} words
+   * @param {ErrorMessages} words
    * @param {ManualSection[]} manual
    * @param {EditorsCalls} calls
    */
@@ -70,30 +71,30 @@ export class Editors {
     this.bench = bench;
     this.words = words;
     this.calls = calls;
-    this.instructions = instructionsOf(manual);
+    this.instructions = readInstructions(manual);
     this.tables = boardTables(manual);
     this.program = this.makeProgram();
     this.board = this.makeBoard();
     /** @type {string | null} the board's text while it is being applied; null at other times */
-    this.wiring = null;
-    this.all = this.allFaults(words);
-    this.programFaults = new LiveFaults((isWanted) => this.all.ofProgram(this.program.text, isWanted),
-      (found) => this.show("program", found), calls.failed);
-    onClick(button("assemble-only"), () => this.assembleOnly().catch(calls.failed));
-    onClick(button("first-board"), () => this.wireFirst().catch(calls.failed));
-    this.boardFaults = new LiveFaults((isWanted) => this.all.ofBoard(this.board.text, isWanted),
-      (found) => this.show("board", found), calls.failed);
+    this.pendingBoardText = null;
+    this.faultSearch = this.makeFaultSearch(words);
+    this.programFaults = new LiveFaults((isWanted) => this.faultSearch.findInProgram(this.program.text, isWanted),
+      (result) => this.showFoundFaults("program", result), calls.reportFailure);
+    onClick(button("assemble-only"), () => this.assembleOnly().catch(calls.reportFailure));
+    onClick(button("first-board"), () => this.applyFirstBoard().catch(calls.reportFailure));
+    this.boardFaults = new LiveFaults((isWanted) => this.faultSearch.findInBoard(this.board.text, isWanted),
+      (result) => this.showFoundFaults("board", result), calls.reportFailure);
   }
 
-  /** @param {Words} words */
-  allFaults(words) {
-    return new AllFaultsOfTexts({
+  /** @param {ErrorMessages} words */
+  makeFaultSearch(words) {
+    return new TextErrorFinder({
       wiring: (sent) => this.bench.call("wiring", [sent]),
       errors: (sent) => this.bench.call("errors", [sent]),
-      refuse: (sent) => this.refuse("asm", sent),
+      refuse: (sent) => this.findRefusal("asm", sent),
       map: async (sent) => (await this.bench.call("checkProgram", [sent])).map,
       roms: () => this.roms(),
-    }, { instructions: this.instructions, tables: this.tables }, (number) => words.ofRefusal(number));
+    }, { instructions: this.instructions, tables: this.tables }, (number) => words.refusalMeaning(number));
   }
 
   makeProgram() {
@@ -105,19 +106,19 @@ export class Editors {
       indent: "\t",
       folds: PARTS.program,
       isInstruction: (word) => this.instructions.has(word),
-      wordsAt: (lines, line, at) => helpForProgram(lines, line, at, this.instructions, this.calls.meaningOf),
-      valuesAt: (text, at) => this.calls.valuesAt(text, at),
-      offer: (cell, value) => this.calls.offer(cell, value),
-      complete: (lines, line, at) => completeProgram(lines, line, at, this.instructions),
+      wordsAt: (lines, line, offset) => helpForProgram(lines, line, offset, this.instructions, this.calls.describeName),
+      valuesAt: (text, offset) => this.calls.valuesAt(text, offset),
+      makeEditable: (cell, value) => this.calls.makeEditable(cell, value),
+      complete: (lines, line, offset) => completeProgram(lines, line, offset, this.instructions),
     }, {
-      edited: (edits) => {
-        this.programFaults.edited();
-        this.calls.edited(edits);
+      handleEdits: (edits) => {
+        this.programFaults.handleEdit();
+        this.calls.handleEdits(edits);
       },
-      send: () => this.assembleAndRun().catch(this.calls.failed),
+      send: () => this.assembleAndRun().catch(this.calls.reportFailure),
       toggleBreakpoint: this.calls.toggleBreakpoint,
       editBreakpoint: this.calls.editBreakpoint,
-      askedMargin: this.calls.askedMargin,
+      openMarginMenu: this.calls.openMarginMenu,
     });
   }
 
@@ -127,14 +128,14 @@ export class Editors {
       colours: boardColours,
       gutters: ["numbers"],
       folds: PARTS.board,
-      wordsAt: (lines, line, at) => helpForBoard(lines, line, at, this.tables),
-      complete: (lines, line, at) => completeBoard(lines, line, at, this.tables),
+      wordsAt: (lines, line, offset) => helpForBoard(lines, line, offset, this.tables),
+      complete: (lines, line, offset) => completeBoard(lines, line, offset, this.tables),
     }, {
-      edited: () => {
-        this.boardFaults.edited();
-        this.calls.edited([]);
+      handleEdits: () => {
+        this.boardFaults.handleEdit();
+        this.calls.handleEdits([]);
       },
-      send: () => this.wire().catch(this.calls.failed),
+      send: () => this.applyBoard().catch(this.calls.reportFailure),
       toggleBreakpoint: () => {},
     });
   }
@@ -145,8 +146,8 @@ export class Editors {
    */
   checkTexts(isEmpty) {
     this.offerBoard(isEmpty);
-    this.programFaults.checkNow().catch(this.calls.failed);
-    this.boardFaults.checkNow().catch(this.calls.failed);
+    this.programFaults.checkNow().catch(this.calls.reportFailure);
+    this.boardFaults.checkNow().catch(this.calls.reportFailure);
   }
 
   /**
@@ -167,73 +168,73 @@ export class Editors {
    * @param {"asm" | "wire"} word
    * @param {string} text
    */
-  async refuse(word, text) {
+  async findRefusal(word, text) {
     const [answer] = await this.bench.call("ask", [`${word}\n${text}.\n`]);
-    return refusalOfText(refusalOf(answer));
+    return keepTextRefusal(parseRefusal(answer));
   }
 
   /**
    * @param {"program" | "board"} name
-   * @param {AllFaults} found
+   * @param {AllFaults} result
    */
-  show(name, { faults, areAll }) {
-    const shownFaults = name === "board" ? [...faults, ...faultsOfFace(this.board.text)] : faults;
-    const more = areAll || faults.length < 2 ? "" : say.MAY_BE_MORE;
-    this[name].showFaults(shownFaults.slice(0, MAX_FAULTS), moreFaults(shownFaults, MAX_FAULTS) || more);
-    this.calls.hasFaults(name, shownFaults.length);
+  showFoundFaults(name, { faults, isWhole }) {
+    const shownFaults = name === "board" ? [...faults, ...findFrontPanelErrors(this.board.text)] : faults;
+    const moreNote = isWhole || faults.length < 2 ? "" : say.MAY_BE_MORE;
+    this[name].showFaults(shownFaults.slice(0, MAX_FAULTS), moreErrors(shownFaults, MAX_FAULTS) || moreNote);
+    this.calls.showFaultCount(name, shownFaults.length);
   }
 
   /** Loads the program into ROM, clears leftovers of other programs, resets the processor and runs. */
   async assembleAndRun() {
     if (!(await this.hasNoFaults("program"))) return;
-    await this.calls.stop();
-    const { sent } = this.program;
-    const { size, left } = await this.bench.call("leftovers", [sent]);
-    const lines = programTexts(sent, left).map((text) => `asm\n${text}.\n`).join("");
-    const answer = await this.calls.act(`${lines}reset\n`);
+    await this.calls.pauseTime();
+    const { benchText } = this.program;
+    const { size, left } = await this.bench.call("leftovers", [benchText]);
+    const lines = programTexts(benchText, left).map((text) => `asm\n${text}.\n`).join("");
+    const answer = await this.calls.serveLines(`${lines}reset\n`);
     if (answer === null) return;
-    const refusal = refusalOf(answer);
-    const done = say.assembledAll(counted(size, "byte"));
-    this.program.showMessage(refusal ? this.wordsOfRefusal(refusal) : done);
+    const refusal = parseRefusal(answer);
+    const successMessage = say.assembledAll(counted(size, "byte"));
+    this.program.showMessage(refusal ? this.describeRefusal(refusal) : successMessage);
     if (refusal) return;
-    await this.calls.assembled(true);
-    this.calls.run();
+    await this.calls.handleAssembly(true);
+    this.calls.resumeTime();
   }
 
   /** Loads the program's bytes into ROM and leaves everything else as it is. */
   async assembleOnly() {
     if (!(await this.hasNoFaults("program"))) return;
-    const { sent } = this.program;
-    const answer = await this.calls.act(`asm\n${sent}.\n`);
+    const { benchText } = this.program;
+    const answer = await this.calls.serveLines(`asm\n${benchText}.\n`);
     if (answer === null) return;
-    const refusal = refusalOf(answer);
-    if (!refusal) await this.calls.assembled(false);
-    const leftovers = await this.bench.call("leftovers", [sent]);
-    this.program.showMessage(refusal ? this.wordsOfRefusal(refusal) : wordsOfAssembled(leftovers, this.calls.counter()));
+    const refusal = parseRefusal(answer);
+    if (!refusal) await this.calls.handleAssembly(false);
+    const leftovers = await this.bench.call("leftovers", [benchText]);
+    this.program.showMessage(refusal ? this.describeRefusal(refusal) : describeAssembled(leftovers, this.calls.counter()));
   }
 
-  async wire() {
+  async applyBoard() {
     if (!(await this.hasNoFaults("board"))) return;
-    const { text, sent } = this.board;
-    this.wiring = text;
-    const answer = await this.calls.act(`wire\n${sent}.\n`).finally(() => {
-      this.wiring = null;
+    const { text, benchText } = this.board;
+    this.pendingBoardText = text;
+    const answer = await this.calls.serveLines(`wire\n${benchText}.\n`).finally(() => {
+      this.pendingBoardText = null;
     });
     if (answer === null) return;
-    const refusal = refusalOf(answer);
-    this.board.showMessage(refusal ? this.wordsOfRefusal(refusal) : say.BOARD_WIRED);
+    const refusal = parseRefusal(answer);
+    this.board.showMessage(refusal ? this.describeRefusal(refusal) : say.BOARD_WIRED);
     await this.programFaults.checkNow();
   }
 
   /** Replaces the board's text with the text of a first board, and applies it. */
-  async wireFirst() {
+  async applyFirstBoard() {
     this.calls.replaceBoard(TOUR_BOARD, say.FIRST_BOARD);
-    await this.wire();
+    await this.applyBoard();
   }
 
   /** @param {import("../../core/bench/answers.js").Refusal} refusal */
-  wordsOfRefusal({ number }) {
-    return `no ${number}: ${this.words.ofRefusal(number)}`;
+  describeRefusal({ number }) {
+    return `no ${number}: ${this.words.refusalMeaning(number)}`;
   }
 
   /**
@@ -241,9 +242,9 @@ export class Editors {
    * @param {"program" | "board"} name
    */
   async hasNoFaults(name) {
-    const found = await (name === "program" ? this.programFaults : this.boardFaults).checkNow();
-    if (found && found.faults.length > 0) this.refuseFaults(name, found.faults);
-    return found !== undefined && found.faults.length === 0;
+    const result = await (name === "program" ? this.programFaults : this.boardFaults).checkNow();
+    if (result && result.faults.length > 0) this.reportFaults(name, result.faults);
+    return result !== undefined && result.faults.length === 0;
   }
 
   /**
@@ -251,8 +252,8 @@ export class Editors {
    * @param {string} text
    */
   async isNoProgram(text) {
-    const found = await this.all.ofProgram(text, () => true);
-    return found !== undefined && isNoProgram(text, found);
+    const result = await this.faultSearch.findInProgram(text, () => true);
+    return result !== undefined && isNoProgram(text, result);
   }
 
   /**
@@ -260,7 +261,7 @@ export class Editors {
    * @param {"program" | "board"} name
    * @param {Fault[]} faults
    */
-  refuseFaults(name, faults) {
+  reportFaults(name, faults) {
     const [{ line, words }] = faults;
     this[name].showMessage(say.firstFault(line, words, faults.length - 1));
     this[name].reveal(line);

@@ -1,7 +1,7 @@
 // The errors of a text. Each error has a mark in the margin of its line, an underlined range, and an entry in the list below the text.
 
 import { element, onClick } from "../ui/dom.js";
-import { underlined } from "./line_layers.js";
+import { underlineMark } from "./line_layers.js";
 import { wordsOfLine } from "../../words/stops.js";
 
 /**
@@ -29,17 +29,17 @@ export class FaultView {
 
   /**
    * @param {Fault[]} faults
-   * @param {string} more a text below the last error
+   * @param {string} footnote a text below the last error
    */
-  show(faults, more = "") {
+  show(faults, footnote = "") {
     if (faults.length === 0 && this.faults.length === 0) return;
     this.faults = faults;
     /** @type {Map<number, string>} */
     const words = new Map();
     for (const fault of faults) words.set(fault.line, [words.get(fault.line), fault.words].filter(Boolean).join("; "));
-    this.marks.showAt("faults", (line) => (words.has(line) ? "!" : ""), (line) => words.get(line) || "");
+    this.marks.showTexts("faults", (line) => (words.has(line) ? "!" : ""), (line) => words.get(line) || "");
     this.editor.showFaults(faults.flatMap((fault) => this.underline(fault)));
-    this.list.replaceChildren(...faults.map((fault) => this.entry(fault)), ...(more ? [element("li", {}, more)] : []));
+    this.list.replaceChildren(...faults.map((fault) => this.entry(fault)), ...(footnote ? [element("li", {}, footnote)] : []));
     this.list.hidden = faults.length === 0;
   }
 
@@ -53,7 +53,7 @@ export class FaultView {
     const start = to > from ? from : Math.max(0, Math.min(from, length) - 1);
     const end = Math.max(to, start + 1);
     const [begin, stop] = [start, end].map((ch) => this.editor.offset({ line: line - 1, ch }));
-    return begin < stop ? [underlined("fault", words).range(begin, stop)] : [];
+    return begin < stop ? [underlineMark("fault", words).range(begin, stop)] : [];
   }
 
   /** @param {Fault} fault */
@@ -67,8 +67,8 @@ export class FaultView {
    * Returns the message of the error at a position, or "" if there is none.
    * @param {import("./line_editor.js").Position} position
    */
-  wordsAt({ line, ch }) {
-    const found = this.faults.find((fault) => fault.line === line + 1 && ch >= fault.from && ch <= Math.max(fault.to, fault.from + 1));
-    return found ? found.words : "";
+  messageAt({ line, ch }) {
+    const match = this.faults.find((fault) => fault.line === line + 1 && ch >= fault.from && ch <= Math.max(fault.to, fault.from + 1));
+    return match ? match.words : "";
   }
 }

@@ -6,37 +6,37 @@ import * as say from "../../words/text.js";
 /**
  * A question: its label, the initial text of the field, the label of the button, and the action. The action returns an error message, or ""
  * if it succeeds.
- * @typedef {{ label: string, value: string, word: string, act: (typed: string) => string }} Asked
+ * @typedef {{ label: string, value: string, word: string, act: (typed: string) => string }} BarQuestion
  */
 
 export class FieldBar {
   /**
    * @param {HTMLElement} parent receives the bar as its first child
-   * @param {() => void} closed called after the bar has been closed
+   * @param {() => void} onClose called after the bar has been closed
    */
-  constructor(parent, closed) {
-    this.closed = closed;
+  constructor(parent, onClose) {
+    this.onClose = onClose;
     this.label = new Cell(element("span"));
     this.field = element("input", { autocomplete: "off", spellcheck: false });
     this.status = new Cell(element("p", { role: "status" }));
-    this.act = element("button", { type: "button", title: "Enter" }, say.GO);
+    this.submitButton = element("button", { type: "button", title: "Enter" }, say.GO);
     const close = element("button", { type: "button", title: "Escape" }, say.CLOSE);
     this.bar = element("div", { role: "group", className: "search bar", hidden: true },
-      element("label", {}, this.label.node, " ", this.field), this.act, close, this.status.node);
+      element("label", {}, this.label.node, " ", this.field), this.submitButton, close, this.status.node);
     parent.prepend(this.bar);
-    /** @type {Asked["act"]} */
-    this.done = () => "";
-    onClick(this.act, () => this.finish());
+    /** @type {BarQuestion["act"]} */
+    this.submit = () => "";
+    onClick(this.submitButton, () => this.submitValue());
     onClick(close, () => this.close());
-    this.field.addEventListener("keydown", (event) => this.typed(event));
+    this.field.addEventListener("keydown", (event) => this.handleKey(event));
   }
 
-  /** @param {Asked} asked */
-  open({ label, value, word, act }) {
+  /** @param {BarQuestion} question */
+  open({ label, value, word, act: action }) {
     this.label.set(label);
     this.bar.setAttribute("aria-label", label);
-    this.act.textContent = word;
-    this.done = act;
+    this.submitButton.textContent = word;
+    this.submit = action;
     this.status.set("");
     this.field.value = value;
     this.bar.hidden = false;
@@ -44,22 +44,22 @@ export class FieldBar {
     this.field.select();
   }
 
-  finish() {
-    const message = this.done(this.field.value.trim());
+  submitValue() {
+    const message = this.submit(this.field.value.trim());
     if (message === "") this.close();
     else this.status.set(message);
   }
 
   close() {
     this.bar.hidden = true;
-    this.closed();
+    this.onClose();
   }
 
   /** @param {KeyboardEvent} event */
-  typed(event) {
+  handleKey(event) {
     if (event.key !== "Enter" && event.key !== "Escape") return;
     event.preventDefault();
     if (event.key === "Escape") this.close();
-    else this.finish();
+    else this.submitValue();
   }
 }

@@ -1,9 +1,9 @@
-// Folding of a text's parts, with the mouse in the margin or with keys.
+// Code folding: hides the lines below a heading or a label, by a click in the margin or with keys.
 
 import { counted } from "../../core/bench/numbers.js";
 import { element } from "../ui/dom.js";
 import { codeFolding, foldAll, foldCode, foldGutter, foldService, foldedRanges, unfoldAll, unfoldEffect } from "@codemirror/language";
-import { headOf, lastFolded } from "../../core/text/folding.js";
+import { findFoldStart, findFoldEnd } from "../../core/text/folding.js";
 import * as say from "../../words/text.js";
 
 /**
@@ -16,80 +16,80 @@ import * as say from "../../words/text.js";
  * @param {import("@codemirror/state").Text} doc
  * @returns {import("../../core/text/folding.js").LineAt}
  */
-function linesOf(doc) {
+function lineReader(doc) {
   return (line) => (line < doc.lines ? doc.line(line + 1).text : undefined);
 }
 
 /**
  * Returns the placeholder element for folded lines.
  * @param {number} count
- * @param {(event: Event) => void} unfoldIt
+ * @param {(event: Event) => void} unfoldRange
  */
-function makeWidget(count, unfoldIt) {
+function makePlaceholder(count, unfoldRange) {
   const node = element("span", { className: "folded-lines", title: say.UNFOLDS }, `… ${counted(count, "line")}`);
-  node.addEventListener("click", unfoldIt);
+  node.addEventListener("click", unfoldRange);
   return node;
 }
 
 /**
- * Returns the CodeMirror extensions that fold the parts of a text.
+ * Returns the CodeMirror extensions for code folding.
  * @param {Parts} parts
  */
 export function folding(parts) {
   return [
     foldService.of(({ doc }, from) => {
       const { number, to } = doc.lineAt(from);
-      const last = lastFolded(linesOf(doc), number - 1, parts) + 1;
-      return last === number ? null : { from: to, to: doc.line(last).to };
+      const lastLine = findFoldEnd(lineReader(doc), number - 1, parts) + 1;
+      return lastLine === number ? null : { from: to, to: doc.line(lastLine).to };
     }),
     codeFolding({
       preparePlaceholder: ({ doc }, { from, to }) => doc.lineAt(to).number - doc.lineAt(from).number,
-      placeholderDOM: (_, unfoldIt, count) => makeWidget(count, unfoldIt),
+      placeholderDOM: (_, unfoldRange, count) => makePlaceholder(count, unfoldRange),
     }),
     foldGutter({ markerDOM: (isOpen) => element("span", { className: isOpen ? "fold-open" : "fold-closed" }) }),
   ];
 }
 
 /**
- * Returns the folding commands for a text with the given kind of parts.
+ * Returns the folding commands for texts in which `parts` finds the foldable ranges.
  * @param {Parts} parts
  */
-export function actsOfFolding(parts) {
+export function foldingActions(parts) {
   return {
     /** @param {LineEditor} editor */
     fold: (editor) => {
-      const head = headOf(linesOf(editor.doc), editor.getCursor().line, parts);
+      const head = findFoldStart(lineReader(editor.doc), editor.getCursor().line, parts);
       if (head < 0) return;
       editor.setCursor({ line: head, ch: Infinity });
       foldCode(editor.view);
     },
     /** @param {LineEditor} editor */
     unfold: (editor) => unfold(editor, editor.getCursor().line),
-    foldAll: foldAllOf,
+    foldAll: foldAllRanges,
     /** @param {LineEditor} editor */
     unfoldAll: (editor) => void unfoldAll(editor.view),
   };
 }
 
 /**
- * Folds all parts. First moves the caret to the beginning of its line.
+ * Folds all foldable ranges. First moves the caret to the beginning of its line.
  * @param {LineEditor} editor
  */
-function foldAllOf(editor) {
+function foldAllRanges(editor) {
   editor.setCursor({ line: editor.getCursor().line, ch: 0 });
   foldAll(editor.view);
 }
 
 /**
- * Unfolds the parts that contain a line.
+ * Unfolds the folded ranges that contain a line.
  * @param {LineEditor} editor
  * @param {number} line from 0
  */
 export function unfold({ view, doc }, line) {
   if (line < 0 || line >= doc.lines) return;
-  const found = doc.line(line + 1);
+  const docLine = doc.line(line + 1);
   /** @type {import("@codemirror/state").StateEffect<any>[]} */
   const effects = [];
-  foldedRanges(view.state).between(found.from, found.to, (from, to) => void effects.push(unfoldEffect.of({ from, to })));
+  foldedRanges(view.state).between(docLine.from, docLine.to, (from, to) => void effects.push(unfoldEffect.of({ from, to })));
   if (effects.length > 0) view.dispatch({ effects });
 }

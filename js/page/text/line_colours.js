@@ -6,15 +6,15 @@ import { Decoration, ViewPlugin } from "@codemirror/view";
  * @typedef {import("@codemirror/view").EditorView} View
  *
  * A coloured range in a line, with its style class. The ranges of a line are in order.
- * @typedef {{ from: number, to: number, style: string }} Coloured
- * @typedef {(line: string) => Coloured[]} Colours
+ * @typedef {{ from: number, to: number, style: string }} ColouredRange
+ * @typedef {(line: string) => ColouredRange[]} Colours
  */
 
 /** @type {Map<string, Decoration>} */
 const marksByStyle = new Map();
 
 /** @param {string} style */
-function markOf(style) {
+function styleMark(style) {
   const mark = marksByStyle.get(style) || Decoration.mark({ class: `cm-${style}` });
   marksByStyle.set(style, mark);
   return mark;
@@ -24,16 +24,16 @@ function markOf(style) {
  * @param {View} view
  * @param {Colours} colours
  */
-function colour({ state: { doc }, visibleRanges }, colours) {
+function colourLines({ state: { doc }, visibleRanges }, colours) {
   /** @type {import("@codemirror/state").Range<Decoration>[]} */
   const ranges = [];
   for (const { from, to } of visibleRanges) {
-    for (let at = from; at <= to;) {
-      const line = doc.lineAt(at);
+    for (let offset = from; offset <= to;) {
+      const line = doc.lineAt(offset);
       for (const word of colours(line.text)) {
-        if (word.to > word.from) ranges.push(markOf(word.style).range(line.from + word.from, line.from + word.to));
+        if (word.to > word.from) ranges.push(styleMark(word.style).range(line.from + word.from, line.from + word.to));
       }
-      at = line.to + 1;
+      offset = line.to + 1;
     }
   }
   return Decoration.set(ranges, true);
@@ -45,9 +45,9 @@ function colour({ state: { doc }, visibleRanges }, colours) {
  */
 export function lineColours(colours) {
   return ViewPlugin.define((view) => ({
-    decorations: colour(view, colours),
+    decorations: colourLines(view, colours),
     update(/** @type {import("@codemirror/view").ViewUpdate} */ update) {
-      if (update.docChanged || update.viewportChanged) this.decorations = colour(update.view, colours);
+      if (update.docChanged || update.viewportChanged) this.decorations = colourLines(update.view, colours);
     },
   }), { decorations: (plugin) => plugin.decorations });
 }

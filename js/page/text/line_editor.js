@@ -8,7 +8,7 @@ import { indentUnit } from "@codemirror/language";
 import { ChangeSet, Compartment, EditorState, Prec, Transaction } from "@codemirror/state";
 import { EditorView, dropCursor, highlightSpecialChars, keymap, lineNumbers } from "@codemirror/view";
 import { lineColours } from "./line_colours.js";
-import { belowLayer, elementBelow, gutterLayer, gutterOf, markLayer, styleOfLine, textLayer, textMark } from "./line_layers.js";
+import { belowLayer, elementBelow, gutterLayer, makeLayerGutter, markLayer, lineStyle, textLayer, textMark } from "./line_layers.js";
 import { keepRulesInSheet } from "./style_rules.js";
 import { descendant } from "../ui/dom.js";
 
@@ -21,8 +21,8 @@ import { descendant } from "../ui/dom.js";
  * @typedef {Record<string, (editor: LineEditor) => void>} KeyMap actions by key name, for example `Shift-Ctrl-[`
  *
  * The options of an editor. `label` and `description` are for screen readers. `gutters` are the names of its gutters; "numbers" is the
- * gutter of line numbers. `indent` is the indentation of a new line, by default that of the previous line. `keys` are its own keys, and
- * `more` are further CodeMirror extensions.
+ * gutter of line numbers. `indent` is the indentation of a new line, by default that of the previous line. `keys` are additional key
+ * bindings, and `more` are further CodeMirror extensions.
  * @typedef {{ container: HTMLElement, label: string, description: string, colours: import("./line_colours.js").Colours, gutters: string[],
  *   indent?: string, keys: KeyMap, more: Extension[], calls: EditorCalls }} EditorParts
  */
@@ -30,19 +30,19 @@ import { descendant } from "../ui/dom.js";
 /**
  * The callbacks of the line editor.
  * @typedef {object} EditorCalls
- * @property {(edits: Edit[]) => void} edited Handles the edits of the text in order.
- * @property {() => void} moved Handles a caret move.
- * @property {(line: number) => void} clickedGutter Handles a click on a gutter at a line, from 0.
- * @property {(line: number, event: Event) => void} askedGutter Handles a right click on a gutter at a line, from 0.
- * @property {(size: number) => boolean} takes Returns true if the editor accepts an edit by pasting or dropping that makes the text `size`
- *   characters long.
+ * @property {(edits: Edit[]) => void} handleEdits Handles the edits of the text in order.
+ * @property {() => void} handleCaretMove Handles a caret move.
+ * @property {(line: number) => void} handleGutterClick Handles a click on a gutter at a line, from 0.
+ * @property {(line: number, event: Event) => void} handleGutterMenu Handles a right click on a gutter at a line, from 0.
+ * @property {(size: number) => boolean} acceptsSize Returns true if the editor accepts an edit by pasting or dropping that makes the text
+ *   `size` characters long.
  * @property {(position: Position) => Completion} complete Returns the completions for the word at a position.
  */
 
-const INDENT = 8;
-const HISTORY = { minDepth: 1000, newGroupDelay: 1250 };
-/** The user events that insert a whole text at once. The size of the resulting text is checked first. */
-const AT_ONCE = ["input.paste", "input.drop"];
+const TAB_WIDTH = 8;
+const HISTORY_OPTIONS = { minDepth: 1000, newGroupDelay: 1250 };
+/** The user events that insert a whole text. The size of the resulting text is checked first. */
+const WHOLE_TEXT_EVENTS = ["input.paste", "input.drop"];
 
 keepRulesInSheet();
 
@@ -51,7 +51,7 @@ keepRulesInSheet();
  * @param {number} offset
  * @returns {Position}
  */
-function positionIn(doc, offset) {
+function offsetToPosition(doc, offset) {
   const line = doc.lineAt(offset);
   return { line: line.number - 1, ch: offset - line.from };
 }
@@ -60,7 +60,7 @@ function positionIn(doc, offset) {
  * Returns the edits of a transaction, last edit first. All positions are therefore valid in the text before the transaction.
  * @param {Transaction} transaction
  */
-function editsOf(transaction) {
+function transactionEdits(transaction) {
   const { startState: { doc } } = transaction;
   const origin = transaction.annotation(Transaction.userEvent);
   /** @type {Edit[]} */
@@ -68,7 +68,7 @@ function editsOf(transaction) {
   transaction.changes.iterChanges((from, to, _from, _to, inserted) => {
     const removed = doc.slice(from, to).toJSON();
     const isWhole = from === 0 && to === doc.length;
-    edits.unshift({ from: positionIn(doc, from), to: positionIn(doc, to), text: inserted.toJSON(), removed, origin, isWhole });
+    edits.unshift({ from: offsetToPosition(doc, from), to: offsetToPosition(doc, to), text: inserted.toJSON(), removed, origin, isWhole });
   });
   return edits;
 }
@@ -86,18 +86,18 @@ export class LineEditor {
   constructor(parts) {
     this.calls = parts.calls;
     this.container = parts.container;
-    this.wrapping = new Compartment();
+    this.lineWrapping = new Compartment();
     this.wraps = false;
     /** @type {Map<string, Layer>} the layers of marks, by gutter */
     this.marks = new Map(parts.gutters.filter((name) => name !== "numbers").map((name) => [name, markLayer()]));
     this.layers = { next: textLayer(), nextNumber: gutterLayer(), lacking: gutterLayer(), faults: textLayer(), values: textLayer(),
       below: belowLayer() };
     /** @type {HTMLElement | null} the element below a line, if there is one */
-    this.below = null;
+    this.nodeBelow = null;
     /** @type {(() => void)[]} listeners that are called after each edit */
-    this.afterEdits = [];
-    this.extensions = this.extensionsOf(parts);
-    this.view = new EditorView({ parent: parts.container, state: this.stateOf("") });
+    this.editListeners = [];
+    this.extensions = this.makeExtensions(parts);
+    this.view = new EditorView({ parent: parts.container, state: this.makeState("") });
     // Scripts outside the page, such as tests, find the editor through its element.
     Object.assign(this.view.dom, { lineEditor: this });
   }
@@ -106,54 +106,56 @@ export class LineEditor {
    * @param {EditorParts} parts
    * @returns {Extension[]}
    */
-  extensionsOf({ label, description, colours, gutters, indent, keys, more }) {
-    const bindings = Object.entries(keys).map(([key, act]) => ({ key: keyName(key), run: () => {
-      act(this);
+  makeExtensions({ label, description, colours, gutters, indent, keys, more }) {
+    const bindings = Object.entries(keys).map(([key, action]) => ({ key: keyName(key), run: () => {
+      action(this);
       return true;
     } }));
     return [
       Prec.high(keymap.of([...bindings, { key: "Enter", run: () => this.breakLine(indent) }])),
       keymap.of([...historyKeymap, ...defaultKeymap]),
-      history(HISTORY),
-      EditorState.tabSize.of(INDENT),
+      history(HISTORY_OPTIONS),
+      EditorState.tabSize.of(TAB_WIDTH),
       indentUnit.of("\t"),
       highlightSpecialChars(),
       dropCursor(),
       lineColours(colours),
-      ...gutters.map((name) => this.gutterOf(name)),
+      ...gutters.map((name) => this.makeGutter(name)),
       ...more,
       ...[...this.marks.values(), ...Object.values(this.layers)].map(({ field }) => field),
-      autocompletion({ override: [(context) => this.choices(context)], activateOnTyping: false, icons: false, interactionDelay: 0 }),
+      autocompletion({ override: [(context) => this.completionResult(context)], activateOnTyping: false, icons: false,
+        interactionDelay: 0 }),
       EditorView.contentAttributes.of({ "aria-label": label, "aria-description": description }),
-      EditorState.transactionFilter.of((transaction) => (this.takes(transaction) ? transaction : [])),
-      EditorView.updateListener.of((update) => this.updated(update)),
+      EditorState.transactionFilter.of((transaction) => (this.acceptsTransaction(transaction) ? transaction : [])),
+      EditorView.updateListener.of((update) => this.handleUpdate(update)),
     ];
   }
 
   /** @param {string} name */
-  gutterOf(name) {
+  makeGutter(name) {
     /** @type {(view: EditorView, block: { from: number }) => number} */
-    const lineOf = ({ state }, { from }) => state.doc.lineAt(from).number - 1;
+    const lineAtBlock = ({ state }, { from }) => state.doc.lineAt(from).number - 1;
     const domEventHandlers = {
       click: (/** @type {EditorView} */ view, /** @type {{ from: number }} */ block) => {
-        this.calls.clickedGutter(lineOf(view, block));
+        this.calls.handleGutterClick(lineAtBlock(view, block));
         return true;
       },
       contextmenu: (/** @type {EditorView} */ view, /** @type {{ from: number }} */ block, /** @type {Event} */ event) => {
-        this.calls.askedGutter(lineOf(view, block), event);
+        this.calls.handleGutterMenu(lineAtBlock(view, block), event);
         return false;
       },
     };
     const layer = this.marks.get(name);
-    return layer ? gutterOf(name, layer, { domEventHandlers }) : lineNumbers({ domEventHandlers });
+    return layer ? makeLayerGutter(name, layer, { domEventHandlers }) : lineNumbers({ domEventHandlers });
   }
 
   /**
    * Returns a new editor state for a text, with an empty undo history.
    * @param {string} text
    */
-  stateOf(text) {
-    return EditorState.create({ doc: text, extensions: [this.extensions, this.wrapping.of(this.wraps ? EditorView.lineWrapping : [])] });
+  makeState(text) {
+    const wrapping = this.wraps ? EditorView.lineWrapping : [];
+    return EditorState.create({ doc: text, extensions: [this.extensions, this.lineWrapping.of(wrapping)] });
   }
 
   get state() {
@@ -165,21 +167,21 @@ export class LineEditor {
   }
 
   /** @param {import("@codemirror/view").ViewUpdate} update */
-  updated({ docChanged, selectionSet, transactions }) {
+  handleUpdate({ docChanged, selectionSet, transactions }) {
     if (docChanged) {
-      this.calls.edited(transactions.flatMap(editsOf));
-      for (const act of this.afterEdits) act();
+      this.calls.handleEdits(transactions.flatMap(transactionEdits));
+      for (const action of this.editListeners) action();
     }
-    if (docChanged || selectionSet) this.calls.moved();
+    if (docChanged || selectionSet) this.calls.handleCaretMove();
   }
 
   /**
    * Returns false if a pasted or dropped text would make the text too long.
    * @param {Transaction} transaction
    */
-  takes(transaction) {
-    const isAtOnce = transaction.docChanged && AT_ONCE.some((event) => transaction.isUserEvent(event));
-    return !isAtOnce || this.calls.takes(transaction.newDoc.length);
+  acceptsTransaction(transaction) {
+    const isWholeTextEvent = transaction.docChanged && WHOLE_TEXT_EVENTS.some((event) => transaction.isUserEvent(event));
+    return !isWholeTextEvent || this.calls.acceptsSize(transaction.newDoc.length);
   }
 
   /**
@@ -188,26 +190,26 @@ export class LineEditor {
    */
   breakLine(indent) {
     const { from, to } = this.state.selection.main;
-    const before = this.doc.lineAt(from);
-    const blanks = /^[ \t]*/.exec(before.text.slice(0, from - before.from)) || [""];
-    const trailing = /^[ \t]*/.exec(this.doc.sliceString(to, this.doc.lineAt(to).to)) || [""];
+    const previousLine = this.doc.lineAt(from);
+    const blanks = /^[ \t]*/.exec(previousLine.text.slice(0, from - previousLine.from)) || [""];
+    const trailingBlanks = /^[ \t]*/.exec(this.doc.sliceString(to, this.doc.lineAt(to).to)) || [""];
     const insert = `\n${indent === undefined ? blanks[0] : indent}`;
-    this.view.dispatch({ changes: { from, to: to + trailing[0].length, insert }, selection: { anchor: from + insert.length },
+    this.view.dispatch({ changes: { from, to: to + trailingBlanks[0].length, insert }, selection: { anchor: from + insert.length },
       scrollIntoView: true, userEvent: "input" });
     return true;
   }
 
   /**
    * Indents or unindents the selected lines. Without a selection, inserts a tab or unindents the caret's line.
-   * @param {boolean} isOut true to unindent
+   * @param {boolean} isUnindent true to unindent
    */
-  indent(isOut) {
-    return (isOut ? indentLess : insertTab)(this.view);
+  indent(isUnindent) {
+    return (isUnindent ? indentLess : insertTab)(this.view);
   }
 
   /** @param {import("@codemirror/autocomplete").CompletionContext} context */
-  choices({ pos }) {
-    const { line, ch } = positionIn(this.doc, pos);
+  completionResult({ pos }) {
+    const { line, ch } = offsetToPosition(this.doc, pos);
     const { from, to, list } = this.calls.complete({ line, ch });
     if (list.length === 0) return null;
     const options = list.map(({ text, what }) => {
@@ -261,16 +263,16 @@ export class LineEditor {
 
   /** @param {number} offset */
   position(offset) {
-    return positionIn(this.doc, Math.min(Math.max(0, offset), this.doc.length));
+    return offsetToPosition(this.doc, Math.min(Math.max(0, offset), this.doc.length));
   }
 
-  /** @param {"head" | "from" | "to"} which the end of the selection */
-  getCursor(which = "head") {
-    return this.position(this.state.selection.main[which]);
+  /** @param {"head" | "from" | "to"} endName the end of the selection */
+  getCursor(endName = "head") {
+    return this.position(this.state.selection.main[endName]);
   }
 
   /** The selection as offsets in the text. */
-  get selected() {
+  get selectedRange() {
     const { from, to } = this.state.selection.main;
     return { from, to };
   }
@@ -325,11 +327,11 @@ export class LineEditor {
 
   /**
    * Undoes or redoes one step. Returns false if there is none.
-   * @param {"undo" | "redo"} which
+   * @param {"undo" | "redo"} direction
    */
-  undoOrRedo(which) {
-    const [depth, act] = which === "undo" ? [undoDepth, undo] : [redoDepth, redo];
-    return depth(this.state) > 0 && act(this.view);
+  undoOrRedo(direction) {
+    const [depth, action] = direction === "undo" ? [undoDepth, undo] : [redoDepth, redo];
+    return depth(this.state) > 0 && action(this.view);
   }
 
   undo() {
@@ -364,7 +366,7 @@ export class LineEditor {
    * @param {number[]} lines line numbers from 0, in ascending order
    */
   showLineStyle(name, lines) {
-    const style = styleOfLine(name);
+    const style = lineStyle(name);
     const starts = lines.map((line) => this.doc.line(line + 1).from);
     this.layers[name === "next" ? "nextNumber" : "lacking"].show(this.view, starts.map((from) => style.gutters.range(from)));
     if (name === "next") this.layers.next.show(this.view, starts.map((from) => style.line.range(from)));
@@ -386,17 +388,17 @@ export class LineEditor {
    * @param {HTMLElement | null} node null to remove the element
    */
   showBelow(line, node) {
-    this.below = node;
+    this.nodeBelow = node;
     this.fitBelow();
     this.layers.below.show(this.view, node ? [elementBelow(node).range(this.offset({ line, ch: Infinity }))] : []);
   }
 
   /** Limits the width of the element below a line to the visible part of the text. */
   fitBelow() {
-    if (!this.below) return;
+    if (!this.nodeBelow) return;
     const gutters = descendant(this.view.dom, ".cm-gutters", HTMLElement).offsetWidth;
-    this.below.style.setProperty("left", `${gutters}px`);
-    this.below.style.setProperty("max-width", `${this.view.scrollDOM.clientWidth - gutters}px`);
+    this.nodeBelow.style.setProperty("left", `${gutters}px`);
+    this.nodeBelow.style.setProperty("max-width", `${this.view.scrollDOM.clientWidth - gutters}px`);
   }
 
   focus() {
@@ -429,14 +431,14 @@ export class LineEditor {
     this.view.scrollDOM.scrollTop = top;
   }
 
-  /** @param {() => void} act */
-  onScroll(act) {
-    this.view.scrollDOM.addEventListener("scroll", act);
+  /** @param {() => void} action */
+  onScroll(action) {
+    this.view.scrollDOM.addEventListener("scroll", action);
   }
 
-  /** @param {() => void} act a listener that is called after each edit */
-  onEdit(act) {
-    this.afterEdits.push(act);
+  /** @param {() => void} action a listener that is called after each edit */
+  onEdit(action) {
+    this.editListeners.push(action);
   }
 
   /**
@@ -460,7 +462,7 @@ export class LineEditor {
   wrap(wraps) {
     if (wraps === this.wraps) return;
     this.wraps = wraps;
-    this.view.dispatch({ effects: this.wrapping.reconfigure(wraps ? EditorView.lineWrapping : []) });
+    this.view.dispatch({ effects: this.lineWrapping.reconfigure(wraps ? EditorView.lineWrapping : []) });
   }
 
   /** Measures the layout again after elements around the text have changed their sizes. */
@@ -469,21 +471,21 @@ export class LineEditor {
     this.view.requestMeasure();
   }
 
-  /** @param {() => void} act called after the next measurement, when CodeMirror no longer restores the scroll position */
-  whenMeasured(act) {
-    this.view.requestMeasure({ read: () => null, write: () => queueMicrotask(act) });
+  /** @param {() => void} action called after the next measurement, when CodeMirror no longer restores the scroll position */
+  callAfterLayout(action) {
+    this.view.requestMeasure({ read: () => null, write: () => queueMicrotask(action) });
   }
 
   /**
    * Shows another editor state. Returns the previous state.
    * @param {EditorState} state
    */
-  swap(state) {
-    const before = this.state;
+  swapState(state) {
+    const previousState = this.state;
     // Without this, CodeMirror would adjust the scroll position to keep a line in place, because it measures line heights.
     this.scrollTo(0);
     this.view.setState(state);
-    this.view.dispatch({ effects: this.wrapping.reconfigure(this.wraps ? EditorView.lineWrapping : []) });
-    return before;
+    this.view.dispatch({ effects: this.lineWrapping.reconfigure(this.wraps ? EditorView.lineWrapping : []) });
+    return previousState;
   }
 }

@@ -47,7 +47,7 @@ class GutterStyle extends GutterMarker {
 }
 
 /** A text after a line. */
-class WordsAfter extends WidgetType {
+class TextAfterLine extends WidgetType {
   /**
    * @param {string} words
    * @param {string} className
@@ -58,7 +58,7 @@ class WordsAfter extends WidgetType {
     this.className = className;
   }
 
-  /** @param {WordsAfter} other */
+  /** @param {TextAfterLine} other */
   eq({ words, className }) {
     return words === this.words && className === this.className;
   }
@@ -81,7 +81,7 @@ class ElementBelow extends WidgetType {
     return node === this.node;
   }
 
-  // The element handles its own key and pointer events.
+  // The element handles its key and pointer events itself.
   ignoreEvent() {
     return true;
   }
@@ -99,12 +99,12 @@ export class Layer {
    */
   constructor(provide, move = (ranges, { changes }) => ranges.map(changes)) {
     /** @type {import("@codemirror/state").StateEffectType<Ranges>} */
-    this.put = StateEffect.define();
+    this.replaceEffect = StateEffect.define();
     /** @type {StateField<Ranges>} */
     this.field = StateField.define({
       create: () => RangeSet.empty,
       update: (ranges, transaction) => {
-        const putEffect = transaction.effects.find((effect) => effect.is(this.put));
+        const putEffect = transaction.effects.find((effect) => effect.is(this.replaceEffect));
         return putEffect ? putEffect.value : move(ranges, transaction);
       },
       provide,
@@ -116,9 +116,9 @@ export class Layer {
    * @param {import("@codemirror/state").Range<any>[]} ranges the new ranges, which replace the previous ones
    */
   show(view, ranges) {
-    const before = view.state.field(this.field);
-    const after = RangeSet.of(ranges, true);
-    if (!RangeSet.eq([before], [after])) view.dispatch({ effects: this.put.of(after) });
+    const oldRanges = view.state.field(this.field);
+    const newRanges = RangeSet.of(ranges, true);
+    if (!RangeSet.eq([oldRanges], [newRanges])) view.dispatch({ effects: this.replaceEffect.of(newRanges) });
   }
 }
 
@@ -131,11 +131,11 @@ export function textLayer() {
 export function belowLayer() {
   return new Layer((field) => EditorView.decorations.from(field), (ranges, { changes, docChanged, newDoc, startState: { doc } }) => {
     if (!docChanged) return ranges;
-    const moved = [];
-    for (const at = ranges.iter(); at.value; at.next()) {
-      moved.push(at.value.range(newDoc.lineAt(changes.mapPos(doc.lineAt(at.from).from, 1)).to));
+    const movedRanges = [];
+    for (const cursor = ranges.iter(); cursor.value; cursor.next()) {
+      movedRanges.push(cursor.value.range(newDoc.lineAt(changes.mapPos(doc.lineAt(cursor.from).from, 1)).to));
     }
-    return RangeSet.of(moved);
+    return RangeSet.of(movedRanges);
   });
 }
 
@@ -149,7 +149,7 @@ export function gutterLayer() {
   return new Layer((field) => gutterLineClass.from(field));
 }
 
-/** Returns a layer for the marks of one gutter. `gutterOf` returns the gutter that shows them. */
+/** Returns a layer for the marks of one gutter. `makeLayerGutter` returns the gutter that shows them. */
 export function markLayer() {
   return new Layer(() => []);
 }
@@ -158,10 +158,10 @@ export function markLayer() {
  * Returns a gutter that shows a layer's marks.
  * @param {string} name
  * @param {Layer} layer
- * @param {Parameters<typeof gutter>[0]} more
+ * @param {Parameters<typeof gutter>[0]} options
  */
-export function gutterOf(name, layer, more) {
-  return gutter({ class: name, markers: ({ state }) => state.field(layer.field), ...more });
+export function makeLayerGutter(name, layer, options) {
+  return gutter({ class: name, markers: ({ state }) => state.field(layer.field), ...options });
 }
 
 /**
@@ -176,7 +176,7 @@ export function textMark(name, { text, words }) {
 const lineStyles = new Map();
 
 /** @param {string} name the CSS class of the line; the class of its gutters has the prefix `at-` */
-export function styleOfLine(name) {
+export function lineStyle(name) {
   const style = lineStyles.get(name) || { line: Decoration.line({ class: name }), gutters: new GutterStyle(`at-${name}`) };
   lineStyles.set(name, style);
   return style;
@@ -186,14 +186,14 @@ export function styleOfLine(name) {
  * @param {string} words
  * @param {string} className
  */
-export function wordsAfter(words, className) {
-  return Decoration.widget({ widget: new WordsAfter(words, className), side: 1 });
+export function textAfterLine(words, className) {
+  return Decoration.widget({ widget: new TextAfterLine(words, className), side: 1 });
 }
 
 /**
  * @param {string} className
  * @param {string} title
  */
-export function underlined(className, title) {
+export function underlineMark(className, title) {
   return Decoration.mark({ class: className, attributes: { title } });
 }

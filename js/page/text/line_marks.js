@@ -1,7 +1,7 @@
 // Marks at the lines of a text: texts in the gutters, and the mark of the next instruction. Marks move with their lines while the text is
 // edited. Each call replaces the previous marks.
 
-import { upTo } from "../../core/bench/numbers.js";
+import { indices } from "../../core/bench/numbers.js";
 
 /**
  * @typedef {import("./line_editor.js").LineEditor} LineEditor
@@ -12,29 +12,29 @@ export class LineMarks {
   constructor(editor) {
     this.editor = editor;
     /** @type {Set<string>} the gutters that have been used */
-    this.shown = new Set();
+    this.usedGutters = new Set();
   }
 
   /** Removes all marks before the editor shows another text. */
   forget() {
-    for (const gutter of this.shown) this.editor.showMarks(gutter, []);
-    this.shown.clear();
+    for (const gutter of this.usedGutters) this.editor.showMarks(gutter, []);
+    this.usedGutters.clear();
     this.showNext(0);
   }
 
   /**
    * Shows texts in a gutter.
    * @param {string} gutter
-   * @param {(line: number) => string} textOf returns the text at a line, from 1; "" for none
-   * @param {(line: number) => string} [wordsOf] returns the description of the text
+   * @param {(line: number) => string} getText returns the text at a line, from 1; "" for none
+   * @param {(line: number) => string} [getDescription] returns the description of the text
    */
-  showAt(gutter, textOf, wordsOf = () => "") {
-    const marks = upTo(this.editor.lineCount()).flatMap((line) => {
-      const text = textOf(line + 1);
-      return text ? [{ line, text, words: wordsOf(line + 1) }] : [];
+  showTexts(gutter, getText, getDescription = () => "") {
+    const marks = indices(this.editor.lineCount()).flatMap((line) => {
+      const text = getText(line + 1);
+      return text ? [{ line, text, words: getDescription(line + 1) }] : [];
     });
     this.editor.showMarks(gutter, marks);
-    this.shown.add(gutter);
+    this.usedGutters.add(gutter);
   }
 
   /**

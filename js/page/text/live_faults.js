@@ -12,21 +12,21 @@ export class LiveFaults {
    * @param {(isWanted: () => boolean) => Promise<Result | undefined>} find resolves to the errors, or to undefined if the check is
    *   cancelled
    * @param {(result: Result) => void} show
-   * @param {(fault: unknown) => void} failed
+   * @param {(fault: unknown) => void} reportFailure
    */
-  constructor(find, show, failed) {
+  constructor(find, show, reportFailure) {
     this.find = find;
     this.show = show;
-    this.failed = failed;
+    this.reportFailure = reportFailure;
     this.checkCount = 0;
     this.timer = 0;
   }
 
   /** Cancels the check in progress, and schedules another one. Called after each edit. */
-  edited() {
+  handleEdit() {
     this.checkCount += 1;
     clearTimeout(this.timer);
-    this.timer = window.setTimeout(() => this.checkNow().catch(this.failed), CHECK_DELAY);
+    this.timer = window.setTimeout(() => this.checkNow().catch(this.reportFailure), CHECK_DELAY);
   }
 
   /**

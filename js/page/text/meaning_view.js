@@ -9,7 +9,7 @@ import * as say from "../../words/text.js";
 /**
  * @typedef {import("../../core/debug/value_words.js").Piece} Piece
  * @typedef {import("../../core/debug/value_words.js").Value} Value
- * @typedef {(cell: HTMLElement, value: Value) => void} Offer makes a cell editable
+ * @typedef {(cell: HTMLElement, value: Value) => void} MakeEditable makes a cell editable
  */
 
 /** The distance in pixels between the pointer and the tooltip. */
@@ -19,21 +19,21 @@ const BELOW_POINTER = 16;
  * Returns the layout of the description without its values. While the layout is unchanged, the cells are reused.
  * @param {Piece[]} pieces
  */
-function shapeOf(pieces) {
+function layoutKey(pieces) {
   return pieces.map((piece) => (typeof piece === "string" ? piece : piece.place)).join("\n");
 }
 
 export class MeaningView {
-  /** @param {Offer} offer */
-  constructor(offer) {
-    this.offer = offer;
+  /** @param {MakeEditable} makeEditable */
+  constructor(makeEditable) {
+    this.makeEditable = makeEditable;
     this.values = element("span", { className: "values" });
     this.words = element("span");
     this.node = element("p", { className: "meaning" }, this.values, this.words);
-    this.tip = element("p", { className: "value-tip", hidden: true });
-    this.tip.setAttribute("aria-hidden", "true");
-    document.body.append(this.tip);
-    this.shape = "";
+    this.tooltip = element("p", { className: "value-tip", hidden: true });
+    this.tooltip.setAttribute("aria-hidden", "true");
+    document.body.append(this.tooltip);
+    this.layout = "";
     /** @type {HTMLElement[]} */
     this.cells = [];
   }
@@ -43,27 +43,27 @@ export class MeaningView {
    * @param {string} words
    */
   set(pieces, words) {
-    const shape = shapeOf(pieces);
-    if (shape !== this.shape) {
-      this.shape = shape;
+    const layout = layoutKey(pieces);
+    if (layout !== this.layout) {
+      this.layout = layout;
       this.cells = [];
-      this.values.replaceChildren(...pieces.map((piece) => (typeof piece === "string" ? piece : this.cellOf(piece))));
+      this.values.replaceChildren(...pieces.map((piece) => (typeof piece === "string" ? piece : this.makeCell(piece))));
     }
     const values = pieces.flatMap((piece) => (typeof piece === "string" ? [] : [piece.value]));
-    this.cells.forEach((cell, at) => {
-      if (cell.textContent !== values[at]) cell.textContent = values[at];
+    this.cells.forEach((cell, index) => {
+      if (cell.textContent !== values[index]) cell.textContent = values[index];
     });
     const meaning = textOf(pieces);
-    const more = meaning === "" ? words : words === "" || meaning.startsWith(words) ? "" : `. ${words}`;
-    if (this.words.textContent !== more) this.words.textContent = more;
+    const description = meaning === "" ? words : words === "" || meaning.startsWith(words) ? "" : `. ${words}`;
+    if (this.words.textContent !== description) this.words.textContent = description;
   }
 
   /** @param {Value} value */
-  cellOf(value) {
+  makeCell(value) {
     const cell = element("button", { "type": "button", "className": "value", "title": say.edits(value.name) });
     cell.setAttribute("aria-label", value.name);
     cell.textContent = value.value;
-    this.offer(cell, value);
+    this.makeEditable(cell, value);
     this.cells.push(cell);
     return cell;
   }
@@ -73,13 +73,13 @@ export class MeaningView {
    * @param {Piece[]} pieces the values; an empty list hides the tooltip
    * @param {{ left: number, top: number }} point window coordinates
    */
-  showAt(pieces, { left, top }) {
-    this.tip.textContent = textOf(pieces);
-    this.tip.hidden = pieces.length === 0;
-    if (pieces.length > 0) putBelow(this.tip, { left, bottom: top }, BELOW_POINTER);
+  showTooltip(pieces, { left, top }) {
+    this.tooltip.textContent = textOf(pieces);
+    this.tooltip.hidden = pieces.length === 0;
+    if (pieces.length > 0) putBelow(this.tooltip, { left, bottom: top }, BELOW_POINTER);
   }
 
   hideTip() {
-    if (!this.tip.hidden) this.tip.hidden = true;
+    if (!this.tooltip.hidden) this.tooltip.hidden = true;
   }
 }

@@ -3,7 +3,7 @@
 import { counted } from "../../core/bench/numbers.js";
 import { element, onClick } from "../ui/dom.js";
 import { FieldBar } from "./field_bar.js";
-import { definitionOf, faultOfRenaming, nameAt, referencesOf } from "../../core/text/references.js";
+import { findDefinition, findRenamingError, nameAt, findReferences } from "../../core/text/references.js";
 import * as say from "../../words/text.js";
 
 /**
@@ -41,7 +41,7 @@ export class NameView {
   }
 
   /** @param {Reference} reference */
-  show({ line, from, to }) {
+  selectReference({ line, from, to }) {
     const { editor } = this.text;
     this.text.goTo({ line: line - 1, ch: from });
     editor.setSelection({ line: line - 1, ch: from }, { line: line - 1, ch: to });
@@ -49,18 +49,18 @@ export class NameView {
   }
 
   /** Goes to the definition of the name at the caret. */
-  define() {
+  goToDefinition() {
     const name = this.nameAtCaret();
-    const definition = name === "" ? null : definitionOf(this.lines, name);
-    if (definition) this.show(definition);
+    const definition = name === "" ? null : findDefinition(this.lines, name);
+    if (definition) this.selectReference(definition);
   }
 
   /** Lists all references to the name at the caret. */
-  find() {
+  listReferences() {
     const name = this.nameAtCaret();
     if (name === "") return;
     const { lines } = this;
-    const references = referencesOf(lines, name);
+    const references = findReferences(lines, name);
     const close = element("button", { type: "button" }, say.CLOSE);
     onClick(close, () => this.close());
     this.list.replaceChildren(element("li", {}, say.nameIsAt(name, counted(references.length, "place")), close),
@@ -74,7 +74,7 @@ export class NameView {
    */
   row(reference, text) {
     const node = element("button", { type: "button" }, say.lineOfName(reference.line, reference.isDefinition));
-    onClick(node, () => this.show(reference));
+    onClick(node, () => this.selectReference(reference));
     return element("li", {}, node, " ", element("code", {}, text.trim().slice(0, MAX_LENGTH)));
   }
 
@@ -84,37 +84,37 @@ export class NameView {
   }
 
   /** Asks the user for a new name and renames the name at the caret. */
-  rename() {
+  askNewName() {
     const name = this.nameAtCaret();
     if (name === "") return;
-    this.bar.open({ label: say.otherName(name), value: name, word: say.RENAME, act: (wanted) => this.renameTo(name, wanted) });
+    this.bar.open({ label: say.otherName(name), value: name, word: say.RENAME, act: (newName) => this.applyRename(name, newName) });
   }
 
   /**
    * @param {string} name
-   * @param {string} wanted
+   * @param {string} newName
    */
-  renameTo(name, wanted) {
+  applyRename(name, newName) {
     const { lines, calls, text } = this;
-    const fault = faultOfRenaming(lines, name, wanted, calls.isInstruction);
+    const fault = findRenamingError(lines, name, newName, calls.isInstruction);
     if (fault) return fault;
-    const references = referencesOf(lines, name);
+    const references = findReferences(lines, name);
     text.edit([...references].reverse().map(({ line, from, to }) => (
-      { from: text.editor.offset({ line: line - 1, ch: from }), to: text.editor.offset({ line: line - 1, ch: to }), insert: wanted })));
-    calls.showMessage(say.renamed(name, wanted, counted(references.length, "place")));
+      { from: text.editor.offset({ line: line - 1, ch: from }), to: text.editor.offset({ line: line - 1, ch: to }), insert: newName })));
+    calls.showMessage(say.renamed(name, newName, counted(references.length, "place")));
     return "";
   }
 
   /** Asks the user for a line number and goes to that line. */
   goToLine() {
-    const last = this.text.editor.lineCount();
+    const lineCount = this.text.editor.lineCount();
     this.bar.open({
-      label: say.lineOfText(last.toLocaleString("en")),
+      label: say.lineOfText(lineCount.toLocaleString("en")),
       value: "",
       word: say.GO,
       act: (typed) => {
         const line = /^\d+$/.test(typed) ? Number(typed) : 0;
-        if (line < 1 || line > last) return say.lineIs(last.toLocaleString("en"));
+        if (line < 1 || line > lineCount) return say.lineIs(lineCount.toLocaleString("en"));
         this.text.goTo({ line: line - 1, ch: 0 });
         this.text.reveal(line);
         return "";

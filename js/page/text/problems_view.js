@@ -12,7 +12,7 @@ import * as say from "../../words/text.js";
  * The callbacks of the list of problems.
  * @typedef {object} ProblemCalls
  * @property {(name: string, fault: Fault) => void} goTo Shows an error in a text, by the name of its tab.
- * @property {(count: number) => void} counted Shows the number of problems.
+ * @property {(count: number) => void} showCount Shows the number of problems.
  */
 
 export class ProblemsView {
@@ -20,36 +20,36 @@ export class ProblemsView {
   constructor(calls) {
     this.calls = calls;
     this.list = block("problem-list");
-    this.none = block("problems-none");
+    this.emptyNote = block("problems-none");
     /** @type {Map<string, Fault[]>} the errors of each text, by the name of its tab */
     this.faults = new Map();
     /** The number of common mistakes detected while time was running. */
-    this.bugs = 0;
+    this.bugCount = 0;
   }
 
   /**
    * @param {string} name the name of a text's tab
    * @param {Fault[]} faults all current errors of that text
    */
-  take(name, faults) {
+  setFaults(name, faults) {
     if (faults.length === 0 && (this.faults.get(name) || []).length === 0) return;
     this.faults.set(name, faults);
     this.list.replaceChildren(...[...this.faults].flatMap(([textName, textFaults]) => (
       textFaults.map((fault) => this.entry(textName, fault)))));
-    this.count();
+    this.updateCount();
   }
 
-  /** @param {number} bugs the number of common mistakes detected while time was running */
-  showBugCount(bugs) {
-    if (this.bugs === bugs) return;
-    this.bugs = bugs;
-    this.count();
+  /** @param {number} bugCount the number of common mistakes detected while time was running */
+  showBugCount(bugCount) {
+    if (this.bugCount === bugCount) return;
+    this.bugCount = bugCount;
+    this.updateCount();
   }
 
-  count() {
-    const count = [...this.faults.values()].reduce((sum, faults) => sum + faults.length, this.bugs);
-    this.none.hidden = count > 0;
-    this.calls.counted(count);
+  updateCount() {
+    const count = [...this.faults.values()].reduce((sum, faults) => sum + faults.length, this.bugCount);
+    this.emptyNote.hidden = count > 0;
+    this.calls.showCount(count);
   }
 
   /**

@@ -1,4 +1,4 @@
-// The search bar above a text. It finds the next and previous match, counts matches, and replaces them.
+// The search bar above a text. The bar finds the next and previous match, counts matches, and replaces matches.
 
 import { Cell, element, onClick } from "../ui/dom.js";
 import * as say from "../../words/text.js";
@@ -21,36 +21,36 @@ export class SearchBar {
     this.editor = editor;
     this.field = element("input", { "type": "search", "aria-label": say.searchIn(label), "autocomplete": "off", "spellcheck": false });
     this.status = new Cell(element("p", { role: "status" }));
-    const before = element("button", { type: "button", title: say.SHIFT_ENTER }, say.PREVIOUS);
-    const next = element("button", { type: "button", title: "Enter" }, say.NEXT);
-    const close = element("button", { type: "button", title: "Escape" }, say.CLOSE);
-    this.replacement = element("input", {
+    const previousButton = element("button", { type: "button", title: say.SHIFT_ENTER }, say.PREVIOUS);
+    const nextButton = element("button", { type: "button", title: "Enter" }, say.NEXT);
+    const closeButton = element("button", { type: "button", title: "Escape" }, say.CLOSE);
+    this.replaceField = element("input", {
       "aria-label": say.REPLACE_BY, "placeholder": say.REPLACE_BY_HINT, "autocomplete": "off", "spellcheck": false,
     });
-    const one = element("button", { type: "button", title: say.REPLACE_TITLE }, say.REPLACE);
-    const all = element("button", { type: "button" }, say.REPLACE_ALL);
-    this.replacing = element("div", { className: "bar", hidden: true }, this.replacement, one, all);
-    this.bar = element("div", { role: "search", className: "search bar", hidden: true }, this.field, before, next, close, this.status.node,
-      this.replacing);
+    const replaceButton = element("button", { type: "button", title: say.REPLACE_TITLE }, say.REPLACE);
+    const replaceAllButton = element("button", { type: "button" }, say.REPLACE_ALL);
+    this.replaceBar = element("div", { className: "bar", hidden: true }, this.replaceField, replaceButton, replaceAllButton);
+    this.bar = element("div", { role: "search", className: "search bar", hidden: true },
+      this.field, previousButton, nextButton, closeButton, this.status.node, this.replaceBar);
     parent.prepend(this.bar);
-    onClick(one, () => this.replace());
-    onClick(all, () => this.replaceAll());
-    this.replacement.addEventListener("keydown", (event) => this.typed(event, () => this.replace()));
-    onClick(before, () => this.find(true));
-    onClick(next, () => this.find(false));
-    onClick(close, () => this.close());
-    this.field.addEventListener("input", () => this.find(false, this.editor.selected.from));
-    this.field.addEventListener("keydown", (event) => this.typed(event, (isBack) => this.find(isBack)));
+    onClick(replaceButton, () => this.replace());
+    onClick(replaceAllButton, () => this.replaceAll());
+    this.replaceField.addEventListener("keydown", (event) => this.handleKey(event, () => this.replace()));
+    onClick(previousButton, () => this.find(true));
+    onClick(nextButton, () => this.find(false));
+    onClick(closeButton, () => this.close());
+    this.field.addEventListener("input", () => this.find(false, this.editor.selectedRange.from));
+    this.field.addEventListener("keydown", (event) => this.handleKey(event, (isBack) => this.find(isBack)));
   }
 
   /**
    * Opens the bar with the selected text as the query, or with the last query.
-   * @param {boolean} [replaces] true to show the replacement field
+   * @param {boolean} [showsReplacement] true to show the replacement field
    */
-  open(replaces = false) {
-    this.replacing.hidden = !replaces;
-    const chosen = this.editor.getSelection();
-    if (chosen && !chosen.includes("\n")) this.field.value = chosen;
+  open(showsReplacement = false) {
+    this.replaceBar.hidden = !showsReplacement;
+    const selectedText = this.editor.getSelection();
+    if (selectedText && !selectedText.includes("\n")) this.field.value = selectedText;
     this.bar.hidden = false;
     this.field.focus();
     this.field.select();
@@ -64,61 +64,61 @@ export class SearchBar {
 
   /**
    * @param {KeyboardEvent} event
-   * @param {(isBack: boolean) => void} act
+   * @param {(isBack: boolean) => void} action
    */
-  typed(event, act) {
+  handleKey(event, action) {
     if (event.key !== "Enter" && event.key !== "Escape") return;
     event.preventDefault();
     if (event.key === "Escape") this.close();
-    else act(event.shiftKey);
+    else action(event.shiftKey);
   }
 
   /** Replaces the selection if it is a match, then selects the next match. */
   replace() {
     const { editor } = this;
-    const wanted = this.field.value;
-    const isChosen = wanted !== "" && editor.getSelection().toLowerCase() === wanted.toLowerCase();
-    if (isChosen) editor.replaceSelection(this.replacement.value);
+    const query = this.field.value;
+    const isSelected = query !== "" && editor.getSelection().toLowerCase() === query.toLowerCase();
+    if (isSelected) editor.replaceSelection(this.replaceField.value);
     this.find(false);
   }
 
   /** Replaces all matches, as one undo step. */
   replaceAll() {
-    const wanted = this.field.value;
-    if (wanted === "") return;
-    const spans = this.spansOf(wanted);
+    const query = this.field.value;
+    if (query === "") return;
+    const spans = this.findSpans(query);
     const count = spans.length;
-    if (count > 0) this.editor.edit([...spans].reverse().map((span) => ({ ...span, insert: this.replacement.value })));
+    if (count > 0) this.editor.edit([...spans].reverse().map((span) => ({ ...span, insert: this.replaceField.value })));
     this.status.set(count === 0 ? say.NOT_FOUND : say.replaced(count.toLocaleString("en")));
   }
 
   /**
    * Selects the next or previous match, ignoring case. The search wraps around at the end of the text.
    * @param {boolean} isBack
-   * @param {number} from the offset at which the search begins
+   * @param {number} startOffset the offset at which the search begins
    */
-  find(isBack, from = this.editor.selected[isBack ? "from" : "to"]) {
-    const wanted = this.field.value;
-    if (wanted === "") {
+  find(isBack, startOffset = this.editor.selectedRange[isBack ? "from" : "to"]) {
+    const query = this.field.value;
+    if (query === "") {
       this.status.set("");
       return;
     }
     const { editor } = this;
-    const spans = this.spansOf(wanted);
-    const before = spans.filter((span) => span.to <= from).pop();
-    const found = (isBack ? before : spans.find((span) => span.from >= from)) || spans[isBack ? spans.length - 1 : 0];
-    this.status.set(found ? say.foundOf(spans.indexOf(found) + 1, Math.min(MAX_COUNTED, spans.length)) : say.NOT_FOUND);
-    if (!found) return;
-    editor.setSelection(editor.position(found.from), editor.position(found.to));
-    editor.scrollIntoView(editor.position(found.to), 60);
+    const spans = this.findSpans(query);
+    const previousMatch = spans.filter((span) => span.to <= startOffset).pop();
+    const match = (isBack ? previousMatch : spans.find((span) => span.from >= startOffset)) || spans[isBack ? spans.length - 1 : 0];
+    this.status.set(match ? say.foundOf(spans.indexOf(match) + 1, Math.min(MAX_COUNTED, spans.length)) : say.NOT_FOUND);
+    if (!match) return;
+    editor.setSelection(editor.position(match.from), editor.position(match.to));
+    editor.scrollIntoView(editor.position(match.to), 60);
   }
 
   /**
    * Returns all non-overlapping matches, ignoring case.
-   * @param {string} wanted
+   * @param {string} query
    */
-  spansOf(wanted) {
-    const pattern = new RegExp(wanted.replace(/[.*+?^${}()|[\]\\]/g, "\\$&"), "giu");
+  findSpans(query) {
+    const pattern = new RegExp(query.replace(/[.*+?^${}()|[\]\\]/g, "\\$&"), "giu");
     return [...this.editor.getValue().matchAll(pattern)].map(({ 0: text, index = 0 }) => ({ from: index, to: index + text.length }));
   }
 }

@@ -1,11 +1,11 @@
 // An editor with the features that all texts of the page share. Each opened text has its own state with its undo history. The states of
-// recent sessions are kept until the page is closed.
+// recent sessions are stored until the page is closed.
 
 import { EditorView } from "@codemirror/view";
-import { upTo } from "../../core/bench/numbers.js";
+import { indices } from "../../core/bench/numbers.js";
 import { folding, unfold } from "./fold_view.js";
 import { LineEditor } from "./line_editor.js";
-import { LONGEST_KEPT, commented } from "../../core/text/text_fault.js";
+import { STORED_LIMIT, toggleComments } from "../../core/text/text_fault.js";
 import * as say from "../../words/text.js";
 
 /**
@@ -19,25 +19,25 @@ import * as say from "../../words/text.js";
  *   folds?: import("../../core/text/folding.js").Parts, keys: KeyMap, calls: TextCalls }} TextParts
  *
  * The state of a text that is not visible, and its scroll position in pixels.
- * @typedef {{ state: import("@codemirror/state").EditorState, top: number }} KeptText
+ * @typedef {{ state: import("@codemirror/state").EditorState, top: number }} StoredText
  */
 
 /**
  * The callbacks of a text editor.
  * @typedef {object} TextCalls
- * @property {(edits: Edit[]) => void} edited Handles the edits of the text in order.
- * @property {() => void} moved Handles a caret move.
- * @property {(line: number) => void} clickedGutter Handles a click on a gutter at a line, from 1.
- * @property {(line: number, event: Event) => void} askedGutter Handles a right click on a gutter at a line, from 1.
- * @property {() => void} clickedName Handles a click with Control, which has already moved the caret.
- * @property {(size: number) => void} refused Reports that a text of `size` characters is too long and was rejected.
+ * @property {(edits: Edit[]) => void} handleEdits Handles the edits of the text in order.
+ * @property {() => void} handleCaretMove Handles a caret move.
+ * @property {(line: number) => void} handleGutterClick Handles a click on a gutter at a line, from 1.
+ * @property {(line: number, event: Event) => void} handleGutterMenu Handles a right click on a gutter at a line, from 1.
+ * @property {() => void} handleNameClick Handles a click with Control, which has already moved the caret.
+ * @property {(size: number) => void} reportTooLong Reports that a text of `size` characters is too long and was rejected.
  * @property {(position: Position) => import("../../core/text/completion.js").Completion} complete Returns the completions for the word at a
  *   position.
  */
 
 /** The maximum number of stored texts. */
-const MAX_KEPT = 30;
-/** The modifier keys, which have no effect on their own. */
+const MAX_STORED = 30;
+/** The modifier keys, which do nothing without another key. */
 const MODIFIERS = ["Shift", "Control", "Alt", "Meta"];
 
 export class TextEditor {
@@ -45,57 +45,57 @@ export class TextEditor {
   constructor(parts) {
     this.calls = parts.calls;
     /** @type {(line: number) => void} the listener for caret moves, which receives the line from 1 */
-    this.caret = () => {};
+    this.onCaretMove = () => {};
     /** The scroll position in pixels. */
     this.top = 0;
     /** @type {number | null} the scroll position to restore as soon as the text can be measured; null if there is none */
-    this.due = null;
+    this.pendingScrollTop = null;
     /** The line to reveal as soon as the text can be measured, or 0 for none. */
-    this.awaited = 0;
-    /** True if Tab moves the focus out of the editor. This is the case after Escape, and after Tab has moved the focus in. */
+    this.pendingLine = 0;
+    /** True if Tab moves the focus out of the editor: after Escape, and after Tab has moved the focus into the editor. */
     this.tabLeaves = true;
     /** True if the user has placed the caret: the editor has had the focus since its text was loaded. */
     this.hasCaret = false;
-    /** @type {Map<string, KeptText>} the stored texts, by session name */
-    this.kept = new Map();
+    /** @type {Map<string, StoredText>} the stored texts, by session name */
+    this.storedTexts = new Map();
     this.name = "";
     /** @type {string | null} the cached text; null if it must be read again after an edit */
-    this.value = null;
+    this.cachedText = null;
     const { container, label, colours, gutters, indent, folds, keys } = parts;
     /** @type {LineEditor} */
     this.editor = new LineEditor({ container, label, description: say.TAB_INDENTS, colours, indent, keys, gutters: ["faults", ...gutters],
-      more: [...(folds ? [folding(folds)] : []), this.handlers()], calls: this.editorCalls() });
+      more: [...(folds ? [folding(folds)] : []), this.eventHandlers()], calls: this.editorCalls() });
     this.editor.onScroll(() => {
-      if (this.due === null && container.offsetHeight > 0) this.top = this.editor.getScrollInfo().top;
+      if (this.pendingScrollTop === null && container.offsetHeight > 0) this.top = this.editor.getScrollInfo().top;
     });
     // A hidden editor cannot be measured, so its scroll position is restored when it appears.
-    new ResizeObserver(() => this.resized()).observe(container);
+    new ResizeObserver(() => this.handleResize()).observe(container);
   }
 
   /** @returns {import("./line_editor.js").EditorCalls} */
   editorCalls() {
     const { calls } = this;
     return {
-      edited: (edits) => {
-        this.value = null;
-        calls.edited(edits);
+      handleEdits: (edits) => {
+        this.cachedText = null;
+        calls.handleEdits(edits);
       },
-      moved: () => {
-        calls.moved();
-        this.caret(this.editor.getCursor().line + 1);
+      handleCaretMove: () => {
+        calls.handleCaretMove();
+        this.onCaretMove(this.editor.getCursor().line + 1);
       },
-      clickedGutter: (line) => calls.clickedGutter(line + 1),
-      askedGutter: (line, event) => calls.askedGutter(line + 1, event),
-      takes: (size) => {
-        if (size > LONGEST_KEPT) calls.refused(size);
-        return size <= LONGEST_KEPT;
+      handleGutterClick: (line) => calls.handleGutterClick(line + 1),
+      handleGutterMenu: (line, event) => calls.handleGutterMenu(line + 1, event),
+      acceptsSize: (size) => {
+        if (size > STORED_LIMIT) calls.reportTooLong(size);
+        return size <= STORED_LIMIT;
       },
       complete: calls.complete,
     };
   }
 
   /** @returns {import("@codemirror/state").Extension} */
-  handlers() {
+  eventHandlers() {
     return EditorView.domEventHandlers({
       blur: () => {
         this.tabLeaves = true;
@@ -105,9 +105,9 @@ export class TextEditor {
       },
       mousedown: ({ ctrlKey, metaKey, button }) => {
         this.tabLeaves = false;
-        if ((ctrlKey || metaKey) && button === 0) setTimeout(this.calls.clickedName);
+        if ((ctrlKey || metaKey) && button === 0) setTimeout(this.calls.handleNameClick);
       },
-      keydown: (event) => this.typed(event),
+      keydown: (event) => this.handleKey(event),
       // The page handles dropped files itself.
       drop: ({ dataTransfer }) => dataTransfer !== null && dataTransfer.files.length > 0,
     });
@@ -118,28 +118,28 @@ export class TextEditor {
   }
 
   /** Restores the scroll position when a hidden text appears again, because the browser may have changed it. */
-  resized() {
-    if (this.container.offsetHeight === 0) this.scrollSoon(this.due === null ? this.top : this.due);
-    else if (this.due === null) this.editor.refresh();
-    else this.editor.whenMeasured(() => this.scroll());
+  handleResize() {
+    if (this.container.offsetHeight === 0) this.scheduleScroll(this.pendingScrollTop === null ? this.top : this.pendingScrollTop);
+    else if (this.pendingScrollTop === null) this.editor.refresh();
+    else this.editor.callAfterLayout(() => this.applyScroll());
   }
 
   /**
    * Scrolls to a position in pixels as soon as the text can be measured.
    * @param {number} top
    */
-  scrollSoon(top) {
-    this.due = top;
-    if (this.container.offsetHeight > 0) this.editor.whenMeasured(() => this.scroll());
+  scheduleScroll(top) {
+    this.pendingScrollTop = top;
+    if (this.container.offsetHeight > 0) this.editor.callAfterLayout(() => this.applyScroll());
   }
 
   /** Restores the scroll position if the text can be measured now. */
-  scroll() {
-    if (this.due === null || this.container.offsetHeight === 0) return;
-    this.editor.scrollTo(this.due);
-    this.due = null;
-    if (this.awaited > 0) this.reveal(this.awaited);
-    this.awaited = 0;
+  applyScroll() {
+    if (this.pendingScrollTop === null || this.container.offsetHeight === 0) return;
+    this.editor.scrollTo(this.pendingScrollTop);
+    this.pendingScrollTop = null;
+    if (this.pendingLine > 0) this.reveal(this.pendingLine);
+    this.pendingLine = 0;
   }
 
   /**
@@ -147,7 +147,7 @@ export class TextEditor {
    * moves the focus as usual. Returns true if the key is handled.
    * @param {KeyboardEvent} event
    */
-  typed({ key, shiftKey, ctrlKey, altKey, metaKey }) {
+  handleKey({ key, shiftKey, ctrlKey, altKey, metaKey }) {
     if (key === "Tab") return !this.tabLeaves && !ctrlKey && !altKey && !metaKey && this.editor.indent(shiftKey);
     if (key === "Escape") this.tabLeaves = true;
     else if (!MODIFIERS.includes(key)) this.tabLeaves = false;
@@ -155,8 +155,8 @@ export class TextEditor {
   }
 
   get text() {
-    if (this.value === null) this.value = this.editor.getValue();
-    return this.value;
+    if (this.cachedText === null) this.cachedText = this.editor.getValue();
+    return this.cachedText;
   }
 
   /**
@@ -165,19 +165,19 @@ export class TextEditor {
    * @param {string} text
    */
   open(name, text) {
-    const { editor, kept, name: before } = this;
-    const top = this.due === null ? this.top : this.due;
-    const old = kept.get(name);
-    kept.delete(name);
-    const isSame = old !== undefined && old.state.doc.toString() === text;
-    const state = editor.swap(isSame ? old.state : editor.stateOf(text));
-    if (before) kept.set(before, { state, top });
-    this.awaited = 0;
+    const { editor, storedTexts, name: previousName } = this;
+    const top = this.pendingScrollTop === null ? this.top : this.pendingScrollTop;
+    const storedText = storedTexts.get(name);
+    storedTexts.delete(name);
+    const isUnchanged = storedText !== undefined && storedText.state.doc.toString() === text;
+    const state = editor.swapState(isUnchanged ? storedText.state : editor.makeState(text));
+    if (previousName) storedTexts.set(previousName, { state, top });
+    this.pendingLine = 0;
     this.hasCaret = false;
-    this.scrollSoon(isSame ? old.top : 0);
+    this.scheduleScroll(isUnchanged ? storedText.top : 0);
     this.name = name;
-    this.value = null;
-    for (const oldest of [...kept.keys()].slice(0, -MAX_KEPT)) kept.delete(oldest);
+    this.cachedText = null;
+    for (const oldestName of [...storedTexts.keys()].slice(0, -MAX_STORED)) storedTexts.delete(oldestName);
   }
 
   /**
@@ -187,9 +187,9 @@ export class TextEditor {
   comment(mark) {
     const { editor } = this;
     const [first, last] = [editor.getCursor("from").line, editor.getCursor("to").line];
-    const lines = upTo(last - first + 1).map((at) => editor.getLine(first + at) || "");
+    const lines = indices(last - first + 1).map((index) => editor.getLine(first + index) || "");
     const end = { line: last, ch: (editor.getLine(last) || "").length };
-    editor.replaceRange(commented(lines, mark).join("\n"), { line: first, ch: 0 }, end);
+    editor.replaceRange(toggleComments(lines, mark).join("\n"), { line: first, ch: 0 }, end);
     editor.setSelection({ line: first, ch: 0 }, { line: last, ch: Infinity });
   }
 
@@ -217,10 +217,10 @@ export class TextEditor {
 
   /**
    * Undoes or redoes one step. Returns false if there is none.
-   * @param {"undo" | "redo"} which
+   * @param {"undo" | "redo"} direction
    */
-  undoOrRedo(which) {
-    return this.editor.undoOrRedo(which);
+  undoOrRedo(direction) {
+    return this.editor.undoOrRedo(direction);
   }
 
   /**
@@ -234,21 +234,22 @@ export class TextEditor {
   }
 
   /**
-   * Scrolls a line into view if it is out of view, and unfolds the part that contains it. Moves neither the caret nor the page.
+   * Scrolls a line into view if it is out of view, and unfolds the folded range that contains the line. Moves neither the caret nor the
+   * page.
    * @param {number} line from 1
    */
   reveal(line) {
     const { editor } = this;
-    if (this.due !== null) {
-      this.awaited = line;
+    if (this.pendingScrollTop !== null) {
+      this.pendingLine = line;
       return;
     }
     unfold(editor, line - 1);
     const { top, clientHeight } = editor.getScrollInfo();
-    const from = editor.heightAtLine(line - 1);
-    const room = editor.view.defaultLineHeight * 2;
-    if (from - room < top) editor.scrollTo(Math.max(0, from - room));
-    else if (from + 2 * room > top + clientHeight) editor.scrollTo(from + 2 * room - clientHeight);
+    const lineTop = editor.heightAtLine(line - 1);
+    const margin = editor.view.defaultLineHeight * 2;
+    if (lineTop - margin < top) editor.scrollTo(Math.max(0, lineTop - margin));
+    else if (lineTop + 2 * margin > top + clientHeight) editor.scrollTo(lineTop + 2 * margin - clientHeight);
   }
 
   /**

@@ -4,14 +4,14 @@ import { Cell, block, descendant, element, onClick } from "../ui/dom.js";
 import { editorKeys } from "../commands/keys.js";
 import { CountMarks } from "./count_marks.js";
 import { FaultView } from "./fault_view.js";
-import { actsOfFolding } from "./fold_view.js";
+import { foldingActions } from "./fold_view.js";
 import { LineMarks } from "./line_marks.js";
 import { LineValues } from "./line_values.js";
 import { MeaningView } from "./meaning_view.js";
 import { NameView } from "./name_view.js";
 import { SearchBar } from "./search_bar.js";
 import { TextEditor } from "./text_editor.js";
-import { LONGEST_KEPT, LONGEST_TEXT, alignedText, sentText } from "../../core/text/text_fault.js";
+import { STORED_LIMIT, LONGEST_TEXT, alignedText, sentText } from "../../core/text/text_fault.js";
 import * as say from "../../words/text.js";
 
 /**
@@ -26,29 +26,30 @@ import * as say from "../../words/text.js";
  * @typedef {import("../machine/breakpoint_row.js").BreakpointField} BreakpointField
  *
  * The language of a text. `mark` begins a comment. `indent` is the indentation of a new line, by default that of the previous line. `folds`
- * are its foldable parts. `isInstruction` returns true if a word in upper case is an instruction. It is missing for texts without names.
+ * are its foldable parts. `isInstruction` returns true if a word in upper case is an instruction, and is missing for texts without names.
  * `isUnsent` is true for a text that is never sent to the bench. `wordsAt` describes the word at an offset in a line, both from 0.
- * `valuesAt` returns the current values of that word, and `offer` makes a value editable. `complete` returns the completions for the word.
+ * `valuesAt` returns the current values of that word, and `makeEditable` makes a value editable. `complete` returns the completions for the
+ * word.
  * @typedef {{ mark: import("../../core/text/text_fault.js").CommentMark, colours: import("./line_colours.js").Colours, gutters: string[],
  *   indent?: string,
  *   folds?: import("../../core/text/folding.js").Parts, isInstruction?: (word: string) => boolean,
  *   isUnsent?: boolean,
- *   wordsAt: (lines: string[], line: number, at: number) => string,
- *   valuesAt?: (text: string, at: number) => Piece[], offer?: import("./meaning_view.js").Offer,
- *   complete: (lines: string[], line: number, at: number) => Completion }} Language
+ *   wordsAt: (lines: string[], line: number, offset: number) => string,
+ *   valuesAt?: (text: string, offset: number) => Piece[], makeEditable?: import("./meaning_view.js").MakeEditable,
+ *   complete: (lines: string[], line: number, offset: number) => Completion }} Language
  */
 
 /**
  * The callbacks of the view of a text. Lines count from 1.
  * @typedef {object} EditorCalls
- * @property {(edits: Edit[]) => void} edited Handles the edits of the text in order.
+ * @property {(edits: Edit[]) => void} handleEdits Handles the edits of the text in order.
  * @property {() => void} send Sends the text to the bench.
  * @property {() => void} [prove] Proves the text. Missing for texts that cannot be proved.
  * @property {(line: number) => void} toggleBreakpoint Sets or removes the breakpoint at a line.
  * @property {(line: number, what: BreakpointField) => void} [editBreakpoint] Opens a field of the breakpoint at a line. Missing for texts
  *   without breakpoints.
- * @property {(line: number, point: { left: number, bottom: number }) => void} [askedMargin] Opens the margin menu of a line at a point of
- *   the window, in pixels. Missing for texts without this menu.
+ * @property {(line: number, point: { left: number, bottom: number }) => void} [openMarginMenu] Opens the margin menu of a line at a point
+ *   of the window, in pixels. Missing for texts without this menu.
  */
 
 /** The time in milliseconds for which the pointer or the caret must rest before its word is described. */
@@ -64,29 +65,29 @@ export class EditorView {
     this.language = language;
     this.calls = calls;
     const root = block(id);
-    const paper = descendant(root, ".paper", HTMLElement);
+    const panel = descendant(root, ".paper", HTMLElement);
     const container = element("div", { className: "text" });
     const list = element("ul", { "className": "fault-list", "aria-label": say.FAULTS });
-    this.meaning = new MeaningView(language.offer || (() => {}));
+    this.meaning = new MeaningView(language.makeEditable || (() => {}));
     this.counter = new Cell(element("p", { className: "size" }));
-    paper.append(container, list, element("div", { className: "strip" }, this.meaning.node, this.counter.node));
+    panel.append(container, list, element("div", { className: "strip" }, this.meaning.node, this.counter.node));
     this.status = new Cell(descendant(root, ".status-text", HTMLElement));
     const label = descendant(root, "h2", HTMLElement).textContent || "";
     const { colours, gutters, indent, folds, isInstruction = () => false } = language;
     this.editor = new TextEditor({ container, label, colours, gutters, indent, folds, keys: this.keys(), calls: this.textCalls() });
     const { editor } = this.editor;
     /** @type {(faults: Fault[]) => void} the listener for changes of the errors */
-    this.listed = () => {};
+    this.onFaultsChange = () => {};
     this.marks = new LineMarks(editor);
     this.counts = new CountMarks(editor, this.marks);
     this.lineValues = new LineValues(editor);
     this.faults = new FaultView(editor, this.marks, list, (fault) => this.goToFault(fault));
-    this.search = new SearchBar(editor, paper, label);
-    this.names = new NameView(this.editor, paper, { isInstruction, showMessage: (words) => this.status.set(words) });
+    this.search = new SearchBar(editor, panel, label);
+    this.names = new NameView(this.editor, panel, { isInstruction, showMessage: (words) => this.status.set(words) });
     /** The timer for the description at the resting pointer or caret. */
-    this.resting = 0;
+    this.descriptionTimer = 0;
     /** The timer for the size of the text. */
-    this.counting = 0;
+    this.sizeTimer = 0;
     this.listenToPointer(editor.getWrapperElement());
     editor.onScroll(() => this.meaning.hideTip());
     onClick(descendant(root, ".send", HTMLButtonElement), () => calls.send());
@@ -95,11 +96,11 @@ export class EditorView {
   /** @returns {import("./text_editor.js").KeyMap} */
   keys() {
     // CodeMirror has its own key bindings for undo and redo.
-    const acts = Object.entries(this.acts()).filter(([name]) => name !== "undo" && name !== "redo");
+    const actionEntries = Object.entries(this.editingActions()).filter(([name]) => name !== "undo" && name !== "redo");
     return {
       ...editorKeys("text.assembleAndRun", () => this.calls.send()),
-      ...Object.assign({}, ...acts.map(([name, act]) => (
-        editorKeys(/** @type {import("../commands/command_table.js").CommandId} */ (`text.${name}`), act)))),
+      ...Object.assign({}, ...actionEntries.map(([name, action]) => (
+        editorKeys(/** @type {import("../commands/command_table.js").CommandId} */ (`text.${name}`), action)))),
       ...(this.calls.prove ? editorKeys("properties.prove", this.calls.prove) : {}),
       ...editorKeys("debug.breakpoint", () => this.toggleBreakpoint()),
       ...editorKeys("debug.condition", () => this.editBreakpoint("condition")),
@@ -110,16 +111,18 @@ export class EditorView {
    * Returns the editing actions of this text, by their names in the command table.
    * @returns {Partial<Record<TextAct, () => void>>}
    */
-  acts() {
+  editingActions() {
     const { folds, isInstruction, mark } = this.language;
-    const folding = Object.entries(folds ? actsOfFolding(folds) : {}).map(([name, act]) => [name, () => act(this.editor.editor)]);
+    const folding = Object.entries(folds ? foldingActions(folds) : {}).map(([name, action]) => [name, () => action(this.editor.editor)]);
     return {
       find: () => this.search.open(),
       replace: () => this.search.open(true),
       line: () => this.names.goToLine(),
       comment: () => this.editor.comment(mark),
       complete: () => this.editor.editor.complete(),
-      ...(isInstruction ? { define: () => this.names.define(), uses: () => this.names.find(), rename: () => this.names.rename() } : {}),
+      ...(isInstruction ? {
+        define: () => this.names.goToDefinition(), uses: () => this.names.listReferences(), rename: () => this.names.askNewName(),
+      } : {}),
       ...Object.fromEntries(folding),
       undo: () => this.undoOrRedo("undo"),
       redo: () => this.undoOrRedo("redo"),
@@ -128,13 +131,13 @@ export class EditorView {
 
   /**
    * Focuses the text and performs an action in it.
-   * @param {TextAct} what
+   * @param {TextAct} name
    */
-  act(what) {
-    const act = this.acts()[what];
-    if (!act) return;
+  performAct(name) {
+    const action = this.editingActions()[name];
+    if (!action) return;
     this.editor.editor.focus();
-    act();
+    action();
   }
 
   /** Sets or clears a breakpoint at the caret's line. */
@@ -144,22 +147,22 @@ export class EditorView {
 
   /**
    * Opens a field of the breakpoint at the caret's line.
-   * @param {BreakpointField} what
+   * @param {BreakpointField} fieldName
    */
-  editBreakpoint(what) {
+  editBreakpoint(fieldName) {
     const { editBreakpoint } = this.calls;
-    if (editBreakpoint) editBreakpoint(this.editor.editor.getCursor().line + 1, what);
+    if (editBreakpoint) editBreakpoint(this.editor.editor.getCursor().line + 1, fieldName);
   }
 
   /** @returns {import("./text_editor.js").TextCalls} */
   textCalls() {
     return {
-      edited: (edits) => this.changed(edits),
-      moved: () => this.moved(),
-      clickedGutter: (line) => this.calls.toggleBreakpoint(line),
-      askedGutter: (line, event) => this.askedMargin(line, event),
-      clickedName: () => this.language.isInstruction && this.names.define(),
-      refused: (size) => this.status.set(say.notPutIn(size.toLocaleString("en"), LONGEST_KEPT.toLocaleString("en"))),
+      handleEdits: (edits) => this.handleEdits(edits),
+      handleCaretMove: () => this.scheduleDescription(),
+      handleGutterClick: (line) => this.calls.toggleBreakpoint(line),
+      handleGutterMenu: (line, event) => this.openMarginMenu(line, event),
+      handleNameClick: () => this.language.isInstruction && this.names.goToDefinition(),
+      reportTooLong: (size) => this.status.set(say.notPutIn(size.toLocaleString("en"), STORED_LIMIT.toLocaleString("en"))),
       complete: ({ line, ch }) => this.language.complete(this.lines, line, ch),
     };
   }
@@ -169,23 +172,23 @@ export class EditorView {
    * @param {number} line
    * @param {Event} event
    */
-  askedMargin(line, event) {
-    const { askedMargin } = this.calls;
-    if (!askedMargin || !(event instanceof MouseEvent)) return;
+  openMarginMenu(line, event) {
+    const { openMarginMenu: openMenu } = this.calls;
+    if (!openMenu || !(event instanceof MouseEvent)) return;
     event.preventDefault();
-    askedMargin(line, { left: event.clientX, bottom: event.clientY });
+    openMenu(line, { left: event.clientX, bottom: event.clientY });
   }
 
   /** @param {HTMLElement} wrapper */
   listenToPointer(wrapper) {
     wrapper.addEventListener("pointermove", (event) => {
       this.meaning.hideTip();
-      clearTimeout(this.resting);
-      this.resting = window.setTimeout(() => this.pointedAt(event.clientX, event.clientY), REST_TIME);
+      clearTimeout(this.descriptionTimer);
+      this.descriptionTimer = window.setTimeout(() => this.describeAtPointer(event.clientX, event.clientY), REST_TIME);
     });
     wrapper.addEventListener("pointerleave", () => {
       this.meaning.hideTip();
-      this.moved();
+      this.scheduleDescription();
     });
   }
 
@@ -194,12 +197,12 @@ export class EditorView {
    * @param {number} left
    * @param {number} top
    */
-  pointedAt(left, top) {
+  describeAtPointer(left, top) {
     const position = this.editor.editor.positionAt({ left, top });
-    const words = this.wordsAt(position);
+    const words = this.messageOrHelpAt(position);
     const values = this.valuesAt(position);
     if (words || values.length > 0) this.meaning.set(values, words);
-    this.meaning.showAt(values, { left, top });
+    this.meaning.showTooltip(values, { left, top });
   }
 
   /**
@@ -216,21 +219,21 @@ export class EditorView {
   describeAtCaret() {
     const position = this.editor.editor.getCursor();
     this.meaning.hideTip();
-    this.meaning.set(this.valuesAt(position), this.wordsAt(position));
+    this.meaning.set(this.valuesAt(position), this.messageOrHelpAt(position));
   }
 
   /**
    * Returns the error message at a position, or the help for the word there, or "".
    * @param {Position} position
    */
-  wordsAt(position) {
-    return this.faults.wordsAt(position) || this.language.wordsAt(this.lines, position.line, position.ch);
+  messageOrHelpAt(position) {
+    return this.faults.messageAt(position) || this.language.wordsAt(this.lines, position.line, position.ch);
   }
 
   /** Schedules the description of the word at the caret. The delay of REST_TIME keeps typing fast. */
-  moved() {
-    clearTimeout(this.resting);
-    this.resting = window.setTimeout(() => this.describeAtCaret(), REST_TIME);
+  scheduleDescription() {
+    clearTimeout(this.descriptionTimer);
+    this.descriptionTimer = window.setTimeout(() => this.describeAtCaret(), REST_TIME);
   }
 
   get text() {
@@ -242,12 +245,12 @@ export class EditorView {
   }
 
   /** The text as it is sent to the bench. */
-  get sent() {
+  get benchText() {
     return sentText(this.text, this.language.mark);
   }
 
   /** The text in which the bench's error positions are valid. */
-  get aligned() {
+  get alignedText() {
     return alignedText(this.text, this.language.mark);
   }
 
@@ -267,7 +270,7 @@ export class EditorView {
     this.showFaults([]);
     this.status.set("");
     this.editor.open(session, text);
-    this.count();
+    this.updateSize();
     this.meaning.set([], "");
   }
 
@@ -281,10 +284,10 @@ export class EditorView {
 
   /**
    * Undoes or redoes one step. Returns false if there is none.
-   * @param {"undo" | "redo"} which
+   * @param {"undo" | "redo"} direction
    */
-  undoOrRedo(which) {
-    return this.editor.undoOrRedo(which);
+  undoOrRedo(direction) {
+    return this.editor.undoOrRedo(direction);
   }
 
   /**
@@ -303,23 +306,23 @@ export class EditorView {
 
   /** @param {Map<number, BreakpointMark>} marks the breakpoint marks, by line */
   showBreakpoints(marks) {
-    const none = { mark: "", words: "" };
-    this.marks.showAt("breakpoints", (line) => (marks.get(line) || none).mark, (line) => (marks.get(line) || none).words);
+    const noMark = { mark: "", words: "" };
+    this.marks.showTexts("breakpoints", (line) => (marks.get(line) || noMark).mark, (line) => (marks.get(line) || noMark).words);
   }
 
   /** @param {string[]} addresses the address of each line; "" for a line without an address */
   showAddresses(addresses) {
-    this.marks.showAt("addresses", (line) => addresses[line - 1] || "");
+    this.marks.showTexts("addresses", (line) => addresses[line - 1] || "");
   }
 
   /**
    * @param {Fault[]} faults
-   * @param {string} [more]
+   * @param {string} [footnote]
    */
-  showFaults(faults, more = "") {
-    this.faults.show(faults, more);
-    this.listed(faults);
-    this.moved();
+  showFaults(faults, footnote = "") {
+    this.faults.show(faults, footnote);
+    this.onFaultsChange(faults);
+    this.scheduleDescription();
   }
 
   /** @param {Fault} fault the error to go to */
@@ -336,18 +339,18 @@ export class EditorView {
   }
 
   /** @param {Edit[]} edits */
-  changed(edits) {
+  handleEdits(edits) {
     this.status.set("");
-    this.count();
-    this.calls.edited(edits);
+    this.updateSize();
+    this.calls.handleEdits(edits);
   }
 
   /** Schedules the update of the text's size. The delay of REST_TIME keeps typing fast. */
-  count() {
-    clearTimeout(this.counting);
-    this.counting = window.setTimeout(() => {
+  updateSize() {
+    clearTimeout(this.sizeTimer);
+    this.sizeTimer = window.setTimeout(() => {
       const { isUnsent } = this.language;
-      const [{ length }, limit, unit] = isUnsent ? [this.text, LONGEST_KEPT, "characters"] : [this.sent, LONGEST_TEXT, "bytes"];
+      const [{ length }, limit, unit] = isUnsent ? [this.text, STORED_LIMIT, "characters"] : [this.benchText, LONGEST_TEXT, "bytes"];
       this.counter.set(say.sizeOf(length.toLocaleString("en"), limit.toLocaleString("en"), unit));
       this.counter.node.classList.toggle("too-many", length > limit);
     }, REST_TIME);

@@ -12,7 +12,7 @@ const DEFAULT_SIZE = 13;
 const MIN_SIZE = 9;
 const MAX_SIZE = 28;
 
-export class TextLooks {
+export class TextAppearance {
   /**
    * @param {Choices} choices
    * @param {LineEditor[]} editors

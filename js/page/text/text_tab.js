@@ -1,7 +1,7 @@
-// The editor of a text that belongs to a board and a program: its tests or its properties. It completes names of the board and the program,
-// and shows errors while the user types.
+// The editor of the tests or the properties of a board and a program. The editor completes names of the board and the program, and shows
+// errors while the user types.
 
-import { Face, moreFaults } from "../../core/board/face.js";
+import { Face, moreErrors } from "../../core/board/face.js";
 import { button, onClick } from "../ui/dom.js";
 import { EditorView } from "./text_editor_view.js";
 import { PARTS } from "../../core/text/folding.js";
@@ -18,7 +18,7 @@ import { COLOURS } from "../../core/text/test_colours.js";
  * The callbacks to the tab that contains the editor.
  * @typedef {object} TabCalls
  * @property {() => Promise<TextFault[]>} faults Resolves to the errors of the board, the program and this text.
- * @property {(count: number) => void} counted Shows the number of errors in this text.
+ * @property {(count: number) => void} showFaultCount Shows the number of errors in this text.
  * @property {() => void} send Performs the action of the tab's first button.
  * @property {() => void} [prove] Proves the text. Missing for texts that cannot be proved.
  */
@@ -28,8 +28,8 @@ import { COLOURS } from "../../core/text/test_colours.js";
  * @typedef {object} TextCalls
  * @property {() => { boardText: string }} texts Returns the board's text.
  * @property {() => string[]} labels Returns the labels of the program in ROM.
- * @property {() => void} edited Handles an edit of the text.
- * @property {(fault: unknown) => void} failed Reports an error that a call threw.
+ * @property {() => void} handleEdit Handles an edit of the text.
+ * @property {(fault: unknown) => void} reportFailure Reports an error that a call threw.
  */
 
 /**
@@ -37,8 +37,8 @@ import { COLOURS } from "../../core/text/test_colours.js";
  * its lines. `wordsAt` describes a word, and `complete` completes it.
  * @template Forms
  * @typedef {{ name: "tests" | "properties", firstButton: string, firstText: (names: Names) => string | Promise<string>, forms: Forms,
- *   wordsAt: (lines: string[], line: number, at: number, forms: Forms) => string,
- *   complete: (lines: string[], line: number, at: number, names: Names, forms: Forms) => Completion }} Kind
+ *   wordsAt: (lines: string[], line: number, offset: number, forms: Forms) => string,
+ *   complete: (lines: string[], line: number, offset: number, names: Names, forms: Forms) => Completion }} TextKind
  */
 
 const MAX_FAULTS = 20;
@@ -46,7 +46,7 @@ const MAX_FAULTS = 20;
 /** @template Forms */
 export class TextTab {
   /**
-   * @param {Kind<Forms>} kind
+   * @param {TextKind<Forms>} kind
    * @param {TextCalls} calls
    * @param {TabCalls} tabCalls
    */
@@ -60,16 +60,16 @@ export class TextTab {
       gutters: ["numbers"],
       folds: PARTS.tests,
       isUnsent: true,
-      wordsAt: (lines, line, at) => kind.wordsAt(lines, line, at, kind.forms),
-      complete: (lines, line, at) => kind.complete(lines, line, at, this.names(), kind.forms),
+      wordsAt: (lines, line, offset) => kind.wordsAt(lines, line, offset, kind.forms),
+      complete: (lines, line, offset) => kind.complete(lines, line, offset, this.names(), kind.forms),
     }, {
-      edited: () => this.edited(),
+      handleEdits: () => this.handleEdit(),
       send: tabCalls.send,
       prove: tabCalls.prove,
       toggleBreakpoint: () => {},
     });
-    this.faults = new LiveFaults(() => this.find(), (faults) => this.showFaults(faults), calls.failed);
-    onClick(button(kind.firstButton), () => this.begin().catch(calls.failed));
+    this.faults = new LiveFaults(() => this.findFaults(), (faults) => this.showFaults(faults), calls.reportFailure);
+    onClick(button(kind.firstButton), () => this.insertFirstText().catch(calls.reportFailure));
   }
 
   /** @returns {Names} */
@@ -80,16 +80,16 @@ export class TextTab {
   }
 
   /** Inserts the first text. Does nothing if the editor has a text, or if the board has changed in the meantime. */
-  async begin() {
+  async insertFirstText() {
     const { boardText } = this.calls.texts();
     const text = await this.kind.firstText(this.names());
     if (this.editor.text.trim() === "" && this.calls.texts().boardText === boardText) this.editor.replaceText(text);
   }
 
-  edited() {
+  handleEdit() {
     this.offerFirst();
-    this.faults.edited();
-    this.calls.edited();
+    this.faults.handleEdit();
+    this.calls.handleEdit();
   }
 
   /** Shows the button for a first text only while the editor is empty. */
@@ -100,11 +100,11 @@ export class TextTab {
   /** Checks the text when its tab comes to the front or another text has changed, because the names may have changed. */
   refresh() {
     this.offerFirst();
-    this.faults.checkNow().catch(this.calls.failed);
+    this.faults.checkNow().catch(this.calls.reportFailure);
   }
 
   /** Resolves to the errors of the board, the program and this text. Resolves to an empty list if this text is empty. */
-  async find() {
+  async findFaults() {
     return this.editor.text.trim() === "" ? [] : this.tabCalls.faults();
   }
 
@@ -115,7 +115,7 @@ export class TextTab {
       const text = lines[line - 1] || "";
       return { number, line, from: text.length - text.trimStart().length, to: text.length, words };
     });
-    this.editor.showFaults(entries.slice(0, MAX_FAULTS), moreFaults(entries, MAX_FAULTS));
-    this.tabCalls.counted(entries.length);
+    this.editor.showFaults(entries.slice(0, MAX_FAULTS), moreErrors(entries, MAX_FAULTS));
+    this.tabCalls.showFaultCount(entries.length);
   }
 }

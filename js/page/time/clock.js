@@ -4,7 +4,7 @@
 
 import { CYCLES_PER_SECOND } from "../../core/time/mcs4_time.js";
 import { LONG_GAP, MAX_AHEAD, RealTime } from "../../core/time/real_time.js";
-import { REAL, canFollowLine, togglesKeys } from "../../core/time/speeds.js";
+import { REAL_TIME_SPEED, canFollowLine, togglesKeys } from "../../core/time/speeds.js";
 
 /**
  * @typedef {import("../../core/board/key_place.js").Key} Key
@@ -16,11 +16,11 @@ import { REAL, canFollowLine, togglesKeys } from "../../core/time/speeds.js";
  * @typedef {object} ClockCalls
  * @property {(cycles: number, key: Key | null) => Promise<void>} advance Presses `key`, unless it is null, and runs cycles. Resolves when
  *   the cycles have run.
- * @property {() => Promise<void>} instruct Runs one instruction. Called at the speed of one instruction per second.
+ * @property {() => Promise<void>} runInstruction Runs one instruction. Called at the speed of one instruction per second.
  * @property {() => Promise<void>} runFull Starts full speed, at which the worker continues on its own.
- * @property {(time: number, wasHidden: boolean) => void} stoodStill Reports that time stood still for `time` milliseconds. The cycles of
- *   that time are skipped. `wasHidden` is true if the page was hidden.
- * @property {(fault: unknown) => void} failed Reports an error that a call threw.
+ * @property {(time: number, wasHidden: boolean) => void} reportStandstill Reports that time stood still for `time` milliseconds. The cycles
+ *   of that time are skipped. `wasHidden` is true if the page was hidden.
+ * @property {(fault: unknown) => void} reportFailure Reports an error that a call threw.
  */
 
 export class Clock {
@@ -28,13 +28,13 @@ export class Clock {
   constructor(calls) {
     this.calls = calls;
     this.isRunning = false;
-    this.speed = REAL;
+    this.speed = REAL_TIME_SPEED;
     /** True while a call is in progress. */
     this.isBusy = false;
     /** True if a key was pressed since the call in progress began. More cycles then run as soon as it ends. */
-    this.followsAtOnce = false;
+    this.mustRunAgain = false;
     /** The id of the requested animation frame. */
-    this.next = 0;
+    this.frameRequest = 0;
     this.time = new RealTime(0, 0);
   }
 
@@ -63,17 +63,17 @@ export class Clock {
    * @param {number} cycles
    */
   timeOf(cycles) {
-    return this.isFull || this.speed.byInstruction ? Infinity : (1000 * cycles) / this.time.perSecond;
+    return this.isFull || this.speed.isByInstruction ? Infinity : (1000 * cycles) / this.time.perSecond;
   }
 
   start() {
     this.isRunning = true;
-    this.goOn();
+    this.continueRun();
   }
 
   stop() {
     this.isRunning = false;
-    cancelAnimationFrame(this.next);
+    cancelAnimationFrame(this.frameRequest);
   }
 
   /**
@@ -82,14 +82,14 @@ export class Clock {
    */
   setSpeed(speed) {
     this.speed = speed;
-    this.time.perSecond = speed.byInstruction ? 1 : CYCLES_PER_SECOND / speed.slowdown;
-    if (this.isRunning) this.goOn();
+    this.time.perSecond = speed.isByInstruction ? 1 : CYCLES_PER_SECOND / speed.slowdown;
+    if (this.isRunning) this.continueRun();
   }
 
-  goOn() {
-    cancelAnimationFrame(this.next);
+  continueRun() {
+    cancelAnimationFrame(this.frameRequest);
     if (this.isFull) {
-      this.calls.runFull().catch(this.calls.failed);
+      this.calls.runFull().catch(this.calls.reportFailure);
       return;
     }
     this.time.restart(performance.now(), Date.now());
@@ -103,7 +103,7 @@ export class Clock {
   }
 
   requestFrame() {
-    this.next = requestAnimationFrame((now) => {
+    this.frameRequest = requestAnimationFrame((now) => {
       this.requestFrame();
       this.frame(now);
     });
@@ -115,47 +115,47 @@ export class Clock {
    * @param {Key} key
    */
   pressNow(key) {
-    if (!this.isRunning || this.isFull || this.speed.byInstruction) return false;
-    this.followsAtOnce = this.isBusy;
-    return this.frame(performance.now(), this.ahead, key);
+    if (!this.isRunning || this.isFull || this.speed.isByInstruction) return false;
+    this.mustRunAgain = this.isBusy;
+    return this.frame(performance.now(), this.maxEarlyTime, key);
   }
 
   /** The number of milliseconds by which a key press can be simulated early. */
-  get ahead() {
-    return this.speed === REAL ? MAX_AHEAD : 0;
+  get maxEarlyTime() {
+    return this.speed === REAL_TIME_SPEED ? MAX_AHEAD : 0;
   }
 
   /**
    * Runs the cycles that are due. Returns true if there are any.
    * @param {number} now the current time in milliseconds
-   * @param {number} [ahead] the number of milliseconds to simulate early
+   * @param {number} [earlyTime] the number of milliseconds to simulate early
    * @param {Key | null} [key] the key to press before the cycles
    */
-  frame(now, ahead = 0, key = null) {
+  frame(now, earlyTime = 0, key = null) {
     // Some browsers still send animation frames to a hidden page. Cycles that become due during a call run in the next frame.
     if (document.hidden || this.isBusy) return false;
-    const skipped = this.time.skipGap(now, Date.now());
-    if (skipped && skipped.gap >= LONG_GAP) this.calls.stoodStill(skipped.gap, skipped.wasHidden);
-    const due = this.time.due(now, ahead);
-    if (due > 0) this.pass(due, key);
-    return due > 0;
+    const skippedGap = this.time.skipGap(now, Date.now());
+    if (skippedGap && skippedGap.gap >= LONG_GAP) this.calls.reportStandstill(skippedGap.gap, skippedGap.wasHidden);
+    const dueCycles = this.time.due(now, earlyTime);
+    if (dueCycles > 0) this.runDueCycles(dueCycles, key);
+    return dueCycles > 0;
   }
 
   /**
-   * @param {number} due
+   * @param {number} dueCycles
    * @param {Key | null} key
    */
-  async pass(due, key) {
+  async runDueCycles(dueCycles, key) {
     this.isBusy = true;
-    this.followsAtOnce = false;
+    this.mustRunAgain = false;
     try {
-      if (this.speed.byInstruction) await this.calls.instruct();
-      else await this.calls.advance(due, key);
+      if (this.speed.isByInstruction) await this.calls.runInstruction();
+      else await this.calls.advance(dueCycles, key);
     } catch (fault) {
-      this.calls.failed(fault);
+      this.calls.reportFailure(fault);
     } finally {
       this.isBusy = false;
     }
-    if (this.followsAtOnce && this.isRunning && !this.isFull) this.frame(performance.now(), this.ahead);
+    if (this.mustRunAgain && this.isRunning && !this.isFull) this.frame(performance.now(), this.maxEarlyTime);
   }
 }

@@ -1,8 +1,8 @@
 // The bar that moves back and forward in time: by instructions, and to the next or previous change.
 
 import { button, byId, element, field, onClick } from "../ui/dom.js";
-import { goalOfText } from "../../core/debug/becoming.js";
-import { parseCount, upTo } from "../../core/bench/numbers.js";
+import { parseGoal } from "../../core/debug/becoming.js";
+import { parseCount, indices } from "../../core/bench/numbers.js";
 import * as say from "../../words/time.js";
 
 /**
@@ -30,45 +30,46 @@ const MAX_MESSAGE_LENGTH = 200;
  * @param {Board} board
  * @param {string[]} lampNames the name of each lamp; "" for a lamp without a name
  */
-export function offeredPlaces({ banks, roms, lamps, chains }, lampNames) {
-  const rams = banks.flatMap(({ bank, chips }) => upTo(chips).map((chip) => `ram${bank}.${chip}`));
+export function suggestPlaces({ banks, roms, lamps, chains }, lampNames) {
+  const rams = banks.flatMap(({ bank, chips }) => indices(chips).map((chip) => `ram${bank}.${chip}`));
   const ports = [...roms.map(({ chip }) => `rom${chip}`), ...rams];
   const lampPlaces = lamps.length > 0 ? ["lamps", ...lamps.slice(0, 16).map((_, at) => lampNames[at] || `lamp ${at}`)] : [];
-  return [...lampPlaces, ...ports, ...chains.map((_, at) => `chain${at}.0`), "acc", "cy", "dcl", ...upTo(16).map((number) => `r${number}`)];
+  const chainPlaces = chains.map((_, at) => `chain${at}.0`);
+  return [...lampPlaces, ...ports, ...chainPlaces, "acc", "cy", "dcl", ...indices(16).map((number) => `r${number}`)];
 }
 
 export class HistoryView {
   /** @param {HistoryCalls} calls */
   constructor(calls) {
     this.calls = calls;
-    this.count = field("step-count");
-    this.place = field("change-place");
-    this.forward = button("forward");
+    this.countField = field("step-count");
+    this.placeField = field("change-place");
+    this.forwardButton = button("forward");
     onClick(button("back-stop"), () => calls.goBack({ kind: "stop" }));
     onClick(button("back-breakpoint"), () => calls.goBack({ kind: "arrival", place: "" }));
-    onClick(this.forward, () => calls.goForward());
-    onClick(button("step-many"), () => this.stepMany());
-    onClick(button("until-change"), () => this.withGoal((goal) => calls.goOn(goal)));
-    onClick(button("back-change"), () => this.withGoal((goal) => calls.goBack(goal)));
-    this.onEnter(this.count, () => this.stepMany());
-    this.onEnter(this.place, () => this.withGoal((goal) => calls.goOn(goal)));
+    onClick(this.forwardButton, () => calls.goForward());
+    onClick(button("step-many"), () => this.stepByCount());
+    onClick(button("until-change"), () => this.useTypedGoal((goal) => calls.goOn(goal)));
+    onClick(button("back-change"), () => this.useTypedGoal((goal) => calls.goBack(goal)));
+    this.onEnter(this.countField, () => this.stepByCount());
+    this.onEnter(this.placeField, () => this.useTypedGoal((goal) => calls.goOn(goal)));
   }
 
   /**
    * @param {HTMLInputElement} input
-   * @param {() => void} act
+   * @param {() => void} action
    */
-  onEnter(input, act) {
+  onEnter(input, action) {
     input.addEventListener("keydown", (event) => {
       if (event.key !== "Enter") return;
       event.preventDefault();
-      act();
+      action();
     });
   }
 
   /** Restores the initial contents of the fields when another session is opened. */
   begin() {
-    for (const input of [this.count, this.place]) {
+    for (const input of [this.countField, this.placeField]) {
       input.value = input.defaultValue;
       input.removeAttribute("aria-invalid");
     }
@@ -76,8 +77,8 @@ export class HistoryView {
 
   /** @param {number} future the number of moves back that can be undone */
   showFuture(future) {
-    const isNone = future === 0;
-    if (this.forward.disabled !== isNone) this.forward.disabled = isNone;
+    const isDisabled = future === 0;
+    if (this.forwardButton.disabled !== isDisabled) this.forwardButton.disabled = isDisabled;
   }
 
   /**
@@ -85,23 +86,23 @@ export class HistoryView {
    * @param {string[]} lampNames the name of each lamp; "" for a lamp without a name
    */
   draw(board, lampNames) {
-    const places = offeredPlaces(board, lampNames);
+    const places = suggestPlaces(board, lampNames);
     byId("change-places", HTMLDataListElement).replaceChildren(...places.map((value) => element("option", { value })));
   }
 
-  stepMany() {
-    const count = parseCount(this.count.value, MAX_INSTRUCTIONS);
-    this.count.setAttribute("aria-invalid", String(count === 0));
+  stepByCount() {
+    const count = parseCount(this.countField.value, MAX_INSTRUCTIONS);
+    this.countField.setAttribute("aria-invalid", String(count === 0));
     if (count > 0) this.calls.goOn({ kind: "count", count });
     else this.calls.showMessage(say.enterCount(MAX_INSTRUCTIONS.toLocaleString("en")));
   }
 
-  /** @param {(goal: NonNullable<ReturnType<typeof goalOfText>["goal"]>) => void} act */
-  withGoal(act) {
-    const text = this.place.value;
-    const { goal, fault } = text.trim() === "" ? { goal: null, fault: "" } : goalOfText(text, this.calls.names());
-    this.place.setAttribute("aria-invalid", String(goal === null));
-    if (goal) act(goal);
+  /** @param {(goal: NonNullable<ReturnType<typeof parseGoal>["goal"]>) => void} action */
+  useTypedGoal(action) {
+    const text = this.placeField.value;
+    const { goal, fault } = text.trim() === "" ? { goal: null, fault: "" } : parseGoal(text, this.calls.names());
+    this.placeField.setAttribute("aria-invalid", String(goal === null));
+    if (goal) action(goal);
     else this.calls.showMessage(fault === "" ? say.ENTER_CHANGE : say.cannotSearchFor(fault.slice(0, MAX_MESSAGE_LENGTH)));
   }
 }

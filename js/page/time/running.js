@@ -1,14 +1,14 @@
 // Runs time until it stops, by the clock or at full speed. Handles the frames that the worker reports.
 
-import { isStop, readRun, refusalOf } from "../../core/bench/answers.js";
+import { isStop, readRun, parseRefusal } from "../../core/bench/answers.js";
 import { wordsOfHalt, wordsOfMove, wordsOfStop } from "../../words/stops.js";
 import { Cell, block } from "../ui/dom.js";
-import { wordsOfTime } from "../../core/bench/words.js";
+import { formatDuration } from "../../core/bench/words.js";
 import { PendingKeys } from "../../core/board/pending_keys.js";
 import { Sound } from "../board/sound.js";
 import { Clock } from "./clock.js";
 import { Rate } from "../../core/time/rate.js";
-import { REAL } from "../../core/time/speeds.js";
+import { REAL_TIME_SPEED } from "../../core/time/speeds.js";
 import * as say from "../../words/time.js";
 
 /**
@@ -26,21 +26,22 @@ import * as say from "../../words/time.js";
  */
 
 /**
- * The callbacks of Running.
- * @typedef {object} RunningCalls
- * @property {() => void} began Handles the start of a run.
- * @property {() => void} stood Handles the end of a run, after the page shows its final state.
- * @property {(frame: Frame) => void} took Shows, logs and counts the contents of a frame.
- * @property {() => void} drawRest Updates the views that are updated less often while time is running.
+ * The callbacks of RunController.
+ * @typedef {object} RunControllerCalls
+ * @property {() => void} handleRunStart Handles the start of a run.
+ * @property {() => void} handleRunEnd Handles the end of a run, after the page shows its final state.
+ * @property {(frame: Frame) => void} showFrame Shows, logs and counts the contents of a frame.
+ * @property {() => void} drawSlowViews Updates the views that are updated less often while time is running.
  * @property {() => void} drawListing Updates the disassembly, which follows the program counter only at slow speeds.
- * @property {() => boolean} isOwed Returns true if the second cycle of an instruction is pending.
+ * @property {() => boolean} isSecondCyclePending Returns true if the second cycle of an instruction is pending.
  * @property {() => number} cycles Returns the total number of cycles in the session.
- * @property {() => string} where Returns a text with the program counter, its name and its source line.
- * @property {(id: number) => string} when Returns a text with the condition of a breakpoint, by its id.
- * @property {() => number} unreadable Returns the number of breakpoints whose condition has an error. Such breakpoints stop at every hit.
- * @property {(number: number) => string} wordsOfRefusal Returns the message of a refusal.
+ * @property {() => string} describeCounter Returns a text with the program counter, its name and its source line.
+ * @property {(id: number) => string} describeCondition Returns a text with the condition of a breakpoint, by its id.
+ * @property {() => number} countUnreadable Returns the number of breakpoints whose condition has an error. These breakpoints stop at every
+ *   hit.
+ * @property {(number: number) => string} describeRefusal Returns the message of a refusal.
  * @property {() => Promise<string | null>} step Serves a step. Resolves to its answer, or to null if the call failed.
- * @property {(fault: unknown) => void} failed Reports an error that a call threw.
+ * @property {(fault: unknown) => void} reportFailure Reports an error that a call threw.
  */
 
 /** The interval in milliseconds between saves of the session while time is running. */
@@ -48,32 +49,32 @@ const SAVE_INTERVAL = 1000;
 /** The time in milliseconds for which the message about a standstill stays. */
 const MESSAGE_TIME = 8000;
 
-export class Running {
+export class RunController {
   /**
    * @param {Bench} bench
-   * @param {CurrentSession} current
-   * @param {RunningCalls} calls
+   * @param {CurrentSession} currentSession
+   * @param {RunControllerCalls} calls
    */
-  constructor(bench, current, calls) {
+  constructor(bench, currentSession, calls) {
     this.bench = bench;
-    this.current = current;
+    this.currentSession = currentSession;
     this.calls = calls;
     /** @type {(why: string) => void} called with the reason when a run has stopped on its own */
-    this.ended = () => {};
+    this.onRunEnd = () => {};
     /** @type {(isRunning: boolean) => void} called when time starts or pauses */
     this.showRunning = () => {};
     /** @type {Goal | null} the goal of the run, or null if it has none */
     this.goal = null;
     /** The total cycle count at the start of the run. */
-    this.begun = 0;
+    this.startCycles = 0;
     this.rate = new Rate(0);
     this.clock = this.makeClock();
     this.pendingKeys = new PendingKeys();
     this.sound = new Sound({
-      listen: (line) => {
-        bench.call("listenTo", [line]).catch(calls.failed);
+      listenToLine: (line) => {
+        bench.call("listenTo", [line]).catch(calls.reportFailure);
       },
-      isReal: () => this.clock.speed === REAL,
+      isRealTime: () => this.clock.speed === REAL_TIME_SPEED,
     });
     this.status = new Cell(block("status"));
     this.rateStatus = new Cell(block("rate"));
@@ -83,10 +84,10 @@ export class Running {
     const { bench, calls } = this;
     return new Clock({
       advance: (cycles, key) => this.advance(cycles, key),
-      instruct: () => this.instruct(),
+      runInstruction: () => this.runInstruction(),
       runFull: () => bench.call("run", [document.hidden]),
-      stoodStill: (time, wasHidden) => this.stoodStill(time, wasHidden),
-      failed: calls.failed,
+      reportStandstill: (time, wasHidden) => this.reportStandstill(time, wasHidden),
+      reportFailure: calls.reportFailure,
     });
   }
 
@@ -114,25 +115,25 @@ export class Running {
 
   /** @param {Goal | null} [goal] the goal of the run; the bench has already received it */
   run(goal = null) {
-    const { bench, current, calls } = this;
-    if (!current.session || this.clock.isRunning) return;
-    current.session.record.runs = true;
+    const { bench, currentSession, calls } = this;
+    if (!currentSession.session || this.clock.isRunning) return;
+    currentSession.session.record.runs = true;
     this.goal = goal;
-    this.aim(goal);
-    this.begun = calls.cycles();
-    calls.began();
-    if (!goal) bench.call("drop", []).catch(calls.failed);
+    this.storeGoal(goal);
+    this.startCycles = calls.cycles();
+    calls.handleRunStart();
+    if (!goal) bench.call("drop", []).catch(calls.reportFailure);
     this.showRunning(true);
-    this.showMessage(goal ? wordsOfMove(goal) : say.isRunning(current.name, calls.unreadable()));
+    this.showMessage(goal ? wordsOfMove(goal) : say.isRunning(currentSession.name, calls.countUnreadable()));
     this.clock.start();
     this.beginRate();
     bench.isRunning = this.clock.isFull;
-    current.keep();
+    currentSession.keep();
   }
 
   /** @param {Goal | null} goal the goal of a move; saved with the session, so that a reload can report that the move was interrupted */
-  aim(goal) {
-    const { session } = this.current;
+  storeGoal(goal) {
+    const { session } = this.currentSession;
     if (!session) return;
     if (goal) session.record.goal = goal;
     else delete session.record.goal;
@@ -145,7 +146,7 @@ export class Running {
 
   /** Resumes or pauses time at the user's request. */
   runOrStop() {
-    this.current.touch();
+    this.currentSession.touch();
     if (this.clock.isRunning) this.stop();
     else this.run();
   }
@@ -155,7 +156,7 @@ export class Running {
     const { bench } = this;
     if (!speed.isFull && this.clock.isFull && this.clock.isRunning) this.handleFrame(await bench.call("halt", []));
     this.clock.setSpeed(speed);
-    this.sound.check();
+    this.sound.update();
     this.beginRate();
     bench.isRunning = speed.isFull && this.clock.isRunning;
     this.calls.drawListing();
@@ -166,24 +167,24 @@ export class Running {
    * @param {Key | null} key the key to press before the cycles; null for none
    */
   async advance(cycles, key) {
-    const arrived = key ? this.pendingKeys.send({ word: "press", key }) : () => {};
-    const frame = await this.bench.call("advance", [cycles, key]).finally(arrived);
+    const removePending = key ? this.pendingKeys.send({ word: "press", key }) : () => {};
+    const frame = await this.bench.call("advance", [cycles, key]).finally(removePending);
     this.handleFrame(frame);
   }
 
   /** Runs one instruction, which can take two cycles. Breakpoints and watches stop it like any other run. */
-  async instruct() {
+  async runInstruction() {
     const { bench, calls } = this;
     this.handleFrame(await bench.call("advance", [1]));
-    if (this.clock.isRunning && calls.isOwed()) this.handleFrame(await bench.call("advance", [1]));
+    if (this.clock.isRunning && calls.isSecondCyclePending()) this.handleFrame(await bench.call("advance", [1]));
   }
 
   /** @param {boolean} isHidden */
   setHidden(isHidden) {
-    const { bench, current, calls } = this;
+    const { bench, currentSession, calls } = this;
     if (isHidden) this.clock.hide();
-    if (this.clock.isFull && this.clock.isRunning) bench.call("pace", [isHidden]).catch(calls.failed);
-    if (isHidden) current.keepNow();
+    if (this.clock.isFull && this.clock.isRunning) bench.call("pace", [isHidden]).catch(calls.reportFailure);
+    if (isHidden) currentSession.keepNow();
   }
 
   /**
@@ -191,12 +192,13 @@ export class Running {
    * @param {number} time the duration in milliseconds
    * @param {boolean} wasHidden
    */
-  stoodStill(time, wasHidden) {
+  reportStandstill(time, wasHidden) {
     this.beginRate();
-    const message = say.wasPausedFor(wordsOfTime(time), wasHidden);
+    const message = say.wasPausedFor(formatDuration(time), wasHidden);
     this.showMessage(message);
-    setTimeout(() => this.status.text === message && this.showMessage(say.isRunning(this.current.name, this.calls.unreadable())),
-      MESSAGE_TIME);
+    setTimeout(() => {
+      if (this.status.text === message) this.showMessage(say.isRunning(this.currentSession.name, this.calls.countUnreadable()));
+    }, MESSAGE_TIME);
   }
 
   /**
@@ -204,18 +206,18 @@ export class Running {
    * @param {string} words the reason
    */
   endRun(words) {
-    const { bench, current, calls } = this;
+    const { bench, currentSession, calls } = this;
     this.clock.stop();
     this.goal = null;
     bench.isRunning = false;
-    if (current.session) current.session.record.runs = false;
-    this.aim(null);
+    if (currentSession.session) currentSession.session.record.runs = false;
+    this.storeGoal(null);
     this.showRunning(false);
     this.showMessage(words);
     this.showRate();
-    calls.drawRest();
+    calls.drawSlowViews();
     calls.drawListing();
-    calls.stood();
+    calls.handleRunEnd();
   }
 
   /** Stops the clock and the worker, and handles the last frame. */
@@ -228,19 +230,19 @@ export class Running {
 
   /** Pauses time, shows the current address, and saves the session. */
   async stop() {
-    const { current, calls } = this;
+    const { currentSession, calls } = this;
     try {
       await this.stopRun();
     } catch (fault) {
-      calls.failed(fault);
+      calls.reportFailure(fault);
       return;
     }
     // A breakpoint may already have stopped the run.
-    if (current.session && current.session.record.runs) {
-      calls.drawRest();
-      this.endRun(wordsOfHalt(this.goal, calls.cycles() - this.begun, this.where));
+    if (currentSession.session && currentSession.session.record.runs) {
+      calls.drawSlowViews();
+      this.endRun(wordsOfHalt(this.goal, calls.cycles() - this.startCycles, this.counterText));
     }
-    await current.keep();
+    await currentSession.keep();
   }
 
   /** Pauses time if it is running. */
@@ -253,45 +255,45 @@ export class Running {
    * @param {Frame} frame
    */
   handleFrame(frame) {
-    const { current } = this;
+    const { currentSession } = this;
     const isNewRate = this.rate.add(frame.cycles, this.clock.now);
     if (frame.stop) this.clock.stop();
-    this.sound.hear(frame.heard);
-    this.calls.took(frame);
+    this.sound.playHeard(frame.heard);
+    this.calls.showFrame(frame);
     if (frame.stop) {
-      this.endRun(this.reasonOf(frame.stop));
-      this.ended(frame.stop.why);
-      current.keep();
+      this.endRun(this.describeStop(frame.stop));
+      this.onRunEnd(frame.stop.why);
+      currentSession.keep();
       return;
     }
     if (isNewRate || !this.clock.isRunning) this.showRate();
     // A key press is saved immediately. A hidden page receives only one frame per second, and saves each time.
-    if (frame.changesKeys || document.hidden || performance.now() - current.kept >= SAVE_INTERVAL) current.keep();
+    if (frame.changesKeys || document.hidden || performance.now() - currentSession.lastSaveTime >= SAVE_INTERVAL) currentSession.keep();
   }
 
   /** A text with the program counter, its name and its source line. */
-  get where() {
-    return this.calls.where();
+  get counterText() {
+    return this.calls.describeCounter();
   }
 
   /**
    * @param {Omit<Stop, "id"> & { id?: number }} stop
    * @param {Goal | null} [goal]
    */
-  reasonOf(stop, goal = this.goal) {
-    const refusal = refusalOf(stop.why);
-    if (refusal) return say.stoppedBy(stop.why, this.calls.wordsOfRefusal(refusal.number));
-    return wordsOfStop(goal, stop, this.where, this.calls.when(stop.id || 0));
+  describeStop(stop, goal = this.goal) {
+    const refusal = parseRefusal(stop.why);
+    if (refusal) return say.stoppedBy(stop.why, this.calls.describeRefusal(refusal.number));
+    return wordsOfStop(goal, stop, this.counterText, this.calls.describeCondition(stop.id || 0));
   }
 
-  async step() {
+  async stepOnce() {
     if (this.clock.isRunning) await this.stop();
     const answer = await this.calls.step();
     if (answer === null) return;
     const run = readRun(answer);
     const cycles = run ? run.cycles : 0;
-    if (isStop(answer)) this.showMessage(this.reasonOf({ why: run ? run.end : answer, cycles, returns: false }));
-    else this.showMessage(wordsOfStop({ kind: "over" }, { why: "goal", cycles, returns: false }, this.where));
+    if (isStop(answer)) this.showMessage(this.describeStop({ why: run ? run.end : answer, cycles, returns: false }));
+    else this.showMessage(wordsOfStop({ kind: "over" }, { why: "goal", cycles, returns: false }, this.counterText));
   }
 
   /**
@@ -299,14 +301,14 @@ export class Running {
    * @param {"press" | "release" | "forget"} word
    * @param {Key} key
    */
-  queue(word, key) {
-    const { bench, current, calls } = this;
-    current.touch();
+  queueKeyChange(word, key) {
+    const { bench, currentSession, calls } = this;
+    currentSession.touch();
     if (word === "press" && this.clock.pressNow(key)) return;
-    const arrived = this.pendingKeys.send({ word, key });
-    bench.call(word, [key]).finally(arrived).then((waiting) => {
+    const removePending = this.pendingKeys.send({ word, key });
+    bench.call(word, [key]).finally(removePending).then((waiting) => {
       this.pendingKeys.waiting = waiting;
-    }, calls.failed);
+    }, calls.reportFailure);
   }
 
   /**

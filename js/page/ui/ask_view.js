@@ -9,7 +9,7 @@ import * as say from "../../words/page.js";
 
 const ACCEPTED = "accepted";
 
-export class AskView {
+export class ConfirmDialog {
   constructor() {
     this.title = element("h2", { id: "ask-title" });
     this.words = element("div");
@@ -18,10 +18,10 @@ export class AskView {
     this.dialog = element("dialog", { id: "ask", "aria-labelledby": "ask-title" }, this.title, this.words,
       element("div", { className: "bar" }, this.accept, this.refuse));
     /** @type {(isAccepted: boolean) => void} */
-    this.answer = () => {};
+    this.resolveQuestion = () => {};
     // If the dialog is open again, this event belongs to an earlier question. Ignore it.
     this.dialog.addEventListener("close", () => {
-      if (!this.dialog.open) this.answer(this.dialog.returnValue === ACCEPTED);
+      if (!this.dialog.open) this.resolveQuestion(this.dialog.returnValue === ACCEPTED);
     });
     document.body.append(this.dialog);
   }
@@ -42,7 +42,7 @@ export class AskView {
    * @returns {Promise<boolean>}
    */
   ask({ title, words, accept, refuse }) {
-    this.answer(false);
+    this.resolveQuestion(false);
     if (this.dialog.open) this.dialog.close("");
     this.title.textContent = title;
     this.words.replaceChildren(...words.map((part) => (typeof part === "string" ? element("p", {}, part) : part)));
@@ -50,8 +50,8 @@ export class AskView {
     this.accept.hidden = accept === "";
     this.refuse.textContent = refuse;
     this.dialog.returnValue = "";
-    return new Promise((done) => {
-      this.answer = done;
+    return new Promise((resolve) => {
+      this.resolveQuestion = resolve;
       this.dialog.showModal();
     });
   }

@@ -1,5 +1,5 @@
-// The user's preferences for the page, for example folded panels and the tab in front. They are in the browser's local storage if the
-// browser allows that. Otherwise they last only for this visit.
+// The user's preferences for the page, for example folded panels and the tab in front. The preferences are in the browser's local storage
+// if the browser allows that, otherwise in memory until the page is closed.
 
 const KEY = "fethsaim.choices";
 
@@ -20,8 +20,8 @@ export function browserStore() {
  */
 function readChoices(text) {
   try {
-    const found = JSON.parse(text || "{}");
-    return Object.fromEntries(Object.entries(found).filter(([, value]) => typeof value === "string"));
+    const storedChoices = JSON.parse(text || "{}");
+    return Object.fromEntries(Object.entries(storedChoices).filter(([, value]) => typeof value === "string"));
   } catch {
     return {};
   }
@@ -31,7 +31,7 @@ export class Choices {
   /** @param {ChoiceStore | null} store null if the browser has no storage */
   constructor(store = browserStore()) {
     this.store = store;
-    this.chosen = readChoices(this.read());
+    this.choiceByName = readChoices(this.read());
   }
 
   read() {
@@ -47,7 +47,7 @@ export class Choices {
    * @param {string} name
    */
   get(name) {
-    return Object.prototype.hasOwnProperty.call(this.chosen, name) ? this.chosen[name] : "";
+    return Object.prototype.hasOwnProperty.call(this.choiceByName, name) ? this.choiceByName[name] : "";
   }
 
   /**
@@ -56,9 +56,9 @@ export class Choices {
    */
   set(name, value) {
     // Another tab may have stored other choices in the meantime.
-    this.chosen = { ...this.chosen, ...readChoices(this.read()), [name]: value };
+    this.choiceByName = { ...this.choiceByName, ...readChoices(this.read()), [name]: value };
     try {
-      if (this.store) this.store.setItem(KEY, JSON.stringify(this.chosen));
+      if (this.store) this.store.setItem(KEY, JSON.stringify(this.choiceByName));
     } catch {
       // Without storage, the choice lasts until the page is closed.
     }

@@ -8,9 +8,9 @@
  * @returns {Kind}
  */
 export function byId(id, kind) {
-  const found = document.getElementById(id);
-  if (!(found instanceof kind)) throw new Error(`the page has no ${kind.name} ${id}`);
-  return found;
+  const node = document.getElementById(id);
+  if (!(node instanceof kind)) throw new Error(`the page has no ${kind.name} ${id}`);
+  return node;
 }
 
 /** @param {string} id */
@@ -29,9 +29,9 @@ export const field = (id) => byId(id, HTMLInputElement);
  * @returns {Kind}
  */
 export function descendant(root, selector, kind) {
-  const found = root.querySelector(selector);
-  if (!(found instanceof kind)) throw new Error(`${root.id} has no ${selector}`);
-  return found;
+  const node = root.querySelector(selector);
+  if (!(node instanceof kind)) throw new Error(`${root.id} has no ${selector}`);
+  return node;
 }
 
 /**
@@ -61,8 +61,8 @@ export class Cell {
   constructor(node) {
     this.node = node;
     this.text = "";
-    this.words = document.createTextNode("");
-    node.replaceChildren(this.words);
+    this.textNode = document.createTextNode("");
+    node.replaceChildren(this.textNode);
   }
 
   /**
@@ -72,7 +72,7 @@ export class Cell {
   set(text) {
     if (this.text === text) return false;
     this.text = text;
-    this.words.data = text;
+    this.textNode.data = text;
     return true;
   }
 }
@@ -103,27 +103,27 @@ export function pressedSwitch(node) {
 }
 
 /**
- * Calls `act` on each click. After a click by pointer, the button loses the focus, so that Enter and the space bar press the board's keys
- * again.
+ * Calls `action` on each click. After a click by pointer, the button loses the focus, so that Enter and the space bar press the board's
+ * keys again.
  * @param {HTMLElement} node
- * @param {() => void} act
+ * @param {() => void} action
  */
-export function onClick(node, act) {
+export function onClick(node, action) {
   node.addEventListener("click", (event) => {
     if (event.detail > 0) node.blur();
-    act();
+    action();
   });
 }
 
 /**
  * Returns a button with a text and an action.
  * @param {string} text
- * @param {() => void} act
+ * @param {() => void} action
  * @param {Record<string, unknown>} [properties]
  */
-export function buttonOf(text, act, properties = {}) {
+export function buttonOf(text, action, properties = {}) {
   const node = element("button", { type: "button", ...properties }, text);
-  onClick(node, act);
+  onClick(node, action);
   return node;
 }
 
@@ -143,10 +143,10 @@ export function makeOneTabStop(root, columns) {
   root.addEventListener("keydown", (event) => {
     if (!(event.key in moves)) return;
     const buttons = [...root.querySelectorAll("button")];
-    const at = buttons.findIndex((node) => node === document.activeElement);
-    if (at < 0) return;
+    const index = buttons.findIndex((node) => node === document.activeElement);
+    if (index < 0) return;
     event.preventDefault();
-    const next = buttons[at + moves[event.key]()];
+    const next = buttons[index + moves[event.key]()];
     if (!next) return;
     for (const node of buttons) node.tabIndex = node === next ? 0 : -1;
     next.focus();
@@ -161,7 +161,7 @@ export function makeOneTabStop(root, columns) {
  * @param {HTMLElement} root
  */
 export function makeFirstTabStop(root) {
-  root.querySelectorAll("button").forEach((node, at) => {
-    node.tabIndex = at === 0 ? 0 : -1;
+  root.querySelectorAll("button").forEach((node, index) => {
+    node.tabIndex = index === 0 ? 0 : -1;
   });
 }

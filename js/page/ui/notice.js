@@ -19,15 +19,15 @@ import * as say from "../../words/page.js";
  * The kinds of errors that are reported repeatedly while they last. After the user has dismissed such a notice, it appears again only if
  * its cause was gone in between.
  */
-const LASTING = new Set(["kept", "store"]);
+const LASTING_KINDS = new Set(["kept", "store"]);
 /** The kinds that have a separate notice for each event. */
-const SEVERAL = new Set(["undo", "unended"]);
+const MULTIPLE_KINDS = new Set(["undo", "unended"]);
 /** The kinds that report a success. */
-const SUCCESSES = new Set(["undo", "file", "share", "left"]);
+const SUCCESS_KINDS = new Set(["undo", "file", "share", "left"]);
 /** The time in milliseconds for which a success notice stays. */
 const STAY_TIME = 8000;
 /** The maximum number of visible notices. */
-const MAX_SHOWN = 3;
+const MAX_VISIBLE = 3;
 
 /**
  * Returns the notices to remove so that at most MAX_SHOWN remain: first the oldest success notices, then the oldest others. The newest
@@ -37,9 +37,10 @@ const MAX_SHOWN = 3;
  * @returns {Each[]}
  */
 export function noticesToRemove(rows) {
-  const older = rows.slice(1).reverse();
-  const order = [...older.filter(({ kind }) => SUCCESSES.has(kind)), ...older.filter(({ kind }) => !SUCCESSES.has(kind))];
-  return order.slice(0, Math.max(0, rows.length - MAX_SHOWN));
+  const olderRows = rows.slice(1).reverse();
+  const successes = olderRows.filter(({ kind }) => SUCCESS_KINDS.has(kind));
+  const removalOrder = [...successes, ...olderRows.filter(({ kind }) => !SUCCESS_KINDS.has(kind))];
+  return removalOrder.slice(0, Math.max(0, rows.length - MAX_VISIBLE));
 }
 
 export class Notice {
@@ -49,12 +50,12 @@ export class Notice {
     /** @type {Row[]} the visible notices, newest first */
     this.rows = [];
     /** @type {Map<NoticeKind, string>} the texts of dismissed notices about lasting errors */
-    this.dismissed = new Map();
+    this.dismissedTexts = new Map();
     /** @type {HTMLElement | null} the element that had the focus before the notices */
-    this.before = null;
+    this.priorFocus = null;
     this.block.addEventListener("focusin", (event) => {
       const from = event.relatedTarget;
-      if (from instanceof HTMLElement && !this.block.contains(from)) this.before = from;
+      if (from instanceof HTMLElement && !this.block.contains(from)) this.priorFocus = from;
     });
   }
 
@@ -65,9 +66,9 @@ export class Notice {
    * @param {NoticeAction[]} actions
    */
   show(words, kind = "", ...actions) {
-    if (this.dismissed.get(kind) === words) return;
-    if (LASTING.has(kind) && this.rows.some((row) => row.kind === kind && row.words === words)) return;
-    if (!SEVERAL.has(kind)) this.hide(kind);
+    if (this.dismissedTexts.get(kind) === words) return;
+    if (LASTING_KINDS.has(kind) && this.rows.some((row) => row.kind === kind && row.words === words)) return;
+    if (!MULTIPLE_KINDS.has(kind)) this.hide(kind);
     const message = { words, time: new Date(), actions };
     this.list.add(message);
     const row = { kind, words, node: element("div", { className: "notice", role: "alert" }, element("p", {}, words)), message, timer: 0 };
@@ -78,7 +79,7 @@ export class Notice {
     this.block.prepend(row.node);
     this.block.hidden = false;
     for (const oldRow of noticesToRemove(this.rows)) this.remove(oldRow);
-    if (SUCCESSES.has(kind)) this.removeLater(row);
+    if (SUCCESS_KINDS.has(kind)) this.removeLater(row);
   }
 
   /**
@@ -97,13 +98,13 @@ export class Notice {
    * @param {NoticeKind} kind
    */
   hide(kind) {
-    this.dismissed.delete(kind);
+    this.dismissedTexts.delete(kind);
     for (const row of this.rows.filter((candidate) => candidate.kind === kind)) this.remove(row);
   }
 
   /** @param {Row} row */
   dismiss(row) {
-    if (LASTING.has(row.kind)) this.dismissed.set(row.kind, row.words);
+    if (LASTING_KINDS.has(row.kind)) this.dismissedTexts.set(row.kind, row.words);
     this.remove(row);
   }
 
@@ -130,7 +131,7 @@ export class Notice {
 
   /** Moves the focus to the next notice, or to the element that had the focus before the notices. */
   giveFocus() {
-    const next = this.block.querySelector("button") || this.before;
+    const next = this.block.querySelector("button") || this.priorFocus;
     if (next) next.focus();
   }
 

@@ -1,4 +1,4 @@
-// A dialog with all past notices, newest first. Their actions still work.
+// A dialog with all past notices, newest first. The user can still execute the actions of past notices.
 
 import { button, buttonOf, element } from "./dom.js";
 import * as say from "../../words/page.js";
@@ -10,14 +10,14 @@ import * as say from "../../words/page.js";
  */
 
 /** The maximum number of stored notices. */
-const MAX_KEPT = 100;
+const MAX_STORED = 100;
 
 export class NoticeList {
   /** @param {(message: Message, action: NoticeAction) => void} act executes a notice's action */
   constructor(act) {
     this.act = act;
     /** @type {Message[]} the past notices, newest first */
-    this.all = [];
+    this.messages = [];
     this.list = element("ul", { "aria-label": say.NOTICES });
     const close = buttonOf(say.CLOSE, () => this.dialog.close());
     this.dialog = element("dialog", { "id": "notices", "aria-labelledby": "notices-title" },
@@ -27,12 +27,12 @@ export class NoticeList {
 
   /** @param {Message} message */
   add(message) {
-    this.all = [message, ...this.all].slice(0, MAX_KEPT);
+    this.messages = [message, ...this.messages].slice(0, MAX_STORED);
     button("notices-button").hidden = false;
   }
 
   open() {
-    this.list.replaceChildren(...this.all.map((message) => this.row(message)));
+    this.list.replaceChildren(...this.messages.map((message) => this.row(message)));
     this.dialog.showModal();
   }
 

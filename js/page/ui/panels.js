@@ -5,17 +5,17 @@ import * as say from "../../words/workbench.js";
 
 /**
  * @typedef {import("./choices.js").Choices} Choices
- * @typedef {{ id: string, name: string, node: HTMLElement, isOpen: Switch, box: HTMLInputElement }} Panel
+ * @typedef {{ id: string, name: string, node: HTMLElement, isOpen: Switch, checkBox: HTMLInputElement }} Panel
  */
 
 /** The key of the stored choice for the maximised panel. */
-const FULL = "full";
+const MAXIMIZED_KEY = "full";
 
 /**
  * Returns the row at the top of a panel: its tab row, or a new row around its heading.
  * @param {HTMLElement} panel
  */
-function headOf(panel) {
+function panelHead(panel) {
   const head = panel.querySelector(".tab-row, h2") || panel;
   if (!head.matches("h2")) return head;
   const row = element("div", { className: "panel-head" });
@@ -27,25 +27,25 @@ function headOf(panel) {
 export class Panels {
   /**
    * @param {Choices} choices
-   * @param {() => void} reset restores the other parts of the layout
+   * @param {() => void} reset restores the splitters, folds and tabs of the layout
    */
   constructor(choices, reset) {
     this.choices = choices;
-    this.resetRest = reset;
+    this.resetOtherParts = reset;
     this.menu = block("view-menu");
     this.viewButton = button("view-button");
     this.isMenuOpen = new Switch((isOpen) => {
       this.menu.hidden = !isOpen;
       this.viewButton.setAttribute("aria-expanded", String(isOpen));
     });
-    this.panels = Object.entries(say.PANELS).map(([id, name]) => this.make(id, name));
+    this.panels = Object.entries(say.PANELS).map(([id, name]) => this.makePanel(id, name));
     /** The id of the maximised panel, or "" if there is none. */
-    this.full = "";
-    this.menu.append(element("ul", {}, ...this.panels.map((panel) => this.row(panel))),
+    this.maximizedId = "";
+    this.menu.append(element("ul", {}, ...this.panels.map((panel) => this.makeMenuItem(panel))),
       buttonOf(say.RESET_LAYOUT, () => this.reset()));
-    this.listen();
-    this.setFull(choices.get(FULL));
-    this.place();
+    this.addListeners();
+    this.setFull(choices.get(MAXIMIZED_KEY));
+    this.updateColumns();
   }
 
   /**
@@ -53,31 +53,31 @@ export class Panels {
    * @param {string} name
    * @returns {Panel}
    */
-  make(id, name) {
+  makePanel(id, name) {
     const node = block(id);
-    const box = element("input", { type: "checkbox", autocomplete: "off" });
+    const checkBox = element("input", { type: "checkbox", autocomplete: "off" });
     const isOpen = new Switch((isOn) => node.classList.toggle("closed", !isOn));
     isOpen.set(this.choices.get(`panel.${id}`) !== "closed");
-    box.checked = isOpen.isOn;
-    box.addEventListener("change", () => this.open(id, box.checked));
+    checkBox.checked = isOpen.isOn;
+    checkBox.addEventListener("change", () => this.open(id, checkBox.checked));
     const tools = element("span", { className: "panel-tools" },
       buttonOf("\u25A1", () => this.toggleFull(id), { "title": say.fullSize(name), "aria-label": say.fullSize(name), "tabIndex": -1 }),
       buttonOf("\u00D7", () => this.open(id, false), { "title": say.closes(name), "aria-label": say.closes(name), "tabIndex": -1 }));
-    headOf(node).append(tools);
-    return { id, name, node, isOpen, box };
+    panelHead(node).append(tools);
+    return { id, name, node, isOpen, checkBox };
   }
 
   /** @param {Panel} panel */
-  row({ id, name, box }) {
-    const full = buttonOf(say.FULL_SIZE, () => {
+  makeMenuItem({ id, name, checkBox }) {
+    const fullButton = buttonOf(say.FULL_SIZE, () => {
       this.isMenuOpen.set(false);
       this.open(id, true);
       this.setFull(id);
     }, { "aria-label": say.fullSize(name) });
-    return element("li", {}, element("label", { className: "check" }, box, ` ${name}`), full);
+    return element("li", {}, element("label", { className: "check" }, checkBox, ` ${name}`), fullButton);
   }
 
-  listen() {
+  addListeners() {
     onClick(this.viewButton, () => this.isMenuOpen.set(!this.isMenuOpen.isOn));
     document.addEventListener("pointerdown", ({ target }) => {
       if (target instanceof Node && !this.menu.contains(target) && !this.viewButton.contains(target)) this.isMenuOpen.set(false);
@@ -104,11 +104,11 @@ export class Panels {
   open(id, isOpen) {
     const panel = this.find(id);
     if (!panel) return;
-    if (!isOpen && this.full === id) this.setFull("");
+    if (!isOpen && this.maximizedId === id) this.setFull("");
     panel.isOpen.set(isOpen);
-    panel.box.checked = isOpen;
+    panel.checkBox.checked = isOpen;
     this.choices.set(`panel.${id}`, isOpen ? "" : "closed");
-    this.place();
+    this.updateColumns();
   }
 
   /** @param {string} id */
@@ -118,7 +118,7 @@ export class Panels {
   }
 
   /** Gives the space of columns without open panels to the other columns. */
-  place() {
+  updateColumns() {
     const side = block("side");
     const { classList } = document.body;
     classList.toggle("no-front", !this.panels.some(({ id, isOpen }) => id === "front" && isOpen.isOn));
@@ -127,7 +127,7 @@ export class Panels {
 
   /** @param {string} id */
   toggleFull(id) {
-    this.setFull(this.full === id ? "" : id);
+    this.setFull(this.maximizedId === id ? "" : id);
   }
 
   /**
@@ -135,10 +135,10 @@ export class Panels {
    * @param {string} id the panel's id; "" restores the maximised panel
    */
   setFull(id) {
-    this.full = this.find(id) ? id : "";
-    this.choices.set(FULL, this.full);
-    for (const panel of this.panels) panel.node.classList.toggle("full", panel.id === this.full);
-    document.body.classList.toggle("has-full", this.full !== "");
+    this.maximizedId = this.find(id) ? id : "";
+    this.choices.set(MAXIMIZED_KEY, this.maximizedId);
+    for (const panel of this.panels) panel.node.classList.toggle("full", panel.id === this.maximizedId);
+    document.body.classList.toggle("has-full", this.maximizedId !== "");
   }
 
   /** Restores the initial layout. */
@@ -146,6 +146,6 @@ export class Panels {
     this.isMenuOpen.set(false);
     this.setFull("");
     for (const { id } of this.panels) this.open(id, true);
-    this.resetRest();
+    this.resetOtherParts();
   }
 }

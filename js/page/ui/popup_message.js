@@ -1,4 +1,4 @@
-// Messages near the user's last action: at a cell, a line or a click. They disappear at the next key press or click.
+// Messages near the user's last action: at a cell, a line or a click. The messages disappear at the next key press or click.
 
 import { element } from "./dom.js";
 
@@ -24,9 +24,9 @@ export class PopupMessage {
     this.node = element("p", { className: "popup-message", hidden: true });
     this.node.setAttribute("role", "alert");
     document.body.append(this.node);
-    this.pressed = { left: 0, bottom: 0, time: -PRESS_TIME };
+    this.lastClick = { left: 0, bottom: 0, time: -PRESS_TIME };
     addEventListener("pointerdown", (event) => {
-      this.pressed = { left: event.clientX, bottom: event.clientY, time: performance.now() };
+      this.lastClick = { left: event.clientX, bottom: event.clientY, time: performance.now() };
       this.hide();
     }, true);
     addEventListener("keydown", () => this.hide(), true);
@@ -34,18 +34,19 @@ export class PopupMessage {
 
   /**
    * @param {string} words
-   * @param {HTMLElement} [at] the element above the message; by default, the position of the last click, or the focused element
+   * @param {HTMLElement} [anchor] the element above the message; by default, the position of the last click, or the focused element
    */
-  show(words, at) {
+  show(words, anchor) {
     this.node.textContent = words;
     this.node.hidden = false;
-    putBelow(this.node, this.boxOf(at), GAP);
+    putBelow(this.node, this.anchorBox(anchor), GAP);
   }
 
-  /** @param {HTMLElement} [at] */
-  boxOf(at) {
-    if (!at && performance.now() - this.pressed.time < PRESS_TIME) return { left: this.pressed.left, bottom: this.pressed.bottom + GAP };
-    return (at || document.activeElement || document.body).getBoundingClientRect();
+  /** @param {HTMLElement} [anchor] */
+  anchorBox(anchor) {
+    const { left, bottom, time } = this.lastClick;
+    if (!anchor && performance.now() - time < PRESS_TIME) return { left, bottom: bottom + GAP };
+    return (anchor || document.activeElement || document.body).getBoundingClientRect();
   }
 
   hide() {

@@ -10,7 +10,7 @@ import { Switch, block, button, onClick, pressedSwitch } from "./dom.js";
 
 /** @type {RegionName[]} */
 const REGIONS = ["board", "source", "debug", "more"];
-const NAME = "region";
+const REGION_KEY = "region";
 
 export class Regions {
   /** @param {Choices} choices */
@@ -18,7 +18,7 @@ export class Regions {
     this.choices = choices;
     this.marks = REGIONS.map((name) => {
       onClick(button(`region-${name}`), () => this.show(name));
-      return { name, pressed: pressedSwitch(button(`region-${name}`)) };
+      return { name, isPressed: pressedSwitch(button(`region-${name}`)) };
     });
     this.drawer = new Switch((isOpen) => {
       button("drawer-button").setAttribute("aria-expanded", String(isOpen));
@@ -30,19 +30,19 @@ export class Regions {
       this.drawer.set(false);
       button("drawer-button").focus();
     });
-    this.draw(REGIONS.find((name) => name === choices.get(NAME)) || "board");
+    this.draw(REGIONS.find((name) => name === choices.get(REGION_KEY)) || "board");
   }
 
   /** @param {RegionName} name */
   show(name) {
-    this.choices.set(NAME, name);
+    this.choices.set(REGION_KEY, name);
     this.draw(name);
   }
 
   /** @param {RegionName} name */
   draw(name) {
     for (const mark of this.marks) {
-      mark.pressed.set(mark.name === name);
+      mark.isPressed.set(mark.name === name);
       document.body.classList.toggle(`region-${mark.name}`, mark.name === name);
     }
   }

@@ -33,17 +33,17 @@ export class Splitter {
     this.node.setAttribute("aria-valuemin", String(border.min));
     this.node.setAttribute("aria-valuemax", String(border.max));
     /** The panel's size minus the pointer's position at the start of the drag. */
-    this.held = 0;
+    this.dragOffset = 0;
     this.node.addEventListener("pointerdown", (event) => {
       event.preventDefault();
       this.node.setPointerCapture(event.pointerId);
-      this.held = this.size - this.along(event);
+      this.dragOffset = this.size - this.axisPosition(event);
     });
     this.node.addEventListener("pointermove", (event) => {
-      if (this.node.hasPointerCapture(event.pointerId)) this.set(this.held + this.along(event));
+      if (this.node.hasPointerCapture(event.pointerId)) this.set(this.dragOffset + this.axisPosition(event));
     });
     this.node.addEventListener("focus", () => this.showValue());
-    this.node.addEventListener("keydown", (event) => this.typed(event));
+    this.node.addEventListener("keydown", (event) => this.handleKey(event));
     this.node.addEventListener("dblclick", () => this.reset());
     this.show(Number(choices.get(this.name)) || 0);
   }
@@ -63,18 +63,18 @@ export class Splitter {
    * Returns the pointer's position along the axis in which the panel grows.
    * @param {{ clientX: number, clientY: number }} point
    */
-  along({ clientX, clientY }) {
+  axisPosition({ clientX, clientY }) {
     const { side } = this.border;
-    const at = this.isUpright ? clientX : clientY;
-    return side === "left" || side === "top" ? -at : at;
+    const coordinate = this.isUpright ? clientX : clientY;
+    return side === "left" || side === "top" ? -coordinate : coordinate;
   }
 
   /** @param {number} size the size in pixels */
   set(size) {
     const { min, max } = this.border;
-    const clamped = Math.round(Math.min(max, Math.max(min, size)));
-    this.choices.set(this.name, String(clamped));
-    this.show(clamped);
+    const boundedSize = Math.round(Math.min(max, Math.max(min, size)));
+    this.choices.set(this.name, String(boundedSize));
+    this.show(boundedSize);
   }
 
   /** Restores the panel's initial size. */
@@ -96,7 +96,7 @@ export class Splitter {
   }
 
   /** @param {KeyboardEvent} event */
-  typed(event) {
+  handleKey(event) {
     const moves = KEYS[this.border.side];
     if (event.key === "Home" || event.key === "Escape") this.reset();
     else if (event.key in moves) this.set(this.size + moves[event.key]);

@@ -1,14 +1,14 @@
-// The status bar. It shows whether time is paused, whether the source matches ROM, and whether the session is saved.
+// The status bar: shows whether time is paused, whether the source matches ROM, and whether the session is saved.
 
 import { Cell, Switch, block } from "./dom.js";
 import * as say from "../../words/page.js";
 
 export class StatusView {
   constructor() {
-    this.rom = new Cell(block("rom-status"));
-    this.saved = new Cell(block("saved"));
+    this.romText = new Cell(block("rom-status"));
+    this.saveText = new Cell(block("saved"));
     const bar = block("statusbar");
-    this.paused = new Switch((isOn) => bar.classList.toggle("paused", isOn));
+    this.isPaused = new Switch((isOn) => bar.classList.toggle("paused", isOn));
   }
 
   /**
@@ -16,17 +16,17 @@ export class StatusView {
    * @param {string} words the explanation; "" if there is no source
    */
   showRom(isMatching, words) {
-    this.rom.set(isMatching ? say.ROM_MATCHES : words === "" ? "" : say.ROM_DIFFERS);
-    this.rom.node.title = words;
+    this.romText.set(isMatching ? say.ROM_MATCHES : words === "" ? "" : say.ROM_DIFFERS);
+    this.romText.node.title = words;
   }
 
   /** @param {boolean} isRunning true if time is running */
   showRunning(isRunning) {
-    this.paused.set(!isRunning);
+    this.isPaused.set(!isRunning);
   }
 
   /** @param {"example" | "saved" | "failed"} state */
   showSaved(state) {
-    this.saved.set(say.SAVED[state]);
+    this.saveText.set(say.SAVED[state]);
   }
 }

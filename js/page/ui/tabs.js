@@ -8,14 +8,14 @@ export class Tabs {
   /**
    * Creates the tabs. The tab NAME is the element with the id `NAME-tab`. Its `aria-controls` attribute is the id of its panel.
    * @param {string[]} names
-   * @param {string} first the name of the tab that is initially in front
-   * @param {(name: string) => void} chosen called after the user has chosen a tab
+   * @param {string} firstName the name of the tab that is initially in front
+   * @param {(name: string) => void} onChoice called after the user has chosen a tab
    */
-  constructor(names, first, chosen) {
-    this.chosen = chosen;
+  constructor(names, firstName, onChoice) {
+    this.onChoice = onChoice;
     this.tabs = names.map((name) => this.makeTab(name));
-    this.front = this.tabs[0];
-    this.show(first);
+    this.frontTab = this.tabs[0];
+    this.show(firstName);
   }
 
   /**
@@ -28,26 +28,26 @@ export class Tabs {
     mark.className = "mark";
     tab.append(mark);
     onClick(tab, () => this.choose(name));
-    tab.addEventListener("keydown", (event) => this.typed(event));
+    tab.addEventListener("keydown", (event) => this.handleKey(event));
     return { name, tab, panel: block(tab.getAttribute("aria-controls") || ""), mark, listeners: [] };
   }
 
   /** @param {string} name */
   find(name) {
-    const found = this.tabs.find((entry) => entry.name === name);
-    if (!found) throw new Error(`there is no tab ${name}`);
-    return found;
+    const entry = this.tabs.find((candidate) => candidate.name === name);
+    if (!entry) throw new Error(`there is no tab ${name}`);
+    return entry;
   }
 
   /** The name of the tab in front. */
-  get shown() {
-    return this.front.name;
+  get shownName() {
+    return this.frontTab.name;
   }
 
   /** @param {string} name */
   choose(name) {
     this.show(name);
-    this.chosen(name);
+    this.onChoice(name);
   }
 
   /**
@@ -55,33 +55,33 @@ export class Tabs {
    * @param {string} name
    */
   show(name) {
-    this.front = this.tabs.find((entry) => entry.name === name && !entry.tab.hidden) || this.tabs[0];
+    this.frontTab = this.tabs.find((entry) => entry.name === name && !entry.tab.hidden) || this.tabs[0];
     for (const entry of this.tabs) {
-      const isFront = entry === this.front;
+      const isFront = entry === this.frontTab;
       entry.tab.setAttribute("aria-selected", String(isFront));
       entry.tab.tabIndex = isFront ? 0 : -1;
       entry.panel.hidden = !isFront;
     }
-    for (const listen of this.front.listeners) listen();
+    for (const listener of this.frontTab.listeners) listener();
   }
 
   /**
    * @param {string} name
-   * @param {() => void} listen called each time the tab has come to the front, when its contents can be measured
+   * @param {() => void} listener called each time the tab has come to the front, when its contents can be measured
    */
-  whenShown(name, listen) {
-    this.find(name).listeners.push(listen);
+  onShown(name, listener) {
+    this.find(name).listeners.push(listener);
   }
 
   /**
-   * Shows or hides a tab. A tab can stay hidden until it has contents.
+   * Shows or hides a tab, for example while the tab has no contents.
    * @param {string} name
    * @param {boolean} isThere
    */
   offer(name, isThere = true) {
-    const found = this.find(name);
-    found.tab.hidden = !isThere;
-    if (!isThere && this.front === found) this.show(this.tabs[0].name);
+    const entry = this.find(name);
+    entry.tab.hidden = !isThere;
+    if (!isThere && this.frontTab === entry) this.show(this.tabs[0].name);
   }
 
   /**
@@ -97,14 +97,14 @@ export class Tabs {
   }
 
   /** @param {KeyboardEvent} event */
-  typed(event) {
-    const offered = this.tabs.filter((entry) => !entry.tab.hidden);
-    const at = offered.indexOf(this.front);
+  handleKey(event) {
+    const visibleTabs = this.tabs.filter((entry) => !entry.tab.hidden);
+    const index = visibleTabs.indexOf(this.frontTab);
     /** @type {Record<string, number>} */
-    const next = { ArrowRight: at + 1, ArrowLeft: at - 1, Home: 0, End: -1 };
+    const next = { ArrowRight: index + 1, ArrowLeft: index - 1, Home: 0, End: -1 };
     if (!(event.key in next) || event.ctrlKey || event.altKey || event.metaKey) return;
     event.preventDefault();
-    this.choose(offered[(next[event.key] + offered.length) % offered.length].name);
-    this.front.tab.focus();
+    this.choose(visibleTabs[(next[event.key] + visibleTabs.length) % visibleTabs.length].name);
+    this.frontTab.tab.focus();
   }
 }

@@ -7,21 +7,21 @@ export class Theme {
   constructor(choices) {
     this.choices = choices;
     /** The listener for theme changes. */
-    this.changed = () => {};
+    this.onChange = () => {};
     this.show();
   }
 
   /** @returns {ThemeName} */
   get name() {
-    const chosen = this.choices.get("theme");
-    return chosen === "light" || chosen === "dark" ? chosen : "system";
+    const storedName = this.choices.get("theme");
+    return storedName === "light" || storedName === "dark" ? storedName : "system";
   }
 
   /** @param {ThemeName} name */
   set(name) {
     this.choices.set("theme", name);
     this.show();
-    this.changed();
+    this.onChange();
   }
 
   show() {

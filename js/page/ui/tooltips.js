@@ -23,22 +23,24 @@ export class Tooltips {
     this.tips = new Map();
     this.timer = 0;
     /** @type {HTMLElement | null} the element whose tooltip is visible */
-    this.shown = null;
+    this.describedElement = null;
     /** True if a touch has opened the tooltip. The end of this touch does not count as a click. */
-    this.byTouch = false;
-    addEventListener("pointerover", (event) => this.over(event));
+    this.isOpenedByTouch = false;
+    addEventListener("pointerover", (event) => this.handlePointerOver(event));
     addEventListener("pointerout", (event) => event.pointerType !== "touch" && this.hide());
-    addEventListener("pointerdown", (event) => this.pressed(event), true);
-    addEventListener("pointerup", (event) => event.pointerType === "touch" && this.lifted(), true);
+    addEventListener("pointerdown", (event) => this.handlePointerDown(event), true);
+    addEventListener("pointerup", (event) => event.pointerType === "touch" && this.handleTouchEnd(), true);
     addEventListener("pointercancel", () => this.hide(), true);
-    addEventListener("click", (event) => this.clicked(event), true);
-    addEventListener("focusin", (event) => this.focused(event.target));
+    addEventListener("click", (event) => this.handleClick(event), true);
+    addEventListener("focusin", (event) => this.handleFocus(event.target));
     addEventListener("focusout", () => this.hide());
     addEventListener("keydown", (event) => event.key === "Escape" && this.hide(), true);
     // While the user types, the tooltip would cover the text.
     addEventListener("input", () => this.hide(), true);
     // Scrolling hides the tooltip only if its element moves. The disassembly also scrolls while time is running.
-    addEventListener("scroll", ({ target }) => target instanceof Node && target.contains(this.shown) && this.shown && this.hide(), true);
+    addEventListener("scroll", ({ target }) => {
+      if (target instanceof Node && this.describedElement && target.contains(this.describedElement)) this.hide();
+    }, true);
   }
 
   /**
@@ -52,55 +54,55 @@ export class Tooltips {
   /**
    * Returns the nearest element with a tooltip, or null if there is none.
    * @param {EventTarget | null} target
-   * @param {boolean} isOwn true to skip elements whose `title` the browser shows itself
+   * @param {boolean} skipsTitles true to skip elements whose `title` the browser shows itself
    * @returns {HTMLElement | null}
    */
-  find(target, isOwn) {
+  find(target, skipsTitles) {
     for (let node = target instanceof Element ? target : null; node; node = node.parentElement) {
       if (!(node instanceof HTMLElement)) continue;
-      if (this.tips.has(node) || (!isOwn && node.title && node.matches("button, input, select, [tabindex]"))) return node;
+      if (this.tips.has(node) || (!skipsTitles && node.title && node.matches("button, input, select, [tabindex]"))) return node;
     }
     return null;
   }
 
   /** @param {PointerEvent} event */
-  over({ target, pointerType }) {
+  handlePointerOver({ target, pointerType }) {
     const node = pointerType === "touch" ? null : this.find(target, true);
-    if (!node || node === this.shown) return;
+    if (!node || node === this.describedElement) return;
     this.showLater(node, REST_TIME);
   }
 
   /** @param {PointerEvent} event */
-  pressed({ target, pointerType }) {
+  handlePointerDown({ target, pointerType }) {
     this.hide();
-    this.byTouch = false;
+    this.isOpenedByTouch = false;
     const node = pointerType === "touch" ? this.find(target, false) : null;
     if (!node || node.matches("#keys *")) return;
     this.timer = window.setTimeout(() => {
-      this.byTouch = true;
+      this.isOpenedByTouch = true;
       this.show(node);
     }, TOUCH_TIME);
   }
 
   /** Hides a tooltip that a touch has opened, READ_TIME after the touch has ended. */
-  lifted() {
+  handleTouchEnd() {
     clearTimeout(this.timer);
-    if (this.byTouch) this.timer = window.setTimeout(() => this.hide(), READ_TIME);
+    if (this.isOpenedByTouch) this.timer = window.setTimeout(() => this.hide(), READ_TIME);
   }
 
   /**
    * Ignores the click of a touch that has opened a tooltip.
    * @param {Event} event
    */
-  clicked(event) {
-    if (!this.byTouch) return;
-    this.byTouch = false;
+  handleClick(event) {
+    if (!this.isOpenedByTouch) return;
+    this.isOpenedByTouch = false;
     event.preventDefault();
     event.stopPropagation();
   }
 
   /** @param {EventTarget | null} target */
-  focused(target) {
+  handleFocus(target) {
     const node = this.find(target, false);
     if (node && node === target && node.matches(":focus-visible")) this.showLater(node, 0);
   }
@@ -119,16 +121,16 @@ export class Tooltips {
     const tip = this.tips.get(node);
     const { words, key } = tip ? tip() : { words: node.title, key: "" };
     if (!words || !node.isConnected) return;
-    this.shown = node;
+    this.describedElement = node;
     this.node.replaceChildren(words, ...(key ? [" ", element("kbd", {}, key)] : []));
     // An open dialog covers all elements outside it, so the tooltip must be inside.
     (node.closest("dialog[open]") || document.body).append(this.node);
     this.node.hidden = false;
-    this.place(node.getBoundingClientRect());
+    this.placeNear(node.getBoundingClientRect());
   }
 
   /** @param {DOMRect} box */
-  place({ left, width, top, bottom }) {
+  placeNear({ left, width, top, bottom }) {
     const { offsetWidth, offsetHeight, style } = this.node;
     const maxLeft = document.documentElement.clientWidth - offsetWidth - GAP;
     const isBelow = bottom + GAP + offsetHeight < innerHeight;
@@ -138,7 +140,7 @@ export class Tooltips {
 
   hide() {
     clearTimeout(this.timer);
-    this.shown = null;
+    this.describedElement = null;
     if (!this.node.hidden) this.node.hidden = true;
   }
 }

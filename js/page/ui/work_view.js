@@ -30,13 +30,13 @@ export class WorkView {
    */
   async show(words, work) {
     const controller = new AbortController();
-    const shown = setTimeout(() => this.begin(words, controller), SHOW_DELAY);
+    const showTimer = setTimeout(() => this.begin(words, controller), SHOW_DELAY);
     try {
       return await work(controller.signal, (done, total) => {
         if (this.controller === controller) this.bar.value = done / total;
       });
     } finally {
-      clearTimeout(shown);
+      clearTimeout(showTimer);
       if (this.controller === controller) this.end();
     }
   }

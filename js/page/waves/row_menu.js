@@ -19,7 +19,7 @@ export class RowMenu {
   constructor(view) {
     this.view = view;
     this.menu = new ContextMenu("row-menu", say.ROW);
-    this.naming = new FieldBar(block("waves"), () => view.canvas.focus());
+    this.nameBar = new FieldBar(block("waves"), () => view.canvas.focus());
   }
 
   /**
@@ -27,11 +27,11 @@ export class RowMenu {
    * @param {{ left: number, bottom: number }} point
    */
   open(row, point) {
-    this.menu.open(row.line < 0 ? this.itemsOfGroup(row) : this.itemsOfLine(row), point);
+    this.menu.open(row.line < 0 ? this.groupItems(row) : this.lineItems(row), point);
   }
 
   /** @returns {MenuItem[]} */
-  get moves() {
+  get moveItems() {
     const { view } = this;
     const { selected } = view;
     return [
@@ -44,14 +44,15 @@ export class RowMenu {
    * @param {WaveRow} row
    * @returns {MenuItem[]}
    */
-  itemsOfGroup({ group }) {
+  groupItems({ group }) {
     const { view } = this;
-    const members = () => view.names.filter((name) => view.arrangement.groupOf(name) === group);
+    const memberNames = () => view.names.filter((name) => view.arrangement.groupOf(name) === group);
     return [
       { words: say.FOLD, key: "Enter", act: () => view.fold(group) },
-      { words: say.RENAME, act: () => this.ask(say.nameOf(group), group, (word) => word && view.change(members(), { group: word })) },
-      { words: say.UNGROUP, act: () => view.change(members(), { group: "" }) },
-      ...this.moves,
+      { words: say.RENAME,
+        act: () => this.askName(say.nameOf(group), group, (word) => word && view.change(memberNames(), { group: word })) },
+      { words: say.UNGROUP, act: () => view.change(memberNames(), { group: "" }) },
+      ...this.moveItems,
     ];
   }
 
@@ -59,19 +60,19 @@ export class RowMenu {
    * @param {WaveRow} row
    * @returns {MenuItem[]}
    */
-  itemsOfLine({ name, title, colour, group }) {
+  lineItems({ name, title, colour, group }) {
     const { view } = this;
-    const leave = { words: say.LEAVE_GROUP, act: () => view.change([name], { group: "" }) };
-    const join = { words: say.GROUP, act: () => this.ask(say.groupOf(name), "", (word) => view.change([name], { group: word })) };
-    const colours = /** @type {const} */ (["", ...ROW_COLOURS]).map((choice) => (
+    const leaveItem = { words: say.LEAVE_GROUP, act: () => view.change([name], { group: "" }) };
+    const joinItem = { words: say.GROUP, act: () => this.askName(say.groupOf(name), "", (word) => view.change([name], { group: word })) };
+    const colourItems = /** @type {const} */ (["", ...ROW_COLOURS]).map((choice) => (
       { words: say.COLOURS[choice], isChosen: () => colour === choice, act: () => view.change([name], { colour: choice }) }));
     return [
-      { words: say.RENAME, act: () => this.ask(say.nameOf(name), title || name,
+      { words: say.RENAME, act: () => this.askName(say.nameOf(name), title || name,
         (word) => view.change([name], { title: word === name ? "" : word })) },
-      group === "" ? join : leave,
-      ...this.moves,
+      group === "" ? joinItem : leaveItem,
+      ...this.moveItems,
       { words: say.HIDE, act: () => view.calls.hide(name) },
-      ...colours,
+      ...colourItems,
     ];
   }
 
@@ -79,11 +80,11 @@ export class RowMenu {
    * Asks the user for a name.
    * @param {string} label
    * @param {string} value
-   * @param {(word: string) => void} act
+   * @param {(word: string) => void} action
    */
-  ask(label, value, act) {
-    this.naming.open({ label, value, word: say.NAME, act: (typed) => {
-      act(typed.slice(0, MAX_NAME_LENGTH));
+  askName(label, value, action) {
+    this.nameBar.open({ label, value, word: say.NAME, act: (typed) => {
+      action(typed.slice(0, MAX_NAME_LENGTH));
       return "";
     } });
   }

@@ -3,40 +3,40 @@
 import { Cell, block, button, byId, descendant, field, onClick } from "../ui/dom.js";
 import { download } from "../session/download.js";
 import { LiveWaves } from "../../core/waves/live_waves.js";
-import { lineNamed, namedInEdge } from "../../core/waves/trigger.js";
+import { findLineByName, lineNameInEdge } from "../../core/waves/trigger.js";
 import { vcdParts } from "../../core/waves/vcd.js";
 import { WaveChoice } from "./wave_choice.js";
-import { pngOf, svgOf } from "./wave_pictures.js";
+import { renderPng, toSvg } from "./wave_pictures.js";
 import { find, readSearch } from "../../core/waves/wave_search.js";
 import { WaveView } from "./wave_view.js";
-import { MAX_CYCLES, grouped, readCycles, recordedText } from "../../core/waves/wave_words.js";
+import { MAX_CYCLES, formatNumber, readCycles, describeRecording } from "../../core/waves/wave_words.js";
 import { Waves } from "../../core/waves/wave_recording.js";
 import * as say from "../../words/waves.js";
 
 /**
  * @typedef {import("../../core/engine/live_recorder.js").LivePart} LivePart
- * @typedef {import("../../core/engine/live_recorder.js").LiveWanted} LiveWanted
- * @typedef {import("../../core/engine/wave_recorder.js").Recorded} Recorded
+ * @typedef {import("../../core/engine/live_recorder.js").LiveSetup} LiveSetup
+ * @typedef {import("../../core/engine/wave_recorder.js").Recording} Recording
  * @typedef {import("../../core/waves/live_waves.js").LiveChoice} LiveChoice
  * @typedef {import("../../core/waves/wave_lines.js").WaveLine} WaveLine
- * @typedef {import("../../core/waves/wave_words.js").Base} Base
+ * @typedef {import("../../core/waves/wave_words.js").NumberBase} NumberBase
  */
 
 /**
  * The callbacks of the logic analyser.
  * @typedef {object} ScopeCalls
- * @property {(cycles: number, isBefore: boolean, values: string[]) => Promise<Recorded | null>} record Records the last `cycles` cycles
+ * @property {(cycles: number, isBefore: boolean, values: string[]) => Promise<Recording | null>} record Records the last `cycles` cycles
  *   (`isBefore`), or the next ones. `values` are the names of registers and nibbles to include. Resolves to null after a failure. A failure
  *   has already been reported.
- * @property {(wanted: { trigger: string } & LiveWanted, values: string[]) => Promise<{ recorded: Recorded | null, fault: string } | null>}
- *   begin Starts a recording that lasts until `end`. Resolves to its first part or to the error in the trigger, or to null if the call
- *   failed.
- * @property {() => Promise<LivePart | null>} end Ends the recording. Resolves to its last part, or to null if there is none.
- * @property {() => WaveLine[]} offered Returns all lines of the board.
+ * @property {(wanted: { trigger: string } & LiveSetup, values: string[]) => Promise<{ recorded: Recording | null, fault: string } | null>}
+ *   startLive Starts a recording that lasts until `endLive`. Resolves to its first part or to the error in the trigger, or to null after a
+ *   failure.
+ * @property {() => Promise<LivePart | null>} endLive Ends the recording. Resolves to its last part, or to null if there is none.
+ * @property {() => WaveLine[]} boardLines Returns all lines of the board.
  * @property {() => string} name Returns the session's name, which is used for file names.
  * @property {(address: number) => void} goTo Shows an address in the source and in the disassembly.
- * @property {(isOn: boolean) => void} isOn Shows on the tab whether a recording is in progress.
- * @property {(rows: import("../../core/waves/wave_rows.js").KeptRows) => void} keep Stores the arrangement of the rows.
+ * @property {(isOn: boolean) => void} showRecording Shows on the tab whether a recording is in progress.
+ * @property {(rows: import("../../core/waves/wave_rows.js").StoredRows) => void} storeRows Stores the arrangement of the rows.
  */
 
 /** The interval in milliseconds at which the picture of a recording in progress is updated. */
@@ -75,26 +75,26 @@ export class Scope {
     this.calls = calls;
     this.status = new Cell(block("scope-status"));
     this.count = new Cell(block("scope-count"));
-    this.found = new Cell(block("wave-search-status"));
+    this.searchStatus = new Cell(block("wave-search-status"));
     this.recordWord = new Cell(button("record"));
     this.recordWord.set(say.RECORD);
     /** @type {WaveView} */
-    this.view = new WaveView({ goTo: calls.goTo, hide: (name) => this.choice.tick(name, false), keep: calls.keep });
+    this.view = new WaveView({ goTo: calls.goTo, hide: (name) => this.choice.select(name, false), storeRows: calls.storeRows });
     /** @type {WaveChoice} */
     this.choice = new WaveChoice({
-      offered: calls.offered, choose: (chosen) => this.view.choose(chosen), wants: () => this.wantOthers(),
+      boardLines: calls.boardLines, showLines: (lines) => this.view.choose(lines), handleMissingValues: () => this.restartLive(),
     });
     this.isBusy = false;
     /** @type {LiveWaves | null} the last recording of running time; null if there is none */
-    this.live = null;
-    /** True if the picture shows all parts of the recording so far. */
-    this.isDrawn = true;
-    this.where = byId("record-where", HTMLSelectElement);
-    this.listen();
+    this.liveWaves = null;
+    /** True if the picture shows everything that has been recorded so far. */
+    this.isUpToDate = true;
+    this.periodSelect = byId("record-where", HTMLSelectElement);
+    this.addListeners();
     this.showTrigger();
   }
 
-  listen() {
+  addListeners() {
     onClick(button("record"), () => this.record());
     onClick(button("save-waves"), () => this.save());
     onClick(button("save-png"), () => this.savePng());
@@ -106,7 +106,7 @@ export class Scope {
         if (event.key === "Enter") this.record();
       });
     }
-    this.where.addEventListener("change", () => this.showTrigger());
+    this.periodSelect.addEventListener("change", () => this.showTrigger());
     onClick(button("find-before"), () => this.find(false));
     onClick(button("find-after"), () => this.find(true));
     field("wave-search").addEventListener("keydown", (event) => {
@@ -114,16 +114,16 @@ export class Scope {
       if (event.key === "Escape") this.view.canvas.focus();
     });
     const base = byId("wave-base", HTMLSelectElement);
-    base.addEventListener("change", () => this.view.setBase(/** @type {Base} */ (base.value)));
+    base.addEventListener("change", () => this.view.setBase(/** @type {NumberBase} */ (base.value)));
   }
 
   get isLive() {
-    return this.live !== null && this.live.isOn;
+    return this.liveWaves !== null && this.liveWaves.isOn;
   }
 
   /** Shows the trigger's controls only for a recording of running time. */
   showTrigger() {
-    block("trigger-bar").hidden = this.where.value !== "live";
+    block("trigger-bar").hidden = this.periodSelect.value !== "live";
   }
 
   /**
@@ -131,7 +131,7 @@ export class Scope {
    * @param {string} id
    * @param {number} min
    */
-  cyclesIn(id, min) {
+  readCycleField(id, min) {
     const input = field(id);
     const cycles = input.value.trim() === "0" && min === 0 ? 0 : readCycles(input.value) || -1;
     input.setAttribute("aria-invalid", String(cycles < 0));
@@ -149,9 +149,9 @@ export class Scope {
     // Clear the status, so that screen readers announce the same message again.
     this.status.set("");
     try {
-      if (this.isLive) await this.end();
-      else if (this.where.value === "live") await this.begin();
-      else await this.recordOnce(this.where.value === "before");
+      if (this.isLive) await this.finishLive();
+      else if (this.periodSelect.value === "live") await this.beginLive();
+      else await this.recordOnce(this.periodSelect.value === "before");
     } finally {
       this.isBusy = false;
     }
@@ -159,12 +159,12 @@ export class Scope {
 
   /** @param {boolean} isBefore */
   async recordOnce(isBefore) {
-    const cycles = this.cyclesIn("record-cycles", 1);
+    const cycles = this.readCycleField("record-cycles", 1);
     if (cycles < 0) return;
     const recorded = await this.calls.record(cycles, isBefore, this.choice.values);
     if (!recorded) return;
     const waves = new Waves(recorded);
-    this.status.set(recordedText(waves, cycles, isBefore));
+    this.status.set(describeRecording(waves, cycles, isBefore));
     if (waves.span > 0 || !isBefore) this.show(waves);
   }
 
@@ -181,102 +181,103 @@ export class Scope {
    * Returns the settings of the recording. If a field has no valid number, shows a message and returns null.
    * @returns {LiveChoice | null}
    */
-  chosen() {
+  readLiveChoice() {
     const trigger = field("trigger").value.trim();
-    const most = this.cyclesIn("record-cycles", 1);
-    const behind = most < 0 || trigger === "" ? 0 : this.cyclesIn("behind", 0);
-    if (most < 0 || behind < 0) return null;
-    field("behind").setAttribute("aria-invalid", String(behind > most));
-    if (behind > most) this.status.set(say.maxAfter(most.toLocaleString("en")));
-    return behind > most ? null : { most, behind, trigger, stopsTime: byId("stops-time", HTMLInputElement).checked };
+    const maxCycles = this.readCycleField("record-cycles", 1);
+    const cyclesAfter = maxCycles < 0 || trigger === "" ? 0 : this.readCycleField("behind", 0);
+    if (maxCycles < 0 || cyclesAfter < 0) return null;
+    field("behind").setAttribute("aria-invalid", String(cyclesAfter > maxCycles));
+    if (cyclesAfter > maxCycles) this.status.set(say.maxAfter(maxCycles.toLocaleString("en")));
+    const stopsTime = byId("stops-time", HTMLInputElement).checked;
+    return cyclesAfter > maxCycles ? null : { most: maxCycles, behind: cyclesAfter, trigger, stopsTime };
   }
 
-  async begin() {
-    const choice = this.chosen();
+  async beginLive() {
+    const choice = this.readLiveChoice();
     if (!choice) return;
-    this.chooseNamed(choice.trigger);
-    const { trigger, behind, stopsTime } = choice;
-    const result = await this.calls.begin({ trigger, behind, stopsTime }, this.choice.values);
+    this.selectTriggerLine(choice.trigger);
+    const { trigger, behind: cyclesAfter, stopsTime } = choice;
+    const result = await this.calls.startLive({ trigger, behind: cyclesAfter, stopsTime }, this.choice.values);
     if (!result) return;
     const { recorded, fault } = result;
     field("trigger").setAttribute("aria-invalid", String(fault !== ""));
     if (fault) this.status.set(say.triggerFault(fault));
     if (!recorded) return;
-    this.live = new LiveWaves(recorded, choice);
-    this.show(this.live.waves);
-    this.showLive(this.live);
+    this.liveWaves = new LiveWaves(recorded, choice);
+    this.show(this.liveWaves.waves);
+    this.showLive(this.liveWaves);
   }
 
   /**
    * Selects the register or nibble that the trigger names, so that the recording includes it.
    * @param {string} trigger
    */
-  chooseNamed(trigger) {
-    const offered = this.calls.offered();
-    const line = offered[lineNamed(namedInEdge(trigger), offered)];
-    if (line && line.kind === "value" && !this.choice.chosen.has(line.name)) this.choice.tick(line.name, true);
+  selectTriggerLine(trigger) {
+    const boardLines = this.calls.boardLines();
+    const line = boardLines[findLineByName(lineNameInEdge(trigger), boardLines)];
+    if (line && line.kind === "value" && !this.choice.selectedNames.has(line.name)) this.choice.select(line.name, true);
   }
 
-  async end() {
-    const part = await this.calls.end();
-    if (part) this.take(part);
+  async finishLive() {
+    const part = await this.calls.endLive();
+    if (part) this.addPart(part);
   }
 
   /** Restarts the recording in progress, because the user has selected values that it does not include. */
-  async wantOthers() {
+  async restartLive() {
     if (!this.isLive || this.isBusy) return;
     this.isBusy = true;
     try {
-      await this.begin();
+      await this.beginLive();
     } finally {
       this.isBusy = false;
     }
   }
 
   /**
-   * Handles another part of the recording; null means that the recording has been lost.
+   * Adds new data to the recording; null if the recording has been lost.
    * @param {LivePart | null} part
    */
-  take(part) {
-    const { live } = this;
-    if (!live || !live.isOn) return;
-    if (part) live.take(part);
-    else live.lose();
-    if (!live.isOn) this.drawLive(live);
-    else if (this.isDrawn) {
-      this.isDrawn = false;
-      setTimeout(() => this.drawLive(live), DRAW_INTERVAL);
+  addPart(part) {
+    const { liveWaves } = this;
+    if (!liveWaves || !liveWaves.isOn) return;
+    if (part) liveWaves.take(part);
+    else liveWaves.lose();
+    if (!liveWaves.isOn) this.drawLive(liveWaves);
+    else if (this.isUpToDate) {
+      this.isUpToDate = false;
+      setTimeout(() => this.drawLive(liveWaves), DRAW_INTERVAL);
     }
   }
 
-  /** @param {LiveWaves} live */
-  drawLive(live) {
-    this.isDrawn = true;
-    if (this.live !== live) return;
-    this.view.grow(live.triggered);
-    if (live.over === "trigger") this.view.showAround(live.triggered);
-    else if (!live.isOn) this.view.fit();
-    this.choice.grown();
-    this.showLive(live);
-    const { over } = live;
+  /** @param {LiveWaves} liveWaves */
+  drawLive(liveWaves) {
+    this.isUpToDate = true;
+    if (this.liveWaves !== liveWaves) return;
+    this.view.grow(liveWaves.triggered);
+    if (liveWaves.over === "trigger") this.view.showAround(liveWaves.triggered);
+    else if (!liveWaves.isOn) this.view.fit();
+    this.choice.handleGrowth();
+    this.showLive(liveWaves);
+    const { over: endReason } = liveWaves;
     // After changing the program or the board, the user usually wants the same recording again.
-    if (over === "board" || over === "program") this.begin();
+    if (endReason === "board" || endReason === "program") this.beginLive();
   }
 
   /** Shows the whole recording so far when time is paused. */
   showPaused() {
-    const { live } = this;
-    if (!live || !live.isOn) return;
-    this.drawLive(live);
-    if (live.triggered < 0) this.view.fit();
+    const { liveWaves } = this;
+    if (!liveWaves || !liveWaves.isOn) return;
+    this.drawLive(liveWaves);
+    if (liveWaves.triggered < 0) this.view.fit();
   }
 
-  /** @param {LiveWaves} live */
-  showLive(live) {
-    this.status.set(live.words);
-    this.count.set(live.isOn ? live.kept : "");
-    this.recordWord.set(live.isOn ? say.STOP_RECORDING : say.RECORD);
-    this.calls.isOn(live.isOn);
+  /** @param {LiveWaves} liveWaves */
+  showLive(liveWaves) {
+    this.status.set(liveWaves.words);
+    this.count.set(liveWaves.isOn ? liveWaves.kept : "");
+    this.recordWord.set(liveWaves.isOn ? say.STOP_RECORDING : say.RECORD);
+    this.calls.showRecording(liveWaves.isOn);
   }
 
   /**
@@ -286,31 +287,31 @@ export class Scope {
   find(isForward) {
     const { waves, line, view } = this.view;
     if (!waves) return;
-    this.found.set("");
+    this.searchStatus.set("");
     const text = field("wave-search").value;
     const { search, fault } = readSearch(text, waves, line);
     field("wave-search").setAttribute("aria-invalid", String(fault !== ""));
     if (!search) {
-      this.found.set(fault);
+      this.searchStatus.set(fault);
       return;
     }
     const { name } = waves.lines[search.line];
-    if (!this.choice.chosen.has(name)) this.choice.tick(name, true);
+    if (!this.choice.selectedNames.has(name)) this.choice.select(name, true);
     this.view.mark(search.line);
     const moment = find(waves, search, view.moment, isForward);
     if (moment >= 0) this.view.move(moment);
-    else this.found.set(say.notFound(text.trim(), isForward, grouped(view.moment)));
+    else this.searchStatus.set(say.notFound(text.trim(), isForward, formatNumber(view.moment)));
   }
 
   /** Forgets the recording when another session is opened. */
   forget() {
-    this.live = null;
+    this.liveWaves = null;
     this.view.waves = null;
     this.choice.forget();
     this.status.set("");
     this.count.set("");
     this.recordWord.set(say.RECORD);
-    this.calls.isOn(false);
+    this.calls.showRecording(false);
     block("waves").hidden = block("wave-tools").hidden = true;
   }
 
@@ -318,24 +319,24 @@ export class Scope {
    * The recording to save. If no row is visible, shows a message and is null.
    * @returns {Waves | null}
    */
-  get saved() {
+  get savedWaves() {
     const { waves, lines } = this.view;
     if (waves && lines.length === 0) this.status.set(say.NO_LINE_CHOSEN);
     return lines.length === 0 ? null : waves;
   }
 
   save() {
-    const { saved } = this;
-    if (saved) download(this.calls.name(), ".vcd", new Blob([...vcdParts(saved, this.view.lines)], { type: "text/plain" }));
+    const { savedWaves } = this;
+    if (savedWaves) download(this.calls.name(), ".vcd", new Blob([...vcdParts(savedWaves, this.view.lines)], { type: "text/plain" }));
   }
 
   savePng() {
-    const { saved } = this;
-    if (saved) pngOf(this.view.picture(saved), (blob) => download(this.calls.name(), ".png", blob));
+    const { savedWaves } = this;
+    if (savedWaves) renderPng(this.view.picture(savedWaves), (blob) => download(this.calls.name(), ".png", blob));
   }
 
   saveSvg() {
-    const { saved } = this;
-    if (saved) download(this.calls.name(), ".svg", new Blob([svgOf(this.view.picture(saved))], { type: "image/svg+xml" }));
+    const { savedWaves } = this;
+    if (savedWaves) download(this.calls.name(), ".svg", new Blob([toSvg(this.view.picture(savedWaves))], { type: "image/svg+xml" }));
   }
 }

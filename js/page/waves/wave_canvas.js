@@ -2,8 +2,8 @@
 
 import { isDecoder } from "../../core/waves/decoders.js";
 import { countUpTo } from "../../core/waves/growing.js";
-import { isText } from "../../core/waves/wave_lines.js";
-import { ticksOf } from "../../core/waves/wave_window.js";
+import { isDrawnAsBoxes } from "../../core/waves/wave_lines.js";
+import { tickMoments } from "../../core/waves/wave_window.js";
 
 /**
  * @typedef {import("../../core/waves/wave_recording.js").Waves} Waves
@@ -13,9 +13,9 @@ import { ticksOf } from "../../core/waves/wave_window.js";
  * @typedef {CanvasRenderingContext2D | import("../../core/waves/svg_context.js").SvgContext} Context
  * @typedef {{ ink: string, faint: string, grid: string, sheet: string, chosen: string, first: string, second: string, measured: string }
  *   & Record<RowColour, string>} Colours
- * @typedef {{ row: number, from: number, to: number }} Stretch the part of a row between two moments
+ * @typedef {{ row: number, from: number, to: number }} RowRange a row between two moments
  * @typedef {{ waves: Waves, rows: WaveRow[], selected: number, view: WaveWindow, top: number, gutter: number, height: number, trigger:
- * number, measured: Stretch | null, colours: Colours, font: string }} Picture the drawing: `top` is the number of pixels that are
+ * number, measured: RowRange | null, colours: Colours, font: string }} Picture the drawing: `top` is the number of pixels that are
  * scrolled away above, `trigger` the moment of the trigger, -1 for none, `measured` the measurement at the pointer
  */
 
@@ -53,7 +53,7 @@ export function drawWaves(context, picture) {
     if (picture.trigger >= view.begin) {
       drawMark(context, picture, { moment: picture.trigger, letter: "T", y: 7, colour: colours.ink, dash: [2, 2] });
     }
-    [colours.first, colours.second].forEach((colour, at) => drawCursor(context, picture, at, colour));
+    [colours.first, colours.second].forEach((colour, cursor) => drawCursor(context, picture, cursor, colour));
   });
 }
 
@@ -77,20 +77,20 @@ function drawClipped(context, box, draw) {
  * @param {Picture} picture
  */
 function drawTicks(context, { view, gutter, height, colours }) {
-  let free = 0;
-  for (const tick of ticksOf(view, TICK_WIDTH)) {
-    const x = Math.round(gutter + view.xOf(tick)) + 0.5;
+  let nextFreeX = 0;
+  for (const cycle of tickMoments(view, TICK_WIDTH)) {
+    const x = Math.round(gutter + view.xAt(cycle)) + 0.5;
     context.strokeStyle = colours.grid;
     strokeLine(context, x, 18, x, height);
     context.fillStyle = colours.faint;
-    const text = tick.toLocaleString("en");
+    const text = cycle.toLocaleString("en");
     const { width } = context.measureText(text);
     // The number is beside its tick, so that a cursor at the tick does not cover it.
-    const right = x + FLAG_WIDTH / 2 + 2;
-    const begin = right + width > gutter + view.width ? x - 3 - width : right;
-    if (begin < free) continue;
+    const textLeft = x + FLAG_WIDTH / 2 + 2;
+    const begin = textLeft + width > gutter + view.width ? x - 3 - width : textLeft;
+    if (begin < nextFreeX) continue;
     context.fillText(text, begin, 10);
-    free = begin + width + 6;
+    nextFreeX = begin + width + 6;
   }
   context.fillStyle = colours.faint;
   context.fillText("cycles", 4, 10);
@@ -102,7 +102,7 @@ function drawTicks(context, { view, gutter, height, colours }) {
  */
 function strokeLine(context, ...points) {
   context.beginPath();
-  for (let at = 0; at < points.length; at += 2) context.lineTo(points[at], points[at + 1]);
+  for (let index = 0; index < points.length; index += 2) context.lineTo(points[index], points[index + 1]);
   context.stroke();
 }
 
@@ -126,32 +126,32 @@ function drawRow(context, picture, row, y) {
     context.fillText(`${isFolded ? "\u25B8" : "\u25BE"} ${title}`, 4, y + ROW / 2);
     return;
   }
-  const name = `${row === selected ? "\u25B8" : ""}${title || nameInGutter(waves.lines[line])}`;
-  const value = valueInGutter(picture, line);
-  const room = Math.min(88, context.measureText(value).width);
+  const name = `${row === selected ? "\u25B8" : ""}${title || gutterName(waves.lines[line])}`;
+  const value = gutterValue(picture, line);
+  const valueWidth = Math.min(88, context.measureText(value).width);
   const ink = colour === "" ? colours.ink : colours[colour];
   context.fillStyle = ink;
-  drawClipped(context, [0, y, gutter - 14 - room, ROW], () => context.fillText(name, group === "" ? 4 : INDENT, y + ROW / 2));
+  drawClipped(context, [0, y, gutter - 14 - valueWidth, ROW], () => context.fillText(name, group === "" ? 4 : INDENT, y + ROW / 2));
   context.textAlign = "right";
   drawClipped(context, [gutter - 92, y, 88, ROW], () => context.fillText(value, gutter - 6, y + ROW / 2));
   context.textAlign = "left";
   drawClipped(context, [gutter, y, view.width, ROW], () => {
     context.strokeStyle = context.fillStyle = ink;
-    if (isText(waves.lines[line])) drawTexts(context, picture, line, y);
+    if (isDrawnAsBoxes(waves.lines[line])) drawTexts(context, picture, line, y);
     else drawLevels(context, picture, line, y);
     if (measured && measured.row === row) drawMeasured(context, picture, measured, y);
   });
 }
 
 /**
- * Underlines the measured part of a row.
+ * Underlines the measured range of a row.
  * @param {Context} context
  * @param {Picture} picture
- * @param {Stretch} measured
+ * @param {RowRange} measured
  * @param {number} y
  */
 function drawMeasured(context, { view, gutter, colours }, { from, to }, y) {
-  const [begin, end] = [from, to].map((moment) => Math.min(Math.max(view.xOf(moment), -2), view.width + 2));
+  const [begin, end] = [from, to].map((moment) => Math.min(Math.max(view.xAt(moment), -2), view.width + 2));
   context.fillStyle = colours.measured;
   context.fillRect(gutter + begin, y + ROW - 4, Math.max(1, end - begin), 3);
 }
@@ -160,7 +160,7 @@ function drawMeasured(context, { view, gutter, colours }, { from, to }, y) {
  * Returns the gutter name of a line. A port includes its name in the board's text, and a decoder shows its function.
  * @param {import("../../core/waves/wave_lines.js").WaveLine} line
  */
-function nameInGutter(line) {
+function gutterName(line) {
   const { name, title, kind } = line;
   if (isDecoder(line)) return title;
   return kind === "port" && title !== "" ? `${title} ${name}` : name;
@@ -171,7 +171,7 @@ function nameInGutter(line) {
  * @param {Picture} picture
  * @param {number} line
  */
-function valueInGutter({ waves, view }, line) {
+function gutterValue({ waves, view }, line) {
   return waves.lines[line].kind === "label" || isDecoder(waves.lines[line]) ? "" : waves.valueAt(line, view.moment);
 }
 
@@ -185,28 +185,28 @@ function valueInGutter({ waves, view }, line) {
 function drawLevels(context, { waves, view, gutter }, line, y) {
   const changes = waves.changesOf(line);
   const [high, low] = [y + MARGIN + 0.5, y + ROW - MARGIN - 0.5];
-  const end = Math.min(view.width, view.xOf(waves.cycles));
+  const end = Math.min(view.width, view.xAt(waves.cycles));
   let level = waves.numberAt(line, Math.floor(view.from));
-  let seen = countUpTo(changes, Math.floor(view.from));
+  let changeIndex = countUpTo(changes, Math.floor(view.from));
   context.lineWidth = 1.5;
   context.beginPath();
   context.moveTo(gutter, level ? high : low);
-  while (seen < changes.length && view.xOf(changes[seen]) < end) {
-    const x = view.xOf(changes[seen]);
+  while (changeIndex < changes.length && view.xAt(changes[changeIndex]) < end) {
+    const x = view.xAt(changes[changeIndex]);
     const next = countUpTo(changes, view.cyclesAt(x + 1));
-    if (next > seen + 1) {
+    if (next > changeIndex + 1) {
       // Several edges are in one pixel.
       context.lineTo(gutter + x, level ? high : low);
       context.fillRect(gutter + x, high, 1, low - high);
-      level ^= (next - seen) & 1;
+      level ^= (next - changeIndex) & 1;
       context.moveTo(gutter + x + 1, level ? high : low);
-      seen = next;
+      changeIndex = next;
       continue;
     }
     context.lineTo(gutter + x, level ? high : low);
     level ^= 1;
     context.lineTo(gutter + x, level ? high : low);
-    seen += 1;
+    changeIndex += 1;
   }
   context.lineTo(gutter + end, level ? high : low);
   context.stroke();
@@ -223,19 +223,19 @@ function drawLevels(context, { waves, view, gutter }, line, y) {
 function drawTexts(context, { waves, view, gutter }, line, y) {
   const changes = waves.changesOf(line);
   const [high, low] = [y + MARGIN + 0.5, y + ROW - MARGIN - 0.5];
-  const end = Math.min(view.width, view.xOf(waves.cycles));
+  const end = Math.min(view.width, view.xAt(waves.cycles));
   let from = 0;
-  let seen = countUpTo(changes, Math.floor(view.from));
+  let changeIndex = countUpTo(changes, Math.floor(view.from));
   strokeLine(context, gutter, high, gutter + end, high);
   strokeLine(context, gutter, low, gutter + end, low);
   while (from < end) {
-    const change = seen < changes.length ? view.xOf(changes[seen]) : end;
+    const change = changeIndex < changes.length ? view.xAt(changes[changeIndex]) : end;
     const to = Math.min(Math.max(change, from + 1), end);
-    const since = Math.floor(Math.max(view.from, seen > 0 ? changes[seen - 1] : 0));
-    drawValue(context, waves.valueAt(line, since), gutter + from, gutter + to, y);
+    const moment = Math.floor(Math.max(view.from, changeIndex > 0 ? changes[changeIndex - 1] : 0));
+    drawValue(context, waves.valueAt(line, moment), gutter + from, gutter + to, y);
     if (to < end) strokeLine(context, gutter + to, high, gutter + to, low);
     from = to;
-    seen = Math.max(seen + 1, countUpTo(changes, view.cyclesAt(to)));
+    changeIndex = Math.max(changeIndex + 1, countUpTo(changes, view.cyclesAt(to)));
   }
 }
 
@@ -255,14 +255,14 @@ function drawValue(context, value, from, to, y) {
 /**
  * @param {Context} context
  * @param {Picture} picture
- * @param {number} at 0 for cursor A, 1 for cursor B
+ * @param {number} cursor 0 for cursor A, 1 for cursor B
  * @param {string} colour
  */
-function drawCursor(context, picture, at, colour) {
+function drawCursor(context, picture, cursor, colour) {
   const { view } = picture;
-  context.lineWidth = view.active === at ? 2 : 1;
+  context.lineWidth = view.active === cursor ? 2 : 1;
   drawMark(context, picture, {
-    moment: view.cursors[at], letter: at === 0 ? "A" : "B", y: at === 0 ? 1 : 13, colour, dash: at === 0 ? [] : [5, 3],
+    moment: view.cursors[cursor], letter: cursor === 0 ? "A" : "B", y: cursor === 0 ? 1 : 13, colour, dash: cursor === 0 ? [] : [5, 3],
   });
 }
 
@@ -271,7 +271,7 @@ function drawCursor(context, picture, at, colour) {
  * @param {number} x the x coordinate of the mark
  * @param {number} right the x coordinate of the right edge
  */
-export function flagAt(x, right) {
+export function flagLeft(x, right) {
   return Math.min(x - FLAG_WIDTH / 2, right - FLAG_WIDTH);
 }
 
@@ -282,15 +282,15 @@ export function flagAt(x, right) {
  * @param {{ moment: number, letter: string, y: number, colour: string, dash: number[] }} mark
  */
 function drawMark(context, { view, gutter, height, colours }, { moment, letter, y, colour, dash }) {
-  const x = Math.round(gutter + view.xOf(moment)) + 0.5;
-  if (x < gutter || view.xOf(moment) > view.width) return;
+  const x = Math.round(gutter + view.xAt(moment)) + 0.5;
+  if (x < gutter || view.xAt(moment) > view.width) return;
   context.strokeStyle = context.fillStyle = colour;
   context.setLineDash(dash);
   strokeLine(context, x, 0, x, height);
   context.setLineDash([]);
   context.lineWidth = 1;
   context.textAlign = "center";
-  const flag = flagAt(x, gutter + view.width);
+  const flag = flagLeft(x, gutter + view.width);
   context.fillRect(flag, y, FLAG_WIDTH, 12);
   context.fillStyle = colours.sheet;
   context.fillText(letter, flag + FLAG_WIDTH / 2, y + 6.5);

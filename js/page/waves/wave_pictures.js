@@ -7,10 +7,10 @@ import { drawWaves } from "./wave_canvas.js";
 /** @typedef {import("./wave_canvas.js").Picture} Picture */
 
 /** The scale of a PNG file relative to the page. */
-const RATIO = 2;
+const PNG_SCALE = 2;
 
 /** @param {Picture} picture */
-export function svgOf(picture) {
+export function toSvg(picture) {
   const { gutter, view, height, colours } = picture;
   const context = new SvgContext(gutter + view.width, height, colours.sheet);
   drawWaves(context, picture);
@@ -21,12 +21,12 @@ export function svgOf(picture) {
  * @param {Picture} picture
  * @param {(blob: Blob) => void} receive
  */
-export function pngOf(picture, receive) {
+export function renderPng(picture, receive) {
   const { gutter, view, height, colours } = picture;
-  const canvas = element("canvas", { width: (gutter + view.width) * RATIO, height: height * RATIO });
+  const canvas = element("canvas", { width: (gutter + view.width) * PNG_SCALE, height: height * PNG_SCALE });
   const context = canvas.getContext("2d");
   if (!context) return;
-  context.scale(RATIO, RATIO);
+  context.scale(PNG_SCALE, PNG_SCALE);
   drawWaves(context, picture);
   context.globalCompositeOperation = "destination-over";
   context.fillStyle = colours.sheet;

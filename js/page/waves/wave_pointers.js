@@ -1,4 +1,4 @@
-// Touch, mouse and wheel input on the waves. A click places the cursor. A drag moves the visible part, or a row by its name. Two fingers or
+// Touch, mouse and wheel input on the waves. A click places the cursor. A drag pans the waves, or moves a row by its name. Two fingers or
 // the wheel zoom.
 
 /**
@@ -8,14 +8,14 @@
 /**
  * The callbacks of the pointer input. Points are in pixels from the top left corner.
  * @typedef {object} PointerCalls
- * @property {(point: Point, isOther: boolean) => void} click Places the active cursor at a point; the other cursor if `isOther` (with
- *   Shift).
+ * @property {(point: Point, isOtherCursor: boolean) => void} click Places the active cursor at a point; the other cursor if `isOtherCursor`
+ *   (with Shift).
  * @property {(point: Point) => boolean} holdsCursor Returns true if a drag from this point moves the cursor.
  * @property {(point: Point) => void} drag Moves the dragged cursor to a point.
- * @property {(point: Point) => boolean} isName Returns true if a point is on the row names.
+ * @property {(point: Point) => boolean} isOnRowName Returns true if a point is on the row names.
  * @property {(from: Point, to: Point) => void} dragRow Moves the row whose name is at `from` to the position `to`.
  * @property {(point: Point | null) => void} hover Handles a pointer that hovers at a point; null if the pointer has left or is pressed.
- * @property {(pixels: number) => void} pan Moves the visible part; positive numbers move to later moments.
+ * @property {(pixels: number) => void} pan Pans by a number of pixels; positive numbers move to later moments.
  * @property {(factor: number, x: number) => void} zoom Multiplies the pixels per cycle by `factor`. The moment at `x` stays in place.
  */
 
@@ -33,8 +33,8 @@ export class WavePointers {
     this.node = node;
     this.calls = calls;
     /** @type {Map<number, Point>} the pressed pointers, by pointer id */
-    this.down = new Map();
-    this.begun = { x: 0, y: 0 };
+    this.pressedPointers = new Map();
+    this.startPoint = { x: 0, y: 0 };
     this.hasMoved = false;
     this.holdsCursor = false;
     this.holdsRow = false;
@@ -42,15 +42,15 @@ export class WavePointers {
     node.addEventListener("pointerdown", (event) => this.begin(event));
     node.addEventListener("pointermove", (event) => this.move(event));
     node.addEventListener("pointerup", (event) => this.end(event));
-    node.addEventListener("pointercancel", (event) => this.down.delete(event.pointerId));
-    node.addEventListener("wheel", (event) => this.turn(event), { passive: false });
+    node.addEventListener("pointercancel", (event) => this.pressedPointers.delete(event.pointerId));
+    node.addEventListener("wheel", (event) => this.handleWheel(event), { passive: false });
   }
 
   /**
    * @param {MouseEvent} event
    * @returns {Point}
    */
-  pointOf(event) {
+  eventPoint(event) {
     const box = this.node.getBoundingClientRect();
     return { x: event.clientX - box.left, y: event.clientY - box.top };
   }
@@ -58,50 +58,50 @@ export class WavePointers {
   /** @param {PointerEvent} event */
   begin(event) {
     if (event.button !== 0) return;
-    const point = this.pointOf(event);
+    const point = this.eventPoint(event);
     this.node.setPointerCapture(event.pointerId);
-    this.down.set(event.pointerId, point);
-    this.hasMoved = this.down.size > 1;
-    this.begun = point;
-    this.holdsCursor = this.down.size === 1 && this.calls.holdsCursor(point);
-    this.holdsRow = this.down.size === 1 && this.calls.isName(point);
+    this.pressedPointers.set(event.pointerId, point);
+    this.hasMoved = this.pressedPointers.size > 1;
+    this.startPoint = point;
+    this.holdsCursor = this.pressedPointers.size === 1 && this.calls.holdsCursor(point);
+    this.holdsRow = this.pressedPointers.size === 1 && this.calls.isOnRowName(point);
     this.calls.hover(null);
   }
 
   /** @param {PointerEvent} event */
   move(event) {
-    const before = this.down.get(event.pointerId);
-    const point = this.pointOf(event);
-    if (!before) {
+    const previousPoint = this.pressedPointers.get(event.pointerId);
+    const point = this.eventPoint(event);
+    if (!previousPoint) {
       if (event.pointerType === "mouse") this.calls.hover(point);
       return;
     }
-    if (Math.abs(point.x - this.begun.x) + Math.abs(point.y - this.begun.y) > CLICK_DISTANCE) this.hasMoved = true;
+    if (Math.abs(point.x - this.startPoint.x) + Math.abs(point.y - this.startPoint.y) > CLICK_DISTANCE) this.hasMoved = true;
     if (!this.hasMoved) return;
-    if (this.down.size === 2) this.pinch(event.pointerId, before, point);
+    if (this.pressedPointers.size === 2) this.pinch(event.pointerId, previousPoint, point);
     else if (this.holdsCursor) this.calls.drag(point);
-    else if (this.holdsRow) this.calls.dragRow(before, point);
-    else this.calls.pan(before.x - point.x);
-    this.down.set(event.pointerId, point);
+    else if (this.holdsRow) this.calls.dragRow(previousPoint, point);
+    else this.calls.pan(previousPoint.x - point.x);
+    this.pressedPointers.set(event.pointerId, point);
   }
 
   /**
    * @param {number} id
-   * @param {Point} before
+   * @param {Point} previousPoint
    * @param {Point} point
    */
-  pinch(id, before, point) {
-    const [otherPoint] = [...this.down].filter(([pointerId]) => pointerId !== id).map(([, at]) => at);
-    const old = Math.max(20, Math.abs(before.x - otherPoint.x));
-    const now = Math.max(20, Math.abs(point.x - otherPoint.x));
-    this.calls.pan((before.x - point.x) / 2);
-    this.calls.zoom(now / old, (point.x + otherPoint.x) / 2);
+  pinch(id, previousPoint, point) {
+    const [otherPoint] = [...this.pressedPointers].filter(([pointerId]) => pointerId !== id).map(([, position]) => position);
+    const oldDistance = Math.max(20, Math.abs(previousPoint.x - otherPoint.x));
+    const newDistance = Math.max(20, Math.abs(point.x - otherPoint.x));
+    this.calls.pan((previousPoint.x - point.x) / 2);
+    this.calls.zoom(newDistance / oldDistance, (point.x + otherPoint.x) / 2);
   }
 
   /** @param {PointerEvent} event */
   end(event) {
-    if (!this.down.delete(event.pointerId)) return;
-    if (!this.hasMoved) this.calls.click(this.pointOf(event), event.shiftKey);
+    if (!this.pressedPointers.delete(event.pointerId)) return;
+    if (!this.hasMoved) this.calls.click(this.eventPoint(event), event.shiftKey);
   }
 
   /**
@@ -109,11 +109,11 @@ export class WavePointers {
    * a turn with Shift, pans.
    * @param {WheelEvent} event
    */
-  turn(event) {
+  handleWheel(event) {
     const { deltaX, deltaY, shiftKey, ctrlKey, metaKey } = event;
-    const point = this.pointOf(event);
+    const point = this.eventPoint(event);
     const isSideways = shiftKey || Math.abs(deltaX) > Math.abs(deltaY);
-    if (!ctrlKey && !metaKey && !isSideways && this.calls.isName(point)) return;
+    if (!ctrlKey && !metaKey && !isSideways && this.calls.isOnRowName(point)) return;
     event.preventDefault();
     if (isSideways) this.calls.pan(deltaX || deltaY);
     else if (deltaY !== 0) this.calls.zoom(deltaY < 0 ? WHEEL_FACTOR : 1 / WHEEL_FACTOR, point.x);

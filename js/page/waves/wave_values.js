@@ -1,18 +1,18 @@
-// The table of values at the cursors. It is updated only while it is open.
+// The table of values at the cursors, which is updated only while the table is open.
 
 import { Cell, block, byId, element } from "../ui/dom.js";
 
 /** @typedef {import("../../core/waves/wave_recording.js").Waves} Waves */
 
 export class WaveValues {
-  /** @param {() => void} opened called after the table has been opened or closed */
-  constructor(opened) {
+  /** @param {() => void} onToggle called after the table has been opened or closed */
+  constructor(onToggle) {
     this.node = byId("wave-values", HTMLDetailsElement);
     /** @type {number[]} the line of each row */
     this.rows = [];
     /** @type {Cell[][]} */
     this.cells = [];
-    this.node.addEventListener("toggle", opened);
+    this.node.addEventListener("toggle", onToggle);
   }
 
   /**
@@ -22,8 +22,8 @@ export class WaveValues {
   draw({ lines }, rows) {
     this.rows = rows.map(({ line }) => line);
     this.cells = rows.map(() => [new Cell(element("td")), new Cell(element("td"))]);
-    const rowNodes = rows.map(({ line, title }, at) => element("tr", {}, element("th", { scope: "row" }, title || lines[line].name),
-      ...this.cells[at].map((cell) => cell.node)));
+    const rowNodes = rows.map(({ line, title }, index) => element("tr", {}, element("th", { scope: "row" }, title || lines[line].name),
+      ...this.cells[index].map((cell) => cell.node)));
     block("wave-table").replaceChildren(...rowNodes);
   }
 
@@ -33,6 +33,6 @@ export class WaveValues {
    */
   show(waves, cursors) {
     if (!this.node.open) return;
-    this.cells.forEach((cells, row) => cells.forEach((cell, at) => cell.set(waves.valueAt(this.rows[row], cursors[at]))));
+    this.cells.forEach((cells, row) => cells.forEach((cell, index) => cell.set(waves.valueAt(this.rows[row], cursors[index]))));
   }
 }

@@ -2,23 +2,23 @@
 
 import { Cell, block, button, byId, field, onClick, pressedSwitch } from "../ui/dom.js";
 import { AXIS, ROW, drawWaves } from "./wave_canvas.js";
-import { measureAt, measureText } from "../../core/waves/measuring.js";
+import { measureAt, describeMeasurement } from "../../core/waves/measuring.js";
 import { RowMenu } from "./row_menu.js";
 import { WavePointers } from "./wave_pointers.js";
 import { ROW_COLOURS, WaveRows } from "../../core/waves/wave_rows.js";
 import { WaveValues } from "./wave_values.js";
 import { WaveWindow } from "../../core/waves/wave_window.js";
-import { betweenText, cursorText, spokenText } from "../../core/waves/wave_words.js";
+import { describeDistance, describeCursor, screenReaderText } from "../../core/waves/wave_words.js";
 import * as say from "../../words/waves.js";
 
 /**
  * @typedef {import("./wave_canvas.js").Colours} Colours
  * @typedef {import("./wave_canvas.js").Picture} Picture
  * @typedef {import("./wave_pointers.js").Point} Point
- * @typedef {import("../../core/waves/wave_rows.js").KeptRows} KeptRows
+ * @typedef {import("../../core/waves/wave_rows.js").StoredRows} StoredRows
  * @typedef {import("../../core/waves/wave_rows.js").RowColour} RowColour
  * @typedef {import("../../core/waves/wave_rows.js").WaveRow} WaveRow
- * @typedef {import("../../core/waves/wave_words.js").Base} Base
+ * @typedef {import("../../core/waves/wave_words.js").NumberBase} NumberBase
  * @typedef {import("../../core/waves/wave_recording.js").Waves} Waves
  */
 
@@ -27,7 +27,7 @@ import * as say from "../../words/waves.js";
  * @typedef {object} WaveViewCalls
  * @property {(address: number) => void} goTo Shows an address in the source and in the disassembly.
  * @property {(name: string) => void} hide Hides a line by its name.
- * @property {(rows: KeptRows) => void} keep Stores the arrangement of the rows.
+ * @property {(rows: StoredRows) => void} storeRows Stores the arrangement of the rows.
  */
 
 /** The zoom factor of one click or key press. */
@@ -37,7 +37,7 @@ const GUTTER = 150;
 /** The width in pixels of that gutter in a narrow view. */
 const NARROW_GUTTER = 112;
 /** The width in pixels below which a view is narrow. */
-const NARROW = 600;
+const NARROW_WIDTH = 600;
 /** The maximum number of rows that are visible without scrolling. */
 const MAX_ROWS = 20;
 
@@ -48,7 +48,7 @@ const COLOURS = {
   ...Object.fromEntries(ROW_COLOURS.map((colour) => [colour, `--wave-${colour}`])),
 };
 /** The distance in pixels between the pointer and the measurement next to it. */
-const NEAR = 12;
+const MEASURE_DISTANCE = 12;
 
 export class WaveView {
   /** @param {WaveViewCalls} calls */
@@ -60,35 +60,35 @@ export class WaveView {
     /** @type {Waves | null} */
     this.waves = null;
     /** @type {number[]} the lines to show, in board order */
-    this.chosen = [];
+    this.chosenLines = [];
     this.arrangement = new WaveRows();
     /** @type {WaveRow[]} */
     this.rows = [];
     /** @type {WaveRow | null} the row that the user drags by its name; null if there is none */
-    this.dragged = null;
+    this.draggedRow = null;
     /** @type {Point | null} the position of the hovering pointer; null if it has left or is pressed */
     this.pointer = null;
     this.measure = block("wave-measure");
-    this.measured = new Cell(this.measure);
+    this.measureCell = new Cell(this.measure);
     this.menu = new RowMenu(this);
     /** The index of the selected row, or -1 if there is none. Edges are searched in this row. */
     this.selected = -1;
     this.view = new WaveWindow(0);
     /** True if a drawing has been requested but not executed. */
-    this.isRequested = false;
-    /** @type {Base} the number base of values */
+    this.isDrawingRequested = false;
+    /** @type {NumberBase} the number base of values */
     this.base = "hex";
     /** The moment of the trigger, or -1 if there is none. */
     this.trigger = -1;
     this.status = ["wave-first", "wave-second", "wave-between"].map((id) => new Cell(block(id)));
-    this.active = [pressedSwitch(button("cursor-a")), pressedSwitch(button("cursor-b"))];
+    this.cursorSwitches = [pressedSwitch(button("cursor-a")), pressedSwitch(button("cursor-b"))];
     this.values = new WaveValues(() => this.requestDrawing());
-    this.listen();
+    this.addListeners();
     this.listenToButtons();
   }
 
-  listen() {
-    this.canvas.addEventListener("keydown", (event) => this.type(event));
+  addListeners() {
+    this.canvas.addEventListener("keydown", (event) => this.handleKey(event));
     this.canvas.addEventListener("focus", () => this.requestDrawing());
     this.canvas.addEventListener("contextmenu", (event) => this.openMenu(event));
     this.scroll.addEventListener("scroll", () => this.requestDrawing());
@@ -97,10 +97,10 @@ export class WaveView {
       matchMedia(query).addEventListener("change", () => this.requestDrawing());
     }
     new WavePointers(this.canvas, {
-      click: (point, isOther) => this.click(point, isOther),
+      click: (point, isOtherCursor) => this.click(point, isOtherCursor),
       holdsCursor: ({ x, y }) => y < AXIS && x >= this.gutter,
       drag: ({ x }) => this.move(this.view.cyclesAt(x - this.gutter)),
-      isName: ({ x, y }) => y >= AXIS && x < this.gutter,
+      isOnRowName: ({ x, y }) => y >= AXIS && x < this.gutter,
       dragRow: (from, to) => this.dragRow(from, to),
       hover: (point) => this.hover(point),
       pan: (pixels) => this.changeView(() => this.view.goTo(this.view.from + (pixels / this.view.width) * this.view.span)),
@@ -112,15 +112,15 @@ export class WaveView {
     onClick(button("zoom-in"), () => this.zoom(ZOOM));
     onClick(button("zoom-out"), () => this.zoom(1 / ZOOM));
     onClick(button("zoom-all"), () => this.changeView(() => this.view.showAll()));
-    onClick(button("edge-before"), () => this.toEdge(false));
-    onClick(button("edge-after"), () => this.toEdge(true));
+    onClick(button("edge-before"), () => this.moveToEdge(false));
+    onClick(button("edge-after"), () => this.moveToEdge(true));
     onClick(button("wave-go-to"), () => this.showInstruction());
     onClick(button("cursor-a"), () => this.activate(0));
     onClick(button("cursor-b"), () => this.activate(1));
   }
 
   get gutter() {
-    return this.scroll.clientWidth < NARROW ? NARROW_GUTTER : GUTTER;
+    return this.scroll.clientWidth < NARROW_WIDTH ? NARROW_GUTTER : GUTTER;
   }
 
   /** The line of the selected row, or -1 if there is none. */
@@ -130,14 +130,14 @@ export class WaveView {
 
   /** The names of the visible lines, in row order. */
   get names() {
-    const { waves, arrangement, chosen } = this;
-    return waves ? arrangement.ordered(chosen.map((line) => waves.lines[line].name)) : [];
+    const { waves, arrangement, chosenLines } = this;
+    return waves ? arrangement.sortNames(chosenLines.map((line) => waves.lines[line].name)) : [];
   }
 
   /** The visible lines, in row order. */
   get lines() {
-    const { waves, names, chosen } = this;
-    const numbers = new Map(waves ? chosen.map((line) => [waves.lines[line].name, line]) : []);
+    const { waves, names, chosenLines } = this;
+    const numbers = new Map(waves ? chosenLines.map((line) => [waves.lines[line].name, line]) : []);
     return names.map((name) => numbers.get(name) || 0);
   }
 
@@ -177,7 +177,7 @@ export class WaveView {
     this.changeView(() => this.view.showAround(moment));
   }
 
-  /** @param {Base} base the number base of values */
+  /** @param {NumberBase} base the number base of values */
   setBase(base) {
     this.base = base;
     if (this.waves) this.waves.base = base;
@@ -186,19 +186,19 @@ export class WaveView {
 
   /** @param {number[]} lines the lines to show, in board order */
   choose(lines) {
-    this.chosen = lines;
+    this.chosenLines = lines;
     this.arrange(this.rows[this.selected]);
   }
 
   /**
    * Arranges the rows again after they have changed or moved.
-   * @param {WaveRow | undefined} marked the row to select
+   * @param {WaveRow | undefined} selectedRow the row to select
    */
-  arrange(marked) {
+  arrange(selectedRow) {
     const { waves } = this;
-    this.rows = waves ? this.arrangement.arrange(waves.lines, this.chosen) : [];
+    this.rows = waves ? this.arrangement.arrange(waves.lines, this.chosenLines) : [];
     const { length } = this.rows;
-    this.selected = Math.max(marked ? this.rowOf(marked) : -1, length > 0 ? 0 : -1);
+    this.selected = Math.max(selectedRow ? this.indexOfRow(selectedRow) : -1, length > 0 ? 0 : -1);
     this.room.style.setProperty("height", `${AXIS + length * ROW}px`);
     this.scroll.style.setProperty("height", `${AXIS + Math.max(1, Math.min(MAX_ROWS, length)) * ROW}px`);
     if (waves) this.values.draw(waves, this.rows.filter(({ line }) => line >= 0));
@@ -209,43 +209,43 @@ export class WaveView {
    * Returns a row's index after a change, or -1 if the row is no longer visible.
    * @param {WaveRow} row
    */
-  rowOf({ line, group }) {
+  indexOfRow({ line, group }) {
     return this.rows.findIndex((row) => row.line === line && (line >= 0 || row.group === group));
   }
 
   /** @param {Point} point */
-  rowAt({ y }) {
+  rowIndexAt({ y }) {
     return y < AXIS ? -1 : Math.floor((y - AXIS + this.scroll.scrollTop) / ROW);
   }
 
   // --- the arrangement of rows ---
 
-  /** @param {KeptRows | undefined} kept the stored arrangement of a session */
-  open(kept) {
-    this.arrangement = new WaveRows(kept);
+  /** @param {StoredRows | undefined} storedRows the stored arrangement of a session */
+  open(storedRows) {
+    this.arrangement = new WaveRows(storedRows);
     this.arrange(undefined);
   }
 
   /**
    * Changes the arrangement of the rows and stores it.
-   * @param {() => void} act
+   * @param {() => void} action
    */
-  rearrange(act) {
-    const marked = this.rows[this.selected];
-    act();
-    this.arrange(marked);
-    this.calls.keep(this.arrangement.kept);
+  rearrange(action) {
+    const selectedRow = this.rows[this.selected];
+    action();
+    this.arrange(selectedRow);
+    this.calls.storeRows(this.arrangement.kept);
   }
 
   /**
-   * @param {number} at
+   * @param {number} index
    * @param {number} to
    */
-  moveRow(at, to) {
+  moveRow(index, to) {
     const { names, rows } = this;
-    if (!rows[at] || !rows[to]) return;
-    this.select(at);
-    this.rearrange(() => this.arrangement.move(rows, names, at, to));
+    if (!rows[index] || !rows[to]) return;
+    this.select(index);
+    this.rearrange(() => this.arrangement.move(rows, names, index, to));
     this.select(this.selected);
   }
 
@@ -254,9 +254,9 @@ export class WaveView {
    * @param {Point} to
    */
   dragRow(from, to) {
-    this.dragged = this.dragged || this.rows[this.rowAt(from)] || null;
-    const at = this.dragged ? this.rowOf(this.dragged) : -1;
-    if (at >= 0 && this.rowAt(to) !== at) this.moveRow(at, this.rowAt(to));
+    this.draggedRow = this.draggedRow || this.rows[this.rowIndexAt(from)] || null;
+    const index = this.draggedRow ? this.indexOfRow(this.draggedRow) : -1;
+    if (index >= 0 && this.rowIndexAt(to) !== index) this.moveRow(index, this.rowIndexAt(to));
   }
 
   /**
@@ -283,9 +283,9 @@ export class WaveView {
   openMenu(event) {
     event.preventDefault();
     const { left, top } = this.canvas.getBoundingClientRect();
-    const at = this.rowAt({ x: event.clientX - left, y: event.clientY - top });
+    const index = this.rowIndexAt({ x: event.clientX - left, y: event.clientY - top });
     const isPointed = event.button === 2 || event.ctrlKey || (event instanceof PointerEvent && event.pointerType === "touch");
-    if (this.rows[at] && isPointed) this.select(at);
+    if (this.rows[index] && isPointed) this.select(index);
     const row = this.rows[this.selected];
     const y = top + AXIS + this.selected * ROW - this.scroll.scrollTop;
     if (row) this.menu.open(row, { left: Math.max(left, event.clientX), bottom: event.clientY > top ? event.clientY : y });
@@ -296,37 +296,38 @@ export class WaveView {
   /** @param {Point | null} point the pointer's position; null if the pointer is pressed or has left */
   hover(point) {
     this.pointer = point;
-    if (!point) this.dragged = null;
+    if (!point) this.draggedRow = null;
     this.requestDrawing();
   }
 
   /**
-   * Shows the measurement at the pointer in a text beside it. Returns the part of the row to underline, or null if there is no measurement.
+   * Shows the measurement at the pointer in a text beside it. Returns the range of the row to underline, or null if there is no
+   * measurement.
    * @param {Waves} waves
-   * @returns {import("./wave_canvas.js").Stretch | null}
+   * @returns {import("./wave_canvas.js").RowRange | null}
    */
   showMeasure(waves) {
     const { pointer, gutter, view } = this;
-    const row = pointer ? this.rowAt(pointer) : -1;
+    const row = pointer ? this.rowIndexAt(pointer) : -1;
     const { line = -1 } = this.rows[row] || {};
     const isOn = pointer !== null && pointer.x >= gutter && line >= 0;
     if (this.measure.hidden === isOn) this.measure.hidden = !isOn;
     if (!pointer || !isOn) return null;
     const moment = Math.min(Math.max(Math.floor(view.cyclesAt(pointer.x - gutter)), waves.from), waves.cycles);
     const measure = measureAt(waves, line, moment);
-    this.measured.set(measureText(waves.valueAt(line, moment), measure));
+    this.measureCell.set(describeMeasurement(waves.valueAt(line, moment), measure));
     const { offsetWidth, style } = this.measure;
     const box = this.canvas.getBoundingClientRect();
-    style.setProperty("left", `${Math.max(0, Math.min(box.left + pointer.x + NEAR, box.right - offsetWidth))}px`);
-    style.setProperty("top", `${box.top + pointer.y + NEAR}px`);
+    style.setProperty("left", `${Math.max(0, Math.min(box.left + pointer.x + MEASURE_DISTANCE, box.right - offsetWidth))}px`);
+    style.setProperty("top", `${box.top + pointer.y + MEASURE_DISTANCE}px`);
     return { row, from: measure.from, to: measure.to };
   }
 
   // --- actions of the user ---
 
-  /** @param {() => void} act changes the visible part */
-  changeView(act) {
-    act();
+  /** @param {() => void} action changes which cycles are visible */
+  changeView(action) {
+    action();
     this.requestDrawing();
   }
 
@@ -349,15 +350,15 @@ export class WaveView {
    */
   zoom(factor) {
     const { view } = this;
-    const isSeen = view.moment >= view.from && view.moment <= view.to;
-    this.changeView(() => view.zoom(factor, isSeen ? view.moment : view.from + view.span / 2));
+    const isVisible = view.moment >= view.from && view.moment <= view.to;
+    this.changeView(() => view.zoom(factor, isVisible ? view.moment : view.from + view.span / 2));
   }
 
   /**
    * Moves the active cursor to the next or previous edge of the selected row.
    * @param {boolean} isForward
    */
-  toEdge(isForward) {
+  moveToEdge(isForward) {
     if (!this.waves || this.line < 0) return;
     const { moment } = this.view;
     const edge = isForward ? this.waves.changeAfter(this.line, moment) : this.waves.changeBefore(this.line, moment);
@@ -389,64 +390,64 @@ export class WaveView {
   select(row) {
     this.selected = Math.min(Math.max(row, 0), this.rows.length - 1);
     const top = this.selected * ROW;
-    const seen = this.scroll.clientHeight - AXIS;
+    const visibleHeight = this.scroll.clientHeight - AXIS;
     if (top < this.scroll.scrollTop) this.scroll.scrollTop = top;
-    else if (top + ROW > this.scroll.scrollTop + seen) this.scroll.scrollTop = top + ROW - seen;
+    else if (top + ROW > this.scroll.scrollTop + visibleHeight) this.scroll.scrollTop = top + ROW - visibleHeight;
     this.requestDrawing();
   }
 
   /**
    * @param {Point} point
-   * @param {boolean} isOther
+   * @param {boolean} isOtherCursor
    */
-  click({ x, y }, isOther) {
+  click({ x, y }, isOtherCursor) {
     if (!this.waves) return;
-    const row = this.rowAt({ x, y });
+    const row = this.rowIndexAt({ x, y });
     if (this.rows[row]) this.select(row);
     if (this.rows[row] && this.rows[row].line < 0) this.fold(this.rows[row].group);
     if (x < this.gutter) return;
-    if (isOther) this.view.active = 1 - this.view.active;
+    if (isOtherCursor) this.view.active = 1 - this.view.active;
     this.move(this.view.momentAt(x - this.gutter, this.waves, y >= AXIS ? this.line : -1));
   }
 
   /** @param {KeyboardEvent} event */
-  type(event) {
+  handleKey(event) {
     if (event.ctrlKey || event.metaKey || !this.waves) return;
     const { view } = this;
-    const far = event.shiftKey ? 10 : 1;
-    const way = { ArrowUp: -1, ArrowDown: 1 }[event.key];
-    if (event.altKey && way !== undefined) {
+    const stepSize = event.shiftKey ? 10 : 1;
+    const direction = { ArrowUp: -1, ArrowDown: 1 }[event.key];
+    if (event.altKey && direction !== undefined) {
       event.preventDefault();
-      this.moveRow(this.selected, this.selected + way);
+      this.moveRow(this.selected, this.selected + direction);
     }
     if (event.altKey) return;
     /** @type {Record<string, (() => void) | undefined>} */
-    const acts = {
-      ArrowLeft: () => this.move(view.moment - far), ArrowRight: () => this.move(view.moment + far),
+    const actions = {
+      ArrowLeft: () => this.move(view.moment - stepSize), ArrowRight: () => this.move(view.moment + stepSize),
       ArrowUp: () => this.select(this.selected - 1), ArrowDown: () => this.select(this.selected + 1),
       PageUp: () => this.move(view.moment - view.span / 2), PageDown: () => this.move(view.moment + view.span / 2),
       Home: () => this.move(view.begin), End: () => this.move(view.end),
       "+": () => this.zoom(ZOOM), "-": () => this.zoom(1 / ZOOM), 0: () => this.changeView(() => view.showAll()),
       Enter: () => this.enter(),
       "/": () => field("wave-search").focus(),
-      p: () => this.toEdge(false), n: () => this.toEdge(true), a: () => this.activate(0), b: () => this.activate(1),
+      p: () => this.moveToEdge(false), n: () => this.moveToEdge(true), a: () => this.activate(0), b: () => this.activate(1),
     };
-    const act = acts[event.key] || acts[event.key.toLowerCase()];
+    const action = actions[event.key] || actions[event.key.toLowerCase()];
     // Keys that are pressed on the canvas must not press the board's keys.
-    if (event.key.length === 1 || act) event.stopPropagation();
-    if (!act) return;
+    if (event.key.length === 1 || action) event.stopPropagation();
+    if (!action) return;
     event.preventDefault();
-    act();
+    action();
   }
 
   // --- drawing ---
 
   /** Requests one drawing at the next animation frame. */
   requestDrawing() {
-    if (this.isRequested || !this.waves) return;
-    this.isRequested = true;
+    if (this.isDrawingRequested || !this.waves) return;
+    this.isDrawingRequested = true;
     requestAnimationFrame(() => {
-      this.isRequested = false;
+      this.isDrawingRequested = false;
       this.show();
     });
   }
@@ -455,15 +456,15 @@ export class WaveView {
     const { waves, view } = this;
     if (!waves || this.scroll.clientWidth === 0) return;
     this.draw(waves, this.showMeasure(waves));
-    this.status[0].set(cursorText("A", view.cursors[0], waves));
-    this.status[1].set(cursorText("B", view.cursors[1], waves));
-    this.status[2].set(betweenText(view.between));
-    this.active.forEach((active, at) => active.set(view.active === at));
+    this.status[0].set(describeCursor("A", view.cursors[0], waves));
+    this.status[1].set(describeCursor("B", view.cursors[1], waves));
+    this.status[2].set(describeDistance(view.between));
+    this.cursorSwitches.forEach((cursorSwitch, cursor) => cursorSwitch.set(view.active === cursor));
     this.canvas.setAttribute("aria-valuemin", String(view.begin));
     this.canvas.setAttribute("aria-valuemax", String(view.end));
     this.canvas.setAttribute("aria-valuenow", String(view.moment));
     const { line = 0, title = "" } = this.rows[this.selected] || {};
-    this.canvas.setAttribute("aria-valuetext", (line < 0 ? say.groupIs(title) : "") + spokenText(view.moment, waves, this.line));
+    this.canvas.setAttribute("aria-valuetext", (line < 0 ? say.groupIs(title) : "") + screenReaderText(view.moment, waves, this.line));
     this.values.show(waves, view.cursors);
   }
 

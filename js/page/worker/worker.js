@@ -1,4 +1,4 @@
-// The bench's worker. It serves one request after another. Between requests, it lets time run at full speed if requested.
+// The bench's worker. The worker serves one request after another. Between requests, time runs at full speed if requested.
 
 import { BenchCalls } from "../../core/engine/bench_calls.js";
 import { earlySender } from "../bench/early_replies.js";
@@ -17,10 +17,10 @@ import { packFault } from "../../core/bench/faults.js";
 const PROGRESS_INTERVAL = 100;
 
 /** @type {Record<string, true>} the calls that change the session even while time is running */
-const CHANGES = { serve: true, serveTyped: true, goOn: true, goBack: true, goForward: true };
+const CHANGING_CALLS = { serve: true, serveTyped: true, goOn: true, goBack: true, goForward: true };
 
 /**
- * Returns true if a call runs time after a key press. The user is waiting for the lamps after such a run.
+ * Returns true if a call runs time after a key press, so that the user is waiting for the lamps.
  * @param {string} call
  * @param {any[]} words
  */
@@ -37,26 +37,26 @@ class BenchWorker {
     /** @type {Request[]} */
     this.requests = [];
     /** The number of the request in progress. */
-    this.current = 0;
+    this.currentRequest = 0;
     /** The number of the last request that the page has cancelled. */
-    this.cancelled = 0;
+    this.cancelledRequest = 0;
     /** The time of the last progress report, in milliseconds. */
-    this.status = 0;
+    this.lastReportTime = 0;
     this.wake = () => {};
     this.resume = () => {};
     const { port1, port2 } = new MessageChannel();
     this.port = port1;
     port2.onmessage = () => this.resume();
-    scope.addEventListener("message", (event) => this.take(event.data));
+    scope.addEventListener("message", (event) => this.handleMessage(event.data));
   }
 
   /** @param {ToWorker} message */
-  take(message) {
+  handleMessage(message) {
     if (message.kind === "request") {
       this.requests.push(message);
       this.calls.bench.spareBuffers.push(...message.spare);
     }
-    if (message.kind === "cancel") this.cancelled = message.number;
+    if (message.kind === "cancel") this.cancelledRequest = message.number;
     if (message.kind === "spare") this.calls.bench.spareBuffers.push(message.buffer);
     if (message.kind === "ping") this.post({ kind: "pong" });
     this.wake();
@@ -72,39 +72,39 @@ class BenchWorker {
 
   /** Resolves after the messages that have arrived in the meantime are handled. */
   yieldToMessages() {
-    return new Promise((done) => {
-      this.resume = () => done(undefined);
+    return new Promise((resolve) => {
+      this.resume = () => resolve(undefined);
       this.port.postMessage(0);
     });
   }
 
-  async work() {
+  async serveForever() {
     for (;;) {
       const request = this.requests.shift();
       if (request) {
-        await this.answer(request);
+        await this.answerRequest(request);
       } else if (this.calls.bench.fullSpeed.isOn) {
-        this.letRun();
+        this.runBatch();
         await this.yieldToMessages();
       } else {
-        await new Promise((done) => {
-          this.wake = () => done(undefined);
+        await new Promise((resolve) => {
+          this.wake = () => resolve(undefined);
         });
       }
     }
   }
 
   /** @param {Request} request */
-  async answer({ number, call, words }) {
-    this.current = number;
-    this.status = performance.now();
+  async answerRequest({ number, call, words }) {
+    this.currentRequest = number;
+    this.lastReportTime = performance.now();
     // Report the run before the call first.
-    if (CHANGES[call] && this.calls.bench.fullSpeed.isOn) this.postFrame(this.calls.bench.takeUnreported());
+    if (CHANGING_CALLS[call] && this.calls.bench.fullSpeed.isOn) this.postFrame(this.calls.bench.takeUnreported());
     try {
       const result = await (/** @type {any} */ (this.calls))[call](...words);
       if (pressesKey(call, words)) this.sendEarly({ kind: "early", number, result });
       this.post({ kind: "reply", number, result }, result && result.file instanceof ArrayBuffer ? [result.file] : []);
-      if (pressesKey(call, words)) this.calls.bench.lookBack();
+      if (pressesKey(call, words)) this.calls.bench.checkLastLines();
     } catch (fault) {
       this.post({ kind: "reply", number, fault: packFault(fault) });
     }
@@ -115,7 +115,7 @@ class BenchWorker {
     this.post({ kind: "frame", frame }, [frame.file]);
   }
 
-  letRun() {
+  runBatch() {
     try {
       const frame = this.calls.bench.batch();
       if (frame) this.postFrame(frame);
@@ -132,13 +132,13 @@ class BenchWorker {
    */
   async reportProgress(done, total) {
     await this.yieldToMessages();
-    if (this.cancelled === this.current) return false;
-    if (performance.now() - this.status > PROGRESS_INTERVAL) {
-      this.status = performance.now();
-      this.post({ kind: "progress", number: this.current, done, total });
+    if (this.cancelledRequest === this.currentRequest) return false;
+    if (performance.now() - this.lastReportTime > PROGRESS_INTERVAL) {
+      this.lastReportTime = performance.now();
+      this.post({ kind: "progress", number: this.currentRequest, done, total });
     }
     return true;
   }
 }
 
-new BenchWorker(/** @type {Scope} */ (/** @type {unknown} */ (self))).work();
+new BenchWorker(/** @type {Scope} */ (/** @type {unknown} */ (self))).serveForever();

@@ -2,8 +2,8 @@ use Rattle.std.proofs.Common.{◌≡◌, ◌∙◌, ◌++◌, ℕ, List, length,
 use Rattle.std.proofs.Math.Seq.{take-append_seam}
 use Rattle.std.proofs.lemmas.List.{length-map}
 use Rattle.mcs_search.specs.Verdicts.{IsProved}
-use Rattle.mcs_check.specs.declared.cells.Cell.{Cell}
-use Rattle.mcs_check.specs.Cells.{key_of, value_at}
+use Rattle.mcs_check.specs.declared.cells.KeyByte.{KeyByte}
+use Rattle.mcs_check.specs.Cells.{byte_at, key_of}
 use Rattle.mcs_check.specs.Conditions.{keeps_to}
 use Rattle.mcs_check.specs.Keys.{setting_of}
 use Rattle.mcs_check.specs.Searched.{rules_of}
@@ -16,8 +16,8 @@ returns-in-Holds c =
     let layout = c.in_ok-layout.layout.items in
     let aim = c.args.aim in
     let key = c.deref-2.result.now in
-    let saved : c.save.new.key ≡ key_of layout m = c.save.ensures ∙ ap (λ (l : List Cell). key_of l m) c.deref.ensures.value in
-    let mapped = ap length c.save.ensures ∙ length-map c.deref.result.now (value_at m) in
+    let saved : c.save.new.key ≡ key_of layout m = c.save.ensures ∙ ap (λ (l : List KeyByte). key_of l m) c.deref.ensures.value in
+    let mapped = ap length c.save.ensures ∙ length-map c.deref.result.now (byte_at m) in
     let few = c.deref.ensures.len in
     let many = c.len.ensures in
     let made = c.in_ok-key.ensures.len in

@@ -1,4 +1,5 @@
-use Rattle.std.proofs.Common.{◌≡◌, ◌∙◌, inl, inr, true, sym}
+use Rattle.std.proofs.Common.{◌≡◌, ◌∙◌, inl, inr, true, sym, ap}
+use Rattle.mcs_drive.specs.Tracked.{Tracked}
 use Rattle.mcs_check.specs.Conditions.{keeps_to, observer_in}
 use Rattle.mcs_check.specs.Scopes.{has_each}
 use Rattle.mcs_check.proofs.Going.{walked-none, walked-more, walked-reaches, walked-keeps}
@@ -22,7 +23,10 @@ loop-preserved c =
     elim c.go_on.ensures [
       | inl e ↦ record {
         walked = walked-more (observer_in c.args.aim.now) (keeps_to nevers) c.args.self.now s t c.loop.invariant.walked well (c.ahead-ahead.ensures.quiet c.if-ahead.false) e;
-        known = λ has rest. known-next (observer_in c.args.aim.now) scope nevers s t (sym c.is_in-has_each.ensures ∙ has) (sym c.ahead-ahead.ensures.changes ∙ rest) well e;
+        known = λ has rest.
+            let same = c.has_changed-changed.ensures rest in
+            let seen = same.1 ∙ ap (λ (m : Tracked). m.2.seen) c.self.view_is in
+            known-next (observer_in c.args.aim.now) scope nevers s t (sym c.is_in-has_each.ensures ∙ has) seen (sym c.ahead-ahead.ensures.changes ∙ same.0) well e;
       }
       | inr spun ↦
           let may = c.may_spin-may.ensures spun.0 in

@@ -1,3 +1,5 @@
+use Rattle.std.proofs.Common.{sym, subst}
+use Rattle.mcs_check.specs.Keys.{Keeps}
 use Rattle.mcs_check.proofs.Keeping.{keeps-itself, keeps-on}
 use Rattle.mcs_check.proofs.replica.Replica.load.Goals as goal
 
@@ -5,4 +7,7 @@ pub loop-i-init : goal.loop-i-init
 loop-i-init c = keeps-itself c.args.self.now.1
 
 pub loop-i-preserved : goal.loop-i-preserved
-loop-i-preserved c = keeps-on c.args.self.now.1 c.loop-i.self.1 c.set.new.self.1 c.loop-i.invariant c.set.ensures
+loop-i-preserved c = keeps-on c.args.self.now.1 c.loop-i.self.1 c.set_byte.new.self.1 c.loop-i.invariant c.set_byte.ensures
+
+pub returns-clause-keeps : goal.returns-clause-keeps
+returns-clause-keeps c = subst (Keeps c.args.self.now.1) (sym c.set_registers.ensures) c.loop-i.invariant

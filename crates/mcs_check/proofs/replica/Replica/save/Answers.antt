@@ -6,7 +6,7 @@ use Rattle.mcs_check.proofs.replica.Replica.save.Goals as goal
 pub loop-i-preserved : goal.loop-i-preserved
 loop-i-preserved c = record {
   len = length-set _ _ _ ∙ c.loop-i.invariant.len;
-  done = saved-more c.args.self.now c.args.layout.now c.loop-i.key c.loop-i.i c.value.result _ (omega arith) c.loop-i.invariant.len c.value.ensures c.loop-i.invariant.done;
+  done = saved-more c.args.self.now c.args.layout.now c.loop-i.key c.loop-i.i c.byte.result _ (omega arith) c.loop-i.invariant.len c.byte.ensures c.loop-i.invariant.done;
 }
 
 pub returns : goal.returns

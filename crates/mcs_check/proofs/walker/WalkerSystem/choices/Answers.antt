@@ -1,5 +1,5 @@
 use Rattle.std.proofs.Common.{◌∙◌, List, ap, subst}
-use Rattle.mcs_check.specs.declared.cells.Cell.{Cell}
+use Rattle.mcs_check.specs.declared.cells.KeyByte.{KeyByte}
 use Rattle.mcs_check.specs.Keys.{Setting, setting_of}
 use Rattle.mcs_check.specs.Searched.{Covers}
 use Rattle.mcs_check.proofs.walker.WalkerSystem.choices.Goals as goal
@@ -8,5 +8,5 @@ pub returns-clause-covers : goal.returns-clause-covers
 returns-clause-covers c =
     let r = c.self.inside.replica in
     let aim = c.self.inside.aim in
-    let same = ap (λ (l : List Cell). setting_of r l aim) c.deref.ensures.value ∙ c.self.view_is in
+    let same = ap (λ (l : List KeyByte). setting_of r l aim) c.deref.ensures.value ∙ c.self.view_is in
     subst (λ (g : Setting). Covers g c.args.key.now c.list_values.new.into.items) same (c.in_ok-list_values.ensures.covers aim)

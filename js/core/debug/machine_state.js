@@ -1,9 +1,9 @@
-// The machine state in a snapshot: registers, RAM, ports, and the selection by SRC. The snapshot holds the answers to `state` and to `ram
-// B` for each bank. RAM is parsed on first use.
+// Parses the machine state in a snapshot: registers, RAM, ports, and the selection by SRC. A snapshot contains the answers to `state`, and
+// to `ram B` for each bank B.
 
 import { readRam } from "../bench/answers.js";
 import { hex } from "../bench/numbers.js";
-import { partsOfState, portsOf, registersOf } from "../bench/state_line.js";
+import { parseState, parsePorts, parseRegisters } from "../bench/state_line.js";
 import * as say from "../../words/debug.js";
 
 /**
@@ -16,31 +16,31 @@ import * as say from "../../words/debug.js";
  * Describes a RAM character: its chip, register and number.
  * @param {number} byte the SRC byte that selects the character
  */
-export function wordsOfCharacter(byte) {
+export function describeCharacter(byte) {
   return say.characterAt(byte >> 6, byte >> 4 & 3, byte & 15);
 }
 
 /** The machine state in a snapshot. */
 export class MachineState {
-  /** @param {string[]} look the answers to `state` and to `ram B` for each bank with chips; each answer is one text */
+  /** @param {string[]} snapshot the answers to `state`, and to `ram B` for each bank B with chips; each answer is one text */
   constructor([state, ...banks]) {
-    const parts = partsOfState(state);
+    const parts = parseState(state);
     /** @type {Registers} */
-    this.registers = registersOf(parts.registers);
+    this.registers = parseRegisters(parts.registers);
     this.parts = parts;
-    this.ports = portsOf(parts.ports);
+    this.ports = parsePorts(parts.ports);
     this.banks = banks;
-    /** @type {Map<number, Ram> | null} the parsed RAM contents; null until they are parsed */
-    this.read = null;
+    /** @type {Map<number, Ram> | null} the parsed RAM contents; null before their first use */
+    this.parsedRam = null;
   }
 
   /** @returns {Map<number, Ram>} the contents of the banks, by bank number */
   get ram() {
-    if (!this.read) {
+    if (!this.parsedRam) {
       const numbers = this.ports.sources.slice(1).map((item) => Number(item.split(".")[0]));
-      this.read = new Map(this.banks.map((answer, at) => [numbers[at], readRam(answer.split("\n"))]));
+      this.parsedRam = new Map(this.banks.map((answer, at) => [numbers[at], readRam(answer.split("\n"))]));
     }
-    return this.read;
+    return this.parsedRam;
   }
 
   /** The bank selected by DCL. */
@@ -57,7 +57,7 @@ export class MachineState {
    * Returns the SRC byte latched in a bank; undefined if the board does not have the bank.
    * @param {number} [bank]
    */
-  sourceOf(bank = this.bank) {
+  latchedSource(bank = this.bank) {
     const found = this.ports.sources.slice(1).map((item) => item.split(".")).find(([number]) => Number(number) === bank);
     return found && parseInt(found[1], 16);
   }
@@ -79,7 +79,7 @@ export class MachineState {
   }
 
   /**
-   * Returns the contents of a RAM register; undefined if the board does not have it.
+   * Returns the contents of a RAM register; undefined if the board does not have this register.
    * @param {number} bank
    * @param {number} register 0 to 15, numbered through all chips of the bank
    */
@@ -89,7 +89,7 @@ export class MachineState {
   }
 
   /**
-   * Returns the value of a RAM character; "" if the board does not have it.
+   * Returns the value of a RAM character; "" if the board does not have this character.
    * @param {number} bank
    * @param {number} byte the SRC byte that selects the character
    */
@@ -99,7 +99,7 @@ export class MachineState {
   }
 
   /**
-   * Returns the value of a status character; "" if the board does not have it.
+   * Returns the value of a status character; "" if the board does not have this character.
    * @param {number} bank
    * @param {number} register 0 to 15, numbered through all chips of the bank
    * @param {number} number the number of the status character, 0 to 3

@@ -1,0 +1,16 @@
+use Rattle.std.proofs.Common.{◌+◌, sym, ap, ◌∙◌, subst, List}
+use Rattle.mcs_check.specs.declared.cells.KeyByte.{KeyByte}
+use Rattle.mcs_check.proofs.Laying.{IsLaid, laid-added, laid-skipped}
+use Rattle.mcs_check.proofs.cells.add_cells.Goals.{then-is_there+in_ok-push, else-is_there}
+use Rattle.mcs_check.proofs.cells.add_cells.Goals as goal
+
+pub loop-index-preserved : goal.loop-index-preserved
+loop-index-preserved c =
+    let b = c.args.board.now in
+    let others = c.args.layout.now.items in
+    let before = c.loop-index.layout.items in
+    let i = c.loop-index.index in
+    elim c.if-is_there.branch [
+      | then-is_there+in_ok-push w ↦ laid-added b c.args.list i others before c.if-is_there.layout.items c.requires (ap (λ v. v.items) w.layout-is ∙ w.in_ok-push.ensures.items) c.loop-index.invariant
+      | else-is_there w ↦ subst (λ (cs : List KeyByte). IsLaid b c.args.list (i + 1) others cs) (sym (ap (λ v. v.items) w.layout-is)) (laid-skipped b c.args.list i others before (sym c.is_there.ensures ∙ w.if-is_there.false) c.loop-index.invariant)
+    ]
