@@ -7,7 +7,6 @@ use Rattle.std.proofs.lemmas.List.Elements.{Contains-append_left, Contains-appen
 use Rattle.mcs_model.specs.declared.board.BoardParts.{BoardParts}
 use Rattle.mcs_model.specs.declared.board.ChainPart.{ChainPart}
 use Rattle.mcs_model.specs.Boards.{IsSized, chain_bits, no_chain}
-use Rattle.mcs_check.specs.declared.cells.Cell.{Cell}
 use Rattle.mcs_check.specs.declared.cells.KeyByte.{KeyByte}
 use Rattle.mcs_check.specs.declared.cells.KeyByte.TheVariants.{One, Pair}
 use Rattle.mcs_check.specs.declared.cells.CellList.{CellList}

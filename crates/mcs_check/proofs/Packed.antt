@@ -1,5 +1,5 @@
 -- Two machines for which one key stands are the same.
-use Rattle.std.proofs.Common.{◌≡◌, ◌<◌, ◌≤◌, ◌+◌, ◌*◌, ◌/◌, ◌%◌, ℕ, zero, suc, inl, inr, true, not, List, [], Option, Some, None, is_some, length, get_or, slice_index, slice_index_or, nat_lt, nat_le, refl, sym, ap, ◌∙◌, subst, arith}
+use Rattle.std.proofs.Common.{◌≡◌, ◌<◌, ◌+◌, ◌*◌, ◌/◌, ◌%◌, ℕ, zero, suc, inl, inr, true, not, List, [], Option, Some, None, is_some, length, get_or, slice_index, slice_index_or, nat_lt, nat_le, refl, sym, ap, ◌∙◌, subst, arith}
 use Rattle.std.specs.List.{Contains}
 use Rattle.std.proofs.Math.Nat.{mod-eq_of_lt}
 use Rattle.std.proofs.lemmas.Bool.{lt-ltb, cases_lt, leb-true, and_parts, not-false}
@@ -15,9 +15,7 @@ use Rattle.mcs_model.proofs.SoundBoards.{sound}
 use Rattle.mcs_model.specs.Bus.{BusState, chips_of, ram_index, ram_port_index, status_index}
 use Rattle.mcs_model.specs.Validity.{AreBelow, IsValidBus, IsValidRegs}
 use Rattle.mcs_drive.specs.Tracked.{Counts, Tracked}
-use Rattle.mcs_check.specs.declared.cells.Cell.{Cell}
 use Rattle.mcs_check.specs.declared.cells.KeyByte.{KeyByte}
-use Rattle.mcs_check.specs.declared.cells.KeyByte.TheVariants.{Pair}
 use Rattle.mcs_check.specs.declared.cells.CellList.{CellList}
 use Rattle.mcs_check.specs.declared.cells.CellList.TheVariants.{Characters, StatusCharacters, RamPorts, RomPorts, BankSrcs, Registers, Counters, Chain}
 use Rattle.mcs_check.specs.Cells.{byte_at, byte_of, counters_of, list_of, count_of, is_narrow, is_there, key_of, IsComplete}

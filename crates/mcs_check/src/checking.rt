@@ -53,6 +53,7 @@ pub fn check_all(
     let layout = layout_of(alloc, replica.board())?;
     let mut key = vec![in alloc; 0u8; layout.len()]?;
     replica.save(&layout, &mut key);
+    let last = vec![in alloc; 0u8; layout.len()]?;
     replica.show_state_is_valid();
     if !aim.keeps(&replica) {
         return Ok(Outcome::MayFail(Vec::new(alloc)));
@@ -60,6 +61,7 @@ pub fn check_all(
     let mut walker = Walker {
         replica,
         layout,
+        last,
         aim,
         most: pause,
     };

@@ -2,7 +2,8 @@
 ghost use Rattle.std.specs.Prelude.{◌≡◌, ◌<◌, All, length, slice_index, IsTrue};
 ghost use Rattle.mcs_model.specs.Validity.{IsValidBus, IsValidRegs};
 ghost use Rattle.mcs_drive.specs.Tracked.{without_calls};
-ghost use Rattle.mcs_check.specs.declared.cells.CellList.TheVariants.{Counters};
+ghost use Rattle.mcs_check.specs.declared.cells.CellList.TheVariants.{Characters, Counters};
+ghost use Rattle.mcs_check.specs.declared.cells.KeyByte.TheVariants.{Pair};
 ghost use Rattle.mcs_check.specs.Cells.{byte_at, list_of, value_at, key_of};
 ghost use Rattle.mcs_check.specs.Keys.{Keeps};
 
@@ -139,6 +140,7 @@ impl Replica {
     }
 
     /// Returns the value of a cell.
+    #[inline(always)]
     pub fn value(&self, cell: Cell) -> u8
         ensures { result ≡ value_at self.now cell }
     {
@@ -164,22 +166,48 @@ impl Replica {
         }
     }
 
-    /// Returns the value of a key's byte.
+    /// Returns the byte that has both cells of a pair.
+    #[inline(always)]
+    fn join_cells(&self, list: CellList, pair: u16) -> u8
+        ensures { result ≡ byte_at self.now (Pair list pair) }
+    {
+        let first = self.value(first_of(list, pair)) % 16;
+        let second = self.value(second_of(list, pair)) % 16;
+        first * 16 + second
+    }
+
+    /// Returns the byte that has both RAM characters of a pair, as `join_cells` does, but finds their bank only once.
+    fn join_characters(&self, pair: u16) -> u8
+        ensures { result ≡ byte_at self.now (Pair Characters pair) }
+    {
+        let pair = pair % 1024;
+        let bank = (pair / 128) as u8;
+        let src = (pair % 128 * 2) as u8;
+        let first = self.rig.ram(bank, src).get() % 16;
+        let second = self.rig.ram(bank, src + 1).get() % 16;
+        first * 16 + second
+    }
+
+    /// Returns the value of a key's byte. The lists with many cells have arms of their own: in such an arm, the compiler
+    /// knows the list, so the program does not look it up for each of the two cells.
     fn byte(&self, byte: KeyByte) -> u8
         ensures { result ≡ byte_at self.now byte }
     {
         match byte {
             KeyByte::One(cell) => self.value(cell),
-            KeyByte::Pair(list, pair) => {
-                let first = self.value(first_of(list, pair)) % 16;
-                let second = self.value(second_of(list, pair)) % 16;
-                first * 16 + second
+            KeyByte::Pair(CellList::Characters, pair) => self.join_characters(pair),
+            KeyByte::Pair(CellList::StatusCharacters, pair) => {
+                self.join_cells(CellList::StatusCharacters, pair)
             }
+            KeyByte::Pair(CellList::Registers, pair) => self.join_cells(CellList::Registers, pair),
+            KeyByte::Pair(CellList::Chain(n), pair) => self.join_cells(CellList::Chain(n), pair),
+            KeyByte::Pair(list, pair) => self.join_cells(list, pair),
         }
     }
 
     /// Sets the value of a cell: of a register in `regs`, of any other cell in this machine. The contract does not
     /// promise the value; `load` checks it with `is_at`.
+    #[inline(always)]
     fn set(&mut self, regs: &mut Regs, cell: Cell, n: u8)
         ensures { Keeps self.old.1 self.new.1 }
     {
@@ -226,16 +254,34 @@ impl Replica {
         }
     }
 
-    /// Sets the cells of a key's byte, as `set` does.
+    /// Sets both cells of a pair from the byte that has them, as `set` does.
+    #[inline(always)]
+    fn split_into_cells(&mut self, regs: &mut Regs, list: CellList, pair: u16, n: u8)
+        ensures { Keeps self.old.1 self.new.1 }
+    {
+        self.set(regs, first_of(list, pair), n / 16);
+        self.set(regs, second_of(list, pair), n % 16);
+    }
+
+    /// Sets the cells of a key's byte, as `set` does. The arms are those of `byte`, for the same reason.
     fn set_byte(&mut self, regs: &mut Regs, byte: KeyByte, n: u8)
         ensures { Keeps self.old.1 self.new.1 }
     {
         match byte {
             KeyByte::One(cell) => self.set(regs, cell, n),
-            KeyByte::Pair(list, pair) => {
-                self.set(regs, first_of(list, pair), n / 16);
-                self.set(regs, second_of(list, pair), n % 16);
+            KeyByte::Pair(CellList::Characters, pair) => {
+                self.split_into_cells(regs, CellList::Characters, pair, n);
             }
+            KeyByte::Pair(CellList::StatusCharacters, pair) => {
+                self.split_into_cells(regs, CellList::StatusCharacters, pair, n);
+            }
+            KeyByte::Pair(CellList::Registers, pair) => {
+                self.split_into_cells(regs, CellList::Registers, pair, n);
+            }
+            KeyByte::Pair(CellList::Chain(chain), pair) => {
+                self.split_into_cells(regs, CellList::Chain(chain), pair, n);
+            }
+            KeyByte::Pair(list, pair) => self.split_into_cells(regs, list, pair, n),
         }
     }
 
@@ -287,6 +333,41 @@ impl Replica {
         }
         self.set_registers(&regs);
         self.is_at(layout, key)
+    }
+
+    /// Sets the cells whose bytes differ in two keys. Returns whether the second key is then the machine's.
+    fn set_changed(&mut self, layout: &[KeyByte], last: &[u8], key: &[u8]) -> bool
+        requires last { length last.now ≡ length layout.now }
+        requires key { length key.now ≡ length layout.now }
+        ensures keeps { Keeps self.old.1 self.new.1 }
+        ensures loaded { IsTrue result → key.now ≡ key_of layout.now self.new }
+    {
+        let mut regs = self.cpu.regs();
+        for i in 0..layout.len() {
+            if last[i] != key[i] {
+                self.set_byte(&mut regs, layout[i], key[i]);
+            }
+        }
+        self.set_registers(&regs);
+        self.is_at(layout, key)
+    }
+
+    /// Sets a layout's cells from a key, as `load` does. This is faster if `last` is the machine's key. `last` becomes
+    /// the new key.
+    pub(crate) fn reload(&mut self, layout: &[KeyByte], last: &mut [u8], key: &[u8]) -> bool
+        requires { length key.now ≡ length layout.now }
+        ensures keeps { Keeps self.old.1 self.new.1 }
+        ensures loaded { IsTrue result → key.now ≡ key_of layout.now self.new }
+    {
+        if last.len() != key.len() {
+            return self.load(layout, key);
+        }
+        let is_set = self.set_changed(layout, last, key);
+        last.copy_from_slice(key);
+        if is_set {
+            return true;
+        }
+        self.load(layout, key)
     }
 
     /// Proves that the machine is valid: its registers and its bus are in their ranges.

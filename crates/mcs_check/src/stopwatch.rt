@@ -153,18 +153,26 @@ pub fn add_limit(
 }
 
 impl Replica {
+    /// Returns whether the stopwatch is at 0 and never begins.
+    fn is_stopped(&self, aim: &Aim) -> bool
+        ensures zero { result ≡ true → self.now.2.elapsed ≡ 0 }
+        ensures never { result ≡ true → (t : Tracked) → (observer_in aim.now).begins t ≡ false }
+    {
+        self.elapsed.is_zero() && aim.never_begins()
+    }
+
     /// Returns whether the counts of the observer never change.
     pub(crate) fn is_still(&self, aim: &Aim) -> bool
         ensures { result ≡ true → IsStill (observer_in aim.now) self.now.2 }
     {
-        self.elapsed.is_zero() && self.seen == 0 && aim.never_begins() && aim.is_unmarked()
+        self.is_stopped(aim) && self.seen == 0 && aim.is_unmarked()
     }
 
     /// Returns the cycles that the stopwatch shows after the machine's next cycle.
     pub(crate) fn elapsed_after(&self, aim: &Aim) -> Cycles
         ensures { result ≡ elapsed_after (observer_in aim.now) self.now }
     {
-        if self.is_still(aim) {
+        if self.is_stopped(aim) {
             return self.elapsed;
         }
         self.elapsed.after(aim.begins(self), aim.ends(self))

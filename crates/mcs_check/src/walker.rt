@@ -14,6 +14,8 @@ use std::marker::Model;
 pub struct Walker {
     pub(crate) replica: Replica,
     pub(crate) layout: Vec<KeyByte>,
+    /// The key that the replica had last.
+    pub(crate) last: Vec<u8>,
     pub(crate) aim: Aim,
     pub(crate) most: u32,
 }
@@ -43,7 +45,7 @@ impl System for Walker {
     ghost rules = { rules_of };
 
     fn choices(&mut self, key: &[u8], into: &mut Vec<u8>) -> Result<(), AllocError> {
-        list_values(&mut self.replica, &self.layout, key, into)?;
+        list_values(&mut self.replica, &self.layout, &mut self.last, key, into)?;
         Ok(())
     }
 
@@ -51,6 +53,7 @@ impl System for Walker {
         follow(
             &mut self.replica,
             &self.layout,
+            &mut self.last,
             &self.aim,
             self.most,
             key,

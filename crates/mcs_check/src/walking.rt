@@ -42,10 +42,11 @@ fn list_readable(replica: &Replica, into: &mut Vec<u8>) -> Result<(), AllocError
 }
 
 /// Lists the values that the machine that a key identifies can read in its next cycle. Lists all 16 values if the key
-/// cannot be loaded.
+/// cannot be loaded. `last` is the key that the replica had last, and becomes this key.
 pub(crate) fn list_values(
     replica: &mut Replica,
     layout: &[KeyByte],
+    last: &mut [u8],
     key: &[u8],
     into: &mut Vec<u8>,
 ) -> Result<(), AllocError>
@@ -57,7 +58,7 @@ pub(crate) fn list_values(
         Covers (setting_of replica.old layout.now aim) key.now into.new.items) }
 {
     into.clear();
-    if key.len() != layout.len() || !replica.load(layout, key) {
+    if key.len() != layout.len() || !replica.reload(layout, last, key) {
         list_all(into)?;
         return Ok(());
     }
@@ -66,12 +67,21 @@ pub(crate) fn list_values(
     Ok(())
 }
 
+/// Copies a key into `last` if it has the same length.
+fn copy_key(last: &mut [u8], key: &[u8]) {
+    if last.len() == key.len() {
+        last.copy_from_slice(key);
+    }
+}
+
 /// Runs the machine that a key identifies until its next read, with `value` as the value that its first cycle reads.
 /// Saves the machine into `into` if the property holds. Returns whether the property holds at every step, or `None` if
-/// the key cannot be loaded or the first cycle cannot read `value`.
+/// the key cannot be loaded or the first cycle cannot read `value`. `last` is the key that the replica had last, and
+/// becomes the key that it has now.
 pub(crate) fn follow(
     replica: &mut Replica,
     layout: &[KeyByte],
+    last: &mut [u8],
     aim: &Aim,
     most: u32,
     key: &[u8],
@@ -89,7 +99,7 @@ pub(crate) fn follow(
     ensures state { IfSome result (λ well. well ≡ true →
         IsState (setting_of replica.old layout.now aim.now) into.new) }
 {
-    if key.len() != layout.len() || !replica.load(layout, key) {
+    if key.len() != layout.len() || !replica.reload(layout, last, key) {
         return None;
     }
     replica.show_state_is_valid();
@@ -103,5 +113,6 @@ pub(crate) fn follow(
     }
     replica.show_state_is_valid();
     replica.save(layout, into);
+    copy_key(last, into);
     Some(true)
 }

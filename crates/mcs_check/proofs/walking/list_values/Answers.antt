@@ -9,6 +9,6 @@ returns-then-key-layout-clause-covers c = λ aim.
 pub returns-clause-covers : goal.returns-clause-covers
 returns-clause-covers c = λ aim.
     let start = c.args.replica.now in
-    let m = c.load.new.self in
-    let on : IsOn start.1.board start.1.rom m = on-kept start m c.show_state_is_valid.ensures.registers c.show_state_is_valid.ensures.bus c.requires.keys c.requires.test c.load.ensures.keeps in
-    covers-read (setting_of start c.args.layout.now aim) c.args.key.now c.list_readable.new.into.items m c.requires.complete on (c.load.ensures.loaded c.if-not-load.false) c.in_ok-list_readable.ensures
+    let m = c.reload.new.self in
+    let on : IsOn start.1.board start.1.rom m = on-kept start m c.show_state_is_valid.ensures.registers c.show_state_is_valid.ensures.bus c.requires.keys c.requires.test c.reload.ensures.keeps in
+    covers-read (setting_of start c.args.layout.now aim) c.args.key.now c.list_readable.new.into.items m c.requires.complete on (c.reload.ensures.loaded c.if-not-reload.false) c.in_ok-list_readable.ensures

@@ -5,13 +5,14 @@ use Rattle.mcs_check.proofs.Ignoring.{conditions-ignore}
 use Rattle.mcs_check.proofs.Spinning.{still-shows}
 use Rattle.mcs_check.proofs.replica.Replica.elapsed_after.Goals as goal
 
-pub returns-then-is_still : goal.returns-then-is_still
-returns-then-is_still c =
+pub returns-then-is_stopped : goal.returns-then-is_stopped
+returns-then-is_stopped c =
     let w = observer_in c.args.aim.now in
     let s = c.args.self.now in
     let shows = ap (λ (t : Tracked). t.2.elapsed) c.self.view_is in
-    let still = c.is_still.ensures c.if-is_still.true in
-    shows ∙ sym (still-shows w s.2.elapsed (begins_at w s) (ends_at w s) still.stands (still.never _))
+    let zero = c.is_stopped.ensures.zero c.if-is_stopped.true in
+    let never = c.is_stopped.ensures.never c.if-is_stopped.true in
+    shows ∙ sym (still-shows w s.2.elapsed (begins_at w s) (ends_at w s) zero (never _))
 
 pub returns : goal.returns
 returns c =
