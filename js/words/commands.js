@@ -103,8 +103,8 @@ export const COMMAND_WORDS = {
     text: `
       An editor starts the debug adapter, and communicates with it over standard input and output. It has breakpoints at lines, addresses
       and labels with conditions, hit counts and log messages; steps over, into, out and back; registers, RAM, ports, lamps and keys,
-      which can be set; the disassembly; and in the console the bench's lines and keys by their names. The manual's chapter "In your
-      editor" has the settings of editors, and what \`launch\` and \`attach\` accept.
+      which can be set; the disassembly; and in the console the bench's lines and keys by their names. editors/README.md has the settings of
+      editors, and the keys of \`launch\` and \`attach\`.
 
       A session file that is launched is in use during that time, and is updated at each stop. Nothing else is written: a file that is
       attached to stays as it is.`,
@@ -274,8 +274,8 @@ export const COMMAND_WORDS = {
     text: `
       An editor starts the language server, and communicates with it over standard input and output. As you type, it shows all errors of
       programs and boards with their places, what words mean, the values of names, and the bytes and cycles of lines. It goes to
-      definitions and references, renames, completes, lists names, offers quick fixes and colours. The manual's chapter "In your editor"
-      has the settings of editors.
+      definitions and references, renames, completes, lists names, offers quick fixes and colours. editors/README.md has the settings of
+      editors.
 
       A program is checked with the board that mcs4.toml names, in its folder or one above it; otherwise with the \`board.toml\` next to
       it, or with a board with all ROMs. Nothing is written.`,

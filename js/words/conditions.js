@@ -122,9 +122,9 @@ export const isNoValue = (name, text) => `${name} is the condition ${text}, but 
 /** @type {(name: string, fault: string) => string} */
 export const inName = (name, fault) => `in ${name}: ${fault}`;
 /** @type {(text: string) => string} */
-export const noConstant = (text) => `${text}is neither a number nor a name of the program`;
+export const noConstant = (text) => `${text} is neither a number nor a name of the program`;
 /** @type {(text: string) => string} */
-export const noNames = (text) => `${text}is not a number; names are known only while the source is the same as ROM`;
+export const noNames = (text) => `${text} is not a number; names are known only while the source is the same as ROM`;
 
 // --- conditions/setting.js ---
 export const SET_FORM = "write `set PLACE = VALUE`, as in: set r4 = 7, set test 0, set ram.0.0x12 = 7";

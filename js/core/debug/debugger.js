@@ -9,9 +9,9 @@
 //     debug.values(["r4", "lamps"]); await debug.goBack({ kind: "instruction" }, shouldContinue); debug.goForward();
 //
 // A move has a goal (goals.js). The debugger runs to a near goal at once. For any other goal, `isMoving` is true until `advance` reports a
-// stop or the caller calls `drop`. The bench has the hard breakpoints, which stop time at every arrival. Soft breakpoints have a
-// condition, a hit count or a note. The debugger finds their stops in advance (arrivals.js), so the session file does not contain soft
-// breakpoints.
+// stop or the caller calls `begin` or `endMove`. The bench has the hard breakpoints, which stop time at every arrival. Soft breakpoints
+// have a condition, a hit count or a note. The debugger finds their stops in advance (arrivals.js), so the session file does not contain
+// soft breakpoints.
 
 import { readBoard, readRun } from "../bench/answers.js";
 import { hex } from "../bench/numbers.js";
@@ -199,11 +199,6 @@ export class Debugger {
     this.startTotal = this.session.count.total;
     this.lateMistakes = [];
     this.usual.begin();
-  }
-
-  /** Drops the goal of the current move. */
-  drop() {
-    this.watcher = null;
   }
 
   /**
