@@ -20,18 +20,18 @@ pub enum Refusal {
     #[error("the board lacks a ROM of the program")]
     NoRom,
     /// A line of the question is invalid. The field is its number, from 1.
-    #[error("line {0} of the question is none")]
+    #[error("line {0} of the question is invalid")]
     Line(usize),
-    /// The question lacks the board's text, the program's text or its end. Or its stopwatch lacks its begin, its end or
-    /// its limit. Or it has marks without conditions that open, such conditions without marks, or more than 200 marks.
-    /// Or a stopwatch or marks are combined with sets of values.
+    /// The question lacks the board's text, the program's text or the line `prove`. Or its stopwatch lacks its begin,
+    /// its end or its limit. Or it has marks without an `open` list, an `open` list without marks, or more than 200
+    /// marks. Or it combines a stopwatch or marks with sets of values.
     #[error("the question lacks a text, its end, a part of its stopwatch or of its marks, or combines these with sets")]
-    NotWhole,
+    Incomplete,
 }
 
 impl From<AllocError> for Refusal {
     ghost use Rattle.std.specs.Prelude.{◌≡◌};
-    ghost use Rattle.mcs_prove.specs.declared.fault.Refusal.TheVariants.{NoMemory};
+    ghost use Rattle.mcs_prove.specs.declared.refusal.Refusal.TheVariants.{NoMemory};
 
     ghost from_gives = { λ _ e. e ≡ NoMemory };
 
