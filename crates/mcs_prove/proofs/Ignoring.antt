@@ -1,4 +1,5 @@
--- Conditions do not look at keys and TEST. (A lemma of mcs_check, whose proofs no other crate sees.)
+-- Conditions depend neither on keys nor on TEST. (mcs_check has the same lemma, but other crates cannot
+-- use its proofs.)
 use Rattle.std.proofs.Common.{◌≡◌, ◌%◌, ℕ, not, cond, ◌&&◌, List, [], ◌∷◌, slice_index, nat_le, refl, ap, ◌∙◌}
 use Rattle.mcs_model.specs.Bus.{fetch_of}
 use Rattle.mcs_drive.specs.Tracked.{Tracked, plain}
@@ -32,13 +33,13 @@ compares-plain t c =
     ap (λ (n : ℕ). cond c.inside (nat_le c.low (part_of n c.part) && nat_le (part_of n c.part) c.high) (not (nat_le c.low (part_of n c.part) && nat_le (part_of n c.part) c.high)))
     (value-plain t c.cell)
 
-mistaken-plain : (asked : Mistakes) (t : Tracked) → is_mistaken asked t ≡ is_mistaken asked (plain t)
+mistaken-plain : (mistakes : Mistakes) (t : Tracked) → is_mistaken mistakes t ≡ is_mistaken mistakes (plain t)
 unfolding fetch_of
-mistaken-plain asked t = refl
+mistaken-plain mistakes t = refl
 
 met-plain : (t : Tracked) (c : Condition) → is_met t c ≡ is_met (plain t) c
 met-plain t (Compare c) = compares-plain t c
-met-plain t (Mistaken asked) = mistaken-plain asked t
+met-plain t (Mistaken mistakes) = mistaken-plain mistakes t
 
 are_met-plain : (t : Tracked) (cs : List Condition) → are_met t cs ≡ are_met (plain t) cs
 are_met-plain t [] = refl

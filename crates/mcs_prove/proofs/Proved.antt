@@ -1,4 +1,4 @@
--- From a rig to the machine of two texts.
+-- An outcome for a rig is an outcome for the machine that two texts define.
 use Rattle.std.proofs.Common.{◌≡◌, ◌∙◌, ◌<◌, ◌&&◌, ℕ, List, [], ◌∷◌, Bool, true, false, not, cond, nat_lt, Option, Some, None, Result, Ok, Err, IfOk, length, refl, sym, ap, subst, arith, eqb}
 use Rattle.std.proofs.lemmas.Bool.{and_parts, eqb-true}
 use Rattle.mcs_model.specs.declared.regs.Regs.{Regs}
@@ -12,12 +12,12 @@ use Rattle.mcs_check.specs.declared.checking.Outcome.TheVariants as outcome
 use Rattle.mcs_check.specs.declared.conditions.Condition.{Condition}
 use Rattle.mcs_check.specs.Conditions.{keeps_to, observer_of}
 use Rattle.mcs_check.specs.Promised.{IsProved}
-use Rattle.mcs_prove.specs.Given.{IsGiven, IsProvedOf, machine_given}
+use Rattle.mcs_prove.specs.MachineOfTexts.{IsRigOfTexts, IsProvedOf, machine_with_program}
 use Rattle.mcs_prove.proofs.Ignoring.{conditions-ignore}
-use Rattle.mcs_prove.specs.declared.fault.Refusal.{Refusal}
-use Rattle.mcs_prove.specs.Questions.{Asked, IsAnswerTo, IsKeptOf, asked_by, is_kept, is_opened, is_posed, is_timed, is_timed_with, observer_asked}
+use Rattle.mcs_prove.specs.declared.refusal.Refusal.{Refusal}
+use Rattle.mcs_prove.specs.Questions.{QuestionSoFar, IsAnswerTo, IsPropertyProvedOf, question_of_text, keeps_property, are_marks_complete, is_consistent, is_stopwatch_complete, is_stopwatch_complete_with, observer_of_question}
 
--- properties that are the same at each machine
+-- an outcome for a property is one for each equal property
 pub proved-same : (w : Observer) (p q : Tracked → Bool) (s : Tracked) (found : Outcome) → ((t : Tracked) → p t ≡ q t) → IsProved w p s found → IsProved w q s found
 proved-same w p q s (outcome.Holds n) same h = λ f fit k. sym (same _) ∙ h f fit k
 proved-same w p q s (outcome.MayFail values) same h = h
@@ -25,17 +25,17 @@ proved-same w p q s outcome.TooMany same h = h
 proved-same w p q s (outcome.NoMemory n) same h = h
 proved-same w p q s outcome.GaveUp same h = h
 
-pub proved-of : (board program : List ℕ) (w : Observer) (p q : Tracked → Bool) (cpu : Regs) (rig : BusState) (found : Outcome) → IsGiven board program rig → cpu ≡ new_regs → ((t : Tracked) → p t ≡ q t) → IsProved w p (without_calls (cpu, rig)) found → IsProvedOf board program w q found
+pub proved-of : (board program : List ℕ) (w : Observer) (p q : Tracked → Bool) (cpu : Regs) (rig : BusState) (found : Outcome) → IsRigOfTexts board program rig → cpu ≡ new_regs → ((t : Tracked) → p t ≡ q t) → IsProved w p (without_calls (cpu, rig)) found → IsProvedOf board program w q found
 proved-of board program w p q cpu rig found g new same h = record {
   parts = g.parts;
   loaded = g.loaded;
   accepted = g.accepted;
-  proved = subst (λ (s : Tracked). IsProved w q s found) g.given (subst (λ (r : Regs). IsProved w q (without_calls (r, rig)) found) new (proved-same w p q (without_calls (cpu, rig)) found same h));
+  proved = subst (λ (s : Tracked). IsProved w q s found) g.is_machine (subst (λ (r : Regs). IsProved w q (without_calls (r, rig)) found) new (proved-same w p q (without_calls (cpu, rig)) found same h));
 }
 
 -- ---- marks
 
--- conditions that open are met in turn, whatever the levels are
+-- the conjunctions that `add_opening` adds say that the marks come before the `open` conditions
 pub in-turn : (opens : List (List Condition)) (marks : List Mark) (s : Tracked) →
     not (not (keeps_to opens s) && nat_lt s.2.seen (length marks)) ≡ is_open_in_turn (observer_of [] [] opens marks) s
 in-turn opens marks s = ap (λ (b : Bool). not (not b && nat_lt s.2.seen (length marks))) (conditions-ignore opens s)
@@ -50,50 +50,50 @@ none : {X : Type 0} (xs : List X) → length xs ≡ 0 → xs ≡ []
 none [] e = refl
 none (x ∷ xs) e = absurd (omega arith)
 
-unlimited : (q : Asked) (o : Option ℕ) → is_timed_with o q ≡ true → 0 < q.sets → (o ≡ None) × ((q.begins ≡ []) × (q.ends ≡ []))
+unlimited : (q : QuestionSoFar) (o : Option ℕ) → is_stopwatch_complete_with o q ≡ true → 0 < q.max_entries → (o ≡ None) × ((q.begins ≡ []) × (q.ends ≡ []))
 unlimited q None h some =
     let parts = and_parts (eqb (length q.begins) 0) (eqb (length q.ends) 0) h in
     (refl, (none q.begins (eqb-true (length q.begins) 0 parts.0), none q.ends (eqb-true (length q.ends) 0 parts.1)))
 unlimited q (Some n) h some =
-    let zero = eqb-true q.sets 0 (and_parts (not (eqb (length q.begins) 0) && not (eqb (length q.ends) 0)) (eqb q.sets 0) h).1 in
+    let zero = eqb-true q.max_entries 0 (and_parts (not (eqb (length q.begins) 0) && not (eqb (length q.ends) 0)) (eqb q.max_entries 0) h).1 in
     absurd (omega arith)
 
-unmarked : (q : Asked) (b : Bool) → eqb (length q.marks) 0 ≡ b → cond b (eqb (length q.opens) 0) (not (eqb (length q.opens) 0) && eqb q.sets 0) ≡ true → 0 < q.sets →
+unmarked : (q : QuestionSoFar) (b : Bool) → eqb (length q.marks) 0 ≡ b → cond b (eqb (length q.opens) 0) (not (eqb (length q.opens) 0) && eqb q.max_entries 0) ≡ true → 0 < q.max_entries →
     (q.opens ≡ []) × (q.marks ≡ [])
 unmarked q true is h some = (none q.opens (eqb-true (length q.opens) 0 h), none q.marks (eqb-true (length q.marks) 0 is))
 unmarked q false is h some =
-    let zero = eqb-true q.sets 0 (and_parts (not (eqb (length q.opens) 0)) (eqb q.sets 0) h).1 in
+    let zero = eqb-true q.max_entries 0 (and_parts (not (eqb (length q.opens) 0)) (eqb q.max_entries 0) h).1 in
     absurd (omega arith)
 
--- the conditions alone
-proved-alone : (board program : List ℕ) (q : Asked) (found : Outcome) → is_posed q ≡ true → 0 < q.sets → IsProvedOf board program no_observer (keeps_to q.nevers) found →
-    IsKeptOf board program (observer_asked q) q.nevers q.limit found
+-- an outcome for the conditions is the outcome for such a question
+proved-alone : (board program : List ℕ) (q : QuestionSoFar) (found : Outcome) → is_consistent q ≡ true → 0 < q.max_entries → IsProvedOf board program no_observer (keeps_to q.nevers) found →
+    IsPropertyProvedOf board program (observer_of_question q) q.nevers q.limit found
 proved-alone board program q found posed some h =
-    let both = and_parts (is_timed q) (is_opened q) posed in
+    let both = and_parts (is_stopwatch_complete q) (are_marks_complete q) posed in
     let parts = unlimited q q.limit both.0 some in
     let marks = unmarked q (eqb (length q.marks) 0) refl both.1 some in
-    let kept : IsKeptOf board program no_observer q.nevers None found = record {
+    let kept : IsPropertyProvedOf board program no_observer q.nevers None found = record {
       parts = h.parts;
       loaded = h.loaded;
       accepted = h.accepted;
-      proved = proved-same no_observer (keeps_to q.nevers) (is_kept no_observer q.nevers None) (machine_given h.parts h.loaded) found (λ t. sym (and-true (keeps_to q.nevers t && true) ∙ and-true (keeps_to q.nevers t))) h.proved;
+      proved = proved-same no_observer (keeps_to q.nevers) (keeps_property no_observer q.nevers None) (machine_with_program h.parts h.loaded) found (λ t. sym (and-true (keeps_to q.nevers t && true) ∙ and-true (keeps_to q.nevers t))) h.proved;
     } in
-    subst (λ (o : Option ℕ). IsKeptOf board program (observer_asked q) q.nevers o found) (sym parts.0)
-    (subst (λ (ms : List Mark). IsKeptOf board program (observer_of q.begins q.ends q.opens ms) q.nevers None found) (sym marks.1)
-    (subst (λ (xs : List (List Condition)). IsKeptOf board program (observer_of q.begins q.ends xs []) q.nevers None found) (sym marks.0)
-    (subst (λ (xs : List (List Condition)). IsKeptOf board program (observer_of q.begins xs [] []) q.nevers None found) (sym parts.1.1)
-    (subst (λ (xs : List (List Condition)). IsKeptOf board program (observer_of xs [] [] []) q.nevers None found) (sym parts.1.0) kept))))
+    subst (λ (o : Option ℕ). IsPropertyProvedOf board program (observer_of_question q) q.nevers o found) (sym parts.0)
+    (subst (λ (ms : List Mark). IsPropertyProvedOf board program (observer_of q.begins q.ends q.opens ms) q.nevers None found) (sym marks.1)
+    (subst (λ (xs : List (List Condition)). IsPropertyProvedOf board program (observer_of q.begins q.ends xs []) q.nevers None found) (sym marks.0)
+    (subst (λ (xs : List (List Condition)). IsPropertyProvedOf board program (observer_of q.begins xs [] []) q.nevers None found) (sym parts.1.1)
+    (subst (λ (xs : List (List Condition)). IsPropertyProvedOf board program (observer_of xs [] [] []) q.nevers None found) (sym parts.1.0) kept))))
 
-pub answered-alone : (text board program : List ℕ) (q : Asked) (nevers : List (List Condition)) (found : Result Outcome Refusal) →
-    asked_by text ≡ Some q → q.is_whole ≡ true → is_posed q ≡ true → q.board ≡ Some board → q.program ≡ Some program → 0 < q.sets → nevers ≡ q.nevers →
+pub answered-alone : (text board program : List ℕ) (q : QuestionSoFar) (nevers : List (List Condition)) (found : Result Outcome Refusal) →
+    question_of_text text ≡ Some q → q.has_prove_line ≡ true → is_consistent q ≡ true → q.board ≡ Some board → q.program ≡ Some program → 0 < q.max_entries → nevers ≡ q.nevers →
     IfOk found (IsProvedOf board program no_observer (keeps_to nevers)) → IfOk found (IsAnswerTo text)
 answered-alone text board program q nevers (Ok found) spells whole posed has_board has_program some same h = record {
-  asked = q;
+  question = q;
   board = board;
   program = program;
   spells = spells;
-  is_whole = whole;
-  is_posed = posed;
+  has_prove_line = whole;
+  is_consistent = posed;
   has_board = has_board;
   has_program = has_program;
   proved = proved-alone board program q found posed some (subst (λ (n : List (List Condition)). IsProvedOf board program no_observer (keeps_to n) found) same h);

@@ -7,8 +7,8 @@ use Rattle.mcs_source.specs.RefusalNumbers.{source_fault_number}
 use Rattle.mcs_wiring.specs.RefusalNumbers.{wiring_fault_number}
 use Rattle.mcs_check.specs.declared.checking.Outcome.{Outcome}
 use Rattle.mcs_check.specs.declared.checking.Outcome.TheVariants as outcome
-use Rattle.mcs_prove.specs.declared.fault.Refusal.{Refusal}
-use Rattle.mcs_prove.specs.declared.fault.Refusal.TheVariants as refusal
+use Rattle.mcs_prove.specs.declared.refusal.Refusal.{Refusal}
+use Rattle.mcs_prove.specs.declared.refusal.Refusal.TheVariants as refusal
 use Rattle.mcs_prove.specs.Questions.{IsAnswerTo}
 
 -- a space and a number in decimal
@@ -29,12 +29,12 @@ refusal_line (refusal.Program line fault) =
     codes "no" ++ (spaced (source_fault_number fault) ++ spaced line)
 refusal_line refusal.NoRom = codes "no" ++ spaced NO_ROM
 refusal_line (refusal.Line line) = codes "wrong line" ++ spaced line
-refusal_line refusal.NotWhole = codes "no question"
+refusal_line refusal.Incomplete = codes "no question"
 
 -- the exit status of a refusal: 2 if the text is not a valid question, 3 if the question has no answer
 abbrev pub refusal_status : Refusal → ℕ
 refusal_status (refusal.Line line) = 2
-refusal_status refusal.NotWhole = 2
+refusal_status refusal.Incomplete = 2
 refusal_status _ = 3
 
 abbrev pub line_of_answer : Result Outcome Refusal → List ℕ
@@ -46,8 +46,8 @@ status_of_answer (Ok found) = 0
 status_of_answer (Err why) = refusal_status why
 
 -- holds if a line and an exit status answer the question that a text contains
-pub record IsAnswered (text line : List ℕ) (status : ℕ) : Type 0 where
+pub record AnswersQuestion (text line : List ℕ) (status : ℕ) : Type 0 where
   pub found : Result Outcome Refusal
-  pub tells : line ≡ line_of_answer found
-  pub ends : status ≡ status_of_answer found
+  pub answer_line : line ≡ line_of_answer found
+  pub exit_status : status ≡ status_of_answer found
   pub proved : IfOk found (IsAnswerTo text)

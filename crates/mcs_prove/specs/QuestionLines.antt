@@ -17,17 +17,17 @@ use Rattle.mcs_check.specs.declared.conditions.Part.{Part}
 use Rattle.mcs_check.specs.declared.conditions.Part.TheVariants.{Whole, Line}
 use Rattle.mcs_check.specs.Cells.{count_of}
 use Rattle.mcs_prove.specs.declared.lines.QuestionLine.{QuestionLine}
-use Rattle.mcs_prove.specs.declared.lines.QuestionLine.TheVariants.{Blank, Most, Sets, Memory, Pause, Within, Wire, Asm, Conditions, Met, Seen, Prove}
+use Rattle.mcs_prove.specs.declared.lines.QuestionLine.TheVariants.{Blank, MaxStates, MaxEntries, MaxMemory, Pause, TimeLimit, BoardText, ProgramText, Conditions, OneCondition, NextMark, Prove}
 use Rattle.mcs_prove.specs.declared.lines.Role.TheVariants.{Never, Begin, End, Open}
-use Rattle.mcs_prove.specs.declared.lines.TheConstants.{LAST_INDEX, LONGEST_LIMIT, LONGEST_PAUSE, MOST_ENTRIES, MOST_MEMORY}
+use Rattle.mcs_prove.specs.declared.lines.TheConstants.{LAST_INDEX, MAX_TIME_LIMIT, MAX_PAUSE, MAX_ENTRIES, MAX_MEMORY}
 
 -- ---- a comparison: `in ramport 0 line1 1 1`
 
-abbrev pub ways : List (List ℕ × Bool)
-ways = (codes "in", true) ∷ (codes "out", false) ∷ []
+abbrev pub comparison_kinds : List (List ℕ × Bool)
+comparison_kinds = (codes "in", true) ∷ (codes "out", false) ∷ []
 
-abbrev pub lists : List (List ℕ × CellList)
-lists =
+abbrev pub cell_lists : List (List ℕ × CellList)
+cell_lists =
     (codes "character", Characters)
     ∷ (codes "status", StatusCharacters)
     ∷ (codes "ramport", RamPorts)
@@ -41,8 +41,8 @@ lists =
     ∷ (codes "chain3", Chain 3)
     ∷ []
 
-abbrev pub parts : List (List ℕ × Part)
-parts =
+abbrev pub cell_parts : List (List ℕ × Part)
+cell_parts =
     (codes "whole", Whole)
     ∷ (codes "line0", Line 0)
     ∷ (codes "line1", Line 1)
@@ -56,14 +56,14 @@ cell_at list i = if nat_lt i (count_of list) then Some (record { list = list; in
 
 abbrev pub cell_of : List ℕ → List ℕ → Option Cell
 cell_of list index =
-    beside (bytes_eq list) lists >>= λ l. number_up_to LAST_INDEX index >>= λ i. cell_at l i
+    beside (bytes_eq list) cell_lists >>= λ l. number_up_to LAST_INDEX index >>= λ i. cell_at l i
 
 -- the comparison of a cell's value, or of one line of it, with a range
 abbrev pub comparison_of : List ℕ → List ℕ → List ℕ → List ℕ → List ℕ → List ℕ → Option Comparison
-comparison_of way list index part low high =
-    beside (bytes_eq way) ways >>= λ inside.
+comparison_of kind list index part low high =
+    beside (bytes_eq kind) comparison_kinds >>= λ inside.
     cell_of list index >>= λ cell.
-    beside (bytes_eq part) parts >>= λ p.
+    beside (bytes_eq part) cell_parts >>= λ p.
     number_up_to 255 low >>= λ least.
     number_up_to 255 high >>= λ most.
     Some (record { cell = cell; part = p; low = least; high = most; inside = inside })
@@ -81,8 +81,8 @@ no_mistakes = record {
   no_outputs = false;
 }
 
-abbrev pub mistakes : List (List ℕ × (Mistakes → Mistakes))
-mistakes =
+abbrev pub mistake_kinds : List (List ℕ × (Mistakes → Mistakes))
+mistake_kinds =
     (codes "code", λ m. record m { no_code = true })
     ∷ (codes "call", λ m. record m { fourth_call = true })
     ∷ (codes "return", λ m. record m { lone_return = true })
@@ -93,7 +93,7 @@ mistakes =
     ∷ []
 
 abbrev pub with_mistake : Mistakes → List ℕ → Option Mistakes
-with_mistake m word = option_map (λ adds. adds m) (beside (bytes_eq word) mistakes)
+with_mistake m word = option_map (λ adds. adds m) (beside (bytes_eq word) mistake_kinds)
 
 abbrev pub with_mistakes : Mistakes → List (List ℕ) → Option Mistakes
 with_mistakes m [] = Some m
@@ -106,23 +106,23 @@ mistakes_of (word ∷ words) = with_mistakes no_mistakes (word ∷ words)
 
 -- ---- a mark: `up 1 0`
 
-abbrev pub levels : List (List ℕ × Bool)
-levels = (codes "up", false) ∷ (codes "down", true) ∷ []
+abbrev pub key_levels : List (List ℕ × Bool)
+key_levels = (codes "up", false) ∷ (codes "down", true) ∷ []
 
 -- the mark that three words spell: a level, a row and a column
 abbrev pub mark_of : List ℕ → List ℕ → List ℕ → Option Mark
 mark_of level row column =
-    beside (bytes_eq level) levels >>= λ is_down.
+    beside (bytes_eq level) key_levels >>= λ is_down.
     number_up_to 255 row >>= λ r.
     number_up_to 255 column >>= λ c.
     Some (record { row = r; column = c; is_down = is_down })
 
 -- ---- lines
 
-abbrev pub alone : List (List ℕ × QuestionLine)
-alone =
-    (codes "wire", Wire)
-    ∷ (codes "asm", Asm)
+abbrev pub one_word_lines : List (List ℕ × QuestionLine)
+one_word_lines =
+    (codes "wire", BoardText)
+    ∷ (codes "asm", ProgramText)
     ∷ (codes "never", Conditions Never)
     ∷ (codes "begin", Conditions Begin)
     ∷ (codes "end", Conditions End)
@@ -131,39 +131,39 @@ alone =
     ∷ []
 
 -- `pause 1000000`: at least one cycle
-abbrev pub pause_of : ℕ → Option QuestionLine
-pause_of n = if nat_lt 0 n then Some (Pause n) else None
+abbrev pub pause_line : ℕ → Option QuestionLine
+pause_line n = if nat_lt 0 n then Some (Pause n) else None
 
 -- a line of two words: a name and a number
-abbrev pub with_number : List ℕ → List ℕ → Option QuestionLine
-with_number name word =
-    if bytes_eq name (codes "most") then option_map Most (number_up_to MOST word)
-    else if bytes_eq name (codes "sets") then option_map Sets (number_up_to MOST_ENTRIES word)
-    else if bytes_eq name (codes "memory") then option_map Memory (number_up_to MOST_MEMORY word)
-    else if bytes_eq name (codes "within") then option_map Within (number_up_to LONGEST_LIMIT word)
-    else if bytes_eq name (codes "pause") then number_up_to LONGEST_PAUSE word >>= pause_of
+abbrev pub number_line : List ℕ → List ℕ → Option QuestionLine
+number_line name word =
+    if bytes_eq name (codes "most") then option_map MaxStates (number_up_to MOST word)
+    else if bytes_eq name (codes "sets") then option_map MaxEntries (number_up_to MAX_ENTRIES word)
+    else if bytes_eq name (codes "memory") then option_map MaxMemory (number_up_to MAX_MEMORY word)
+    else if bytes_eq name (codes "within") then option_map TimeLimit (number_up_to MAX_TIME_LIMIT word)
+    else if bytes_eq name (codes "pause") then number_up_to MAX_PAUSE word >>= pause_line
     else None
 
--- a line of four or more words; only a comparison, with six words, is valid
-abbrev pub with_comparison : List ℕ → List ℕ → List ℕ → List (List ℕ) → Option QuestionLine
-with_comparison way list index (part ∷ low ∷ high ∷ []) =
-    option_map (λ c. Met (condition.Compare c)) (comparison_of way list index part low high)
-with_comparison way list index words = None
+-- a line of four or more words: a comparison, which has six
+abbrev pub comparison_line : List ℕ → List ℕ → List ℕ → List (List ℕ) → Option QuestionLine
+comparison_line kind list index (part ∷ low ∷ high ∷ []) =
+    option_map (λ c. OneCondition (condition.Compare c)) (comparison_of kind list index part low high)
+comparison_line kind list index words = None
 
--- a line of three or more words: a mark has three
-abbrev pub with_more : List ℕ → List ℕ → List ℕ → List (List ℕ) → Option QuestionLine
-with_more name first second [] = option_map Seen (mark_of name first second)
-with_more name first second (word ∷ words) = with_comparison name first second (word ∷ words)
+-- a line of three or more words: a mark, which has three, or a comparison
+abbrev pub longer_line : List ℕ → List ℕ → List ℕ → List (List ℕ) → Option QuestionLine
+longer_line name first second [] = option_map NextMark (mark_of name first second)
+longer_line name first second (word ∷ words) = comparison_line name first second (word ∷ words)
 
-abbrev pub by_words : List ℕ → List (List ℕ) → Option QuestionLine
-by_words name [] = beside (bytes_eq name) alone
-by_words name (word ∷ []) = with_number name word
-by_words name (first ∷ second ∷ words) = with_more name first second words
+abbrev pub line_by_words : List ℕ → List (List ℕ) → Option QuestionLine
+line_by_words name [] = beside (bytes_eq name) one_word_lines
+line_by_words name (word ∷ []) = number_line name word
+line_by_words name (first ∷ second ∷ words) = longer_line name first second words
 
 -- the parsed line of a question, if its words are valid
 abbrev pub line_of : List (List ℕ) → Option QuestionLine
 line_of [] = Some Blank
 line_of (name ∷ words) =
     if bytes_eq name (codes "mistake")
-    then option_map (λ m. Met (condition.Mistaken m)) (mistakes_of words)
-    else by_words name words
+    then option_map (λ m. OneCondition (condition.Mistaken m)) (mistakes_of words)
+    else line_by_words name words

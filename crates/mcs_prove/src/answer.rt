@@ -1,12 +1,12 @@
 //! The answer to a question: one line and an exit status.
 ghost use Rattle.std.specs.Prelude.{◌≡◌, ◌++◌, string_bytes, IfOk, OnOk};
 ghost use Rattle.std.specs.List.{flat_map};
-ghost use Rattle.mcs_prove.specs.Answers.{IsAnswered, line_of_answer, outcome_line, refusal_line, refusal_status, spaced, status_of_answer};
+ghost use Rattle.mcs_prove.specs.Answers.{AnswersQuestion, line_of_answer, outcome_line, refusal_line, refusal_status, spaced, status_of_answer};
 ghost use Rattle.mcs_prove.specs.Questions.{IsAnswerTo};
 
-use crate::fault::Refusal;
 use crate::proving::{Goal, prove, prove_by_sets};
 use crate::question::{Question, question_of};
+use crate::refusal::Refusal;
 use mcs_check::{Marks, Outcome};
 use mcs_model::refusal_numbers;
 use mcs_search::MOST;
@@ -67,7 +67,7 @@ fn push_refusal(out: &mut String, refusal: Refusal) -> Result<(), AllocError>
         Refusal::Program(line, fault) => write!(out, "no {} {line}", fault.number()),
         Refusal::NoRom => write!(out, "no {}", refusal_numbers::NO_ROM),
         Refusal::Line(line) => write!(out, "wrong line {line}"),
-        Refusal::NotWhole => out.push_str("no question"),
+        Refusal::Incomplete => out.push_str("no question"),
     }
 }
 
@@ -86,7 +86,7 @@ fn refusal_status(refusal: Refusal) -> u8
     ensures { result ≡ refusal_status refusal }
 {
     match refusal {
-        Refusal::Line(_) | Refusal::NotWhole => WRONG_QUESTION,
+        Refusal::Line(_) | Refusal::Incomplete => WRONG_QUESTION,
         _ => REFUSED,
     }
 }
@@ -106,7 +106,7 @@ fn outcome_of(alloc: Global, text: &str) -> Result<Outcome, Refusal>
     ensures { IfOk result (IsAnswerTo text.now) }
 {
     let question = question_of(alloc, text)?;
-    let is_posed = question.is_posed();
+    let is_consistent = question.is_consistent();
     let Question {
         board,
         program,
@@ -116,29 +116,29 @@ fn outcome_of(alloc: Global, text: &str) -> Result<Outcome, Refusal>
         limit,
         opens,
         marks,
-        most,
-        sets,
+        max_states,
+        max_entries,
         memory,
         pause,
-        is_whole,
+        has_prove_line,
         ..
     } = question;
     let (Some(board), Some(program), Some(marks), true, true) = (
         board,
         program,
         Marks::of(marks),
-        is_whole,
-        is_posed,
+        has_prove_line,
+        is_consistent,
     ) else {
-        return Err(Refusal::NotWhole);
+        return Err(Refusal::Incomplete);
     };
-    if sets > 0 {
+    if max_entries > 0 {
         return prove_by_sets(
             alloc,
             board.as_str(),
             program.as_str(),
             &nevers,
-            sets as usize,
+            max_entries as usize,
             memory as usize * MB,
         );
     }
@@ -154,7 +154,7 @@ fn outcome_of(alloc: Global, text: &str) -> Result<Outcome, Refusal>
             opens,
             marks,
         },
-        (most as usize).min(MOST),
+        (max_states as usize).min(MOST),
         memory as usize * MB,
         pause,
     )
@@ -162,7 +162,7 @@ fn outcome_of(alloc: Global, text: &str) -> Result<Outcome, Refusal>
 
 /// Answers the question that a text contains.
 pub fn answer_to(alloc: Global, text: &str) -> Result<Answer, AllocError>
-    ensures { IfOk result (λ answer. IsAnswered text.now (string_bytes answer.text) answer.status) }
+    ensures { IfOk result (λ answer. AnswersQuestion text.now (string_bytes answer.text) answer.status) }
 {
     let found = outcome_of(alloc, text);
     let mut line = String::new(alloc);

@@ -1,16 +1,17 @@
 //! Proves, for all inputs, properties of the machine that a board's text and a program's text define.
 //!
 //! A question is a sequence of lines, as in a session. Its answer is one line. The machine is that of a new bench after
-//! `wire` with the board's text, `asm` with the program's text, and `reset`.
+//! `wire` with the board's text, `asm` with the program's text, and `reset`. `answer_to` parses a question, tries to
+//! prove it and returns the answer.
 #![tactic(auto)]
 
 mod answer;
-mod fault;
 mod lines;
 mod machine;
 mod proving;
 mod question;
+mod refusal;
 
 pub use answer::{Answer, answer_to};
-pub use fault::Refusal;
 pub use proving::{Goal, prove, prove_by_sets};
+pub use refusal::Refusal;

@@ -21,7 +21,7 @@ ghost use Rattle.std.specs.Str.{bytes_eq};
 ghost use Rattle.mcs_model.specs.Numerals.{number_up_to};
 ghost use Rattle.mcs_model.specs.TextLines.{words_of};
 ghost use Rattle.mcs_model.specs.WordTables.{beside};
-ghost use Rattle.mcs_prove.specs.QuestionLines.{alone, by_words, cell_of, comparison_of, levels, line_of, lists, mark_of, mistakes_of, no_mistakes, parts, ways, with_comparison, with_mistake, with_mistakes, with_more, with_number};
+ghost use Rattle.mcs_prove.specs.QuestionLines.{cell_lists, cell_of, cell_parts, comparison_kinds, comparison_line, comparison_of, key_levels, line_by_words, line_of, longer_line, mark_of, mistakes_of, no_mistakes, number_line, one_word_lines, with_mistake, with_mistakes};
 
 use mcs_check::{Cell, CellList, Comparison, Condition, Cycles, Mark, Mistakes, Part};
 use mcs_lines::words::{equals, next_word};
@@ -32,16 +32,16 @@ use mcs_search::MOST;
 const LAST_INDEX: u32 = 2047;
 
 /// The largest number of entries that a question can allow for sets of values.
-const MOST_ENTRIES: u32 = 100_000_000;
+const MAX_ENTRIES: u32 = 100_000_000;
 
 /// The largest amount of memory that a question can allow, in MB.
-pub(crate) const MOST_MEMORY: u32 = 1_000_000;
+pub(crate) const MAX_MEMORY: u32 = 1_000_000;
 
 /// The largest `pause` that a question can set, in cycles.
-const LONGEST_PAUSE: u32 = 1_000_000_000;
+const MAX_PAUSE: u32 = 1_000_000_000;
 
 /// The largest stopwatch limit that a question can set, in cycles: one less than the most that a stopwatch shows.
-const LONGEST_LIMIT: u32 = 16_777_214;
+const MAX_TIME_LIMIT: u32 = 16_777_214;
 
 /// The role of a list of conditions in a question.
 #[derive(Clone, Copy, Debug)]
@@ -62,32 +62,32 @@ pub(crate) enum QuestionLine {
     /// A blank line.
     Blank,
     /// The maximum number of states.
-    Most(u32),
+    MaxStates(u32),
     /// The maximum number of entries, if the proof uses sets of values; 0 if it uses search.
-    Sets(u32),
+    MaxEntries(u32),
     /// The maximum memory for states or entries, in MB.
-    Memory(u32),
+    MaxMemory(u32),
     /// The number of cycles after which a stretch without reads is split.
     Pause(u32),
     /// The maximum number of cycles that the stopwatch may show.
-    Within(Cycles),
+    TimeLimit(Cycles),
     /// The board's text begins on the next line.
-    Wire,
+    BoardText,
     /// The program's text begins on the next line.
-    Asm,
+    ProgramText,
     /// A list of conditions with this role follows.
     Conditions(Role),
     /// A condition of the current list.
-    Met(Condition),
+    OneCondition(Condition),
     /// The next mark.
-    Seen(Mark),
+    NextMark(Mark),
     /// The question is complete.
     Prove,
 }
 
-/// Parses the kind of a comparison: true for `in` (inside the range), false for `out` (outside it).
-fn is_inside(word: &[u8]) -> Option<bool>
-    ensures { result ≡ beside (bytes_eq word.now) ways }
+/// Parses the kind of a comparison. Returns true for `in` (inside the range) and false for `out` (outside it).
+fn comparison_kind(word: &[u8]) -> Option<bool>
+    ensures { result ≡ beside (bytes_eq word.now) comparison_kinds }
 {
     if equals(word, b"in") {
         Some(true)
@@ -100,7 +100,7 @@ fn is_inside(word: &[u8]) -> Option<bool>
 
 /// Parses the name of a list of cells.
 fn list_named(word: &[u8]) -> Option<CellList>
-    ensures { result ≡ beside (bytes_eq word.now) lists }
+    ensures { result ≡ beside (bytes_eq word.now) cell_lists }
 {
     let list = if equals(word, b"character") {
         CellList::Characters
@@ -132,7 +132,7 @@ fn list_named(word: &[u8]) -> Option<CellList>
 
 /// Parses the name of a part: `whole`, or `line0` to `line3`.
 fn part_named(word: &[u8]) -> Option<Part>
-    ensures { result ≡ beside (bytes_eq word.now) parts }
+    ensures { result ≡ beside (bytes_eq word.now) cell_parts }
 {
     if equals(word, b"whole") {
         Some(Part::Whole)
@@ -171,16 +171,16 @@ fn byte_of(word: &[u8]) -> Option<u8>
 
 /// Parses a comparison from its six words.
 fn comparison_of(
-    way: &[u8],
+    kind: &[u8],
     list: &[u8],
     index: &[u8],
     part: &[u8],
     low: &[u8],
     high: &[u8],
 ) -> Option<Comparison>
-    ensures { result ≡ comparison_of way.now list.now index.now part.now low.now high.now }
+    ensures { result ≡ comparison_of kind.now list.now index.now part.now low.now high.now }
 {
-    let inside = is_inside(way)?;
+    let inside = comparison_kind(kind)?;
     let cell = cell_of(list, index)?;
     let part = part_named(part)?;
     let low = byte_of(low)?;
@@ -194,11 +194,11 @@ fn comparison_of(
     })
 }
 
-/// Adds the kind of mistake that a word names to `asked`. Returns `None` if the word names none.
-fn with_mistake(asked: Mistakes, word: &[u8]) -> Option<Mistakes>
-    ensures { result ≡ with_mistake asked word.now }
+/// Adds the kind of mistake that a word names to `mistakes`. Returns `None` if the word names none.
+fn with_mistake(mistakes: Mistakes, word: &[u8]) -> Option<Mistakes>
+    ensures { result ≡ with_mistake mistakes word.now }
 {
-    let mut more = asked;
+    let mut more = mistakes;
     if equals(word, b"code") {
         more.no_code = true;
     } else if equals(word, b"call") {
@@ -223,13 +223,13 @@ fn with_mistake(asked: Mistakes, word: &[u8]) -> Option<Mistakes>
 fn with_mistakes(words: &[u8]) -> Option<Mistakes>
     ensures { result ≡ with_mistakes no_mistakes (words_of words.now) }
 {
-    let mut asked = Mistakes::NONE;
+    let mut mistakes = Mistakes::NONE;
     let mut rest = words;
     while let Some((word, others)) = next_word(rest) {
-        asked = with_mistake(asked, word)?;
+        mistakes = with_mistake(mistakes, word)?;
         rest = others;
     }
-    Some(asked)
+    Some(mistakes)
 }
 
 /// Parses the kinds of mistake that words name. Returns `None` if there are no words.
@@ -243,13 +243,13 @@ fn mistakes_of(words: &[u8]) -> Option<Mistakes>
 }
 
 /// Parses a line of one word.
-fn read_alone(word: &[u8]) -> Option<QuestionLine>
-    ensures { result ≡ beside (bytes_eq word.now) alone }
+fn one_word_line(word: &[u8]) -> Option<QuestionLine>
+    ensures { result ≡ beside (bytes_eq word.now) one_word_lines }
 {
     if equals(word, b"wire") {
-        Some(QuestionLine::Wire)
+        Some(QuestionLine::BoardText)
     } else if equals(word, b"asm") {
-        Some(QuestionLine::Asm)
+        Some(QuestionLine::ProgramText)
     } else if equals(word, b"never") {
         Some(QuestionLine::Conditions(Role::Never))
     } else if equals(word, b"begin") {
@@ -266,24 +266,24 @@ fn read_alone(word: &[u8]) -> Option<QuestionLine>
 }
 
 /// Parses a line that consists of a name and a number.
-fn with_number(name: &[u8], word: &[u8]) -> Option<QuestionLine>
-    ensures { result ≡ with_number name.now word.now }
+fn number_line(name: &[u8], word: &[u8]) -> Option<QuestionLine>
+    ensures { result ≡ number_line name.now word.now }
 {
     if equals(name, b"most") {
-        return Some(QuestionLine::Most(number_within(word, MOST as u32)?));
+        return Some(QuestionLine::MaxStates(number_within(word, MOST as u32)?));
     }
     if equals(name, b"sets") {
-        return Some(QuestionLine::Sets(number_within(word, MOST_ENTRIES)?));
+        return Some(QuestionLine::MaxEntries(number_within(word, MAX_ENTRIES)?));
     }
     if equals(name, b"memory") {
-        return Some(QuestionLine::Memory(number_within(word, MOST_MEMORY)?));
+        return Some(QuestionLine::MaxMemory(number_within(word, MAX_MEMORY)?));
     }
     if equals(name, b"within") {
-        let limit = Cycles::of(number_within(word, LONGEST_LIMIT)?)?;
-        return Some(QuestionLine::Within(limit));
+        let limit = Cycles::of(number_within(word, MAX_TIME_LIMIT)?)?;
+        return Some(QuestionLine::TimeLimit(limit));
     }
     if equals(name, b"pause") {
-        let pause = number_within(word, LONGEST_PAUSE)?;
+        let pause = number_within(word, MAX_PAUSE)?;
         return if pause > 0 {
             Some(QuestionLine::Pause(pause))
         } else {
@@ -293,9 +293,9 @@ fn with_number(name: &[u8], word: &[u8]) -> Option<QuestionLine>
     None
 }
 
-/// Parses the level of a mark: true for `down`, false for `up`.
-fn is_down(word: &[u8]) -> Option<bool>
-    ensures { result ≡ beside (bytes_eq word.now) levels }
+/// Parses the level of a key in a mark. Returns true for `down` and false for `up`.
+fn key_level(word: &[u8]) -> Option<bool>
+    ensures { result ≡ beside (bytes_eq word.now) key_levels }
 {
     if equals(word, b"up") {
         Some(false)
@@ -310,7 +310,7 @@ fn is_down(word: &[u8]) -> Option<bool>
 fn mark_of(level: &[u8], row: &[u8], column: &[u8]) -> Option<Mark>
     ensures { result ≡ mark_of level.now row.now column.now }
 {
-    let is_down = is_down(level)?;
+    let is_down = key_level(level)?;
     let row = byte_of(row)?;
     let column = byte_of(column)?;
     Some(Mark {
@@ -320,9 +320,9 @@ fn mark_of(level: &[u8], row: &[u8], column: &[u8]) -> Option<Mark>
     })
 }
 
-/// Parses a line of four or more words. Only a comparison, with six words, is valid.
-fn with_comparison(way: &[u8], list: &[u8], index: &[u8], rest: &[u8]) -> Option<QuestionLine>
-    ensures { result ≡ with_comparison way.now list.now index.now (words_of rest.now) }
+/// Parses a line of four or more words. Returns `None` unless it is a comparison, which has six words.
+fn comparison_line(kind: &[u8], list: &[u8], index: &[u8], rest: &[u8]) -> Option<QuestionLine>
+    ensures { result ≡ comparison_line kind.now list.now index.now (words_of rest.now) }
 {
     let (part, rest) = next_word(rest)?;
     let (low, rest) = next_word(rest)?;
@@ -330,32 +330,32 @@ fn with_comparison(way: &[u8], list: &[u8], index: &[u8], rest: &[u8]) -> Option
     match next_word(rest) {
         Some(_) => None,
         None => {
-            let comparison = comparison_of(way, list, index, part, low, high)?;
-            Some(QuestionLine::Met(Condition::Compare(comparison)))
+            let comparison = comparison_of(kind, list, index, part, low, high)?;
+            Some(QuestionLine::OneCondition(Condition::Compare(comparison)))
         }
     }
 }
 
-/// Parses a line of three or more words: a mark has three.
-fn with_more(name: &[u8], first: &[u8], second: &[u8], rest: &[u8]) -> Option<QuestionLine>
-    ensures { result ≡ with_more name.now first.now second.now (words_of rest.now) }
+/// Parses a line of three or more words: a mark, which has three, or a comparison.
+fn longer_line(name: &[u8], first: &[u8], second: &[u8], rest: &[u8]) -> Option<QuestionLine>
+    ensures { result ≡ longer_line name.now first.now second.now (words_of rest.now) }
 {
     match next_word(rest) {
-        None => Some(QuestionLine::Seen(mark_of(name, first, second)?)),
-        Some(_) => with_comparison(name, first, second, rest),
+        None => Some(QuestionLine::NextMark(mark_of(name, first, second)?)),
+        Some(_) => comparison_line(name, first, second, rest),
     }
 }
 
-/// Parses a line from its first word, which is not `mistake`, and the words after it.
-fn by_words(name: &[u8], rest: &[u8]) -> Option<QuestionLine>
-    ensures { result ≡ by_words name.now (words_of rest.now) }
+/// Parses a line that does not begin with `mistake`, from its first word and the words after it.
+fn line_by_words(name: &[u8], rest: &[u8]) -> Option<QuestionLine>
+    ensures { result ≡ line_by_words name.now (words_of rest.now) }
 {
     let Some((first, rest)) = next_word(rest) else {
-        return read_alone(name);
+        return one_word_line(name);
     };
     match next_word(rest) {
-        None => with_number(name, first),
-        Some((second, rest)) => with_more(name, first, second, rest),
+        None => number_line(name, first),
+        Some((second, rest)) => longer_line(name, first, second, rest),
     }
 }
 
@@ -368,7 +368,7 @@ pub(crate) fn line_of(line: &[u8]) -> Option<QuestionLine>
     };
     if equals(name, b"mistake") {
         let mistakes = mistakes_of(rest)?;
-        return Some(QuestionLine::Met(Condition::Mistaken(mistakes)));
+        return Some(QuestionLine::OneCondition(Condition::Mistaken(mistakes)));
     }
-    by_words(name, rest)
+    line_by_words(name, rest)
 }

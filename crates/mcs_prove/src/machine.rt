@@ -6,7 +6,7 @@ ghost use Rattle.mcs_model.specs.Command.{lacks_rom, refusal_of_command};
 ghost use Rattle.mcs_model.specs.declared.command.Command.TheVariants.{Load};
 ghost use Rattle.mcs_model.specs.BenchState.{new_regs};
 ghost use Rattle.mcs_drive.specs.Tracked.{without_calls};
-ghost use Rattle.mcs_prove.specs.Given.{machine_given, wired};
+ghost use Rattle.mcs_prove.specs.MachineOfTexts.{bench_with_board, machine_with_program};
 
 use mcs_board::{BenchRig, every_board_fits_the_bench};
 use mcs_model::board::Board;
@@ -14,7 +14,7 @@ use mcs_model::image::Image;
 use std::alloc::{AllocError, Global};
 
 /// Returns whether an image has a byte at an address where the board has no ROM.
-fn lacks_a_rom(board: &Board, image: &Image) -> bool
+fn lacks_rom_of_image(board: &Board, image: &Image) -> bool
     ensures { result ≡ list_any (λ p. lacks_rom board.now p.0) image.now }
 {
     image
@@ -34,17 +34,17 @@ fn load(rig: &mut BenchRig, image: &Image)
 
 /// Returns the rig of a new bench after `wire`, `asm` and `reset`. The processor of that bench has the state of a new
 /// one. Returns `None` if the image has a byte at an address where the board has no ROM.
-pub(crate) fn rig_given(
+pub(crate) fn rig_with_program(
     alloc: Global,
     board: &Board,
     image: &Image,
 ) -> Result<Option<BenchRig>, AllocError>
     ensures accepted { IfOk result (λ made. IfSome made (λ rig.
-        refusal_of_command (wired board.now) (Load image.now) ≡ None)) }
-    ensures given { IfOk result (λ made. IfSome made (λ rig.
-        without_calls (new_regs, rig) ≡ machine_given board.now image.now)) }
+        refusal_of_command (bench_with_board board.now) (Load image.now) ≡ None)) }
+    ensures is_machine { IfOk result (λ made. IfSome made (λ rig.
+        without_calls (new_regs, rig) ≡ machine_with_program board.now image.now)) }
 {
-    if lacks_a_rom(board, image) {
+    if lacks_rom_of_image(board, image) {
         return Ok(None);
     }
     let mut rig = BenchRig::new(alloc)?;

@@ -3,11 +3,11 @@ ghost use Rattle.std.specs.Prelude.{◌≡◌, ◌≤◌, ◌&&◌, [], IfOk, ma
 ghost use Rattle.mcs_search.specs.declared.searching.TheConstants.{MOST};
 ghost use Rattle.mcs_drive.specs.Tracked.{Tracked, no_observer};
 ghost use Rattle.mcs_check.specs.Conditions.{keeps_to, observer_of};
-ghost use Rattle.mcs_prove.specs.Given.{IsGiven, IsProvedOf};
-ghost use Rattle.mcs_prove.specs.Questions.{IsKeptOf, is_kept, is_within};
+ghost use Rattle.mcs_prove.specs.MachineOfTexts.{IsProvedOf, IsRigOfTexts};
+ghost use Rattle.mcs_prove.specs.Questions.{IsPropertyProvedOf, is_within_limit, keeps_property};
 
-use crate::fault::Refusal;
-use crate::machine::rig_given;
+use crate::machine::rig_with_program;
+use crate::refusal::Refusal;
 use mcs_asm::{AsmFault, FaultKind, assemble};
 use mcs_board::BenchRig;
 use mcs_check::{
@@ -29,7 +29,7 @@ fn program_refusal(fault: AsmFault) -> Refusal {
 
 /// Returns the rig that a board's text and a program's text define.
 fn rig_of(alloc: Global, board: &str, program: &str) -> Result<BenchRig, Refusal>
-    ensures { IfOk result (IsGiven board.now program.now) }
+    ensures { IfOk result (IsRigOfTexts board.now program.now) }
 {
     let wired = match board_of(alloc, board) {
         Ok(wired) => wired,
@@ -40,7 +40,7 @@ fn rig_of(alloc: Global, board: &str, program: &str) -> Result<BenchRig, Refusal
         Ok(image) => image,
         Err(fault) => return Err(program_refusal(fault)),
     };
-    match rig_given(alloc, &wired, &image)? {
+    match rig_with_program(alloc, &wired, &image)? {
         None => Err(Refusal::NoRom),
         Some(rig) => Ok(rig),
     }
@@ -68,33 +68,34 @@ fn conjunctions_of(
     alloc: Global,
     lists: Vec<Vec<Condition>>,
 ) -> Result<Vec<Conjunction>, AllocError>
-    ensures { IfOk result (λ made. made.items ≡ map (λ n. n.items) lists.items) }
+    ensures { IfOk result (λ conjunctions. conjunctions.items ≡ map (λ n. n.items) lists.items) }
 {
-    let mut made = Vec::new(alloc);
+    let mut conjunctions = Vec::new(alloc);
     for conditions in lists {
-        made.push(Conjunction::of(conditions))?;
+        conjunctions.push(Conjunction::of(conditions))?;
     }
-    Ok(made)
+    Ok(conjunctions)
 }
 
-/// Returns the conjunctions that must never be met, with those that express the stopwatch's limit, if there is one.
+/// Returns the conjunctions that must never be met: those of `nevers`, and those of the stopwatch's limit, if there is
+/// one.
 fn with_limit(
     alloc: Global,
     nevers: Vec<Vec<Condition>>,
     limit: Option<Cycles>,
 ) -> Result<Vec<Conjunction>, AllocError>
-    ensures { IfOk result (λ made. (s : Tracked) →
-        keeps_to made.items s ≡ (keeps_to (map (λ n. n.items) nevers.items) s && is_within limit s)) }
+    ensures { IfOk result (λ conjunctions. (s : Tracked) →
+        keeps_to conjunctions.items s ≡ (keeps_to (map (λ n. n.items) nevers.items) s && is_within_limit limit s)) }
 {
-    let mut made = conjunctions_of(alloc, nevers)?;
+    let mut conjunctions = conjunctions_of(alloc, nevers)?;
     if let Some(limit) = limit {
-        add_limit(alloc, &mut made, limit)?;
+        add_limit(alloc, &mut conjunctions, limit)?;
     }
-    Ok(made)
+    Ok(conjunctions)
 }
 
-/// Returns the conjunctions that must never be met, with those that express the stopwatch's limit, if there is one, and
-/// those that express that the marks come first.
+/// Returns the conjunctions that must never be met: those of `nevers`, those of the stopwatch's limit, if there is one,
+/// and those of the marks.
 fn nevers_of(
     alloc: Global,
     nevers: Vec<Vec<Condition>>,
@@ -102,28 +103,28 @@ fn nevers_of(
     opens: &[Conjunction],
     marks: &Marks,
 ) -> Result<Vec<Conjunction>, AllocError>
-    ensures { IfOk result (λ made. (s : Tracked) →
-        keeps_to made.items s ≡ is_kept (observer_of [] [] opens.now marks.now) (map (λ n. n.items) nevers.items) limit s) }
+    ensures { IfOk result (λ conjunctions. (s : Tracked) →
+        keeps_to conjunctions.items s ≡ keeps_property (observer_of [] [] opens.now marks.now) (map (λ n. n.items) nevers.items) limit s) }
 {
-    let mut made = with_limit(alloc, nevers, limit)?;
-    add_opening(alloc, &mut made, opens, marks)?;
-    Ok(made)
+    let mut conjunctions = with_limit(alloc, nevers, limit)?;
+    add_opening(alloc, &mut conjunctions, opens, marks)?;
+    Ok(conjunctions)
 }
 
 /// Searches all runs of the machine that a board's text and a program's text define, for all levels of its keys and its
-/// TEST pin. Checks the conditions, the stopwatch's limit and the marks after each cycle. The search uses at most `most` states
-/// and about `memory` bytes. It splits a stretch of cycles without reads every `pause` cycles.
+/// TEST pin. Checks the conditions, the stopwatch's limit and the marks after each cycle. The search uses at most
+/// `max_states` states and about `memory` bytes. It splits a stretch of cycles without reads every `pause` cycles.
 pub fn prove(
     alloc: Global,
     board: &str,
     program: &str,
     goal: Goal,
-    most: usize,
+    max_states: usize,
     memory: usize,
     pause: u32,
 ) -> Result<Outcome, Refusal>
-    requires { most ≤ MOST }
-    ensures { IfOk result (IsKeptOf board.now program.now
+    requires { max_states ≤ MOST }
+    ensures { IfOk result (IsPropertyProvedOf board.now program.now
         (observer_of (map (λ n. n.items) goal.begins.items) (map (λ n. n.items) goal.ends.items)
         (map (λ n. n.items) goal.opens.items) goal.marks)
         (map (λ n. n.items) goal.nevers.items) goal.limit) }
@@ -137,25 +138,34 @@ pub fn prove(
         alloc,
         Replica::of(Cpu::new(), rig),
         Aim::of(nevers, begins, ends, opens, goal.marks),
-        most,
+        max_states,
         memory,
         pause,
     )?)
 }
 
 /// Tries to prove with sets of values that the machine never meets all conditions of a list at once. Uses at most
-/// `most` entries and about `memory` bytes.
+/// `max_entries` entries and about `memory` bytes.
 pub fn prove_by_sets(
     alloc: Global,
     board: &str,
     program: &str,
     nevers: &[Vec<Condition>],
-    most: usize,
+    max_entries: usize,
     memory: usize,
 ) -> Result<Outcome, Refusal>
     ensures { IfOk result (IsProvedOf board.now program.now no_observer (keeps_to (map (λ n. n.items) nevers.now))) }
 {
     let mut rig = rig_of(alloc, board, program)?;
-    let mut own = rig_of(alloc, board, program)?;
-    Ok(check_by_sets(alloc, &Cpu::new(), &mut rig, &mut own, nevers, most, memory))
+    let mut search_rig = rig_of(alloc, board, program)?;
+    let outcome = check_by_sets(
+        alloc,
+        &Cpu::new(),
+        &mut rig,
+        &mut search_rig,
+        nevers,
+        max_entries,
+        memory,
+    );
+    Ok(outcome)
 }

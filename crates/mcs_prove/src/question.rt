@@ -3,17 +3,17 @@ ghost use Rattle.std.specs.Prelude.{◌≡◌, Some, map, option_map, string_byt
 ghost use Rattle.std.specs.Str.Lines.{lines};
 ghost use Rattle.mcs_model.specs.TextLines.{words_of};
 ghost use Rattle.mcs_prove.specs.declared.question.Section.TheVariants.{Board, Program};
-ghost use Rattle.mcs_prove.specs.Questions.{Asked, after_line, after_line_in, after_said, after_words, asked_by, begin_board, begin_program, ended, is_opened, is_posed, is_timed, nothing_asked, when, with_condition, with_line};
+ghost use Rattle.mcs_prove.specs.Questions.{QuestionSoFar, after_line, after_line_in, after_parsed_line, after_words, are_marks_complete, begin_board, begin_program, empty_question, if_valid, is_consistent, is_stopwatch_complete, question_of_text, with_condition, with_line, with_list_ended};
 
-use crate::fault::Refusal;
-use crate::lines::{MOST_MEMORY, QuestionLine, Role, line_of};
+use crate::lines::{MAX_MEMORY, QuestionLine, Role, line_of};
+use crate::refusal::Refusal;
 use mcs_check::{Condition, Cycles, Mark};
 use std::alloc::{AllocError, Global};
 use std::marker::Model;
 use std::mem;
 
 /// The default for `pause`: the number of cycles after which a stretch without reads is split.
-const PAUSE: u32 = 1_000_000;
+const DEFAULT_PAUSE: u32 = 1_000_000;
 
 /// The section of a question that the next line belongs to.
 #[derive(Clone, Copy, Debug)]
@@ -29,29 +29,45 @@ pub(crate) enum Section {
 /// A question as parsed so far. Contracts see the values of its fields.
 #[derive(Drop)]
 pub(crate) struct Question {
+    /// The board's text, if it has begun.
     pub(crate) board: Option<String>,
+    /// The program's text, if it has begun.
     pub(crate) program: Option<String>,
+    /// The complete `never` lists.
     pub(crate) nevers: Vec<Vec<Condition>>,
+    /// The complete `begin` lists.
     pub(crate) begins: Vec<Vec<Condition>>,
+    /// The complete `end` lists.
     pub(crate) ends: Vec<Vec<Condition>>,
+    /// The maximum number of cycles that the stopwatch may show, if there is a limit.
     pub(crate) limit: Option<Cycles>,
+    /// The complete `open` lists.
     pub(crate) opens: Vec<Vec<Condition>>,
+    /// The marks, in their order.
     pub(crate) marks: Vec<Mark>,
-    pub(crate) most: u32,
-    pub(crate) sets: u32,
+    /// The maximum number of states of a search.
+    pub(crate) max_states: u32,
+    /// The maximum number of entries, if the proof uses sets of values; 0 if it uses search.
+    pub(crate) max_entries: u32,
+    /// The maximum memory for states or entries, in MB.
     pub(crate) memory: u32,
+    /// The number of cycles after which a stretch without reads is split.
     pub(crate) pause: u32,
-    pub(crate) is_whole: bool,
+    /// True after the line `prove`.
+    pub(crate) has_prove_line: bool,
+    /// The role of `conditions`.
     role: Role,
+    /// The current list of conditions, until it is complete.
     conditions: Option<Vec<Condition>>,
+    /// The section that the next line belongs to.
     section: Section,
 }
 
 impl Model for Question {
     ghost use Rattle.std.specs.Prelude.{map, option_map, string_bytes};
-    ghost use Rattle.mcs_prove.specs.Questions.{Asked};
+    ghost use Rattle.mcs_prove.specs.Questions.{QuestionSoFar};
 
-    ghost Value = { Asked };
+    ghost Value = { QuestionSoFar };
 
     ghost view = { λ q. record {
       board = option_map string_bytes q.board;
@@ -64,12 +80,12 @@ impl Model for Question {
       marks = q.marks.items;
       role = q.role;
       conditions = option_map (λ cs. cs.items) q.conditions;
-      most = q.most;
-      sets = q.sets;
+      max_states = q.max_states;
+      max_entries = q.max_entries;
       memory = q.memory;
       pause = q.pause;
       section = q.section;
-      is_whole = q.is_whole;
+      has_prove_line = q.has_prove_line;
     } };
 }
 
@@ -88,7 +104,7 @@ fn add_line(text: &mut Option<String>, line: &str) -> Result<(), AllocError>
 impl Question {
     /// Returns the question before its first line is read.
     fn new(alloc: Global) -> Question
-        ensures { result ≡ nothing_asked }
+        ensures { result ≡ empty_question }
     {
         Question {
             board: None,
@@ -99,49 +115,49 @@ impl Question {
             limit: None,
             opens: Vec::new(alloc),
             marks: Vec::new(alloc),
-            most: 0,
-            sets: 0,
-            memory: MOST_MEMORY,
-            pause: PAUSE,
-            is_whole: false,
+            max_states: 0,
+            max_entries: 0,
+            memory: MAX_MEMORY,
+            pause: DEFAULT_PAUSE,
+            has_prove_line: false,
             role: Role::Never,
             conditions: None,
             section: Section::Lines,
         }
     }
 
-    /// Returns whether the question has no stopwatch, or one with a begin, an end and a limit that is checked by
-    /// search.
-    fn is_timed(&self) -> bool
-        ensures { result ≡ is_timed self.now }
+    /// Returns whether the stopwatch is absent, or has a begin, an end and a limit and is not combined with sets of
+    /// values.
+    fn is_stopwatch_complete(&self) -> bool
+        ensures { result ≡ is_stopwatch_complete self.now }
     {
         match self.limit {
             None => self.begins.is_empty() && self.ends.is_empty(),
-            Some(_) => !self.begins.is_empty() && !self.ends.is_empty() && self.sets == 0,
+            Some(_) => !self.begins.is_empty() && !self.ends.is_empty() && self.max_entries == 0,
         }
     }
 
-    /// Returns whether the question has no marks, or marks with conditions that open, which are checked by search.
-    fn is_opened(&self) -> bool
-        ensures { result ≡ is_opened self.now }
+    /// Returns whether marks and `open` lists are both absent, or both present and not combined with sets of values.
+    fn are_marks_complete(&self) -> bool
+        ensures { result ≡ are_marks_complete self.now }
     {
         if self.marks.is_empty() {
             self.opens.is_empty()
         } else {
-            !self.opens.is_empty() && self.sets == 0
+            !self.opens.is_empty() && self.max_entries == 0
         }
     }
 
-    /// Returns whether the stopwatch and the marks are complete, if there are any, and checked by search.
-    pub(crate) fn is_posed(&self) -> bool
-        ensures { result ≡ is_posed self.now }
+    /// Returns whether the stopwatch and the marks are complete, or absent, and not combined with sets of values.
+    pub(crate) fn is_consistent(&self) -> bool
+        ensures { result ≡ is_consistent self.now }
     {
-        self.is_timed() && self.is_opened()
+        self.is_stopwatch_complete() && self.are_marks_complete()
     }
 
     /// Ends the current list of conditions, if there is one, and stores it by its role.
     fn end_conditions(&mut self) -> Result<(), AllocError>
-        ensures { OnOk result (self.new ≡ ended self.old) }
+        ensures { OnOk result (self.new ≡ with_list_ended self.old) }
     {
         if let Some(conditions) = mem::replace(&mut self.conditions, None) {
             match self.role {
@@ -156,7 +172,7 @@ impl Question {
 
     /// Adds a condition to the current list. Returns false if no `never`, `begin`, `end` or `open` line precedes it.
     fn add_condition(&mut self, condition: Condition) -> Result<bool, AllocError>
-        ensures { IfOk result (λ known. when known self.new
+        ensures { IfOk result (λ is_valid. if_valid is_valid self.new
             ≡ with_condition self.old condition self.old.conditions) }
     {
         match &mut self.conditions {
@@ -170,7 +186,7 @@ impl Question {
 
     /// Begins the board's text. Returns false if the question already has one.
     fn begin_board(&mut self, alloc: Global) -> bool
-        ensures { when result self.new ≡ begin_board self.old self.old.board }
+        ensures { if_valid result self.new ≡ begin_board self.old self.old.board }
     {
         if self.board.is_some() {
             return false;
@@ -182,7 +198,7 @@ impl Question {
 
     /// Begins the program's text. Returns false if the question already has one.
     fn begin_program(&mut self, alloc: Global) -> bool
-        ensures { when result self.new ≡ begin_program self.old self.old.program }
+        ensures { if_valid result self.new ≡ begin_program self.old self.old.program }
     {
         if self.program.is_some() {
             return false;
@@ -193,43 +209,43 @@ impl Question {
     }
 
     /// Applies a parsed line. Returns whether the line is allowed at this point.
-    fn take(&mut self, alloc: Global, said: QuestionLine) -> Result<bool, AllocError>
-        ensures { IfOk result (λ known. when known self.new ≡ after_said self.old said) }
+    fn apply_line(&mut self, alloc: Global, parsed: QuestionLine) -> Result<bool, AllocError>
+        ensures { IfOk result (λ is_valid. if_valid is_valid self.new ≡ after_parsed_line self.old parsed) }
     {
-        match said {
+        match parsed {
             QuestionLine::Blank => {}
-            QuestionLine::Most(most) => self.most = most,
-            QuestionLine::Sets(sets) => self.sets = sets,
-            QuestionLine::Memory(memory) => self.memory = memory,
+            QuestionLine::MaxStates(max_states) => self.max_states = max_states,
+            QuestionLine::MaxEntries(max_entries) => self.max_entries = max_entries,
+            QuestionLine::MaxMemory(memory) => self.memory = memory,
             QuestionLine::Pause(pause) => self.pause = pause,
-            QuestionLine::Wire => return Ok(self.begin_board(alloc)),
-            QuestionLine::Asm => return Ok(self.begin_program(alloc)),
-            QuestionLine::Within(limit) => self.limit = Some(limit),
+            QuestionLine::BoardText => return Ok(self.begin_board(alloc)),
+            QuestionLine::ProgramText => return Ok(self.begin_program(alloc)),
+            QuestionLine::TimeLimit(limit) => self.limit = Some(limit),
             QuestionLine::Conditions(role) => {
                 self.end_conditions()?;
                 self.conditions = Some(Vec::new(alloc));
                 self.role = role;
             }
-            QuestionLine::Met(condition) => return self.add_condition(condition),
-            QuestionLine::Seen(mark) => self.marks.push(mark)?,
+            QuestionLine::OneCondition(condition) => return self.add_condition(condition),
+            QuestionLine::NextMark(mark) => self.marks.push(mark)?,
             QuestionLine::Prove => {
                 self.end_conditions()?;
-                self.is_whole = true;
+                self.has_prove_line = true;
             }
         }
         Ok(true)
     }
 
     /// Reads a line outside the two texts. Returns whether it is valid at this point.
-    fn read_words(&mut self, alloc: Global, line: &str) -> Result<bool, AllocError>
-        ensures { IfOk result (λ known. when known self.new ≡ after_words self.old (words_of line.now)) }
+    fn read_outer_line(&mut self, alloc: Global, line: &str) -> Result<bool, AllocError>
+        ensures { IfOk result (λ is_valid. if_valid is_valid self.new ≡ after_words self.old (words_of line.now)) }
     {
-        if self.is_whole {
+        if self.has_prove_line {
             return Ok(false);
         }
         match line_of(line.as_bytes()) {
             None => Ok(false),
-            Some(said) => self.take(alloc, said),
+            Some(parsed) => self.apply_line(alloc, parsed),
         }
     }
 
@@ -259,10 +275,10 @@ impl Question {
 
     /// Reads a line of a question. Returns whether it is valid at this point.
     fn read_line(&mut self, alloc: Global, line: &str) -> Result<bool, AllocError>
-        ensures { IfOk result (λ known. when known self.new ≡ after_line self.old line.now) }
+        ensures { IfOk result (λ is_valid. if_valid is_valid self.new ≡ after_line self.old line.now) }
     {
         match self.section {
-            Section::Lines => return self.read_words(alloc, line),
+            Section::Lines => return self.read_outer_line(alloc, line),
             Section::Board => self.read_board(line)?,
             Section::Program => self.read_program(line)?,
         }
@@ -279,7 +295,7 @@ fn lines_of(alloc: Global, text: &str) -> Result<Vec<&str>, AllocError>
 
 /// Parses the question that a text contains. Fails at the first invalid line.
 pub(crate) fn question_of(alloc: Global, text: &str) -> Result<Question, Refusal>
-    ensures { IfOk result (λ question. asked_by text.now ≡ Some question) }
+    ensures { IfOk result (λ question. question_of_text text.now ≡ Some question) }
 {
     let lines = lines_of(alloc, text)?;
     let mut question = Question::new(alloc);

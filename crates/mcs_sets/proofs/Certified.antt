@@ -1,46 +1,46 @@
--- From one step to all moments.
+-- A certificate that is closed under one cycle covers the machine at every moment.
 use Rattle.std.proofs.Common.{◌≡◌, ◌<◌, ◌∙◌, ℕ, zero, suc, List, sym}
 use Rattle.std.specs.List.{Contains}
 use Rattle.mcs_model.specs.declared.board.BoardParts.{BoardParts}
 use Rattle.mcs_drive.specs.Driven.{Levels, FitBoard}
 use Rattle.mcs_drive.specs.Tracked.{Tracked, under, cycled, driven, no_observer}
 use Rattle.mcs_sets.specs.declared.entries.Entry.{Entry}
-use Rattle.mcs_sets.specs.Entries.{accs_of, IsAmong}
-use Rattle.mcs_sets.specs.Following.{IsOf, Follows, StepsSuffice}
+use Rattle.mcs_sets.specs.Entries.{acc_values_of, IsCovered}
+use Rattle.mcs_sets.specs.Closure.{IsBusOf, StaysOneCycle, ClosureSuffices}
 use Rattle.mcs_sets.proofs.Memory.{has-lt, cycle-of_board}
 
--- a machine of a certificate, on its board and with its ROM
+-- holds if a certificate covers a machine that has this board and this ROM
 record Known (board : BoardParts) (rom : List ℕ) (entries : List Entry) (s : Tracked) : Type 0 where
-  pub of : IsOf board rom s.1
-  pub among : IsAmong entries s
+  pub of : IsBusOf board rom s.1
+  pub among : IsCovered entries s
 
--- levels do not matter
+-- new levels of the keys and of TEST do not change this
 under-known : (board : BoardParts) (rom : List ℕ) (entries : List Entry) (l : Levels) (s : Tracked) → l.test < 2 → Known board rom entries s → Known board rom entries (under l s)
 under-known board rom entries l s fit h = record {
   of = record { board = h.of.board; rom = h.of.rom; ram = h.of.ram; status = h.of.status; test = fit };
-  among = (h.among.0, h.among.1, record { at = h.among.2.at; calls = h.among.2.calls; ret = h.among.2.ret; acc = h.among.2.acc; places = h.among.2.places; carry = h.among.2.carry; registers = h.among.2.registers; banks = h.among.2.banks });
+  among = (h.among.0, h.among.1, record { at = h.among.2.at; calls = h.among.2.calls; ret = h.among.2.ret; acc = h.among.2.acc; locations = h.among.2.locations; carry = h.among.2.carry; registers = h.among.2.registers; banks = h.among.2.banks });
 }
 
-step-known : (board : BoardParts) (rom : List ℕ) (entries : List Entry) (s : Tracked) → ((e : Entry) → Contains entries e → Follows board rom entries e) → Known board rom entries s → Known board rom entries (cycled no_observer s)
+step-known : (board : BoardParts) (rom : List ℕ) (entries : List Entry) (s : Tracked) → ((e : Entry) → Contains entries e → StaysOneCycle board rom entries e) → Known board rom entries s → Known board rom entries (cycled no_observer s)
 step-known board rom entries s each h =
     let e = h.among.0 in
     record {
-      of = cycle-of_board board rom s (has-lt (accs_of e s.0.cy) s.0.acc h.among.2.acc) h.of;
+      of = cycle-of_board board rom s (has-lt (acc_values_of e s.0.cy) s.0.acc h.among.2.acc) h.of;
       among = each e h.among.1 s h.of h.among.2 h.among.1;
     }
 
-driven-known : (board : BoardParts) (rom : List ℕ) (entries : List Entry) (s : Tracked) → ((e : Entry) → Contains entries e → Follows board rom entries e) → Known board rom entries s →
+driven-known : (board : BoardParts) (rom : List ℕ) (entries : List Entry) (s : Tracked) → ((e : Entry) → Contains entries e → StaysOneCycle board rom entries e) → Known board rom entries s →
     (f : ℕ → Levels) → ((k : ℕ) → FitBoard s.1.board (f k)) → (k : ℕ) → Known board rom entries (driven no_observer f k s)
 driven-known board rom entries s each h f fit zero = h
 driven-known board rom entries s each h f fit (suc k) =
     step-known board rom entries (under (f k) (driven no_observer f k s)) each
     (under-known board rom entries (f k) (driven no_observer f k s) (fit k).test (driven-known board rom entries s each h f fit k))
 
-pub steps-suffice : StepsSuffice
-steps-suffice board rom entries s each is among = λ f fit k.
+pub closure-suffices : ClosureSuffices
+closure-suffices board rom entries s each is among = λ f fit k.
     (driven-known board rom entries s each (record { of = is; among = among }) f fit k).among
 
--- the same, on the same board with the same ROM
-pub follows-moved : (board to_board : BoardParts) (rom to_rom : List ℕ) (entries : List Entry) (e : Entry) → board ≡ to_board → rom ≡ to_rom → Follows board rom entries e → Follows to_board to_rom entries e
-follows-moved board to_board rom to_rom entries e same alike h = λ s of is there.
+-- the closure for an equal board and an equal ROM
+pub stays-moved : (board to_board : BoardParts) (rom to_rom : List ℕ) (entries : List Entry) (e : Entry) → board ≡ to_board → rom ≡ to_rom → StaysOneCycle board rom entries e → StaysOneCycle to_board to_rom entries e
+stays-moved board to_board rom to_rom entries e same alike h = λ s of is there.
     h s (record { board = of.board ∙ sym same; rom = of.rom ∙ sym alike; ram = of.ram; status = of.status; test = of.test }) is there

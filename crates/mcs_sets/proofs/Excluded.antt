@@ -1,4 +1,4 @@
--- What an entry excludes.
+-- An entry excludes mistakes and conditions.
 use Rattle.std.proofs.Common.{◌≡◌, ◌<◌, ◌+◌, ◌-◌, ◌*◌, ◌/◌, ◌%◌, ◌&&◌, ℕ, zero, suc, List, [], ◌∷◌, Bool, true, false, not, Option, Some, None, is_none, nat_lt, length, get_or, slice_index, refl, subst, sym, ap, ◌∙◌, arith, eqb}
 use Rattle.std.proofs.lemmas.Bool.{and_left, and_right, or_from, not_from_true, ne_eqb, lt-ltb, le-ltb}
 use Rattle.mcs_model.specs.declared.board.BoardParts.{BoardParts}
@@ -14,12 +14,12 @@ use Rattle.mcs_check.specs.declared.conditions.Condition.{Condition}
 use Rattle.mcs_check.specs.Conditions.{is_met, are_met}
 use Rattle.mcs_check.specs.Mistaken.{errs_in_calls, errs_in_chips, errs_in_lines, has_input, has_output, is_fourth_call, is_lone_return, is_mistaken, is_rdr, is_wrr, lacks_ram, lacks_word, last_read, makes, uses_ram}
 use Rattle.mcs_sets.specs.declared.entries.Entry.{Entry}
-use Rattle.mcs_sets.specs.Entries.{has, held, IsIn}
-use Rattle.mcs_sets.specs.Excluding.{AllIn, HasBank, MakesNone, reads_next}
-use Rattle.mcs_sets.specs.Landing.{FitsCalls}
+use Rattle.mcs_sets.specs.Entries.{has, value_at, Covers}
+use Rattle.mcs_sets.specs.Excluding.{ForAllIn, HasChipsOfBank, MakesNoMistake, reads_next}
+use Rattle.mcs_sets.specs.Landing.{CallsAllow}
 use Rattle.mcs_sets.proofs.Memory.{has-lt}
 
--- what is looked at only if it is asked for
+-- conjunctions that are false because their last member is, if the members before it are true
 guarded : (a b c : Bool) → (a ≡ true → b ≡ true → c ≡ false) → (a && b && c) ≡ false
 guarded false b c h = refl
 guarded true false c h = refl
@@ -31,22 +31,22 @@ guarded-once true c h = h refl
 
 -- ---- calls
 
-no-fourth : (op : Op) (calls : ℕ) → FitsCalls op calls → is_fourth_call op calls ≡ false
+no-fourth : (op : Op) (calls : ℕ) → CallsAllow op calls → is_fourth_call op calls ≡ false
 no-fourth (Jms h b) calls fits = let few : calls < 3 = fits in le-ltb 2 calls (omega arith)
 no-fourth _ calls fits = refl
 
-no-lone : (op : Op) (calls : ℕ) → FitsCalls op calls → is_lone_return op calls ≡ false
+no-lone : (op : Op) (calls : ℕ) → CallsAllow op calls → is_lone_return op calls ≡ false
 no-lone (Bbl d) calls fits = let some : 0 < calls = fits in ne_eqb calls 0 (λ e. omega arith)
 no-lone _ calls fits = refl
 
-calls-kept : (asked : Mistakes) (op : Op) (s : Tracked) → FitsCalls op s.2.calls → errs_in_calls asked op s ≡ false
-calls-kept asked op s fits =
-    or_from _ _ (and_right asked.fourth_call _ (no-fourth op s.2.calls fits)) (and_right asked.lone_return _ (no-lone op s.2.calls fits))
+calls-kept : (mistakes : Mistakes) (op : Op) (s : Tracked) → CallsAllow op s.2.calls → errs_in_calls mistakes op s ≡ false
+calls-kept mistakes op s fits =
+    or_from _ _ (and_right mistakes.fourth_call _ (no-fourth op s.2.calls fits)) (and_right mistakes.lone_return _ (no-lone op s.2.calls fits))
 
 -- ---- RAM
 
-held-src : (s : Tracked) (k bank : ℕ) → k ≡ 18 + bank → held s k ≡ slice_index s.1.ram_src bank / 16
-held-src s k bank e =
+value_at-src : (s : Tracked) (k bank : ℕ) → k ≡ 18 + bank → value_at s k ≡ slice_index s.1.ram_src bank / 16
+value_at-src s k bank e =
     let a : eqb k 16 ≡ false = ne_eqb k 16 (λ x. omega arith) in
     let b : nat_lt k 16 ≡ false = le-ltb k 16 (omega arith) in
     let c : eqb k 17 ≡ false = ne_eqb k 17 (λ x. omega arith) in
@@ -56,13 +56,13 @@ held-src s k bank e =
 quarter : (n chips : ℕ) → n / 16 / 4 < chips → n / 64 < chips
 quarter n chips h = omega arith
 
-ram-kept : (board : BoardParts) (e : Entry) (s : Tracked) → s.1.board ≡ board → IsIn e s → AllIn (slice_index e.sets 16) (HasBank board e) → lacks_ram s.0 s.1 ≡ false
+ram-kept : (board : BoardParts) (e : Entry) (s : Tracked) → s.1.board ≡ board → Covers e s → ForAllIn (slice_index e.sets 16) (HasChipsOfBank board e) → lacks_ram s.0 s.1 ≡ false
 ram-kept board e s same is all =
-    let bank = all s.0.dcl (is.places 16 (omega arith)) in
+    let bank = all s.0.dcl (is.locations 16 (omega arith)) in
     let n = slice_index s.1.ram_src s.0.dcl in
-    let few = bank.few in
+    let bank_exists = bank.bank_exists in
     let set = slice_index e.sets (18 + s.0.dcl) in
-    let inside : has set (n / 16) ≡ true = subst (λ (x : ℕ). has set x ≡ true) (held-src s (18 + s.0.dcl) s.0.dcl refl) (is.places (18 + s.0.dcl) (omega arith)) in
+    let inside : has set (n / 16) ≡ true = subst (λ (x : ℕ). has set x ≡ true) (value_at-src s (18 + s.0.dcl) s.0.dcl refl) (is.locations (18 + s.0.dcl) (omega arith)) in
     let chip : n / 64 < slice_index board.banks s.0.dcl = quarter n (slice_index board.banks s.0.dcl) (bank.chips (n / 16) inside) in
     let there : n / 64 < slice_index s.1.board.banks s.0.dcl = subst (λ (b : BoardParts). n / 64 < slice_index b.banks s.0.dcl) (sym same) chip in
     not_from_true _ (lt-ltb (n / 64) (slice_index s.1.board.banks s.0.dcl) there)
@@ -82,51 +82,51 @@ last-there board (Jms h b) s u v here next = next refl
 last-there board (Isz r b) s u v here next = next refl
 last-there board _ s u v here next = here
 
-words-kept : (board : BoardParts) (e : Entry) (op : Op) (s : Tracked) → IsIn e s → lacks_rom board e.at ≡ false → (reads_next op ≡ true → lacks_rom board ((e.at + 1) % 4096) ≡ false) → lacks_word op s.0 board ≡ false
+words-kept : (board : BoardParts) (e : Entry) (op : Op) (s : Tracked) → Covers e s → lacks_rom board e.at ≡ false → (reads_next op ≡ true → lacks_rom board ((e.at + 1) % 4096) ≡ false) → lacks_word op s.0 board ≡ false
 words-kept board e op s is here next =
-    let first = has-lt (slice_index e.sets 0) (slice_index s.0.r 0) (is.places 0 (omega arith)) in
-    let second = has-lt (slice_index e.sets 1) (slice_index s.0.r 1) (is.places 1 (omega arith)) in
+    let first = has-lt (slice_index e.sets 0) (slice_index s.0.r 0) (is.locations 0 (omega arith)) in
+    let second = has-lt (slice_index e.sets 1) (slice_index s.0.r 1) (is.locations 1 (omega arith)) in
     let at : lacks_rom board s.0.pc ≡ false = subst (λ (a : ℕ). lacks_rom board a ≡ false) (sym is.at) here in
     let behind : reads_next op ≡ true → lacks_rom board ((s.0.pc + 1) % 4096) ≡ false = subst (λ (a : ℕ). reads_next op ≡ true → lacks_rom board ((a + 1) % 4096) ≡ false) (sym is.at) next in
     or_from _ _ at (last-there board op s.0 first second at behind)
 
--- ---- the whole
+-- ---- all mistakes
 
--- what was looked at of an entry
-pub record Looked (board : BoardParts) (e : Entry) (op : Op) (asked : Mistakes) : Type 0 where
-  pub calls : FitsCalls op e.calls
-  pub ram : asked.absent_ram ≡ true → uses_ram op ≡ true → AllIn (slice_index e.sets 16) (HasBank board e)
-  pub here : asked.absent_rom ≡ true → lacks_rom board e.at ≡ false
-  pub next : asked.absent_rom ≡ true → reads_next op ≡ true → lacks_rom board ((e.at + 1) % 4096) ≡ false
-  pub inputs : asked.no_inputs ≡ true → is_rdr op ≡ true → AllIn (slice_index e.sets 17) (λ n. has_input board n ≡ true)
-  pub outputs : asked.no_outputs ≡ true → is_wrr op ≡ true → AllIn (slice_index e.sets 17) (λ n. has_output board n ≡ true)
+-- holds if an entry passes the checks that exclude mistakes
+pub record PassesChecks (board : BoardParts) (e : Entry) (op : Op) (mistakes : Mistakes) : Type 0 where
+  pub calls : CallsAllow op e.calls
+  pub ram : mistakes.absent_ram ≡ true → uses_ram op ≡ true → ForAllIn (slice_index e.sets 16) (HasChipsOfBank board e)
+  pub here : mistakes.absent_rom ≡ true → lacks_rom board e.at ≡ false
+  pub next : mistakes.absent_rom ≡ true → reads_next op ≡ true → lacks_rom board ((e.at + 1) % 4096) ≡ false
+  pub inputs : mistakes.no_inputs ≡ true → is_rdr op ≡ true → ForAllIn (slice_index e.sets 17) (λ n. has_input board n ≡ true)
+  pub outputs : mistakes.no_outputs ≡ true → is_wrr op ≡ true → ForAllIn (slice_index e.sets 17) (λ n. has_output board n ≡ true)
 
-chips-kept : (board : BoardParts) (e : Entry) (op : Op) (asked : Mistakes) (s : Tracked) → s.1.board ≡ board → IsIn e s → Looked board e op asked → errs_in_chips asked op s ≡ false
-chips-kept board e op asked s same is h =
+chips-kept : (board : BoardParts) (e : Entry) (op : Op) (mistakes : Mistakes) (s : Tracked) → s.1.board ≡ board → Covers e s → PassesChecks board e op mistakes → errs_in_chips mistakes op s ≡ false
+chips-kept board e op mistakes s same is h =
     or_from _ _
-    (guarded asked.absent_ram (uses_ram op) (lacks_ram s.0 s.1) (λ a u. ram-kept board e s same is (h.ram a u)))
-    (guarded-once asked.absent_rom (lacks_word op s.0 s.1.board)
+    (guarded mistakes.absent_ram (uses_ram op) (lacks_ram s.0 s.1) (λ a u. ram-kept board e s same is (h.ram a u)))
+    (guarded-once mistakes.absent_rom (lacks_word op s.0 s.1.board)
     (λ a. subst (λ (b : BoardParts). lacks_word op s.0 b ≡ false) (sym same) (words-kept board e op s is (h.here a) (h.next a))))
 
-lines-kept : (board : BoardParts) (e : Entry) (op : Op) (asked : Mistakes) (s : Tracked) → s.1.board ≡ board → IsIn e s → Looked board e op asked → errs_in_lines asked op s ≡ false
-lines-kept board e op asked s same is h =
+lines-kept : (board : BoardParts) (e : Entry) (op : Op) (mistakes : Mistakes) (s : Tracked) → s.1.board ≡ board → Covers e s → PassesChecks board e op mistakes → errs_in_lines mistakes op s ≡ false
+lines-kept board e op mistakes s same is h =
     let n = s.1.rom_src / 16 in
-    let inside : has (slice_index e.sets 17) n ≡ true = is.places 17 (omega arith) in
+    let inside : has (slice_index e.sets 17) n ≡ true = is.locations 17 (omega arith) in
     or_from _ _
-    (guarded asked.no_inputs (is_rdr op) (not (has_input s.1.board n)) (λ a r. not_from_true _ (subst (λ (b : BoardParts). has_input b n ≡ true) (sym same) (h.inputs a r n inside))))
-    (guarded asked.no_outputs (is_wrr op) (not (has_output s.1.board n)) (λ a r. not_from_true _ (subst (λ (b : BoardParts). has_output b n ≡ true) (sym same) (h.outputs a r n inside))))
+    (guarded mistakes.no_inputs (is_rdr op) (not (has_input s.1.board n)) (λ a r. not_from_true _ (subst (λ (b : BoardParts). has_input b n ≡ true) (sym same) (h.inputs a r n inside))))
+    (guarded mistakes.no_outputs (is_wrr op) (not (has_output s.1.board n)) (λ a r. not_from_true _ (subst (λ (b : BoardParts). has_output b n ≡ true) (sym same) (h.outputs a r n inside))))
 
-pub none-made : (board : BoardParts) (e : Entry) (op : Op) (asked : Mistakes) → Looked board e op asked → MakesNone board e op asked
-none-made board e op asked h = λ s same is.
+pub no-mistake-made : (board : BoardParts) (e : Entry) (op : Op) (mistakes : Mistakes) → PassesChecks board e op mistakes → MakesNoMistake board e op mistakes
+no-mistake-made board e op mistakes h = λ s same is.
     or_from _ _
-    (or_from _ _ (calls-kept asked op s (subst (FitsCalls op) (sym is.calls) h.calls)) (chips-kept board e op asked s same is h))
-    (lines-kept board e op asked s same is h)
+    (or_from _ _ (calls-kept mistakes op s (subst (CallsAllow op) (sym is.calls) h.calls)) (chips-kept board e op mistakes s same is h))
+    (lines-kept board e op mistakes s same is h)
 
-mistaken-when : (b : Bool) (o : Option Op) (asked : Mistakes) (op : Op) (s : Tracked) → o ≡ Some op → makes asked op s ≡ false → (b && elim o as (λ _. Bool) [ Some op ↦ makes asked op s | None ↦ asked.no_code ]) ≡ false
-mistaken-when b o asked op s there none = rw there (and_right b _ none)
+mistaken-when : (b : Bool) (o : Option Op) (mistakes : Mistakes) (op : Op) (s : Tracked) → o ≡ Some op → makes mistakes op s ≡ false → (b && elim o as (λ _. Bool) [ Some op ↦ makes mistakes op s | None ↦ mistakes.no_code ]) ≡ false
+mistaken-when b o mistakes op s there none = rw there (and_right b _ none)
 
-pub not-mistaken : (asked : Mistakes) (op : Op) (s : Tracked) → instruction_at s.0 s.1 ≡ Some op → makes asked op s ≡ false → is_mistaken asked s ≡ false
-not-mistaken asked op s there none = mistaken-when (not (eqb s.0.owed 1)) (instruction_at s.0 s.1) asked op s there none
+pub not-mistaken : (mistakes : Mistakes) (op : Op) (s : Tracked) → instruction_at s.0 s.1 ≡ Some op → makes mistakes op s ≡ false → is_mistaken mistakes s ≡ false
+not-mistaken mistakes op s there none = mistaken-when (not (eqb s.0.owed 1)) (instruction_at s.0 s.1) mistakes op s there none
 
 -- ---- conditions
 

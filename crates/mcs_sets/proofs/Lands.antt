@@ -1,4 +1,4 @@
--- The law of one step: where the choice of a machine leads, there it is after the instruction.
+-- The law of one step: the landing of a machine's own choice leads to the machine after the instruction.
 use Rattle.std.proofs.Common.{◌≡◌, ◌≢◌, ◌<◌, ◌≤◌, ◌+◌, inl, inr, ◌-◌, ◌*◌, ◌/◌, ◌%◌, ◌||◌, ℕ, zero, suc, List, [], ◌∷◌, length, replicate, Bool, true, false, cond, Option, Some, None, slice_index, slice_set, nat_lt, refl, sym, ap, ◌∙◌, arith, eqb}
 use Rattle.std.proofs.lemmas.Bool.{cases_eq, cases_lt, eq-eqb, ne_eqb, lt-ltb, le-ltb}
 use Rattle.std.proofs.lemmas.List.{get_or-set_same, get_or-set_other, get_or-replicate, length-set}
@@ -15,9 +15,9 @@ use Rattle.mcs_model.specs.Levels.{clock_levels, chains_clocked, with_rom_ports_
 use Rattle.mcs_model.specs.Registers.{register_of, with_register}
 use Rattle.mcs_drive.specs.Tracked.{Tracked, calls_after}
 use Rattle.mcs_sets.specs.declared.landing.Landing.{Landing}
-use Rattle.mcs_sets.specs.Entries.{held}
-use Rattle.mcs_sets.specs.Landing.{ChoicesLand, Fits, before, landing, done, choice_of, put, Lands}
-use Rattle.mcs_sets.proofs.Places.{Agrees, KeepsSrc, lands-kept, lands-one, lands-two}
+use Rattle.mcs_sets.specs.Entries.{value_at}
+use Rattle.mcs_sets.specs.Landing.{LandingIsCorrect, StandInFits, stand_in_before, landing, machine_after, choice_of, value_after, LandingLeads}
+use Rattle.mcs_sets.proofs.Locations.{Agrees, KeepsSrc, lands-kept, lands-one, lands-two}
 
 -- ---- the SRC bytes
 
@@ -56,17 +56,17 @@ after_status-src m bank k n = status-src m bank (src_of m bank / 16) k n
 
 -- ---- the registers
 
--- a field where a jump may be taken
+-- the fields of the registers after a conditional jump
 jump-acc : (b : Bool) (s : Regs) (w : ℕ) → ((cond b (with_word s w) s).acc ≡ s.acc) × ((cond b (with_word s w) s).cy ≡ s.cy) × ((cond b (with_word s w) s).dcl ≡ s.dcl) × ((cond b (with_word s w) s).r ≡ s.r) × ((cond b (with_word s w) s).ret ≡ s.ret) × ((cond b (with_word s w) s).pc ≡ cond b (address_beside s.pc w) s.pc)
 jump-acc true s w = (refl, refl, refl, refl, refl, refl)
 jump-acc false s w = (refl, refl, refl, refl, refl, refl)
 
--- ISZ
+-- the same after ISZ
 isz-acc : (b : Bool) (s : Regs) (w : ℕ) → ((cond b s (with_word s w)).acc ≡ s.acc) × ((cond b s (with_word s w)).cy ≡ s.cy) × ((cond b s (with_word s w)).dcl ≡ s.dcl) × ((cond b s (with_word s w)).r ≡ s.r) × ((cond b s (with_word s w)).ret ≡ s.ret) × ((cond b s (with_word s w)).pc ≡ cond b s.pc (address_beside s.pc w))
 isz-acc true s w = (refl, refl, refl, refl, refl, refl)
 isz-acc false s w = (refl, refl, refl, refl, refl, refl)
 
--- DAA
+-- the same after DAA
 abbrev daa_acc : ℕ → ℕ → ℕ
 daa_acc a c = cond (eqb c 1 || nat_lt 9 a) ((a + 6) % 16) a
 
@@ -80,11 +80,11 @@ daa-when false s x y = (refl, refl, refl, refl, refl, refl)
 daa-is : (s : Regs) → ((after_daa s).acc ≡ daa_acc s.acc s.cy) × ((after_daa s).cy ≡ daa_cy s.acc s.cy) × ((after_daa s).dcl ≡ s.dcl) × ((after_daa s).r ≡ s.r) × ((after_daa s).ret ≡ s.ret) × ((after_daa s).pc ≡ s.pc)
 daa-is s = daa-when (eqb s.cy 1 || nat_lt 9 s.acc) s ((s.acc + 6) % 16) (cond (nat_lt 15 (s.acc + 6)) 1 s.cy)
 
--- a register among stand-ins
+-- the value of a stand-in register
 stands : (v r : ℕ) → r < 16 → slice_index (replicate 16 v) r ≡ v
 stands v r h = get_or-replicate 16 r v 0 h
 
--- what was put into one of them
+-- the value of a stand-in register after a write to it
 put-in : (v r x : ℕ) → r < 16 → cond (nat_lt r 16) (slice_index (slice_set (replicate 16 v) r x) r) 0 ≡ x
 put-in v r x h = let lt : nat_lt r 16 ≡ true = lt-ltb r 16 h in rw lt (get_or-set_same (replicate 16 v) r x 0 h)
 
@@ -104,7 +104,7 @@ bbl-ret a b n at h (suc zero) small inside = h 2 (omega arith) (omega arith)
 bbl-ret a b n at h (suc (suc zero)) small inside = refl
 bbl-ret a b n at h (suc (suc (suc k))) small inside = absurd (omega arith)
 
--- ---- a pair that is written
+-- ---- a write to a register pair
 
 pair-set : (l q : List ℕ) (k a b x y : ℕ) → length q ≡ 16 → k < 8 → a ≡ x → b ≡ y →
     slice_set (slice_set l (2 * k) a) (2 * k + 1) b
@@ -161,10 +161,10 @@ second-far : (b : Bool) (bank k : ℕ) → k < 18 → eqb k (cond b (18 + bank) 
 second-far true bank k h = ne_eqb k (18 + bank) (λ e. omega arith)
 second-far false bank k h = ne_eqb k 26 (λ e. omega arith)
 
-src-places : (b : Bool) (s t : Tracked) (byte v : ℕ) (o : Landing) → byte / 16 ≡ v → t.1 ≡ sent b s.1 s.0.dcl byte → t.0.dcl ≡ o.regs.dcl → t.0.r ≡ s.0.r →
-    o.first ≡ 17 → o.first_value ≡ v → o.second ≡ cond b (18 + s.0.dcl) 26 → o.second_value ≡ v → s.0.dcl < 8 → length s.1.ram_src ≡ 8 →
-    (k : ℕ) → k < 26 → held t k ≡ put o k (held s k)
-src-places b s t byte v o upper bus bank regs first first_value second second_value small len k h =
+src-locations : (b : Bool) (s t : Tracked) (byte v : ℕ) (o : Landing) → byte / 16 ≡ v → t.1 ≡ sent b s.1 s.0.dcl byte → t.0.dcl ≡ o.regs.dcl → t.0.r ≡ s.0.r →
+    o.first_location ≡ 17 → o.first_value ≡ v → o.second_location ≡ cond b (18 + s.0.dcl) 26 → o.second_value ≡ v → s.0.dcl < 8 → length s.1.ram_src ≡ 8 →
+    (k : ℕ) → k < 26 → value_at t k ≡ value_after o k (value_at s k)
+src-locations b s t byte v o upper bus bank regs first first_value second second_value small len k h =
     elim (cases_eq k 16) [
       | inl e ↦ let is : eqb k 16 ≡ true = eq-eqb k 16 e in rw is bank
       | inr ne ↦
@@ -173,19 +173,19 @@ src-places b s t byte v o upper bus bank regs first first_value second second_va
             | inl low ↦
                 let lt : nat_lt k 16 ≡ true = lt-ltb k 16 low in
                 let near : k < 18 = omega arith in
-                let f : eqb k o.first ≡ false = ne_eqb k o.first (λ e. omega arith) in
-                let g : eqb k o.second ≡ false = ap (eqb k) second ∙ second-far b s.0.dcl k near in
+                let f : eqb k o.first_location ≡ false = ne_eqb k o.first_location (λ e. omega arith) in
+                let g : eqb k o.second_location ≡ false = ap (eqb k) second ∙ second-far b s.0.dcl k near in
                 rw (is, lt, f, g) (ap (λ (l : List ℕ). slice_index l k) regs)
             | inr high ↦
                 let lt : nat_lt k 16 ≡ false = le-ltb k 16 high in
                 elim (cases_eq k 17) [
                   | inl e ↦
                       let seventeen : eqb k 17 ≡ true = eq-eqb k 17 e in
-                      let f : eqb k o.first ≡ true = ap (eqb k) first ∙ seventeen in
+                      let f : eqb k o.first_location ≡ true = ap (eqb k) first ∙ seventeen in
                       rw (is, lt, f, seventeen) (ap (λ (m : BusState). m.rom_src / 16) bus ∙ ap (λ (n : ℕ). n / 16) (sent-rom b s.1 s.0.dcl byte) ∙ upper ∙ sym first_value)
                   | inr other ↦
                       let seventeen : eqb k 17 ≡ false = ne_eqb k 17 other in
-                      let f : eqb k o.first ≡ false = ap (eqb k) first ∙ seventeen in
+                      let f : eqb k o.first_location ≡ false = ap (eqb k) first ∙ seventeen in
                       let far : 18 ≤ k = omega arith in
                       rw (is, lt, f, seventeen) (ap (λ (m : BusState). slice_index m.ram_src (k - 18) / 16) bus ∙ sent-ram b s.1 s.0.dcl byte k len small far h
                       ∙ ap (λ (n : ℕ). cond (eqb k (cond b (18 + s.0.dcl) 26)) n (slice_index s.1.ram_src (k - 18) / 16)) (upper ∙ sym second_value)
@@ -194,7 +194,7 @@ src-places b s t byte v o upper bus bank regs first first_value second second_va
           ]
     ]
 
-src-lands : (k : ℕ) (s : Tracked) (m : BusState) (ret : List ℕ) → Fits (Src k) s m ret → Lands s (done (Src k) s) (landing (Src k) s.0.pc ret s.2.calls m (choice_of (Src k) s))
+src-lands : (k : ℕ) (s : Tracked) (m : BusState) (ret : List ℕ) → StandInFits (Src k) s m ret → LandingLeads s (machine_after (Src k) s) (landing (Src k) s.0.pc ret s.2.calls m (choice_of (Src k) s))
 unfolding after_src
 src-lands k s m ret fit =
     let small = fit.valid in
@@ -210,7 +210,7 @@ src-lands k s m ret fit =
       ret = fit.ret;
       acc = refl;
       cy = refl;
-      places = src-places b s (done (Src k) s) (v * 16 + w) v (landing (Src k) s.0.pc ret s.2.calls m (choice_of (Src k) s)) upper refl refl refl refl refl
+      locations = src-locations b s (machine_after (Src k) s) (v * 16 + w) v (landing (Src k) s.0.pc ret s.2.calls m (choice_of (Src k) s)) upper refl refl refl refl refl
           (ap (λ (p : BoardParts). cond (nat_lt 0 (slice_index p.banks s.0.dcl)) (18 + s.0.dcl) 26) fit.board) refl fit.bank fit.banks;
       registers = fit.registers;
       banks = sent-len b s.1 s.0.dcl (v * 16 + w) ∙ fit.banks;
@@ -218,19 +218,19 @@ src-lands k s m ret fit =
 
 -- ---- instructions that change no register
 
-simple : (op : Op) (s : Tracked) (m : BusState) (ret : List ℕ) → Fits op s m ret → KeepsSrc s (done op s) →
-    Agrees (done op s) (landing op s.0.pc ret s.2.calls m (choice_of op s)) →
+simple : (op : Op) (s : Tracked) (m : BusState) (ret : List ℕ) → StandInFits op s m ret → KeepsSrc s (machine_after op s) →
+    Agrees (machine_after op s) (landing op s.0.pc ret s.2.calls m (choice_of op s)) →
     (registers_after op (after_words op s.0) s.1).r ≡ s.0.r →
-    (landing op s.0.pc ret s.2.calls m (choice_of op s)).first ≡ 26 → (landing op s.0.pc ret s.2.calls m (choice_of op s)).second ≡ 26 →
-    Lands s (done op s) (landing op s.0.pc ret s.2.calls m (choice_of op s))
-simple op s m ret fit src agrees r first second = lands-kept s (done op s) (landing op s.0.pc ret s.2.calls m (choice_of op s)) fit.registers fit.banks agrees src r first second
+    (landing op s.0.pc ret s.2.calls m (choice_of op s)).first_location ≡ 26 → (landing op s.0.pc ret s.2.calls m (choice_of op s)).second_location ≡ 26 →
+    LandingLeads s (machine_after op s) (landing op s.0.pc ret s.2.calls m (choice_of op s))
+simple op s m ret fit src agrees r first second = lands-kept s (machine_after op s) (landing op s.0.pc ret s.2.calls m (choice_of op s)) fit.registers fit.banks agrees src r first second
 
-pub lands : ChoicesLand
+pub lands : LandingIsCorrect
 unfolding fetch_of ram_of status_of
 lands (Jcn c w) s m ret fit =
     let level : s.1.test % 2 ≡ s.1.test = let small = fit.test in omega arith in
     let x = after_words (Jcn c w) s.0 in
-    let y = after_words (Jcn c w) (before (Jcn c w) s.0.pc ret (choice_of (Jcn c w) s)) in
+    let y = after_words (Jcn c w) (stand_in_before (Jcn c w) s.0.pc ret (choice_of (Jcn c w) s)) in
     let e = jump-acc (is_taken c x s.1.test) x w in
     let f = jump-acc (is_taken c y (s.1.test % 2)) y w in
     simple (Jcn c w) s m ret fit (record { rom = refl; ram = refl })
@@ -245,7 +245,7 @@ lands (Jcn c w) s m ret fit =
     e.3 refl refl
 lands Daa s m ret fit =
     let e = daa-is (after_words Daa s.0) in
-    let f = daa-is (after_words Daa (before Daa s.0.pc ret (choice_of Daa s))) in
+    let f = daa-is (after_words Daa (stand_in_before Daa s.0.pc ret (choice_of Daa s))) in
     simple Daa s m ret fit (record { rom = refl; ram = refl })
     (record {
       pc = e.5 ∙ sym f.5;
@@ -332,7 +332,7 @@ lands (Fim k b) s m ret fit =
     let small = fit.valid in
     let low : 2 * k < 16 = omega arith in
     let high : 2 * k + 1 < 16 = omega arith in
-    lands-two s (done (Fim k b) s) (landing (Fim k b) s.0.pc ret s.2.calls m (choice_of (Fim k b) s)) k small fit.registers fit.banks
+    lands-two s (machine_after (Fim k b) s) (landing (Fim k b) s.0.pc ret s.2.calls m (choice_of (Fim k b) s)) k small fit.registers fit.banks
     (record { pc = refl; calls = refl; ret = fit.ret; dcl = refl; cy = refl; acc = refl }) (record { rom = refl; ram = refl })
     (pair-set s.0.r (replicate 16 0) k (b / 16) (b % 16) (b / 16) (b % 16) refl small refl refl) refl refl
 lands (Fin k) s m ret fit =
@@ -343,26 +343,26 @@ lands (Fin k) s m ret fit =
     let byte = slice_index s.1.rom from in
     let other = slice_index m.rom from in
     let same : byte ≡ other = ap (λ (xs : List ℕ). slice_index xs from) (sym fit.rom) in
-    lands-two s (done (Fin k) s) (landing (Fin k) s.0.pc ret s.2.calls m (choice_of (Fin k) s)) k small fit.registers fit.banks
+    lands-two s (machine_after (Fin k) s) (landing (Fin k) s.0.pc ret s.2.calls m (choice_of (Fin k) s)) k small fit.registers fit.banks
     (record { pc = refl; calls = refl; ret = fit.ret; dcl = refl; cy = refl; acc = refl }) (record { rom = refl; ram = refl })
     (pair-set s.0.r (slice_set (replicate 16 a) 1 b) k (byte / 16) (byte % 16) (other / 16) (other % 16) refl small (ap (λ (x : ℕ). x / 16) same) (ap (λ (x : ℕ). x % 16) same)) refl refl
 lands (Inc r) s m ret fit =
     let small = fit.valid in
     let v = register_of s.0 r in
-    lands-one s (done (Inc r) s) (landing (Inc r) s.0.pc ret s.2.calls m (choice_of (Inc r) s)) r small fit.registers fit.banks
+    lands-one s (machine_after (Inc r) s) (landing (Inc r) s.0.pc ret s.2.calls m (choice_of (Inc r) s)) r small fit.registers fit.banks
     (record { pc = refl; calls = refl; ret = fit.ret; dcl = refl; cy = refl; acc = refl }) (record { rom = refl; ram = refl })
     (ap (slice_set s.0.r r) (ap (λ (x : ℕ). (x + 1) % 16) (sym (stands v r small)) ∙ sym (put-in v r ((slice_index (replicate 16 v) r + 1) % 16) small))) refl refl
 lands (Xch r) s m ret fit =
     let small = fit.valid in
     let v = register_of s.0 r in
-    lands-one s (done (Xch r) s) (landing (Xch r) s.0.pc ret s.2.calls m (choice_of (Xch r) s)) r small fit.registers fit.banks
+    lands-one s (machine_after (Xch r) s) (landing (Xch r) s.0.pc ret s.2.calls m (choice_of (Xch r) s)) r small fit.registers fit.banks
     (record { pc = refl; calls = refl; ret = fit.ret; dcl = refl; cy = refl; acc = sym (stands v r small) }) (record { rom = refl; ram = refl })
     (ap (slice_set s.0.r r) (sym (put-in v r s.0.acc small))) refl refl
 lands (Isz r w) s m ret fit =
     let small = fit.valid in
     let v = register_of s.0 r in
     let x = after_words (Isz r w) s.0 in
-    let y = after_words (Isz r w) (before (Isz r w) s.0.pc ret (choice_of (Isz r w) s)) in
+    let y = after_words (Isz r w) (stand_in_before (Isz r w) s.0.pc ret (choice_of (Isz r w) s)) in
     let n = (v + 1) % 16 in
     let i = (slice_index (replicate 16 v) r + 1) % 16 in
     let same : n ≡ i = ap (λ (z : ℕ). (z + 1) % 16) (sym (stands v r small)) in
@@ -370,7 +370,7 @@ lands (Isz r w) s m ret fit =
     let f = isz-acc (eqb i 0) (with_register y r i) w in
     let o = landing (Isz r w) s.0.pc ret s.2.calls m (choice_of (Isz r w) s) in
     let value : o.first_value ≡ i = ap (λ (xs : List ℕ). cond (nat_lt r 16) (slice_index xs r) 0) f.3 ∙ put-in v r i small in
-    lands-one s (done (Isz r w) s) o r small fit.registers fit.banks
+    lands-one s (machine_after (Isz r w) s) o r small fit.registers fit.banks
     (record {
       pc = e.5 ∙ ap (λ (z : ℕ). cond (eqb z 0) x.pc (address_beside x.pc w)) same ∙ sym f.5;
       calls = refl;

@@ -1,10 +1,10 @@
 pub mod Memory
 pub mod Certified
-pub mod Places
+pub mod Locations
 pub mod Lands
 pub mod Running
 pub mod Ports
 pub mod Steps
-pub mod Taken
+pub mod Covered
 pub mod Excluded
-pub mod Kept
+pub mod EntryProperties

@@ -1,4 +1,4 @@
--- What is read at a port is a nibble.
+-- A read of a port gives a nibble.
 use Rattle.std.proofs.Common.{◌<◌, ◌/◌, ℕ, Bool, true, false, List, Option, Some, None, arith}
 use Rattle.mcs_nibble.specs.declared.lines.LineMask.{LineMask}
 use Rattle.mcs_nibble.specs.declared.lines.LineMask.TheVariants.{Input, Zero, One}

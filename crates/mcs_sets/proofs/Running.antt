@@ -1,4 +1,4 @@
--- One cycle at the counter, and what it leaves as it was.
+-- One cycle: it executes the instruction at the program counter, and keeps ROM and board.
 use Rattle.std.proofs.Common.{◌≡◌, ◌/◌, ℕ, List, Bool, true, false, cond, Option, Some, None, unwrap_or, nat_lt, refl, ap, ◌∙◌, eqb}
 use Rattle.mcs_nibble.specs.declared.lines.LineMask.{LineMask}
 use Rattle.mcs_nibble.specs.Ports.{latch_value}
@@ -11,7 +11,7 @@ use Rattle.mcs_model.specs.Levels.{clock_levels, chains_clocked, with_rom_ports_
 use Rattle.mcs_model.specs.Effect.{bus_after, cycle_of, effect, instruction_at}
 use Rattle.mcs_sets.specs.Landing.{op_at}
 
--- the instruction at the counter is the one in its ROM
+-- the instruction at the program counter, read from the ROM bytes
 pub instruction-in : (s : Regs) (m : BusState) → instruction_at s m ≡ op_at m.rom s.pc
 unfolding fetch_of
 instruction-in s m = refl
@@ -20,7 +20,7 @@ pub cycle-does : (op : Op) (s : Regs) (m : BusState) → s.owed ≡ 0 → op_at 
 unfolding cycle_of fetch_of
 cycle-does op s m free there = let works : eqb s.owed 1 ≡ false = ap (λ n. eqb n 1) free in rw (works, there) refl
 
--- ROM and board stay
+-- holds if two buses have the same ROM and the same board
 pub record SameProgram (m n : BusState) : Type 0 where
   pub rom : n.rom ≡ m.rom
   pub board : n.board ≡ m.board
@@ -62,7 +62,7 @@ bus-same Wr2 s m = status-same m s.dcl (src_of m s.dcl / 16) 2 s.acc
 bus-same Wr3 s m = status-same m s.dcl (src_of m s.dcl / 16) 3 s.acc
 bus-same _ s m = record { rom = refl; board = refl }
 
--- what was run
+-- the result of a cycle is the effect of the instruction
 pub ran : (op : Op) (cpu regs : Regs) (rig m : BusState) (x : Regs × BusState) → x ≡ unwrap_or (cycle_of cpu rig) (cpu, rig) → cpu ≡ regs → rig ≡ m → regs.owed ≡ 0 → op_at m.rom regs.pc ≡ Some op → x ≡ effect op regs m
 ran op cpu regs rig m x state e f free there =
     state ∙ ap (λ (r : Regs). unwrap_or (cycle_of r rig) (r, rig)) e ∙ ap (λ (b : BusState). unwrap_or (cycle_of regs b) (regs, b)) f

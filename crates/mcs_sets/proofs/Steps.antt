@@ -16,38 +16,38 @@ use Rattle.mcs_sets.proofs.Ports.{port-lt}
 use Rattle.mcs_sets.specs.declared.entries.Entry.{Entry}
 use Rattle.mcs_sets.specs.declared.landing.Choice.{Choice}
 use Rattle.mcs_sets.specs.declared.landing.Landing.{Landing}
-use Rattle.mcs_sets.specs.Entries.{has, accs_of, held, IsIn, IsAmong}
-use Rattle.mcs_sets.specs.Following.{IsOf}
-use Rattle.mcs_sets.specs.Landing.{Fits, op_at, first_of, second_of, first_set, second_set, IsValidOp, FitsCalls, landing, done, choice_of, Lands, Takes}
-use Rattle.mcs_sets.specs.Taking.{AllTaken, Allows, EntriesStay, IsTakenBy, choice_at}
+use Rattle.mcs_sets.specs.Entries.{has, acc_values_of, value_at, Covers, IsCovered}
+use Rattle.mcs_sets.specs.Closure.{IsBusOf}
+use Rattle.mcs_sets.specs.Landing.{StandInFits, op_at, first_operand_of, second_operand_of, first_operand_set, second_operand_set, IsValidOp, CallsAllow, landing, machine_after, choice_of, LandingLeads, CoversLanding}
+use Rattle.mcs_sets.specs.Covering.{AllChoicesCovered, AllowsChoice, LandingsSuffice, IsChoiceCovered, choice_at}
 use Rattle.mcs_sets.proofs.Memory.{has-lt}
 use Rattle.mcs_sets.proofs.Running.{instruction-in}
 use Rattle.mcs_sets.proofs.Lands.{lands}
 
--- ---- what is taken is in the entry
+-- ---- an entry that covers a landing covers the machine after it
 
-pub taken-in : (e to : Entry) (s t : Tracked) (o : Landing) → IsIn e s → Lands s t o → Takes e to o → IsIn to t
-taken-in e to s t o is l k = record {
+pub landing-covered : (e to : Entry) (s t : Tracked) (o : Landing) → Covers e s → LandingLeads s t o → CoversLanding e to o → Covers to t
+landing-covered e to s t o is l k = record {
   at = l.pc ∙ sym k.at;
   calls = l.calls ∙ sym k.calls;
   ret = λ j h inside. l.ret j h (subst (λ n. j < n) k.calls inside) ∙ sym (k.ret j h inside);
-  acc = ap (λ n. has (accs_of to n) t.0.acc) l.cy ∙ ap (has (accs_of to o.regs.cy)) l.acc ∙ k.acc;
-  places = λ j h. ap (has (slice_index to.sets j)) (l.places j h) ∙ k.places j h (held s j) (is.places j h);
+  acc = ap (λ n. has (acc_values_of to n) t.0.acc) l.cy ∙ ap (has (acc_values_of to o.regs.cy)) l.acc ∙ k.acc;
+  locations = λ j h. ap (has (slice_index to.sets j)) (l.locations j h) ∙ k.locations j h (value_at s j) (is.locations j h);
   carry = subst (λ n. n < 2) (sym l.cy) k.carry;
   registers = l.registers;
   banks = l.banks;
 }
 
--- ---- what a machine of an entry chooses is allowed
+-- ---- an entry allows the choices of its machines
 
-register-in : (e : Entry) (s : Tracked) (r : ℕ) → r < 16 → IsIn e s → has (slice_index e.sets r) (register_of s.0 r) ≡ true
+register-in : (e : Entry) (s : Tracked) (r : ℕ) → r < 16 → Covers e s → has (slice_index e.sets r) (register_of s.0 r) ≡ true
 register-in e s r small is =
     let far : r ≢ 16 = λ z. omega arith in
     let no : eqb r 16 ≡ false = ne_eqb r 16 far in
     let lt : nat_lt r 16 ≡ true = lt-ltb r 16 small in
     let below : r < 26 = omega arith in
-    let place : held s r ≡ register_of s.0 r = rw (no, lt) refl in
-    ap (has (slice_index e.sets r)) (sym place) ∙ is.places r below
+    let place : value_at s r ≡ register_of s.0 r = rw (no, lt) refl in
+    ap (has (slice_index e.sets r)) (sym place) ∙ is.locations r below
 
 any-nibble : (n : ℕ) → n < 16 → has 65535 n ≡ true
 any-nibble n h = agree_below_at (has 65535) (λ _. true) 16 n refl h
@@ -69,7 +69,7 @@ status-lt : (m : BusState) (bank k : ℕ) → All (λ n. n < 16) m.status → st
 unfolding status_of
 status-lt m bank k h = nibble-at m.status _ h
 
-first-in : (board : BoardParts) (rom : List ℕ) (op : Op) (e : Entry) (s : Tracked) → IsValidOp op → IsOf board rom s.1 → IsIn e s → has (first_set op e) (first_of op s.0 s.1) ≡ true
+first-in : (board : BoardParts) (rom : List ℕ) (op : Op) (e : Entry) (s : Tracked) → IsValidOp op → IsBusOf board rom s.1 → Covers e s → has (first_operand_set op e) (first_operand_of op s.0 s.1) ≡ true
 first-in board rom (Src k) e s small of is = register-in e s (2 * k) (omega arith) is
 first-in board rom (Fin k) e s small of is = register-in e s 0 (omega arith) is
 first-in board rom (Jin k) e s small of is = register-in e s (2 * k) (omega arith) is
@@ -89,18 +89,18 @@ first-in board rom Rd2 e s small of is = any-nibble (status_of s.1 s.0.dcl 2) (s
 first-in board rom Rd3 e s small of is = any-nibble (status_of s.1 s.0.dcl 3) (status-lt s.1 s.0.dcl 3 of.status)
 first-in board rom _ e s small of is = refl
 
-second-in : (board : BoardParts) (rom : List ℕ) (op : Op) (e : Entry) (s : Tracked) → IsValidOp op → IsOf board rom s.1 → IsIn e s → has (second_set op e) (second_of op s.0 s.1) ≡ true
+second-in : (board : BoardParts) (rom : List ℕ) (op : Op) (e : Entry) (s : Tracked) → IsValidOp op → IsBusOf board rom s.1 → Covers e s → has (second_operand_set op e) (second_operand_of op s.0 s.1) ≡ true
 second-in board rom (Jcn c b) e s small of is = any-level s.1.test of.test
 second-in board rom (Fin k) e s small of is = register-in e s 1 (omega arith) is
 second-in board rom (Jin k) e s small of is = register-in e s (2 * k + 1) (omega arith) is
 second-in board rom _ e s small of is = refl
 
-pub allows-own : (board : BoardParts) (rom : List ℕ) (op : Op) (e : Entry) (s : Tracked) → IsValidOp op → IsOf board rom s.1 → IsIn e s → Allows e op (choice_of op s)
+pub allows-own : (board : BoardParts) (rom : List ℕ) (op : Op) (e : Entry) (s : Tracked) → IsValidOp op → IsBusOf board rom s.1 → Covers e s → AllowsChoice e op (choice_of op s)
 allows-own board rom op e s valid of is = record {
   acc = is.acc;
-  bank = is.places 16 (omega arith);
-  first = first-in board rom op e s valid of is;
-  second = second-in board rom op e s valid of is;
+  bank = is.locations 16 (omega arith);
+  first_operand = first-in board rom op e s valid of is;
+  second_operand = second-in board rom op e s valid of is;
 }
 
 -- ---- the cycle
@@ -112,7 +112,7 @@ cycled-when b o op s e f = rw (e, f) refl
 opens-when : (b : Bool) (o : Option Op) (op : Op) (n : ℕ) → b ≡ false → o ≡ Some op → calls_after (cond b None o) n ≡ calls_after (Some op) n
 opens-when b o op n e f = rw (e, f) refl
 
-pub cycled-op : (op : Op) (s : Tracked) → eqb s.0.owed 1 ≡ false → instruction_at s.0 s.1 ≡ Some op → cycled no_observer s ≡ done op s
+pub cycled-op : (op : Op) (s : Tracked) → eqb s.0.owed 1 ≡ false → instruction_at s.0 s.1 ≡ Some op → cycled no_observer s ≡ machine_after op s
 unfolding cycle_of
 cycled-op op s free next =
     let work = cycled-when (eqb s.0.owed 1) (instruction_at s.0 s.1) op s free next in
@@ -137,35 +137,35 @@ cycled-idle s owed =
     ap (λ (m : Regs × BusState). (m.0, m.1, counts_after no_observer s)) (idle-when (eqb s.0.owed 1) (instruction_at s.0 s.1) s owed)
     ∙ ap (λ (n : ℕ). ((idle s).0, (idle s).1, record s.2 { calls = n; elapsed = elapsed_after no_observer s; seen = seen_after no_observer s })) (idle-opens (eqb s.0.owed 1) (instruction_at s.0 s.1) s.2.calls owed)
 
-idle-in : (e : Entry) (s : Tracked) → IsIn e s → IsIn e (idle s)
-idle-in e s is = record { at = is.at; calls = is.calls; ret = is.ret; acc = is.acc; places = is.places; carry = is.carry; registers = is.registers; banks = is.banks }
+idle-in : (e : Entry) (s : Tracked) → Covers e s → Covers e (idle s)
+idle-in e s is = record { at = is.at; calls = is.calls; ret = is.ret; acc = is.acc; locations = is.locations; carry = is.carry; registers = is.registers; banks = is.banks }
 
--- ---- the whole
+-- ---- the law
 
--- a choice in which accumulator and carry are one number
-choice-flags : (op : Op) (s : Tracked) → s.0.acc < 16 → s.0.cy < 2 → choice_of op s ≡ choice_at (s.0.acc + 16 * s.0.cy) s.0.dcl (first_of op s.0 s.1) (second_of op s.0 s.1)
+-- the choice of a machine, with accumulator and carry as one number
+choice-flags : (op : Op) (s : Tracked) → s.0.acc < 16 → s.0.cy < 2 → choice_of op s ≡ choice_at (s.0.acc + 16 * s.0.cy) s.0.dcl (first_operand_of op s.0 s.1) (second_operand_of op s.0 s.1)
 choice-flags op s small carry =
     let acc : s.0.acc ≡ (s.0.acc + 16 * s.0.cy) % 16 = omega arith in
     let cy : s.0.cy ≡ (s.0.acc + 16 * s.0.cy) / 16 % 2 = omega arith in
-    ap (λ (n : ℕ). let c : Choice = record { acc = n; cy = s.0.cy; bank = s.0.dcl; first = first_of op s.0 s.1; second = second_of op s.0 s.1 } in c) acc
-    ∙ ap (λ (n : ℕ). let c : Choice = record { acc = (s.0.acc + 16 * s.0.cy) % 16; cy = n; bank = s.0.dcl; first = first_of op s.0 s.1; second = second_of op s.0 s.1 } in c) cy
+    ap (λ (n : ℕ). let c : Choice = record { acc = n; cy = s.0.cy; bank = s.0.dcl; first_operand = first_operand_of op s.0 s.1; second_operand = second_operand_of op s.0 s.1 } in c) acc
+    ∙ ap (λ (n : ℕ). let c : Choice = record { acc = (s.0.acc + 16 * s.0.cy) % 16; cy = n; bank = s.0.dcl; first_operand = first_operand_of op s.0 s.1; second_operand = second_operand_of op s.0 s.1 } in c) cy
 
-own-taken : (board : BoardParts) (rom : List ℕ) (entries : List Entry) (op : Op) (e : Entry) (s : Tracked) → IsValidOp op → IsOf board rom s.1 → IsIn e s → AllTaken rom board entries e op → IsTakenBy rom board entries e op (choice_of op s)
-own-taken board rom entries op e s valid of is all =
+own-covered : (board : BoardParts) (rom : List ℕ) (entries : List Entry) (op : Op) (e : Entry) (s : Tracked) → IsValidOp op → IsBusOf board rom s.1 → Covers e s → AllChoicesCovered rom board entries e op → IsChoiceCovered rom board entries e op (choice_of op s)
+own-covered board rom entries op e s valid of is all =
     let own = allows-own board rom op e s valid of is in
-    let small = has-lt (accs_of e s.0.cy) s.0.acc own.acc in
+    let small = has-lt (acc_values_of e s.0.cy) s.0.acc own.acc in
     let carry = is.carry in
     let same = choice-flags op s small carry in
     let bank = has-lt (slice_index e.sets 16) s.0.dcl own.bank in
-    let first = has-lt (first_set op e) (first_of op s.0 s.1) own.first in
-    let second = has-lt (second_set op e) (second_of op s.0 s.1) own.second in
-    subst (IsTakenBy rom board entries e op) (sym same)
-    (all (s.0.acc + 16 * s.0.cy) s.0.dcl (first_of op s.0 s.1) (second_of op s.0 s.1) (omega arith) bank first second (subst (Allows e op) same own))
+    let first = has-lt (first_operand_set op e) (first_operand_of op s.0 s.1) own.first_operand in
+    let second = has-lt (second_operand_set op e) (second_operand_of op s.0 s.1) own.second_operand in
+    subst (IsChoiceCovered rom board entries e op) (sym same)
+    (all (s.0.acc + 16 * s.0.cy) s.0.dcl (first_operand_of op s.0 s.1) (second_operand_of op s.0 s.1) (omega arith) bank first second (subst (AllowsChoice e op) same own))
 
-fits-own : (board : BoardParts) (rom : List ℕ) (op : Op) (e : Entry) (s : Tracked) (bus : BusState) → IsValidOp op → FitsCalls op e.calls → IsOf board rom s.1 → IsIn e s → s.0.dcl < 8 → bus.rom ≡ rom → bus.board ≡ board → Fits op s bus e.ret
+fits-own : (board : BoardParts) (rom : List ℕ) (op : Op) (e : Entry) (s : Tracked) (bus : BusState) → IsValidOp op → CallsAllow op e.calls → IsBusOf board rom s.1 → Covers e s → s.0.dcl < 8 → bus.rom ≡ rom → bus.board ≡ board → StandInFits op s bus e.ret
 fits-own board rom op e s bus valid calls of is few same_rom same_board = record {
   valid = valid;
-  calls = subst (FitsCalls op) (sym is.calls) calls;
+  calls = subst (CallsAllow op) (sym is.calls) calls;
   registers = is.registers;
   banks = is.banks;
   bank = few;
@@ -176,20 +176,20 @@ fits-own board rom op e s bus valid calls of is few same_rom same_board = record
   nibbles = λ k h. has-lt (slice_index e.sets k) (register_of s.0 k) (register-in e s k h is);
 }
 
-pub next-among : (board : BoardParts) (rom : List ℕ) (entries : List Entry) (op : Op) (e : Entry) (s : Tracked) → IsValidOp op → FitsCalls op e.calls → op_at rom e.at ≡ Some op → IsOf board rom s.1 → IsIn e s → eqb s.0.owed 1 ≡ false → AllTaken rom board entries e op → IsAmong entries (cycled no_observer s)
+pub next-among : (board : BoardParts) (rom : List ℕ) (entries : List Entry) (op : Op) (e : Entry) (s : Tracked) → IsValidOp op → CallsAllow op e.calls → op_at rom e.at ≡ Some op → IsBusOf board rom s.1 → Covers e s → eqb s.0.owed 1 ≡ false → AllChoicesCovered rom board entries e op → IsCovered entries (cycled no_observer s)
 next-among board rom entries op e s valid calls there of is free all =
-    let by = own-taken board rom entries op e s valid of is all in
+    let by = own-covered board rom entries op e s valid of is all in
     let next : instruction_at s.0 s.1 ≡ Some op = instruction-in s.0 s.1 ∙ ap (λ (l : List ℕ). op_at l s.0.pc) of.rom ∙ ap (op_at rom) is.at ∙ there in
-    let fit = fits-own board rom op e s by.bus valid calls of is by.few by.same_rom by.same_board in
-    let l : Lands s (done op s) (landing op e.at e.ret e.calls by.bus (choice_of op s)) =
-    subst (λ (n : ℕ). Lands s (done op s) (landing op e.at e.ret n by.bus (choice_of op s))) is.calls
-    (subst (λ (n : ℕ). Lands s (done op s) (landing op n e.ret s.2.calls by.bus (choice_of op s))) is.at (lands op s by.bus e.ret fit)) in
-    subst (IsAmong entries) (sym (cycled-op op s free next))
-    (by.taken.target, by.taken.there, taken-in e by.taken.target s (done op s) (landing op e.at e.ret e.calls by.bus (choice_of op s)) is l by.taken.takes)
+    let fit = fits-own board rom op e s by.bus valid calls of is by.bank_exists by.same_rom by.same_board in
+    let l : LandingLeads s (machine_after op s) (landing op e.at e.ret e.calls by.bus (choice_of op s)) =
+    subst (λ (n : ℕ). LandingLeads s (machine_after op s) (landing op e.at e.ret n by.bus (choice_of op s))) is.calls
+    (subst (λ (n : ℕ). LandingLeads s (machine_after op s) (landing op n e.ret s.2.calls by.bus (choice_of op s))) is.at (lands op s by.bus e.ret fit)) in
+    subst (IsCovered entries) (sym (cycled-op op s free next))
+    (by.covered.target, by.covered.target_is_entry, landing-covered e by.covered.target s (machine_after op s) (landing op e.at e.ret e.calls by.bus (choice_of op s)) is l by.covered.covers_landing)
 
-pub entries-stay : EntriesStay
-entries-stay board rom entries op e valid calls there all = λ s of is among.
+pub landings-suffice : LandingsSuffice
+landings-suffice board rom entries op e valid calls there all = λ s of is among.
     elim (cases_Bool (eqb s.0.owed 1)) [
-      | inl owed ↦ subst (IsAmong entries) (sym (cycled-idle s owed)) (e, among, idle-in e s is)
+      | inl owed ↦ subst (IsCovered entries) (sym (cycled-idle s owed)) (e, among, idle-in e s is)
       | inr free ↦ next-among board rom entries op e s valid calls there of is free all
     ]

@@ -11,39 +11,39 @@ abbrev pub has : ℕ → ℕ → Bool
 has set n = nat_lt n 16 && (set / 2 ^ n % 2 == 1)
 
 -- holds if a set is a subset of another one
-abbrev pub IsWithin : ℕ → ℕ → Type 0
-IsWithin part whole = (n : ℕ) → has part n ≡ true → has whole n ≡ true
+abbrev pub IsSubset : ℕ → ℕ → Type 0
+IsSubset subset superset = (n : ℕ) → has subset n ≡ true → has superset n ≡ true
 
 -- the values that the accumulator may hold with this carry
-abbrev pub accs_of : Entry → ℕ → ℕ
-accs_of e carry = if carry == 0 then e.clear else if carry == 1 then e.set else 0
+abbrev pub acc_values_of : Entry → ℕ → ℕ
+acc_values_of e carry = if carry == 0 then e.acc_if_carry_0 else if carry == 1 then e.acc_if_carry_1 else 0
 
 -- the value that a machine holds at location k. Locations 0 to 15 are the index registers, 16 is the
 -- bank number, and 17 is the upper nibble of the SRC byte that the ROMs store. Locations 18 to 25 are
 -- the upper nibbles of the SRC bytes that the banks store.
-abbrev pub held : Tracked → ℕ → ℕ
-held s k =
+abbrev pub value_at : Tracked → ℕ → ℕ
+value_at s k =
     if k == 16 then s.0.dcl
     else if nat_lt k 16 then slice_index s.0.r k
     else if k == 17 then s.1.rom_src / 16
     else slice_index s.1.ram_src (k - 18) / 16
 
 -- holds if an entry covers a machine
-pub record IsIn (e : Entry) (s : Tracked) : Type 0 where
+pub record Covers (e : Entry) (s : Tracked) : Type 0 where
   pub at : s.0.pc ≡ e.at
   pub calls : s.2.calls ≡ e.calls
   pub ret : (k : ℕ) → k < 3 → k < e.calls → slice_index s.0.ret k ≡ slice_index e.ret k
-  pub acc : has (accs_of e s.0.cy) s.0.acc ≡ true
-  pub places : (k : ℕ) → k < 26 → has (slice_index e.sets k) (held s k) ≡ true
+  pub acc : has (acc_values_of e s.0.cy) s.0.acc ≡ true
+  pub locations : (k : ℕ) → k < 26 → has (slice_index e.sets k) (value_at s k) ≡ true
   pub carry : s.0.cy < 2
   pub registers : length s.0.r ≡ 16
   pub banks : length s.1.ram_src ≡ 8
 
 -- holds if some entry of a certificate covers a machine
-abbrev pub IsAmong : List Entry → Tracked → Type 0
-IsAmong entries s = (e : Entry) × Contains entries e × IsIn e s
+abbrev pub IsCovered : List Entry → Tracked → Type 0
+IsCovered entries s = (e : Entry) × Contains entries e × Covers e s
 
 -- holds if a processor is at the address of an entry, and the entry has no open calls
-pub record IsPlaced (e : Entry) (s : Regs) : Type 0 where
+pub record IsAtEntry (e : Entry) (s : Regs) : Type 0 where
   pub at : s.pc ≡ e.at
   pub calls : e.calls ≡ 0

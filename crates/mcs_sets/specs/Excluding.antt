@@ -11,41 +11,41 @@ use Rattle.mcs_check.specs.declared.conditions.Condition.{Condition}
 use Rattle.mcs_check.specs.Conditions.{are_met, is_met}
 use Rattle.mcs_check.specs.Mistaken.{makes}
 use Rattle.mcs_sets.specs.declared.entries.Entry.{Entry}
-use Rattle.mcs_sets.specs.Entries.{has, IsIn}
-use Rattle.mcs_sets.specs.Following.{IsOf, StaysAmong}
+use Rattle.mcs_sets.specs.Entries.{has, Covers}
+use Rattle.mcs_sets.specs.Closure.{IsBusOf, StaysCovered}
 
 -- holds if every machine that an entry covers, with this board and ROM, has a property
-abbrev pub HoldsIn : BoardParts → List ℕ → (Tracked → Bool) → Entry → Type 0
-HoldsIn board rom p e = (s : Tracked) → IsOf board rom s.1 → IsIn e s → p s ≡ true
+abbrev pub HoldsInEntry : BoardParts → List ℕ → (Tracked → Bool) → Entry → Type 0
+HoldsInEntry board rom p e = (s : Tracked) → IsBusOf board rom s.1 → Covers e s → p s ≡ true
 
 -- holds if no machine that an entry covers, with this board and ROM, meets a condition
 abbrev pub Excludes : BoardParts → List ℕ → Condition → Entry → Type 0
-Excludes board rom c e = (s : Tracked) → IsOf board rom s.1 → IsIn e s → is_met s c ≡ false
+Excludes board rom c e = (s : Tracked) → IsBusOf board rom s.1 → Covers e s → is_met s c ≡ false
 
 -- holds if no machine that an entry covers, with this board and ROM, meets all of these conditions
-abbrev pub ExcludesAll : BoardParts → List ℕ → List Condition → Entry → Type 0
-ExcludesAll board rom cs e = (s : Tracked) → IsOf board rom s.1 → IsIn e s → are_met s cs ≡ false
+abbrev pub ExcludesConjunction : BoardParts → List ℕ → List Condition → Entry → Type 0
+ExcludesConjunction board rom cs e = (s : Tracked) → IsBusOf board rom s.1 → Covers e s → are_met s cs ≡ false
 
 -- the theorem: a property that holds in each entry of a certificate holds for all inputs, if the machine
 -- stays in the certificate
 abbrev pub EntriesSuffice : Type 0
 EntriesSuffice =
     (p : Tracked → Bool) (entries : List Entry) (s : Tracked) →
-    ((e : Entry) → Contains entries e → HoldsIn s.1.board s.1.rom p e) →
-    IsOf s.1.board s.1.rom s.1 → StaysAmong entries s → Holds no_observer p s
+    ((e : Entry) → Contains entries e → HoldsInEntry s.1.board s.1.rom p e) →
+    IsBusOf s.1.board s.1.rom s.1 → StaysCovered entries s → Holds no_observer p s
 
--- holds if each number in a set has a property
-abbrev pub AllIn : ℕ → (ℕ → Type 0) → Type 0
-AllIn set p = (n : ℕ) → has set n ≡ true → p n
+-- holds if each number in a set of nibbles has a property
+abbrev pub ForAllIn : ℕ → (ℕ → Type 0) → Type 0
+ForAllIn set p = (n : ℕ) → has set n ≡ true → p n
 
 -- holds if the board has each chip of a bank that a SRC byte selects if its upper nibble is in the set
-abbrev pub HasChips : BoardParts → ℕ → ℕ → Type 0
-HasChips board bank set = AllIn set (λ n. n / 4 < slice_index board.banks bank)
+abbrev pub HasSelectableChips : BoardParts → ℕ → ℕ → Type 0
+HasSelectableChips board bank set = ForAllIn set (λ n. n / 4 < slice_index board.banks bank)
 
 -- holds if a bank number is below 8 and the board has each chip of the bank that the entry may select
-pub record HasBank (board : BoardParts) (e : Entry) (bank : ℕ) : Type 0 where
-  pub few : bank < 8
-  pub chips : HasChips board bank (slice_index e.sets (18 + bank))
+pub record HasChipsOfBank (board : BoardParts) (e : Entry) (bank : ℕ) : Type 0 where
+  pub bank_exists : bank < 8
+  pub chips : HasSelectableChips board bank (slice_index e.sets (18 + bank))
 
 -- true if an instruction reads a second word, or is FIN, which reads a byte on the page of the next
 -- address
@@ -58,6 +58,7 @@ reads_next (Jms h b) = true
 reads_next (Isz r b) = true
 reads_next _ = false
 
--- holds if no machine that an entry covers makes a mistake that `asked` includes when it executes `op`
-abbrev pub MakesNone : BoardParts → Entry → Op → Mistakes → Type 0
-MakesNone board e op asked = (s : Tracked) → s.1.board ≡ board → IsIn e s → makes asked op s ≡ false
+-- holds if no machine that an entry covers makes a mistake that `mistakes` includes when it executes
+-- `op`
+abbrev pub MakesNoMistake : BoardParts → Entry → Op → Mistakes → Type 0
+MakesNoMistake board e op mistakes = (s : Tracked) → s.1.board ≡ board → Covers e s → makes mistakes op s ≡ false

@@ -14,63 +14,63 @@ use Rattle.mcs_drive.specs.Tracked.{Tracked, calls_after, elapsed_after, seen_af
 use Rattle.mcs_sets.specs.declared.entries.Entry.{Entry}
 use Rattle.mcs_sets.specs.declared.landing.Choice.{Choice}
 use Rattle.mcs_sets.specs.declared.landing.Landing.{Landing}
-use Rattle.mcs_sets.specs.Entries.{has, accs_of, held}
+use Rattle.mcs_sets.specs.Entries.{has, acc_values_of, value_at}
 
 -- ---- the operand values of an instruction, besides accumulator, carry and bank: at most two
 
-abbrev pub first_of : Op → Regs → BusState → ℕ
-first_of (Src k) s m = register_of s (2 * k)
-first_of (Fin k) s m = register_of s 0
-first_of (Jin k) s m = register_of s (2 * k)
-first_of (Inc r) s m = register_of s r
-first_of (Isz r b) s m = register_of s r
-first_of (Add r) s m = register_of s r
-first_of (Sub r) s m = register_of s r
-first_of (Ld r) s m = register_of s r
-first_of (Xch r) s m = register_of s r
-first_of Sbm s m = ram_of m s.dcl
-first_of Rdm s m = ram_of m s.dcl
-first_of Rdr s m = port_of m
-first_of Adm s m = ram_of m s.dcl
-first_of Rd0 s m = status_of m s.dcl 0
-first_of Rd1 s m = status_of m s.dcl 1
-first_of Rd2 s m = status_of m s.dcl 2
-first_of Rd3 s m = status_of m s.dcl 3
-first_of _ s m = 0
+abbrev pub first_operand_of : Op → Regs → BusState → ℕ
+first_operand_of (Src k) s m = register_of s (2 * k)
+first_operand_of (Fin k) s m = register_of s 0
+first_operand_of (Jin k) s m = register_of s (2 * k)
+first_operand_of (Inc r) s m = register_of s r
+first_operand_of (Isz r b) s m = register_of s r
+first_operand_of (Add r) s m = register_of s r
+first_operand_of (Sub r) s m = register_of s r
+first_operand_of (Ld r) s m = register_of s r
+first_operand_of (Xch r) s m = register_of s r
+first_operand_of Sbm s m = ram_of m s.dcl
+first_operand_of Rdm s m = ram_of m s.dcl
+first_operand_of Rdr s m = port_of m
+first_operand_of Adm s m = ram_of m s.dcl
+first_operand_of Rd0 s m = status_of m s.dcl 0
+first_operand_of Rd1 s m = status_of m s.dcl 1
+first_operand_of Rd2 s m = status_of m s.dcl 2
+first_operand_of Rd3 s m = status_of m s.dcl 3
+first_operand_of _ s m = 0
 
-abbrev pub second_of : Op → Regs → BusState → ℕ
-second_of (Jcn c b) s m = m.test
-second_of (Fin k) s m = register_of s 1
-second_of (Jin k) s m = register_of s (2 * k + 1)
-second_of _ s m = 0
+abbrev pub second_operand_of : Op → Regs → BusState → ℕ
+second_operand_of (Jcn c b) s m = m.test
+second_operand_of (Fin k) s m = register_of s 1
+second_operand_of (Jin k) s m = register_of s (2 * k + 1)
+second_operand_of _ s m = 0
 
 -- the set of possible values of the first operand; a value from RAM or a port may be any nibble
-abbrev pub first_set : Op → Entry → ℕ
-first_set (Src k) e = slice_index e.sets (2 * k)
-first_set (Fin k) e = slice_index e.sets 0
-first_set (Jin k) e = slice_index e.sets (2 * k)
-first_set (Inc r) e = slice_index e.sets r
-first_set (Isz r b) e = slice_index e.sets r
-first_set (Add r) e = slice_index e.sets r
-first_set (Sub r) e = slice_index e.sets r
-first_set (Ld r) e = slice_index e.sets r
-first_set (Xch r) e = slice_index e.sets r
-first_set Sbm e = 65535
-first_set Rdm e = 65535
-first_set Rdr e = 65535
-first_set Adm e = 65535
-first_set Rd0 e = 65535
-first_set Rd1 e = 65535
-first_set Rd2 e = 65535
-first_set Rd3 e = 65535
-first_set _ e = 1
+abbrev pub first_operand_set : Op → Entry → ℕ
+first_operand_set (Src k) e = slice_index e.sets (2 * k)
+first_operand_set (Fin k) e = slice_index e.sets 0
+first_operand_set (Jin k) e = slice_index e.sets (2 * k)
+first_operand_set (Inc r) e = slice_index e.sets r
+first_operand_set (Isz r b) e = slice_index e.sets r
+first_operand_set (Add r) e = slice_index e.sets r
+first_operand_set (Sub r) e = slice_index e.sets r
+first_operand_set (Ld r) e = slice_index e.sets r
+first_operand_set (Xch r) e = slice_index e.sets r
+first_operand_set Sbm e = 65535
+first_operand_set Rdm e = 65535
+first_operand_set Rdr e = 65535
+first_operand_set Adm e = 65535
+first_operand_set Rd0 e = 65535
+first_operand_set Rd1 e = 65535
+first_operand_set Rd2 e = 65535
+first_operand_set Rd3 e = 65535
+first_operand_set _ e = 1
 
 -- the set of possible values of the second operand; for TEST, its two levels
-abbrev pub second_set : Op → Entry → ℕ
-second_set (Jcn c b) e = 3
-second_set (Fin k) e = slice_index e.sets 1
-second_set (Jin k) e = slice_index e.sets (2 * k + 1)
-second_set _ e = 1
+abbrev pub second_operand_set : Op → Entry → ℕ
+second_operand_set (Jcn c b) e = 3
+second_operand_set (Fin k) e = slice_index e.sets 1
+second_operand_set (Jin k) e = slice_index e.sets (2 * k + 1)
+second_operand_set _ e = 1
 
 -- ---- the instruction with these operand values
 
@@ -79,66 +79,66 @@ abbrev pub op_at : List ℕ → ℕ → Option Op
 op_at rom at = instruction_of (slice_index rom at) (slice_index rom ((at + 1) % 4096))
 
 -- index registers that hold both operand values at the indexes from which the instruction reads them
-abbrev pub stand_ins : Op → ℕ → ℕ → List ℕ
-stand_ins (Fin k) first second = slice_set (replicate 16 first) 1 second
-stand_ins (Jin k) first second = slice_set (replicate 16 first) (2 * k + 1) second
-stand_ins _ first second = replicate 16 first
+abbrev pub stand_in_registers : Op → ℕ → ℕ → List ℕ
+stand_in_registers (Fin k) first second = slice_set (replicate 16 first) 1 second
+stand_in_registers (Jin k) first second = slice_set (replicate 16 first) (2 * k + 1) second
+stand_in_registers _ first second = replicate 16 first
 
-abbrev pub before : Op → ℕ → List ℕ → Choice → Regs
-before op at ret c = record { acc = c.acc; cy = c.cy; r = stand_ins op c.first c.second; pc = at; ret = ret; dcl = c.bank; owed = 0 }
+abbrev pub stand_in_before : Op → ℕ → List ℕ → Choice → Regs
+stand_in_before op at ret c = record { acc = c.acc; cy = c.cy; r = stand_in_registers op c.first_operand c.second_operand; pc = at; ret = ret; dcl = c.bank; owed = 0 }
 
 -- the registers t after an instruction, corrected if it reads x from RAM or a port; s are those before
 -- it
-abbrev pub with_read : Op → ℕ → Regs → Regs → Regs
-with_read Sbm x s t = with_sum t (s.acc + (15 - x) + (1 - s.cy))
-with_read Rdm x s t = with_acc t x
-with_read Rdr x s t = with_acc t x
-with_read Adm x s t = with_sum t (s.acc + x + s.cy)
-with_read Rd0 x s t = with_acc t x
-with_read Rd1 x s t = with_acc t x
-with_read Rd2 x s t = with_acc t x
-with_read Rd3 x s t = with_acc t x
-with_read _ x s t = t
+abbrev pub with_value_read : Op → ℕ → Regs → Regs → Regs
+with_value_read Sbm x s t = with_sum t (s.acc + (15 - x) + (1 - s.cy))
+with_value_read Rdm x s t = with_acc t x
+with_value_read Rdr x s t = with_acc t x
+with_value_read Adm x s t = with_sum t (s.acc + x + s.cy)
+with_value_read Rd0 x s t = with_acc t x
+with_value_read Rd1 x s t = with_acc t x
+with_value_read Rd2 x s t = with_acc t x
+with_value_read Rd3 x s t = with_acc t x
+with_value_read _ x s t = t
 
 -- ---- the locations that an instruction changes, besides accumulator, carry, bank and addresses
 
-abbrev pub first_written : Op → ℕ
-first_written (Fim k b) = 2 * k
-first_written (Src k) = 17
-first_written (Fin k) = 2 * k
-first_written (Inc r) = r
-first_written (Isz r b) = r
-first_written (Xch r) = r
-first_written _ = 26
+abbrev pub first_location_written : Op → ℕ
+first_location_written (Fim k b) = 2 * k
+first_location_written (Src k) = 17
+first_location_written (Fin k) = 2 * k
+first_location_written (Inc r) = r
+first_location_written (Isz r b) = r
+first_location_written (Xch r) = r
+first_location_written _ = 26
 
-abbrev pub second_written : Op → ℕ → ℕ → ℕ
-second_written (Fim k b) chips bank = 2 * k + 1
-second_written (Src k) chips bank = if nat_lt 0 chips then 18 + bank else 26
-second_written (Fin k) chips bank = 2 * k + 1
-second_written _ chips bank = 26
+abbrev pub second_location_written : Op → ℕ → ℕ → ℕ
+second_location_written (Fim k b) chips bank = 2 * k + 1
+second_location_written (Src k) chips bank = if nat_lt 0 chips then 18 + bank else 26
+second_location_written (Fin k) chips bank = 2 * k + 1
+second_location_written _ chips bank = 26
 
 abbrev pub value_written : Op → ℕ → Regs → ℕ → ℕ
-value_written (Src k) first t place = first
-value_written _ first t place = if nat_lt place 16 then slice_index t.r place else 0
+value_written (Src k) first t location = first
+value_written _ first t location = if nat_lt location 16 then slice_index t.r location else 0
 
 -- ---- the landing
 
-abbrev pub after : Op → ℕ → List ℕ → BusState → Choice → Regs
-after op at ret m c =
-    with_read op c.first (before op at ret c)
-    (registers_after op (after_words op (before op at ret c)) (record m { test = c.second % 2 }))
+abbrev pub stand_in_after : Op → ℕ → List ℕ → BusState → Choice → Regs
+stand_in_after op at ret m c =
+    with_value_read op c.first_operand (stand_in_before op at ret c)
+    (registers_after op (after_words op (stand_in_before op at ret c)) (record m { test = c.second_operand % 2 }))
 
 abbrev pub landing : Op → ℕ → List ℕ → ℕ → BusState → Choice → Landing
 landing op at ret calls m c =
-    let t = after op at ret m c in
-    let low = second_written op (slice_index m.board.banks c.bank) c.bank in
+    let t = stand_in_after op at ret m c in
+    let low = second_location_written op (slice_index m.board.banks c.bank) c.bank in
     record {
       regs = t;
       calls = calls_after (Some op) calls;
-      first = first_written op;
-      first_value = value_written op c.first t (first_written op);
-      second = low;
-      second_value = value_written op c.first t low;
+      first_location = first_location_written op;
+      first_value = value_written op c.first_operand t (first_location_written op);
+      second_location = low;
+      second_value = value_written op c.first_operand t low;
     }
 
 -- ---- the machines that a landing describes
@@ -158,14 +158,14 @@ IsValidOp (Xch r) = r < 16
 IsValidOp _ = Unit {0}
 
 -- holds if the number of open calls allows an instruction: JMS needs fewer than three, BBL at least one
-abbrev pub FitsCalls : Op → ℕ → Type 0
-FitsCalls (Jms h b) calls = calls < 3
-FitsCalls (Bbl d) calls = 0 < calls
-FitsCalls _ calls = Unit {0}
+abbrev pub CallsAllow : Op → ℕ → Type 0
+CallsAllow (Jms h b) calls = calls < 3
+CallsAllow (Bbl d) calls = 0 < calls
+CallsAllow _ calls = Unit {0}
 
 -- a machine after an instruction
-abbrev pub done : Op → Tracked → Tracked
-done op s = (
+abbrev pub machine_after : Op → Tracked → Tracked
+machine_after op s = (
   registers_after op (after_words op s.0) s.1,
   bus_after op s.0 s.1,
   record {
@@ -177,44 +177,45 @@ done op s = (
 
 -- the choice that consists of a machine's own values
 abbrev pub choice_of : Op → Tracked → Choice
-choice_of op s = record { acc = s.0.acc; cy = s.0.cy; bank = s.0.dcl; first = first_of op s.0 s.1; second = second_of op s.0 s.1 }
+choice_of op s = record { acc = s.0.acc; cy = s.0.cy; bank = s.0.dcl; first_operand = first_operand_of op s.0 s.1; second_operand = second_operand_of op s.0 s.1 }
 
 -- ---- the meaning of a landing
 
 -- the value at location k after a landing, if it was v before
-abbrev pub put : Landing → ℕ → ℕ → ℕ
-put o k v =
+abbrev pub value_after : Landing → ℕ → ℕ → ℕ
+value_after o k v =
     if k == 16 then o.regs.dcl
-    else if k == o.first then o.first_value
-    else if k == o.second then o.second_value
+    else if k == o.first_location then o.first_value
+    else if k == o.second_location then o.second_value
     else v
 
 -- holds if a landing leads from machine s to machine t
-pub record Lands (s t : Tracked) (o : Landing) : Type 0 where
+pub record LandingLeads (s t : Tracked) (o : Landing) : Type 0 where
   pub pc : t.0.pc ≡ o.regs.pc
   pub calls : t.2.calls ≡ o.calls
   pub ret : (k : ℕ) → k < 3 → k < o.calls → slice_index t.0.ret k ≡ slice_index o.regs.ret k
   pub acc : t.0.acc ≡ o.regs.acc
   pub cy : t.0.cy ≡ o.regs.cy
-  pub places : (k : ℕ) → k < 26 → held t k ≡ put o k (held s k)
+  pub locations : (k : ℕ) → k < 26 → value_at t k ≡ value_after o k (value_at s k)
   pub registers : length t.0.r ≡ 16
   pub banks : length t.1.ram_src ≡ 8
 
 -- holds if the target entry covers every machine that a landing reaches from the source entry
-pub record Takes (source target : Entry) (o : Landing) : Type 0 where
+pub record CoversLanding (source target : Entry) (o : Landing) : Type 0 where
   pub at : target.at ≡ o.regs.pc
   pub calls : target.calls ≡ o.calls
   pub ret : (k : ℕ) → k < 3 → k < target.calls → slice_index target.ret k ≡ slice_index o.regs.ret k
   pub carry : o.regs.cy < 2
-  pub acc : has (accs_of target o.regs.cy) o.regs.acc ≡ true
-  pub places : (k : ℕ) → k < 26 → (v : ℕ) → has (slice_index source.sets k) v ≡ true → has (slice_index target.sets k) (put o k v) ≡ true
+  pub acc : has (acc_values_of target o.regs.cy) o.regs.acc ≡ true
+  pub locations : (k : ℕ) → k < 26 → (v : ℕ) → has (slice_index source.sets k) v ≡ true → has (slice_index target.sets k) (value_after o k v) ≡ true
 
 -- ---- the laws
 
--- the premises about a machine, and about the bus on which its stand-in processor runs
-pub record Fits (op : Op) (s : Tracked) (m : BusState) (rets : List ℕ) : Type 0 where
+-- holds if a machine, and the bus on which its stand-in processor runs, fit together: the premises of
+-- the law below
+pub record StandInFits (op : Op) (s : Tracked) (m : BusState) (rets : List ℕ) : Type 0 where
   pub valid : IsValidOp op
-  pub calls : FitsCalls op s.2.calls
+  pub calls : CallsAllow op s.2.calls
   pub registers : length s.0.r ≡ 16
   pub banks : length s.1.ram_src ≡ 8
   pub bank : s.0.dcl < 8
@@ -224,9 +225,9 @@ pub record Fits (op : Op) (s : Tracked) (m : BusState) (rets : List ℕ) : Type 
   pub ret : (k : ℕ) → k < 3 → k < s.2.calls → slice_index s.0.ret k ≡ slice_index rets k
   pub nibbles : (k : ℕ) → k < 16 → slice_index s.0.r k < 16
 
--- one step: the landing of a machine's own choice leads from the machine to the machine after the
--- instruction
-abbrev pub ChoicesLand : Type 0
-ChoicesLand =
-    (op : Op) (s : Tracked) (m : BusState) (rets : List ℕ) → Fits op s m rets →
-    Lands s (done op s) (landing op s.0.pc rets s.2.calls m (choice_of op s))
+-- the law of one step: the landing of a machine's own choice leads from the machine to the machine
+-- after the instruction
+abbrev pub LandingIsCorrect : Type 0
+LandingIsCorrect =
+    (op : Op) (s : Tracked) (m : BusState) (rets : List ℕ) → StandInFits op s m rets →
+    LandingLeads s (machine_after op s) (landing op s.0.pc rets s.2.calls m (choice_of op s))

@@ -1,5 +1,5 @@
 pub mod Entries
 pub mod Excluding
-pub mod Following
+pub mod Closure
 pub mod Landing
-pub mod Taking
+pub mod Covering

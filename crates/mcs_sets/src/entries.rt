@@ -1,6 +1,6 @@
 //! The entries of a certificate.
 ghost use Rattle.std.specs.Prelude.{◌≡◌, IsTrue, true};
-ghost use Rattle.mcs_sets.specs.Entries.{accs_of, has, IsWithin};
+ghost use Rattle.mcs_sets.specs.Entries.{IsSubset, acc_values_of, has};
 
 use mcs_nibble::Addr;
 
@@ -15,16 +15,16 @@ pub struct Entry {
     /// The return addresses of the open calls. BBL uses the first one.
     pub ret: [Addr; 3],
     /// The values that the accumulator may hold while the carry is 0.
-    pub clear: u16,
+    pub acc_if_carry_0: u16,
     /// The values that the accumulator may hold while the carry is 1.
-    pub set: u16,
+    pub acc_if_carry_1: u16,
     /// The values of the other locations: the 16 registers, the bank number, the upper nibble of the SRC byte of the
     /// ROMs, and that of each of the eight banks.
     pub sets: [u16; 26],
-    /// The index of the first of this entry's links, which name the entries that may follow it.
-    pub first: usize,
+    /// The index of this entry's first link. Its links are the indexes of the entries that may follow it.
+    pub first_link: usize,
     /// The index after the last of this entry's links.
-    pub end: usize,
+    pub end_link: usize,
 }
 
 /// Returns whether a set contains a number. No set contains a number above 15.
@@ -34,22 +34,22 @@ pub(crate) fn has(set: u16, n: u8) -> bool
     n < 16 && (set >> n) % 2 == 1
 }
 
-/// Returns whether `whole` contains a number if `part` does.
-fn has_too(part: u16, whole: u16, n: u8) -> bool
-    ensures { IsTrue result → has part n ≡ true → has whole n ≡ true }
+/// Returns whether a number is in `superset`, or not in `subset`.
+fn keeps_member(subset: u16, superset: u16, n: u8) -> bool
+    ensures { IsTrue result → has subset n ≡ true → has superset n ≡ true }
 {
-    !has(part, n) || has(whole, n)
+    !has(subset, n) || has(superset, n)
 }
 
-/// Returns whether `part` is a subset of `whole`.
-pub(crate) fn is_within(part: u16, whole: u16) -> bool
-    ensures { IsTrue result → IsWithin part whole }
+/// Returns whether `subset` is a subset of `superset`.
+pub(crate) fn is_subset(subset: u16, superset: u16) -> bool
+    ensures { IsTrue result → IsSubset subset superset }
 {
-    if part == whole {
+    if subset == superset {
         return true;
     }
     for n in 0..16 {
-        if !has_too(part, whole, n) {
+        if !keeps_member(subset, superset, n) {
             return false;
         }
     }
@@ -58,12 +58,12 @@ pub(crate) fn is_within(part: u16, whole: u16) -> bool
 
 impl Entry {
     /// Returns the values that the accumulator may hold with this carry.
-    pub(crate) fn accs(&self, carry: u8) -> u16
-        ensures { result ≡ accs_of self.now carry }
+    pub(crate) fn acc_values(&self, carry: u8) -> u16
+        ensures { result ≡ acc_values_of self.now carry }
     {
         match carry {
-            0 => self.clear,
-            1 => self.set,
+            0 => self.acc_if_carry_0,
+            1 => self.acc_if_carry_1,
             _ => 0,
         }
     }

@@ -5,10 +5,10 @@ ghost use Rattle.mcs_check.specs.declared.conditions.Condition.TheVariants.{Mist
 ghost use Rattle.mcs_check.specs.Conditions.{keeps_to};
 ghost use Rattle.mcs_check.specs.Mistaken.{has_input, has_output, is_rdr, is_wrr, uses_ram};
 ghost use Rattle.mcs_sets.specs.Entries.{has};
-ghost use Rattle.mcs_sets.specs.Excluding.{AllIn, Excludes, ExcludesAll, HasBank, HasChips, HoldsIn, MakesNone, reads_next};
+ghost use Rattle.mcs_sets.specs.Excluding.{Excludes, ExcludesConjunction, ForAllIn, HasChipsOfBank, HasSelectableChips, HoldsInEntry, MakesNoMistake, reads_next};
 
+use crate::certifying::calls_allow;
 use crate::entries::{Entry, has};
-use crate::settling::fits_calls;
 use mcs_board::BenchRig;
 use mcs_check::{Condition, Mistakes};
 use mcs_cpu4004::Cpu;
@@ -88,18 +88,18 @@ fn has_output(board: &Board, chip: u8) -> bool
 
 /// Returns whether a board has the chip of a bank that a SRC byte with upper nibble `n` selects. Returns true if `n` is
 /// not in the set.
-fn has_chip(board: &Board, bank: u8, set: u16, n: u8) -> bool
+fn has_chip_if_member(board: &Board, bank: u8, set: u16, n: u8) -> bool
     ensures { IsTrue result → has set n ≡ true → n / 4 < slice_index board.now.banks bank }
 {
     !has(set, n) || n / 4 < board.bank_chips(bank)
 }
 
 /// Returns whether a board has each chip of a bank that a SRC byte selects if its upper nibble is in the set.
-fn has_chips(board: &Board, bank: u8, set: u16) -> bool
-    ensures { IsTrue result → HasChips board.now bank set }
+fn has_selectable_chips(board: &Board, bank: u8, set: u16) -> bool
+    ensures { IsTrue result → HasSelectableChips board.now bank set }
 {
     for n in 0..16u8 {
-        if !has_chip(board, bank, set, n) {
+        if !has_chip_if_member(board, bank, set, n) {
             return false;
         }
     }
@@ -108,21 +108,21 @@ fn has_chips(board: &Board, bank: u8, set: u16) -> bool
 
 /// Returns whether a bank number is below 8 and the board has each chip of that bank that the entry may select. Returns
 /// true if the entry does not allow the bank.
-fn has_bank(board: &Board, entry: &Entry, bank: u8) -> bool
-    ensures few { IsTrue result → has (slice_index entry.now.sets 16) bank ≡ true → bank < 8 }
+fn has_chips_of_bank(board: &Board, entry: &Entry, bank: u8) -> bool
+    ensures bank_exists { IsTrue result → has (slice_index entry.now.sets 16) bank ≡ true → bank < 8 }
     ensures chips { IsTrue result → has (slice_index entry.now.sets 16) bank ≡ true →
-        HasChips board.now bank (slice_index entry.now.sets (18 + bank)) }
+        HasSelectableChips board.now bank (slice_index entry.now.sets (18 + bank)) }
 {
     !has(entry.sets[16], bank)
-        || (bank < 8 && has_chips(board, bank, entry.sets[usize::from(18 + bank)]))
+        || (bank < 8 && has_selectable_chips(board, bank, entry.sets[usize::from(18 + bank)]))
 }
 
-/// Returns whether a board has each RAM chip that an entry may select.
-fn has_ram(board: &Board, entry: &Entry) -> bool
-    ensures { IsTrue result → AllIn (slice_index entry.now.sets 16) (HasBank board.now entry.now) }
+/// Returns whether a board has each RAM chip that a machine of an entry may select.
+fn has_selectable_ram(board: &Board, entry: &Entry) -> bool
+    ensures { IsTrue result → ForAllIn (slice_index entry.now.sets 16) (HasChipsOfBank board.now entry.now) }
 {
     for bank in 0..16u8 {
-        if !has_bank(board, entry, bank) {
+        if !has_chips_of_bank(board, entry, bank) {
             return false;
         }
     }
@@ -130,7 +130,7 @@ fn has_ram(board: &Board, entry: &Entry) -> bool
 }
 
 /// Returns whether ROM `n` has an input line. Returns true if `n` is not in the set.
-fn input_is_there(board: &Board, set: u16, n: u8) -> bool
+fn has_input_if_member(board: &Board, set: u16, n: u8) -> bool
     ensures { IsTrue result → has set n ≡ true → has_input board.now n ≡ true }
 {
     !has(set, n) || has_input(board, n)
@@ -138,10 +138,10 @@ fn input_is_there(board: &Board, set: u16, n: u8) -> bool
 
 /// Returns whether each ROM of a set has an input line.
 fn has_inputs(board: &Board, set: u16) -> bool
-    ensures { IsTrue result → AllIn set (λ n. has_input board.now n ≡ true) }
+    ensures { IsTrue result → ForAllIn set (λ n. has_input board.now n ≡ true) }
 {
     for n in 0..16u8 {
-        if !input_is_there(board, set, n) {
+        if !has_input_if_member(board, set, n) {
             return false;
         }
     }
@@ -149,7 +149,7 @@ fn has_inputs(board: &Board, set: u16) -> bool
 }
 
 /// Returns whether ROM `n` has an output line. Returns true if `n` is not in the set.
-fn output_is_there(board: &Board, set: u16, n: u8) -> bool
+fn has_output_if_member(board: &Board, set: u16, n: u8) -> bool
     ensures { IsTrue result → has set n ≡ true → has_output board.now n ≡ true }
 {
     !has(set, n) || has_output(board, n)
@@ -157,10 +157,10 @@ fn output_is_there(board: &Board, set: u16, n: u8) -> bool
 
 /// Returns whether each ROM of a set has an output line.
 fn has_outputs(board: &Board, set: u16) -> bool
-    ensures { IsTrue result → AllIn set (λ n. has_output board.now n ≡ true) }
+    ensures { IsTrue result → ForAllIn set (λ n. has_output board.now n ≡ true) }
 {
     for n in 0..16u8 {
-        if !output_is_there(board, set, n) {
+        if !has_output_if_member(board, set, n) {
             return false;
         }
     }
@@ -168,74 +168,74 @@ fn has_outputs(board: &Board, set: u16) -> bool
 }
 
 /// Returns whether a board has the ROM of each word that an instruction reads.
-fn has_words(board: &Board, at: Addr, op: &Op) -> bool
+fn has_roms_of_words(board: &Board, at: Addr, op: &Op) -> bool
     ensures here { IsTrue result → lacks_rom board.now at ≡ false }
     ensures next { IsTrue result → reads_next op.now ≡ true → lacks_rom board.now ((at + 1) % 4096) ≡ false }
 {
     !lacks_rom(board, at) && (!reads_next(op) || !lacks_rom(board, at.plus(1)))
 }
 
-/// Returns true only if no machine of an entry uses an absent RAM chip, or `asked` does not include that mistake.
-fn keeps_ram(board: &Board, entry: &Entry, op: &Op, asked: &Mistakes) -> bool
-    ensures { IsTrue result → asked.now.absent_ram ≡ true → uses_ram op.now ≡ true →
-        AllIn (slice_index entry.now.sets 16) (HasBank board.now entry.now) }
+/// Returns true only if no machine of an entry uses an absent RAM chip, or `mistakes` does not include that mistake.
+fn avoids_absent_ram(board: &Board, entry: &Entry, op: &Op, mistakes: &Mistakes) -> bool
+    ensures { IsTrue result → mistakes.now.absent_ram ≡ true → uses_ram op.now ≡ true →
+        ForAllIn (slice_index entry.now.sets 16) (HasChipsOfBank board.now entry.now) }
 {
-    !asked.absent_ram || !uses_ram(op) || has_ram(board, entry)
+    !mistakes.absent_ram || !uses_ram(op) || has_selectable_ram(board, entry)
 }
 
-/// Returns true only if no machine of an entry reads from an absent ROM, or `asked` does not include that mistake.
-fn keeps_rom(board: &Board, entry: &Entry, op: &Op, asked: &Mistakes) -> bool
-    ensures here { IsTrue result → asked.now.absent_rom ≡ true → lacks_rom board.now entry.now.at ≡ false }
-    ensures next { IsTrue result → asked.now.absent_rom ≡ true → reads_next op.now ≡ true →
+/// Returns true only if no machine of an entry reads from an absent ROM, or `mistakes` does not include that mistake.
+fn avoids_absent_rom(board: &Board, entry: &Entry, op: &Op, mistakes: &Mistakes) -> bool
+    ensures here { IsTrue result → mistakes.now.absent_rom ≡ true → lacks_rom board.now entry.now.at ≡ false }
+    ensures next { IsTrue result → mistakes.now.absent_rom ≡ true → reads_next op.now ≡ true →
         lacks_rom board.now ((entry.now.at + 1) % 4096) ≡ false }
 {
-    !asked.absent_rom || has_words(board, entry.at, op)
+    !mistakes.absent_rom || has_roms_of_words(board, entry.at, op)
 }
 
-/// Returns true only if no machine of an entry reads a port without input lines, or `asked` does not include that
+/// Returns true only if no machine of an entry reads a port without input lines, or `mistakes` does not include that
 /// mistake.
-fn keeps_inputs(board: &Board, entry: &Entry, op: &Op, asked: &Mistakes) -> bool
-    ensures { IsTrue result → asked.now.no_inputs ≡ true → is_rdr op.now ≡ true →
-        AllIn (slice_index entry.now.sets 17) (λ n. has_input board.now n ≡ true) }
+fn avoids_missing_inputs(board: &Board, entry: &Entry, op: &Op, mistakes: &Mistakes) -> bool
+    ensures { IsTrue result → mistakes.now.no_inputs ≡ true → is_rdr op.now ≡ true →
+        ForAllIn (slice_index entry.now.sets 17) (λ n. has_input board.now n ≡ true) }
 {
-    !asked.no_inputs || !is_rdr(op) || has_inputs(board, entry.sets[17])
+    !mistakes.no_inputs || !is_rdr(op) || has_inputs(board, entry.sets[17])
 }
 
-/// Returns true only if no machine of an entry writes to a port without output lines, or `asked` does not include that
-/// mistake.
-fn keeps_outputs(board: &Board, entry: &Entry, op: &Op, asked: &Mistakes) -> bool
-    ensures { IsTrue result → asked.now.no_outputs ≡ true → is_wrr op.now ≡ true →
-        AllIn (slice_index entry.now.sets 17) (λ n. has_output board.now n ≡ true) }
+/// Returns true only if no machine of an entry writes to a port without output lines, or `mistakes` does not include
+/// that mistake.
+fn avoids_missing_outputs(board: &Board, entry: &Entry, op: &Op, mistakes: &Mistakes) -> bool
+    ensures { IsTrue result → mistakes.now.no_outputs ≡ true → is_wrr op.now ≡ true →
+        ForAllIn (slice_index entry.now.sets 17) (λ n. has_output board.now n ≡ true) }
 {
-    !asked.no_outputs || !is_wrr(op) || has_outputs(board, entry.sets[17])
+    !mistakes.no_outputs || !is_wrr(op) || has_outputs(board, entry.sets[17])
 }
 
-/// Returns true only if no machine of an entry makes a mistake that `asked` includes when it executes `op`.
-fn makes_none(board: &Board, entry: &Entry, op: &Op, asked: &Mistakes) -> bool
-    ensures { IsTrue result → MakesNone board.now entry.now op.now asked.now }
+/// Returns true only if no machine of an entry makes a mistake that `mistakes` includes when it executes `op`.
+fn makes_no_mistake(board: &Board, entry: &Entry, op: &Op, mistakes: &Mistakes) -> bool
+    ensures { IsTrue result → MakesNoMistake board.now entry.now op.now mistakes.now }
 {
-    if !fits_calls(op, entry.calls) {
+    if !calls_allow(op, entry.calls) {
         return false;
     }
-    if !keeps_ram(board, entry, op, asked) {
+    if !avoids_absent_ram(board, entry, op, mistakes) {
         return false;
     }
-    if !keeps_rom(board, entry, op, asked) {
+    if !avoids_absent_rom(board, entry, op, mistakes) {
         return false;
     }
-    if !keeps_inputs(board, entry, op, asked) {
+    if !avoids_missing_inputs(board, entry, op, mistakes) {
         return false;
     }
-    keeps_outputs(board, entry, op, asked)
+    avoids_missing_outputs(board, entry, op, mistakes)
 }
 
-/// Returns true only if no machine of an entry makes a mistake that `asked` includes.
-fn excludes_mistakes(rig: &BenchRig, entry: &Entry, asked: &Mistakes) -> bool
-    ensures { IsTrue result → Excludes rig.now.board rig.now.rom (Mistaken asked.now) entry.now }
+/// Returns true only if no machine of an entry makes a mistake that `mistakes` includes.
+fn excludes_mistakes(rig: &BenchRig, entry: &Entry, mistakes: &Mistakes) -> bool
+    ensures { IsTrue result → Excludes rig.now.board rig.now.rom (Mistaken mistakes.now) entry.now }
 {
     match mcs_board::instruction(&Cpu::new(), rig, entry.at) {
         None => false,
-        Some(op) => makes_none(rig.board(), entry, &op, asked),
+        Some(op) => makes_no_mistake(rig.board(), entry, &op, mistakes),
     }
 }
 
@@ -246,13 +246,13 @@ fn excludes(rig: &BenchRig, entry: &Entry, condition: &Condition) -> bool
 {
     match condition {
         Condition::Compare(_) => false,
-        Condition::Mistaken(asked) => excludes_mistakes(rig, entry, asked),
+        Condition::Mistaken(mistakes) => excludes_mistakes(rig, entry, mistakes),
     }
 }
 
 /// Returns true only if no machine of an entry meets all of these conditions.
-fn excludes_all(rig: &BenchRig, entry: &Entry, conditions: &[Condition]) -> bool
-    ensures { IsTrue result → ExcludesAll rig.now.board rig.now.rom conditions.now entry.now }
+fn excludes_conjunction(rig: &BenchRig, entry: &Entry, conditions: &[Condition]) -> bool
+    ensures { IsTrue result → ExcludesConjunction rig.now.board rig.now.rom conditions.now entry.now }
 {
     for i in 0..conditions.len() {
         if excludes(rig, entry, &conditions[i]) {
@@ -263,11 +263,11 @@ fn excludes_all(rig: &BenchRig, entry: &Entry, conditions: &[Condition]) -> bool
 }
 
 /// Returns true only if no machine of an entry meets all conditions of a list in `nevers`.
-pub(crate) fn keeps(rig: &BenchRig, entry: &Entry, nevers: &[Vec<Condition>]) -> bool
-    ensures { IsTrue result → HoldsIn rig.now.board rig.now.rom (keeps_to (map (λ n. n.items) nevers.now)) entry.now }
+pub(crate) fn avoids_all(rig: &BenchRig, entry: &Entry, nevers: &[Vec<Condition>]) -> bool
+    ensures { IsTrue result → HoldsInEntry rig.now.board rig.now.rom (keeps_to (map (λ n. n.items) nevers.now)) entry.now }
 {
     for i in 0..nevers.len() {
-        if !excludes_all(rig, entry, nevers[i].as_slice()) {
+        if !excludes_conjunction(rig, entry, nevers[i].as_slice()) {
             return false;
         }
     }
@@ -284,7 +284,7 @@ fn is_decidable(condition: &Condition) -> bool {
 
 /// Returns whether each list in `nevers` has a condition that sets of values can decide. Otherwise no certificate can
 /// prove the property.
-pub(crate) fn can_keep(nevers: &[Vec<Condition>]) -> bool {
+pub(crate) fn are_decidable(nevers: &[Vec<Condition>]) -> bool {
     for i in 0..nevers.len() {
         if !nevers[i].iter().any(|condition| is_decidable(condition)) {
             return false;

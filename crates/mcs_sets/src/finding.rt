@@ -1,4 +1,4 @@
-//! Finds a certificate. Nothing is proved about the result; `has_all` checks it.
+//! Finds a certificate. Nothing is proved about the result; `stays_covered` checks it.
 //!
 //! A search begins with the entry for the machine's present state. It follows each entry and joins each resulting entry
 //! into the stored one with the same address, return addresses and exact registers. The search ends when no entry
@@ -6,9 +6,9 @@
 ghost use Rattle.std.specs.Prelude.{◌≡◌};
 
 use crate::entries::{Entry, has};
-use crate::excluding::keeps;
-use crate::landing::{Choice, Landing, first_set, land, second_set};
-use crate::sampling::{arrival, join, sample};
+use crate::excluding::avoids_all;
+use crate::landing::{Choice, Landing, first_operand_set, land, second_operand_set};
+use crate::sampling::{join, sample, successor_entry};
 use mcs_board::BenchRig;
 use mcs_check::Condition;
 use mcs_cpu4004::Cpu;
@@ -18,7 +18,7 @@ use std::alloc::{AllocError, Global};
 use std::collections::HashMap;
 
 /// One more than the number of times that an entry can grow. An entry has 28 sets of at most 16 numbers.
-const MOST_VISITS: usize = 449;
+const MAX_SWEEPS: usize = 449;
 
 /// A certificate: its entries, and the links that they refer to.
 #[derive(Drop)]
@@ -57,12 +57,12 @@ fn key_of(entry: &Entry, exact: u16) -> Key {
 /// The reason why a search stops without a certificate.
 #[derive(Clone, Copy, Debug)]
 pub(crate) enum Stop {
-    /// The search needs more entries than it may create.
+    /// The search needs more entries than its limit.
     TooMany,
     /// An allocation failed. The field is the number of entries that fit into memory.
     NoMemory(usize),
-    /// A machine of an entry may meet the conditions that must never be met.
-    Unkept,
+    /// A machine of an entry may meet all conditions of a list that must never be met.
+    MayMeet,
 }
 
 impl From<AllocError> for Stop {
@@ -92,24 +92,24 @@ fn landing_of(rig: &mut BenchRig, entry: &Entry, choice: &Choice) -> Option<Land
 struct Finder {
     entries: Vec<Entry>,
     /// For each entry, true if it is new or grew since it was last followed.
-    waits: Vec<bool>,
+    pending: Vec<bool>,
     index: HashMap<Key, usize>,
     /// The successors of the entry that was followed last.
-    followers: Vec<usize>,
+    successors: Vec<usize>,
     /// The exact registers at each address. Register r is bit r.
     exact: Vec<u16>,
-    most: usize,
+    max_entries: usize,
 }
 
 impl Finder {
-    fn new(alloc: Global, exact: Vec<u16>, most: usize) -> Finder {
+    fn new(alloc: Global, exact: Vec<u16>, max_entries: usize) -> Finder {
         Finder {
             entries: Vec::new(alloc),
-            waits: Vec::new(alloc),
+            pending: Vec::new(alloc),
             index: HashMap::new(alloc),
-            followers: Vec::new(alloc),
+            successors: Vec::new(alloc),
             exact,
-            most,
+            max_entries,
         }
     }
 
@@ -127,14 +127,14 @@ impl Finder {
     fn push(&mut self, key: Key, entry: &Entry) -> Result<usize, AllocError> {
         let i = self.entries.len();
         self.entries.push(*entry)?;
-        self.waits.push(true)?;
+        self.pending.push(true)?;
         self.index.insert(key, i)?;
         Ok(i)
     }
 
     /// Adds an entry and returns its index. Fails if the limit on entries is reached.
     fn add(&mut self, key: Key, entry: &Entry) -> Result<usize, Stop> {
-        if self.entries.len() >= self.most {
+        if self.entries.len() >= self.max_entries {
             return Err(Stop::TooMany);
         }
         Ok(self.push(key, entry)?)
@@ -142,26 +142,26 @@ impl Finder {
 
     /// Joins an entry into the stored entry with the same key, or stores it if there is none. Returns the index of the
     /// stored entry.
-    fn visit(&mut self, arrived: &Entry) -> Result<usize, Stop> {
-        let key = key_of(arrived, self.exact_at(arrived.at));
+    fn store(&mut self, entry: &Entry) -> Result<usize, Stop> {
+        let key = key_of(entry, self.exact_at(entry.at));
         let Some(i) = self.index.get(&key).copied() else {
-            return self.add(key, arrived);
+            return self.add(key, entry);
         };
-        if i < self.entries.len() && i < self.waits.len() && join(&mut self.entries[i], arrived) {
-            self.waits[i] = true;
+        if i < self.entries.len() && i < self.pending.len() && join(&mut self.entries[i], entry) {
+            self.pending[i] = true;
         }
         Ok(i)
     }
 
     /// Records the entry at index `i` as a successor.
-    fn note(&mut self, i: usize) -> Result<(), AllocError> {
-        if !self.followers.contains(&i) {
-            self.followers.push(i)?;
+    fn add_successor(&mut self, i: usize) -> Result<(), AllocError> {
+        if !self.successors.contains(&i) {
+            self.successors.push(i)?;
         }
         Ok(())
     }
 
-    /// Follows one choice of an entry.
+    /// Follows one choice of an entry: stores the entry that it leads to, and records it as a successor.
     fn follow_choice(
         &mut self,
         rig: &mut BenchRig,
@@ -170,14 +170,15 @@ impl Finder {
         choice: &Choice,
     ) -> Result<(), Stop> {
         if let Some(landing) = landing_of(rig, source, choice) {
-            let i = self.visit(&arrival(source, op, &landing))?;
-            self.note(i)?;
+            let i = self.store(&successor_entry(source, op, &landing))?;
+            self.add_successor(i)?;
         }
         Ok(())
     }
 
-    /// Follows the choices of an entry that have this accumulator, carry and bank.
-    fn follow_numbers(
+    /// Follows the choices of an entry with this accumulator, carry and bank. `flags` is the accumulator plus 16 times
+    /// the carry.
+    fn follow_operands(
         &mut self,
         rig: &mut BenchRig,
         source: &Entry,
@@ -185,31 +186,33 @@ impl Finder {
         flags: u8,
         bank: u8,
     ) -> Result<(), Stop> {
-        let firsts = first_set(op, source);
-        let seconds = second_set(op, source);
+        let firsts = first_operand_set(op, source);
+        let seconds = second_operand_set(op, source);
         for byte in 0..256u16 {
             let choice = Choice {
                 acc: Nibble::low_of(flags),
                 cy: Bit::low_of(flags / 16),
                 bank,
-                first: Nibble::low_of((byte % 16) as u8),
-                second: Nibble::low_of((byte / 16) as u8),
+                first_operand: Nibble::low_of((byte % 16) as u8),
+                second_operand: Nibble::low_of((byte / 16) as u8),
             };
-            if has(firsts, choice.first.get()) && has(seconds, choice.second.get()) {
+            if has(firsts, choice.first_operand.get())
+                && has(seconds, choice.second_operand.get())
+            {
                 self.follow_choice(rig, source, op, &choice)?;
             }
         }
         Ok(())
     }
 
-    /// Follows all choices in a sample of an entry.
-    fn follow_all(&mut self, rig: &mut BenchRig, source: &Entry, op: &Op) -> Result<(), Stop> {
+    /// Follows the choices in a sample of an entry. They represent all its choices.
+    fn follow_choices(&mut self, rig: &mut BenchRig, source: &Entry, op: &Op) -> Result<(), Stop> {
         let sample = sample(source, op);
         for flags in 0..32u8 {
-            if has(sample.accs(flags / 16), flags % 16) {
+            if has(sample.acc_values(flags / 16), flags % 16) {
                 for bank in 0..8u8 {
                     if has(sample.sets[16], bank) {
-                        self.follow_numbers(rig, source, op, flags, bank)?;
+                        self.follow_operands(rig, source, op, flags, bank)?;
                     }
                 }
             }
@@ -219,13 +222,13 @@ impl Finder {
 
     /// Returns true only if no machine of entry `i` meets all conditions of a list in `nevers`, or there is no entry
     /// `i`.
-    fn keeps_at(&self, rig: &BenchRig, nevers: &[Vec<Condition>], i: usize) -> bool {
-        i >= self.entries.len() || keeps(rig, &self.entries[i], nevers)
+    fn avoids_all_at(&self, rig: &BenchRig, nevers: &[Vec<Condition>], i: usize) -> bool {
+        i >= self.entries.len() || avoids_all(rig, &self.entries[i], nevers)
     }
 
     /// Follows entry `i`: records its successors and joins into them the entries that its choices lead to.
     fn follow(&mut self, rig: &mut BenchRig, i: usize) -> Result<(), Stop> {
-        self.followers.clear();
+        self.successors.clear();
         if i >= self.entries.len() {
             return Ok(());
         }
@@ -233,21 +236,25 @@ impl Finder {
         let Some(op) = mcs_board::instruction(&Cpu::new(), rig, source.at) else {
             return Ok(());
         };
-        self.follow_all(rig, &source, &op)
+        self.follow_choices(rig, &source, &op)
     }
 
     /// Follows each entry that is new or grew since it was last followed. Returns whether there was one.
-    fn sweep(&mut self, rig: &mut BenchRig, nevers: &[Vec<Condition>]) -> Result<bool, Stop> {
+    fn follow_pending(
+        &mut self,
+        rig: &mut BenchRig,
+        nevers: &[Vec<Condition>],
+    ) -> Result<bool, Stop> {
         let mut found = false;
-        for i in 0..self.most {
-            if i >= self.waits.len() {
+        for i in 0..self.max_entries {
+            if i >= self.pending.len() {
                 break;
             }
-            if self.waits[i] {
-                if !self.keeps_at(rig, nevers, i) {
-                    return Err(Stop::Unkept);
+            if self.pending[i] {
+                if !self.avoids_all_at(rig, nevers, i) {
+                    return Err(Stop::MayMeet);
                 }
-                self.waits[i] = false;
+                self.pending[i] = false;
                 self.follow(rig, i)?;
                 found = true;
             }
@@ -256,9 +263,13 @@ impl Finder {
     }
 
     /// Follows entries until none grows.
-    fn settle(&mut self, rig: &mut BenchRig, nevers: &[Vec<Condition>]) -> Result<(), Stop> {
-        for _ in 0..self.most.saturating_mul(MOST_VISITS) {
-            if !self.sweep(rig, nevers)? {
+    fn follow_until_stable(
+        &mut self,
+        rig: &mut BenchRig,
+        nevers: &[Vec<Condition>],
+    ) -> Result<(), Stop> {
+        for _ in 0..self.max_entries.saturating_mul(MAX_SWEEPS) {
+            if !self.follow_pending(rig, nevers)? {
                 return Ok(());
             }
         }
@@ -266,47 +277,47 @@ impl Finder {
     }
 
     /// Returns the links of all entries, and sets each entry's range of links.
-    fn link(&mut self, alloc: Global, rig: &mut BenchRig) -> Result<Vec<usize>, Stop> {
+    fn collect_links(&mut self, alloc: Global, rig: &mut BenchRig) -> Result<Vec<usize>, Stop> {
         let mut links = Vec::new(alloc);
         for i in 0..self.entries.len() {
             self.follow(rig, i)?;
             let first = links.len();
-            links.extend_from_slice(&self.followers)?;
+            links.extend_from_slice(&self.successors)?;
             if i < self.entries.len() {
-                self.entries[i].first = first;
-                self.entries[i].end = links.len();
+                self.entries[i].first_link = first;
+                self.entries[i].end_link = links.len();
             }
         }
         Ok(links)
     }
 
     /// Searches from an entry. Returns the links of all entries.
-    fn run(
+    fn search(
         &mut self,
         alloc: Global,
         rig: &mut BenchRig,
         begin: &Entry,
         nevers: &[Vec<Condition>],
     ) -> Result<Vec<usize>, Stop> {
-        self.visit(begin)?;
-        self.settle(rig, nevers)?;
-        self.link(alloc, rig)
+        self.store(begin)?;
+        self.follow_until_stable(rig, nevers)?;
+        self.collect_links(alloc, rig)
     }
 }
 
-/// Finds a certificate of at most `most` entries that covers the machines of the entry `begin`. Its machines never meet
-/// all conditions of a list in `nevers`. `exact` has the exact registers at each address, with register r as bit r.
-/// Each exact register must have a single value in `begin`.
+/// Finds a certificate of at most `max_entries` entries that covers the machines of the entry `begin`. Its machines
+/// never meet all conditions of a list in `nevers`. `exact` has the exact registers at each address, with register r as
+/// bit r. Each exact register must have a single value in `begin`.
 pub(crate) fn find(
     alloc: Global,
     rig: &mut BenchRig,
     begin: &Entry,
     nevers: &[Vec<Condition>],
     exact: Vec<u16>,
-    most: usize,
+    max_entries: usize,
 ) -> Result<Certificate, Stop> {
-    let mut finder = Finder::new(alloc, exact, most);
-    match finder.run(alloc, rig, begin, nevers) {
+    let mut finder = Finder::new(alloc, exact, max_entries);
+    match finder.search(alloc, rig, begin, nevers) {
         Ok(links) => Ok(Certificate {
             entries: finder.entries,
             links,

@@ -2,7 +2,7 @@
 ghost use Rattle.std.specs.Prelude.{◌≡◌, ◌<◌, Some};
 ghost use Rattle.mcs_drive.specs.Tracked.{calls_after};
 ghost use Rattle.mcs_model.specs.Effect.{after_words, registers_after};
-ghost use Rattle.mcs_sets.specs.Landing.{before, landing, op_at, first_set, first_written, second_set, second_written, stand_ins, value_written, with_read};
+ghost use Rattle.mcs_sets.specs.Landing.{first_location_written, first_operand_set, landing, op_at, second_location_written, second_operand_set, stand_in_before, stand_in_registers, value_written, with_value_read};
 
 use crate::entries::Entry;
 use mcs_board::BenchRig;
@@ -17,9 +17,9 @@ use mcs_nibble::{Bit, Nibble};
 pub(crate) struct Landing {
     pub(crate) regs: Regs,
     pub(crate) calls: u8,
-    pub(crate) first: u8,
+    pub(crate) first_location: u8,
     pub(crate) first_value: u8,
-    pub(crate) second: u8,
+    pub(crate) second_location: u8,
     pub(crate) second_value: u8,
 }
 
@@ -27,8 +27,8 @@ pub(crate) struct Landing {
 const ANY: u16 = 65535;
 
 /// Returns the set of possible values of an instruction's first operand.
-pub(crate) fn first_set(op: &Op, entry: &Entry) -> u16
-    ensures { result ≡ first_set op.now entry.now }
+pub(crate) fn first_operand_set(op: &Op, entry: &Entry) -> u16
+    ensures { result ≡ first_operand_set op.now entry.now }
 {
     match op {
         Op::Src(k) | Op::Jin(k) => entry.sets[usize::from(2 * k.get())],
@@ -41,8 +41,8 @@ pub(crate) fn first_set(op: &Op, entry: &Entry) -> u16
 }
 
 /// Returns the set of possible values of an instruction's second operand. For a JCN these are the levels of TEST.
-pub(crate) fn second_set(op: &Op, entry: &Entry) -> u16
-    ensures { result ≡ second_set op.now entry.now }
+pub(crate) fn second_operand_set(op: &Op, entry: &Entry) -> u16
+    ensures { result ≡ second_operand_set op.now entry.now }
 {
     match op {
         Op::Jcn(_, _) => 3,
@@ -53,8 +53,8 @@ pub(crate) fn second_set(op: &Op, entry: &Entry) -> u16
 }
 
 /// Returns index registers that hold both operand values at the indexes from which the instruction reads them.
-pub(crate) fn stand_ins(op: &Op, first: Nibble, second: Nibble) -> [Nibble; 16]
-    ensures { result ≡ stand_ins op.now first second }
+pub(crate) fn stand_in_registers(op: &Op, first: Nibble, second: Nibble) -> [Nibble; 16]
+    ensures { result ≡ stand_in_registers op.now first second }
 {
     let mut r = [first; 16];
     match op {
@@ -67,8 +67,8 @@ pub(crate) fn stand_ins(op: &Op, first: Nibble, second: Nibble) -> [Nibble; 16]
 
 /// Returns the registers after an instruction, if it reads the nibble `n` from RAM or a port. Other instructions leave
 /// `after` unchanged.
-pub(crate) fn with_read(op: &Op, n: Nibble, before: &Regs, after: Regs) -> Regs
-    ensures { result ≡ with_read op.now n before.now after }
+pub(crate) fn with_value_read(op: &Op, n: Nibble, before: &Regs, after: Regs) -> Regs
+    ensures { result ≡ with_value_read op.now n before.now after }
 {
     let mut regs = after;
     match op {
@@ -81,8 +81,8 @@ pub(crate) fn with_read(op: &Op, n: Nibble, before: &Regs, after: Regs) -> Regs
 }
 
 /// Returns the first location that an instruction changes, or 26 if there is none.
-pub(crate) fn first_written(op: &Op) -> u8
-    ensures { result ≡ first_written op.now }
+pub(crate) fn first_location_written(op: &Op) -> u8
+    ensures { result ≡ first_location_written op.now }
 {
     match op {
         Op::Fim(k, _) | Op::Fin(k) => 2 * k.get(),
@@ -93,9 +93,9 @@ pub(crate) fn first_written(op: &Op) -> u8
 }
 
 /// Returns the second location that an instruction changes, or 26 if there is none. The bank has `chips` chips.
-pub(crate) fn second_written(op: &Op, chips: u8, bank: u8) -> u8
+pub(crate) fn second_location_written(op: &Op, chips: u8, bank: u8) -> u8
     requires { bank < 8 }
-    ensures { result ≡ second_written op.now chips bank }
+    ensures { result ≡ second_location_written op.now chips bank }
 {
     match op {
         Op::Fim(k, _) | Op::Fin(k) => 2 * k.get() + 1,
@@ -105,14 +105,14 @@ pub(crate) fn second_written(op: &Op, chips: u8, bank: u8) -> u8
 }
 
 /// Returns the value that an instruction with this first operand value leaves at a location.
-pub(crate) fn value_written(op: &Op, first: Nibble, after: &Regs, place: u8) -> u8
-    ensures { result ≡ value_written op.now first after.now place }
+pub(crate) fn value_written(op: &Op, first: Nibble, after: &Regs, location: u8) -> u8
+    ensures { result ≡ value_written op.now first after.now location }
 {
     match op {
         Op::Src(_) => first.get(),
         _ => {
-            if place < 16 {
-                after.r[usize::from(place)].get()
+            if location < 16 {
+                after.r[usize::from(location)].get()
             } else {
                 0
             }
@@ -138,8 +138,8 @@ pub(crate) struct Choice {
     pub(crate) acc: Nibble,
     pub(crate) cy: Bit,
     pub(crate) bank: u8,
-    pub(crate) first: Nibble,
-    pub(crate) second: Nibble,
+    pub(crate) first_operand: Nibble,
+    pub(crate) second_operand: Nibble,
 }
 
 /// Returns a processor with these registers.
@@ -160,13 +160,13 @@ fn processor(regs: &Regs) -> Cpu
 }
 
 /// Returns the registers before an instruction, with its operand values in the index registers.
-fn before(op: &Op, entry: &Entry, choice: &Choice) -> Regs
-    ensures { result ≡ before op.now entry.now.at entry.now.ret choice.now }
+fn stand_in_before(op: &Op, entry: &Entry, choice: &Choice) -> Regs
+    ensures { result ≡ stand_in_before op.now entry.now.at entry.now.ret choice.now }
 {
     Regs {
         acc: choice.acc,
         cy: choice.cy,
-        r: stand_ins(op, choice.first, choice.second),
+        r: stand_in_registers(op, choice.first_operand, choice.second_operand),
         pc: entry.at,
         ret: entry.ret,
         dcl: choice.bank,
@@ -175,10 +175,10 @@ fn before(op: &Op, entry: &Entry, choice: &Choice) -> Regs
 }
 
 /// Runs the instruction at the program counter for one cycle, with TEST at a level, and returns the registers after it.
-fn run(rig: &mut BenchRig, op: &Op, regs: &Regs, level: Bit) -> Regs
+fn run_instruction(rig: &mut BenchRig, op: &Op, regs: &Regs, level: Bit) -> Regs
     requires bank { regs.now.dcl < 8 }
-    requires free { regs.now.owed ≡ 0 }
-    requires there { op_at rig.old.rom regs.now.pc ≡ Some op.now }
+    requires not_owed { regs.now.owed ≡ 0 }
+    requires instruction { op_at rig.old.rom regs.now.pc ≡ Some op.now }
     ensures ran { result ≡ registers_after op.now (after_words op.now regs.now) (record rig.old { test = level }) }
     ensures rom { rig.new.rom ≡ rig.old.rom }
     ensures board { rig.new.board ≡ rig.old.board }
@@ -192,24 +192,28 @@ fn run(rig: &mut BenchRig, op: &Op, regs: &Regs, level: Bit) -> Regs
 /// Returns the landing of a choice: the effect of the instruction on it.
 pub(crate) fn land(rig: &mut BenchRig, op: &Op, entry: &Entry, choice: &Choice) -> Landing
     requires bank { choice.now.bank < 8 }
-    requires there { op_at rig.old.rom entry.now.at ≡ Some op.now }
+    requires instruction { op_at rig.old.rom entry.now.at ≡ Some op.now }
     ensures landing { result ≡ landing op.now entry.now.at entry.now.ret entry.now.calls rig.old choice.now }
     ensures rom { rig.new.rom ≡ rig.old.rom }
     ensures board { rig.new.board ≡ rig.old.board }
 {
-    let before = before(op, entry, choice);
-    let ran = run(rig, op, &before, Bit::low_of(choice.second.get()));
-    let regs = with_read(op, choice.first, &before, ran);
-    let first = first_written(op);
-    let second = second_written(op, rig.board().bank_chips(choice.bank), choice.bank);
-    let first_value = value_written(op, choice.first, &regs, first);
-    let second_value = value_written(op, choice.first, &regs, second);
+    let before = stand_in_before(op, entry, choice);
+    let ran = run_instruction(rig, op, &before, Bit::low_of(choice.second_operand.get()));
+    let regs = with_value_read(op, choice.first_operand, &before, ran);
+    let first_location = first_location_written(op);
+    let second_location = second_location_written(
+        op,
+        rig.board().bank_chips(choice.bank),
+        choice.bank,
+    );
+    let first_value = value_written(op, choice.first_operand, &regs, first_location);
+    let second_value = value_written(op, choice.first_operand, &regs, second_location);
     Landing {
         regs,
         calls: calls_after(op, entry.calls),
-        first,
+        first_location,
         first_value,
-        second,
+        second_location,
         second_value,
     }
 }

@@ -1,24 +1,24 @@
 //! Laws of the definitions. Each law is the contract of a function with an empty body.
 ghost use Rattle.mcs_sets.specs.Excluding.{EntriesSuffice};
-ghost use Rattle.mcs_sets.specs.Following.{StepsSuffice};
-ghost use Rattle.mcs_sets.specs.Landing.{ChoicesLand};
-ghost use Rattle.mcs_sets.specs.Taking.{EntriesStay};
+ghost use Rattle.mcs_sets.specs.Closure.{ClosureSuffices};
+ghost use Rattle.mcs_sets.specs.Landing.{LandingIsCorrect};
+ghost use Rattle.mcs_sets.specs.Covering.{LandingsSuffice};
 
 /// Proves that a certificate that is closed under one cycle covers every machine that can be reached from a machine in
 /// it, for all inputs.
-pub fn steps_suffice()
-    ensures { StepsSuffice }
+pub fn closure_suffices()
+    ensures { ClosureSuffices }
 {}
 
 /// Proves that the landing of a machine's choice describes the machine after the instruction.
-pub fn choices_land()
-    ensures { ChoicesLand }
+pub fn landing_is_correct()
+    ensures { LandingIsCorrect }
 {}
 
 /// Proves that the machines of an entry stay in the certificate for one cycle if the certificate covers the landings of
 /// all choices of the entry.
-pub fn entries_stay()
-    ensures { EntriesStay }
+pub fn landings_suffice()
+    ensures { LandingsSuffice }
 {}
 
 /// Proves that a property that holds in each entry holds for all inputs, if the certificate covers all machines that

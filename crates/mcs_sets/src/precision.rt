@@ -12,9 +12,9 @@ pub(crate) enum Level {
     /// DCL, which uses the accumulator as a bank number.
     Banks,
     /// SRC, which uses the first register of a pair as a chip number.
-    Sends,
+    SrcChip,
     /// SRC, with its whole register pair exact. A register that is exact at one address is exact at all addresses.
-    Everywhere,
+    SrcEverywhere,
 }
 
 /// The levels, in the order in which they are tried.
@@ -22,8 +22,8 @@ pub(crate) const LEVELS: [Level; 5] = [
     Level::None,
     Level::Jumps,
     Level::Banks,
-    Level::Sends,
-    Level::Everywhere,
+    Level::SrcChip,
+    Level::SrcEverywhere,
 ];
 
 /// The bit of the accumulator in a set of registers. Register r is bit r.
@@ -33,25 +33,25 @@ pub(crate) const ACC: u32 = 1 << 16;
 pub(crate) const CARRY: u32 = 1 << 17;
 
 /// Returns the set that contains one register.
-pub(crate) fn register(r: RegNo) -> u32 {
+pub(crate) fn register_bit(r: RegNo) -> u32 {
     1 << r.get()
 }
 
 /// Returns the set that contains both registers of a pair.
-pub(crate) fn pair(k: PairNo) -> u32 {
+pub(crate) fn pair_bits(k: PairNo) -> u32 {
     3 << (2 * k.get())
 }
 
 /// Returns the registers that must be exact at an instruction, at the given level of precision.
-pub(crate) fn needed(level: Level, op: &Op) -> u32 {
+pub(crate) fn needs_exact(level: Level, op: &Op) -> u32 {
     match (op, level) {
         (_, Level::None) => 0,
-        (Op::Fin(_), _) => pair(PairNo::ZERO),
-        (Op::Jin(k), _) => pair(*k),
+        (Op::Fin(_), _) => pair_bits(PairNo::ZERO),
+        (Op::Jin(k), _) => pair_bits(*k),
         (_, Level::Jumps) => 0,
         (Op::Dcl, _) => ACC,
-        (Op::Src(k), Level::Sends) => 1 << (2 * k.get()),
-        (Op::Src(k), Level::Everywhere) => pair(*k),
+        (Op::Src(k), Level::SrcChip) => 1 << (2 * k.get()),
+        (Op::Src(k), Level::SrcEverywhere) => pair_bits(*k),
         _ => 0,
     }
 }

@@ -5,21 +5,21 @@ use mcs_model::op::Op;
 use mcs_nibble::Addr;
 
 /// Returns the set that contains only `n`, or the empty set if `n` is above 15.
-pub(crate) fn only(n: u8) -> u16 {
+pub(crate) fn singleton(n: u8) -> u16 {
     if n < 16 { 1 << n } else { 0 }
 }
 
 /// Returns the set that contains only the smallest number of a set, or the empty set if the set is empty.
-fn one_of(set: u16) -> u16 {
+fn smallest_of(set: u16) -> u16 {
     if set == 0 {
         return 0;
     }
-    only(set.trailing_zeros() as u8)
+    singleton(set.trailing_zeros() as u8)
 }
 
 /// Returns whether an instruction leaves the accumulator and the carry unchanged, and no location of an entry depends
 /// on them.
-fn keeps_flags(op: &Op) -> bool {
+fn ignores_flags(op: &Op) -> bool {
     match op {
         Op::Nop | Op::Fim(_, _) | Op::Src(_) | Op::Fin(_) | Op::Jin(_) | Op::Jun(_, _) => true,
         Op::Jms(_, _) | Op::Inc(_) | Op::Isz(_, _) | Op::Wrm | Op::Wmp | Op::Wrr => true,
@@ -57,20 +57,20 @@ fn selects_bank(op: &Op) -> bool {
 /// effect on an entry does not depend on them.
 pub(crate) fn sample(source: &Entry, op: &Op) -> Entry {
     let mut entry = *source;
-    if keeps_flags(op) {
-        entry.clear = one_of(source.clear);
-        entry.set = if source.clear == 0 {
-            one_of(source.set)
+    if ignores_flags(op) {
+        entry.acc_if_carry_0 = smallest_of(source.acc_if_carry_0);
+        entry.acc_if_carry_1 = if source.acc_if_carry_0 == 0 {
+            smallest_of(source.acc_if_carry_1)
         } else {
             0
         };
     }
     if replaces_acc(op) {
-        entry.clear = one_of(source.clear);
-        entry.set = one_of(source.set);
+        entry.acc_if_carry_0 = smallest_of(source.acc_if_carry_0);
+        entry.acc_if_carry_1 = smallest_of(source.acc_if_carry_1);
     }
     if !uses_bank(op) {
-        entry.sets[16] = one_of(source.sets[16]);
+        entry.sets[16] = smallest_of(source.sets[16]);
     }
     entry
 }
@@ -86,40 +86,41 @@ fn open_returns(ret: &[Addr; 3], calls: u8) -> [Addr; 3] {
 
 /// Returns an entry for all machines that `source` leads to by the choices that a sampled choice represents. `landing`
 /// is the landing of the sampled choice.
-pub(crate) fn arrival(source: &Entry, op: &Op, landing: &Landing) -> Entry {
+pub(crate) fn successor_entry(source: &Entry, op: &Op, landing: &Landing) -> Entry {
     let regs = &landing.regs;
-    let acc = only(regs.acc.get());
+    let acc = singleton(regs.acc.get());
     let mut entry = Entry {
         at: regs.pc,
         calls: landing.calls,
         ret: open_returns(&regs.ret, landing.calls),
-        clear: if regs.cy.get() == 0 { acc } else { 0 },
-        set: if regs.cy.get() == 0 { 0 } else { acc },
+        acc_if_carry_0: if regs.cy.get() == 0 { acc } else { 0 },
+        acc_if_carry_1: if regs.cy.get() == 0 { 0 } else { acc },
         sets: source.sets,
-        first: 0,
-        end: 0,
+        first_link: 0,
+        end_link: 0,
     };
-    if keeps_flags(op) {
-        entry.clear = source.clear;
-        entry.set = source.set;
+    if ignores_flags(op) {
+        entry.acc_if_carry_0 = source.acc_if_carry_0;
+        entry.acc_if_carry_1 = source.acc_if_carry_1;
     }
-    if landing.second < 26 {
-        entry.sets[usize::from(landing.second)] = only(landing.second_value);
+    if landing.second_location < 26 {
+        entry.sets[usize::from(landing.second_location)] = singleton(landing.second_value);
     }
-    if landing.first < 26 {
-        entry.sets[usize::from(landing.first)] = only(landing.first_value);
+    if landing.first_location < 26 {
+        entry.sets[usize::from(landing.first_location)] = singleton(landing.first_value);
     }
     if selects_bank(op) {
-        entry.sets[16] = only(regs.dcl);
+        entry.sets[16] = singleton(regs.dcl);
     }
     entry
 }
 
 /// Adds all values of `more` to `entry`. Returns whether `entry` grew.
 pub(crate) fn join(entry: &mut Entry, more: &Entry) -> bool {
-    let mut added = (more.clear & !entry.clear) | (more.set & !entry.set);
-    entry.clear |= more.clear;
-    entry.set |= more.set;
+    let mut added = (more.acc_if_carry_0 & !entry.acc_if_carry_0)
+        | (more.acc_if_carry_1 & !entry.acc_if_carry_1);
+    entry.acc_if_carry_0 |= more.acc_if_carry_0;
+    entry.acc_if_carry_1 |= more.acc_if_carry_1;
     for k in 0..26usize {
         added |= more.sets[k] & !entry.sets[k];
         entry.sets[k] |= more.sets[k];

@@ -1,11 +1,11 @@
 //! Determines the exact registers at each address. An entry has a single value of an exact register. Other values of
 //! that register have entries of their own.
 //!
-//! A register is exact at an address if it is relevant there: its value may reach an instruction that needs it to be
-//! exact. The relevant registers form a backward slice of the program. The counter of a loop is also relevant if the
+//! A register is exact at an address if it is relevant there: its value may reach an instruction that needs an exact
+//! register. The relevant registers form a backward slice of the program. The counter of a loop is also relevant if the
 //! loop changes a register that is relevant at its first instruction. Nothing is proved about a slice, and only the
 //! choice of certificate depends on it.
-use crate::precision::{ACC, CARRY, Level, needed, pair, register};
+use crate::precision::{ACC, CARRY, Level, needs_exact, pair_bits, register_bit};
 use mcs_board::BenchRig;
 use mcs_cpu4004::Cpu;
 use mcs_model::op::Op;
@@ -16,16 +16,16 @@ use std::alloc::{AllocError, Global};
 const ADDRESSES: u16 = 4096;
 
 /// The maximum number of passes over all addresses.
-const MOST_PASSES: u16 = 1000;
+const MAX_PASSES: u16 = 1000;
 
 /// The maximum number of passes over a loop.
-const MOST_LOOP_PASSES: u16 = 8;
+const MAX_LOOP_PASSES: u16 = 8;
 
 /// The mask of the index registers in a set, without accumulator and carry.
 const REGISTERS: u32 = 65535;
 
 /// Returns whether an instruction has two words.
-fn is_long(op: &Op) -> bool {
+fn has_two_words(op: &Op) -> bool {
     match op {
         Op::Jcn(_, _) | Op::Fim(_, _) | Op::Jun(_, _) | Op::Jms(_, _) | Op::Isz(_, _) => true,
         _ => false,
@@ -33,8 +33,8 @@ fn is_long(op: &Op) -> bool {
 }
 
 /// Returns the address after an instruction.
-fn next(op: &Op, at: Addr) -> Addr {
-    at.plus(if is_long(op) { 2 } else { 1 })
+fn next_address(op: &Op, at: Addr) -> Addr {
+    at.plus(if has_two_words(op) { 2 } else { 1 })
 }
 
 /// Returns whether execution may continue at the next instruction in the same routine.
@@ -119,7 +119,7 @@ impl Table {
     fn successors(&self, op: &Op, at: Addr) -> u32 {
         let mut all = 0;
         if falls_through(op) {
-            all |= self.get(next(op, at));
+            all |= self.get(next_address(op, at));
         }
         if let Some(target) = jump_target(op, at) {
             all |= self.get(target);
@@ -136,7 +136,7 @@ impl Table {
     fn add_to_successors(&mut self, op: &Op, at: Addr, more: u32) -> bool {
         let mut grew = false;
         if falls_through(op) {
-            grew |= self.add(next(op, at), more);
+            grew |= self.add(next_address(op, at), more);
         }
         if let Some(target) = jump_target(op, at) {
             grew |= self.add(target, more);
@@ -151,16 +151,16 @@ impl Table {
 }
 
 /// Returns the index registers that an instruction writes.
-fn written_by(op: &Op) -> u32 {
+fn registers_written(op: &Op) -> u32 {
     match op {
-        Op::Fim(k, _) | Op::Fin(k) => pair(*k),
-        Op::Inc(r) | Op::Isz(r, _) | Op::Xch(r) => register(*r),
+        Op::Fim(k, _) | Op::Fin(k) => pair_bits(*k),
+        Op::Inc(r) | Op::Isz(r, _) | Op::Xch(r) => register_bit(*r),
         _ => 0,
     }
 }
 
 /// Returns `set` with the members of `old` replaced by those of `new`, if `set` has a member of `old`.
-fn replaced(set: u32, old: u32, new: u32) -> u32 {
+fn replace_members(set: u32, old: u32, new: u32) -> u32 {
     if set & old != 0 {
         (set & !old) | new
     } else {
@@ -169,21 +169,21 @@ fn replaced(set: u32, old: u32, new: u32) -> u32 {
 }
 
 /// Returns the registers that are relevant before an instruction, given those that are relevant after it.
-fn before(op: &Op, after: u32) -> u32 {
+fn relevant_before(op: &Op, after: u32) -> u32 {
     let flags = ACC | CARRY;
     match op {
-        Op::Fim(k, _) => after & !pair(*k),
-        Op::Fin(k) => replaced(after, pair(*k), pair(PairNo::ZERO)),
-        Op::Add(r) | Op::Sub(r) => replaced(after, flags, flags | register(*r)),
-        Op::Ld(r) => replaced(after, ACC, register(*r)),
-        Op::Xch(r) => replaced(after & !register(*r), ACC, register(*r))
-            | replaced(after & register(*r), register(*r), ACC),
+        Op::Fim(k, _) => after & !pair_bits(*k),
+        Op::Fin(k) => replace_members(after, pair_bits(*k), pair_bits(PairNo::ZERO)),
+        Op::Add(r) | Op::Sub(r) => replace_members(after, flags, flags | register_bit(*r)),
+        Op::Ld(r) => replace_members(after, ACC, register_bit(*r)),
+        Op::Xch(r) => replace_members(after & !register_bit(*r), ACC, register_bit(*r))
+            | replace_members(after & register_bit(*r), register_bit(*r), ACC),
         Op::Rdm | Op::Rdr | Op::Rd0 | Op::Rd1 | Op::Rd2 | Op::Rd3 => after & !ACC,
         Op::Ldm(_) | Op::Bbl(_) => after & !ACC,
         Op::Clb => after & !flags,
         Op::Clc | Op::Stc | Op::Iac | Op::Dac => after & !CARRY,
-        Op::Ral | Op::Rar | Op::Daa => replaced(after, flags, flags),
-        Op::Tcc | Op::Tcs => replaced(after & !CARRY, ACC, CARRY),
+        Op::Ral | Op::Rar | Op::Daa => replace_members(after, flags, flags),
+        Op::Tcc | Op::Tcs => replace_members(after & !CARRY, ACC, CARRY),
         _ => after,
     }
 }
@@ -194,11 +194,11 @@ struct Slice {
     /// 1 if the address may be reached, and otherwise 0.
     reached: Table,
     /// The registers that may be written from the address on, until its routine returns.
-    written: Table,
+    may_write: Table,
     /// The registers that are written in the loop that an ISZ at the address closes.
-    looped: Table,
+    loop_writes: Table,
     /// The registers that are relevant when the routine of the address returns.
-    returned: Table,
+    relevant_on_return: Table,
     /// The registers that are relevant at the address.
     relevant: Table,
 }
@@ -207,9 +207,9 @@ impl Slice {
     fn new(alloc: Global) -> Result<Slice, AllocError> {
         Ok(Slice {
             reached: Table::new(alloc)?,
-            written: Table::new(alloc)?,
-            looped: Table::new(alloc)?,
-            returned: Table::new(alloc)?,
+            may_write: Table::new(alloc)?,
+            loop_writes: Table::new(alloc)?,
+            relevant_on_return: Table::new(alloc)?,
             relevant: Table::new(alloc)?,
         })
     }
@@ -224,7 +224,7 @@ impl Slice {
 
     /// Marks the successors and the callee of each reached address as reached. Returns whether an address was newly
     /// marked.
-    fn reach_once(&mut self, rig: &BenchRig) -> bool {
+    fn mark_reached_once(&mut self, rig: &BenchRig) -> bool {
         let mut grew = false;
         for n in 0..ADDRESSES {
             let at = Addr::ZERO.plus(n);
@@ -239,42 +239,42 @@ impl Slice {
     }
 
     /// Marks all addresses that may be reached from `begin`.
-    fn reach(&mut self, rig: &BenchRig, begin: Addr) {
+    fn mark_reached(&mut self, rig: &BenchRig, begin: Addr) {
         self.reached.add(begin, 1);
-        for _ in 0..MOST_PASSES {
-            if !self.reach_once(rig) {
+        for _ in 0..MAX_PASSES {
+            if !self.mark_reached_once(rig) {
                 break;
             }
         }
     }
 
     /// Returns the registers that an instruction writes or, for a call, those that the routine may write.
-    fn written_at(&self, op: &Op) -> u32 {
+    fn writes_of(&self, op: &Op) -> u32 {
         match callee(op) {
-            Some(routine) => self.written.get(routine),
-            None => written_by(op),
+            Some(routine) => self.may_write.get(routine),
+            None => registers_written(op),
         }
     }
 
     /// Makes one pass that adds, for each address, the registers that may be written from there on. Returns whether a
     /// set grew.
-    fn note_written_once(&mut self, rig: &BenchRig) -> bool {
+    fn add_may_write(&mut self, rig: &BenchRig) -> bool {
         let mut grew = false;
         for n in 0..ADDRESSES {
             let at = Addr::MAX.plus(ADDRESSES - n);
             if let Some(op) = self.op_reached(rig, at) {
-                let later = self.written.successors(&op, at);
-                let set = later | self.written_at(&op);
-                grew |= self.written.add(at, set);
+                let later = self.may_write.successors(&op, at);
+                let set = later | self.writes_of(&op);
+                grew |= self.may_write.add(at, set);
             }
         }
         grew
     }
 
     /// Computes the registers that may be written from each address on.
-    fn note_written(&mut self, rig: &BenchRig) {
-        for _ in 0..MOST_PASSES {
-            if !self.note_written_once(rig) {
+    fn find_written(&mut self, rig: &BenchRig) {
+        for _ in 0..MAX_PASSES {
+            if !self.add_may_write(rig) {
                 break;
             }
         }
@@ -297,13 +297,13 @@ impl Slice {
     }
 
     /// Returns the registers that are written in the body of a loop, except by its last instruction.
-    fn written_in(&self, rig: &BenchRig, body: &Table, head: Addr, last: Addr) -> u32 {
+    fn writes_of_body(&self, rig: &BenchRig, body: &Table, head: Addr, last: Addr) -> u32 {
         let mut all = 0;
         for n in head.get()..last.get() {
             let at = Addr::ZERO.plus(n);
             if at == head || body.get(at) != 0 {
                 if let Some(op) = self.op_reached(rig, at) {
-                    all |= self.written_at(&op);
+                    all |= self.writes_of(&op);
                 }
             }
         }
@@ -312,27 +312,27 @@ impl Slice {
 
     /// Returns the registers that are written in the loop from `head` to `last`, an instruction that jumps back to
     /// `head`.
-    fn written_in_loop(&self, rig: &BenchRig, body: &mut Table, head: Addr, last: Addr) -> u32 {
+    fn writes_of_loop(&self, rig: &BenchRig, body: &mut Table, head: Addr, last: Addr) -> u32 {
         body.clear();
         body.add(last, 1);
-        for _ in 0..MOST_LOOP_PASSES {
+        for _ in 0..MAX_LOOP_PASSES {
             if !self.add_to_body(rig, body, head, last) {
                 break;
             }
         }
-        self.written_in(rig, body, head, last)
+        self.writes_of_body(rig, body, head, last)
     }
 
     /// Computes, for each ISZ that jumps back, the registers that its loop writes. `body` is scratch space for one
     /// loop.
-    fn note_loops(&mut self, rig: &BenchRig, body: &mut Table) {
+    fn find_loops(&mut self, rig: &BenchRig, body: &mut Table) {
         for n in 0..ADDRESSES {
             let at = Addr::ZERO.plus(n);
             if let Some(Op::Isz(_, word)) = self.op_reached(rig, at) {
                 let head = Addr::on_page(at.plus(2).page(), word);
                 if head < at {
-                    let set = self.written_in_loop(rig, body, head, at);
-                    self.looped.add(at, set);
+                    let set = self.writes_of_loop(rig, body, head, at);
+                    self.loop_writes.add(at, set);
                 }
             }
         }
@@ -340,12 +340,12 @@ impl Slice {
 
     /// Returns the set with the loop counter of an ISZ, if its loop writes a register that is relevant at the head of
     /// the loop. Otherwise returns the empty set.
-    fn counter(&self, op: &Op, at: Addr) -> u32 {
+    fn loop_counter(&self, op: &Op, at: Addr) -> u32 {
         match op {
             Op::Isz(r, word) => {
                 let head = Addr::on_page(at.plus(2).page(), *word);
-                if self.relevant.get(head) & self.looped.get(at) & REGISTERS != 0 {
-                    register(*r)
+                if self.relevant.get(head) & self.loop_writes.get(at) & REGISTERS != 0 {
+                    register_bit(*r)
                 } else {
                     0
                 }
@@ -355,9 +355,9 @@ impl Slice {
     }
 
     /// Returns the registers that are relevant after an instruction.
-    fn after(&self, op: &Op, at: Addr) -> u32 {
+    fn relevant_after(&self, op: &Op, at: Addr) -> u32 {
         match op {
-            Op::Bbl(_) => self.returned.get(at),
+            Op::Bbl(_) => self.relevant_on_return.get(at),
             _ => match callee(op) {
                 Some(routine) => self.relevant.get(routine),
                 None => self.relevant.successors(op, at),
@@ -366,13 +366,15 @@ impl Slice {
     }
 
     /// Makes one pass that adds, for each address, the registers that are relevant there. Returns whether a set grew.
-    fn note_relevant_once(&mut self, rig: &BenchRig, level: Level) -> bool {
+    fn add_relevant(&mut self, rig: &BenchRig, level: Level) -> bool {
         let mut grew = false;
         for n in 0..ADDRESSES {
             let at = Addr::MAX.plus(ADDRESSES - n);
             if let Some(op) = self.op_reached(rig, at) {
-                let after = self.after(&op, at);
-                let set = before(&op, after) | needed(level, &op) | self.counter(&op, at);
+                let after = self.relevant_after(&op, at);
+                let set = relevant_before(&op, after)
+                    | needs_exact(level, &op)
+                    | self.loop_counter(&op, at);
                 grew |= self.relevant.add(at, set);
             }
         }
@@ -381,16 +383,16 @@ impl Slice {
 
     /// Makes one pass that adds, for each address, the registers that are relevant when its routine returns. Returns
     /// whether a set grew.
-    fn note_returned_once(&mut self, rig: &BenchRig) -> bool {
+    fn add_relevant_on_return(&mut self, rig: &BenchRig) -> bool {
         let mut grew = false;
         for n in 0..ADDRESSES {
             let at = Addr::ZERO.plus(n);
             if let Some(op) = self.op_reached(rig, at) {
-                let set = self.returned.get(at);
-                grew |= self.returned.add_to_successors(&op, at, set);
+                let set = self.relevant_on_return.get(at);
+                grew |= self.relevant_on_return.add_to_successors(&op, at, set);
                 if let Some(routine) = callee(&op) {
-                    let wanted = self.relevant.get(next(&op, at));
-                    grew |= self.returned.add(routine, wanted);
+                    let wanted = self.relevant.get(next_address(&op, at));
+                    grew |= self.relevant_on_return.add(routine, wanted);
                 }
             }
         }
@@ -398,10 +400,10 @@ impl Slice {
     }
 
     /// Computes the registers that are relevant at each address.
-    fn note_relevant(&mut self, rig: &BenchRig, level: Level) {
-        for _ in 0..MOST_PASSES {
-            let grew = self.note_relevant_once(rig, level);
-            if !self.note_returned_once(rig) && !grew {
+    fn find_relevant(&mut self, rig: &BenchRig, level: Level) {
+        for _ in 0..MAX_PASSES {
+            let grew = self.add_relevant(rig, level);
+            if !self.add_relevant_on_return(rig) && !grew {
                 break;
             }
         }
@@ -427,12 +429,12 @@ pub(crate) fn exact_registers(
     let mut slice = Slice::new(alloc)?;
     if level != Level::None {
         let mut body = Table::new(alloc)?;
-        slice.reach(rig, begin);
-        slice.note_written(rig);
-        slice.note_loops(rig, &mut body);
-        slice.note_relevant(rig, level);
+        slice.mark_reached(rig, begin);
+        slice.find_written(rig);
+        slice.find_loops(rig, &mut body);
+        slice.find_relevant(rig, level);
     }
-    let everywhere = if level == Level::Everywhere {
+    let everywhere = if level == Level::SrcEverywhere {
         relevant_somewhere(&slice)
     } else {
         0

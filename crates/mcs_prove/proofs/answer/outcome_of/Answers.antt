@@ -1,19 +1,19 @@
 use Rattle.std.proofs.Common.{◌≡◌, ◌∙◌, ◌<◌, List, Option, Some, String, Vec, Global, map, option_map, string_bytes, refl, sym, ap, subst}
 use Rattle.mcs_check.specs.declared.conditions.Condition.{Condition}
-use Rattle.mcs_prove.specs.Questions.{Asked}
+use Rattle.mcs_prove.specs.Questions.{QuestionSoFar}
 use Rattle.mcs_prove.proofs.Proved.{answered-alone}
 use Rattle.mcs_prove.proofs.answer.outcome_of.Goals as goal
 
-pub returns-then-sets-gt0 : goal.returns-then-sets-gt0
-returns-then-sets-gt0 c =
+pub returns-then-max_entries-gt0 : goal.returns-then-max_entries-gt0
+returns-then-max_entries-gt0 c =
     let q = c.in_ok-question.question in
     let own = sym c.question.view_is in
     let in_text = c.in-Some-Some-Some-true-true in
     let board : q.board ≡ Some c.as_str.result.now =
-    ap (λ (a : Asked). a.board) own ∙ ap (option_map string_bytes) in_text.is-0 ∙ ap Some (sym c.as_str.ensures.value) in
-    let program : q.program ≡ Some c.as_str-then-sets-gt0.result.now =
-    ap (λ (a : Asked). a.program) own ∙ ap (option_map string_bytes) in_text.is-1 ∙ ap Some (sym c.as_str-then-sets-gt0.ensures.value) in
-    let nevers = ap (map (λ (n : Vec Condition Global). n.items)) c.deref.ensures.value ∙ ap (λ (a : Asked). a.nevers) c.question.view_is in
-    answered-alone c.args.text.now c.as_str.result.now c.as_str-then-sets-gt0.result.now q _ c.prove_by_sets.result
-    c.in_ok-question.ensures (ap (λ (a : Asked). a.is_whole) own ∙ in_text.is-3) (sym in_text.ensures') board program
-    (subst (λ (a : Asked). 0 < a.sets) c.question.view_is c.if-sets-gt0.true) nevers c.prove_by_sets.ensures
+    ap (λ (a : QuestionSoFar). a.board) own ∙ ap (option_map string_bytes) in_text.is-0 ∙ ap Some (sym c.as_str.ensures.value) in
+    let program : q.program ≡ Some c.as_str-then-max_entries-gt0.result.now =
+    ap (λ (a : QuestionSoFar). a.program) own ∙ ap (option_map string_bytes) in_text.is-1 ∙ ap Some (sym c.as_str-then-max_entries-gt0.ensures.value) in
+    let nevers = ap (map (λ (n : Vec Condition Global). n.items)) c.deref.ensures.value ∙ ap (λ (a : QuestionSoFar). a.nevers) c.question.view_is in
+    answered-alone c.args.text.now c.as_str.result.now c.as_str-then-max_entries-gt0.result.now q _ c.prove_by_sets.result
+    c.in_ok-question.ensures (ap (λ (a : QuestionSoFar). a.has_prove_line) own ∙ in_text.is-3) (sym in_text.ensures') board program
+    (subst (λ (a : QuestionSoFar). 0 < a.max_entries) c.question.view_is c.if-max_entries-gt0.true) nevers c.prove_by_sets.ensures

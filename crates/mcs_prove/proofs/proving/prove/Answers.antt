@@ -3,7 +3,7 @@ use Rattle.mcs_drive.specs.Tracked.{Tracked}
 use Rattle.mcs_check.specs.declared.conditions.Condition.{Condition}
 use Rattle.mcs_check.specs.Conditions.{Aimed, keeps_to, observer_in, observer_of}
 use Rattle.mcs_check.specs.Promised.{IsProved}
-use Rattle.mcs_prove.specs.Questions.{is_kept}
+use Rattle.mcs_prove.specs.Questions.{keeps_property}
 use Rattle.mcs_prove.proofs.Proved.{proved-of}
 use Rattle.mcs_prove.proofs.proving.prove.Goals as goal
 
@@ -16,7 +16,7 @@ returns c =
     let opens = lists c.args.goal.opens in
     let marks = c.args.goal.marks in
     let w = observer_of begins ends opens marks in
-    let kept = is_kept w (lists c.args.goal.nevers) c.args.goal.limit in
+    let kept = keeps_property w (lists c.args.goal.nevers) c.args.goal.limit in
     let found = c.in_ok-check_all.field-0 in
     let aim : c.of-2.result ≡ record { nevers = nevers; begins = begins; ends = ends; opens = opens; marks = marks } =
     c.of-2.ensures
@@ -27,7 +27,7 @@ returns c =
     subst (λ (a : Aimed). IsProved (observer_in a) (keeps_to a.nevers) c.of.result found) aim c.in_ok-check_all.ensures in
     let same : (s : Tracked) → keeps_to nevers s ≡ kept s = λ s.
     c.in_ok-nevers.ensures s
-    ∙ ap (λ (o : List (List Condition)). is_kept (observer_of [] [] o marks) (lists c.args.goal.nevers) c.args.goal.limit s) (c.deref.ensures.value ∙ c.in_ok-opens.ensures) in
+    ∙ ap (λ (o : List (List Condition)). keeps_property (observer_of [] [] o marks) (lists c.args.goal.nevers) c.args.goal.limit s) (c.deref.ensures.value ∙ c.in_ok-opens.ensures) in
     proved-of c.args.board.now c.args.program.now w (keeps_to nevers) kept c.new.result c.in_ok-rig.rig found
     c.in_ok-rig.ensures c.new.ensures same
     (subst (λ (s : Tracked). IsProved w (keeps_to nevers) s found) c.of.ensures proved)

@@ -12,4 +12,4 @@ returns-in-Some c = λ h s of is.
     let op = c.in-Some.op in
     let there : op_at rig.rom e.at ≡ Some op = sym (instruction-in (record c.new.result { pc = e.at }) rig) ∙ sym c.in-Some.ensures in
     let next : instruction_at s.0 s.1 ≡ Some op = instruction-in s.0 s.1 ∙ ap (λ (l : List ℕ). op_at l s.0.pc) of.rom ∙ ap (op_at rig.rom) is.at ∙ there in
-    not-mistaken c.args.asked.now op s next (c.makes_none.ensures h s (of.board ∙ sym c.board.ensures) is)
+    not-mistaken c.args.mistakes.now op s next (c.makes_no_mistake.ensures h s (of.board ∙ sym c.board.ensures) is)

@@ -1,4 +1,4 @@
-use Rattle.mcs_sets.proofs.Kept.{entries-suffice}
+use Rattle.mcs_sets.proofs.EntryProperties.{entries-suffice}
 use Rattle.mcs_sets.proofs.laws.entries_suffice.Goals as goal
 
 pub returns : goal.returns

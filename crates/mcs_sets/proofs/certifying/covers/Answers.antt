@@ -1,0 +1,17 @@
+use Rattle.std.proofs.Common.{◌∙◌, sym, arith}
+use Rattle.mcs_sets.proofs.certifying.covers.Goals as goal
+
+pub returns : goal.returns
+returns c = λ h.
+    let placed = c.is_at_entry.ensures c.if-not-is_at_entry.false in
+    let none = placed.calls in
+    record {
+      at = placed.at;
+      calls = sym none;
+      ret = λ k few inside. absurd (omega arith);
+      acc = sym c.allows_acc.ensures ∙ c.if-not-allows_acc.false;
+      locations = c.allows_all_values.ensures h;
+      carry = c.machine_is_sized.ensures.carry;
+      registers = c.machine_is_sized.ensures.registers;
+      banks = c.machine_is_sized.ensures.banks;
+    }

@@ -1,9 +1,0 @@
-use Rattle.std.proofs.Common.{below_more, arith}
-use Rattle.mcs_sets.proofs.Memory.{has-lt}
-use Rattle.mcs_sets.proofs.entries.is_within.Goals as goal
-
-pub loop-n-preserved : goal.loop-n-preserved
-loop-n-preserved c = below_more _ _ c.loop-n.invariant (c.has_too.ensures c.if-not-has_too.false)
-
-pub returns : goal.returns
-returns c = λ _ n h. c.loop-n.invariant n (let end = c.loop-n-test.false in let small = has-lt c.args.part n h in omega arith) h

@@ -1,0 +1,198 @@
+//! Checks that a certificate covers a machine at every moment, for all inputs.
+ghost use Rattle.std.specs.Prelude.{◌≡◌, ◌<◌, ℕ, IsTrue, length, slice_index, slice_index_or, true};
+ghost use Rattle.mcs_drive.specs.Tracked.{without_calls};
+ghost use Rattle.mcs_sets.specs.declared.entries.Entry.{Entry};
+ghost use Rattle.mcs_sets.specs.Closure.{IsBusOf, StaysCovered, StaysOneCycle};
+ghost use Rattle.mcs_sets.specs.Entries.{Covers, IsAtEntry, IsCovered, acc_values_of, has, value_at};
+ghost use Rattle.mcs_sets.specs.Landing.{CallsAllow, IsValidOp};
+
+use crate::covering::are_all_covered;
+use crate::entries::{Entry, has};
+use crate::sampling::singleton;
+use mcs_board::BenchRig;
+use mcs_cpu4004::Cpu;
+use mcs_model::op::Op;
+use mcs_nibble::Addr;
+
+/// Returns whether the number of open calls allows an instruction: JMS needs fewer than three, and BBL at least one.
+pub(crate) fn calls_allow(op: &Op, calls: u8) -> bool
+    ensures { IsTrue result → CallsAllow op.now calls }
+{
+    match op {
+        Op::Jms(_, _) => calls < 3,
+        Op::Bbl(_) => 0 < calls,
+        _ => true,
+    }
+}
+
+/// Proves that the register and pair operands of an instruction are in range.
+fn op_is_valid(op: &Op)
+    ensures { IsValidOp op.now }
+{
+    match op {
+        Op::Fim(k, _) | Op::Src(k) | Op::Fin(k) | Op::Jin(k) => {
+            let _k = k.get();
+        }
+        Op::Inc(r) | Op::Isz(r, _) | Op::Add(r) | Op::Sub(r) | Op::Ld(r) | Op::Xch(r) => {
+            let _r = r.get();
+        }
+        _ => {}
+    }
+}
+
+/// Returns whether the machines of an entry stay in the certificate for one cycle.
+fn stays_one_cycle(rig: &mut BenchRig, entries: &[Entry], links: &[usize], entry: &Entry) -> bool
+    ensures stays_one_cycle { IsTrue result → StaysOneCycle rig.old.board rig.old.rom entries.now entry.now }
+    ensures rom { rig.new.rom ≡ rig.old.rom }
+    ensures board { rig.new.board ≡ rig.old.board }
+{
+    match mcs_board::instruction(&Cpu::new(), rig, entry.at) {
+        None => false,
+        Some(op) => {
+            op_is_valid(&op);
+            calls_allow(&op, entry.calls) && are_all_covered(rig, entries, links, entry, &op)
+        }
+    }
+}
+
+/// Returns the value that a machine holds at a location.
+fn value_at(cpu: &Cpu, rig: &BenchRig, location: u8) -> u8
+    requires { location < 26 }
+    ensures { result ≡ value_at (without_calls (cpu.now, rig.now)) location }
+{
+    let regs = cpu.regs();
+    if location == 16 {
+        regs.dcl
+    } else if location < 16 {
+        regs.r[usize::from(location)].get()
+    } else if location == 17 {
+        rig.rom_src() / 16
+    } else {
+        rig.ram_src(location - 18) / 16
+    }
+}
+
+/// Returns the entry for one machine without open calls. It has a single value for each location.
+pub(crate) fn entry_of(cpu: &Cpu, rig: &BenchRig) -> Entry {
+    let regs = cpu.regs();
+    let acc = singleton(regs.acc.get());
+    let mut sets = [0u16; 26];
+    for location in 0..26u8 {
+        sets[usize::from(location)] = singleton(value_at(cpu, rig, location));
+    }
+    Entry {
+        at: regs.pc,
+        calls: 0,
+        ret: [Addr::ZERO; 3],
+        acc_if_carry_0: if regs.cy.get() == 0 { acc } else { 0 },
+        acc_if_carry_1: if regs.cy.get() == 0 { 0 } else { acc },
+        sets,
+        first_link: 0,
+        end_link: 0,
+    }
+}
+
+/// Returns whether an entry allows the value that a machine holds at a location.
+fn allows_value(entry: &Entry, cpu: &Cpu, rig: &BenchRig, location: u8) -> bool
+    requires { location < 26 }
+    ensures { IsTrue result → has (slice_index entry.now.sets location) (value_at (without_calls (cpu.now, rig.now)) location) ≡ true }
+{
+    has(
+        entry.sets[usize::from(location)],
+        value_at(cpu, rig, location),
+    )
+}
+
+/// Returns whether an entry allows the values that a machine holds at all locations.
+fn allows_all_values(entry: &Entry, cpu: &Cpu, rig: &BenchRig) -> bool
+    ensures { IsTrue result → (k : ℕ) → k < 26 → has (slice_index entry.now.sets k) (value_at (without_calls (cpu.now, rig.now)) k) ≡ true }
+{
+    for location in 0..26u8 {
+        if !allows_value(entry, cpu, rig, location) {
+            return false;
+        }
+    }
+    true
+}
+
+/// Proves that a machine has 16 registers, 8 banks and a carry of 0 or 1.
+fn machine_is_sized(cpu: &Cpu, rig: &BenchRig)
+    ensures registers { length cpu.now.r ≡ 16 }
+    ensures banks { length rig.now.ram_src ≡ 8 }
+    ensures carry { cpu.now.cy < 2 }
+{
+    rig.show_state_is_valid();
+    let regs = cpu.regs();
+    let _carry = regs.cy.get();
+}
+
+/// Returns whether a processor is at the address of an entry, and the entry has no open calls.
+fn is_at_entry(entry: &Entry, cpu: &Cpu) -> bool
+    ensures { IsTrue result → IsAtEntry entry.now cpu.now }
+{
+    cpu.regs().pc.get() == entry.at.get() && entry.calls == 0
+}
+
+/// Returns whether an entry allows a processor's accumulator, given its carry.
+fn allows_acc(entry: &Entry, cpu: &Cpu) -> bool
+    ensures { result ≡ has (acc_values_of entry.now cpu.now.cy) cpu.now.acc }
+{
+    let regs = cpu.regs();
+    has(entry.acc_values(regs.cy.get()), regs.acc.get())
+}
+
+/// Returns whether an entry covers a machine without open calls.
+fn covers(entry: &Entry, cpu: &Cpu, rig: &BenchRig) -> bool
+    ensures { IsTrue result → Covers entry.now (without_calls (cpu.now, rig.now)) }
+{
+    machine_is_sized(cpu, rig);
+    if !is_at_entry(entry, cpu) {
+        return false;
+    }
+    if !allows_acc(entry, cpu) {
+        return false;
+    }
+    allows_all_values(entry, cpu, rig)
+}
+
+/// Returns whether the first entry covers a machine without open calls.
+fn first_covers(cpu: &Cpu, rig: &BenchRig, entries: &[Entry]) -> bool
+    ensures { IsTrue result → IsCovered entries.now (without_calls (cpu.now, rig.now)) }
+{
+    !entries.is_empty() && covers(&entries[0], cpu, rig)
+}
+
+/// Proves that each value in a rig's RAM is a nibble, and that its TEST level is 0 or 1.
+pub(crate) fn rig_is_valid(rig: &BenchRig)
+    ensures { IsBusOf rig.now.board rig.now.rom rig.now }
+{
+    rig.show_state_is_valid();
+}
+
+/// Returns whether the machines of entry `i` stay in the certificate for one cycle.
+fn stays_one_cycle_at(rig: &mut BenchRig, entries: &[Entry], links: &[usize], i: usize) -> bool
+    requires { i < length entries.now }
+    ensures stays_one_cycle { IsTrue result → (d : Entry) →
+        StaysOneCycle rig.old.board rig.old.rom entries.now (slice_index_or entries.now i d) }
+    ensures rom { rig.new.rom ≡ rig.old.rom }
+    ensures board { rig.new.board ≡ rig.old.board }
+{
+    stays_one_cycle(rig, entries, links, &entries[i])
+}
+
+/// Returns whether a certificate covers a machine without open calls at every moment, for all inputs. The first entry
+/// must cover the machine in its present state.
+pub fn stays_covered(cpu: &Cpu, rig: &mut BenchRig, entries: &[Entry], links: &[usize]) -> bool
+    ensures { IsTrue result → StaysCovered entries.now (without_calls (cpu.now, rig.old)) }
+{
+    rig_is_valid(rig);
+    if !first_covers(cpu, rig, entries) {
+        return false;
+    }
+    for i in 0..entries.len() {
+        if !stays_one_cycle_at(rig, entries, links, i) {
+            return false;
+        }
+    }
+    true
+}
