@@ -1,4 +1,4 @@
-//! The board of the example with an electronic die, and its program.
+//! The board of the example with an electronic die, its program, and machines with it.
 use mcs_board::BenchRig;
 use mcs_check::Replica;
 use mcs_cpu4004::Cpu;
@@ -10,19 +10,20 @@ use std::alloc::{AllocError, Global};
 use std::process::Abort;
 
 /// The die's program.
-pub(crate) const PROGRAM: [u8; 29] = [
+pub(crate) const DIE_PROGRAM: [u8; 29] = [
     34, 0, 36, 16, 35, 210, 226, 242, 226, 32, 42, 54, 35, 167, 225, 37, 234, 20, 15, 113, 25, 218,
     177, 64, 11, 0, 0, 64, 11,
 ];
 
-/// The lamp patterns of the die's six faces, which are in ROM after its program.
+/// The lamp patterns of the die's six faces. They are in ROM after its program.
 pub(crate) const FACES: [u8; 6] = [8, 1, 9, 3, 11, 7];
 
 /// The address of the lamp patterns.
 const FACES_AT: u16 = 42;
 
-/// Returns a board with a ROM with outputs, a ROM with inputs, a RAM chip, and keys in one column.
-fn keys_of(rows: u8) -> Result<Board, BoardFault> {
+/// Returns the die's board with keys in `rows` rows of one column. It has a ROM with outputs, a ROM with inputs and a
+/// RAM chip.
+fn board_with_keys(rows: u8) -> Result<Board, BoardFault> {
     let mut roms = [None; ROMS];
     roms[0] = Some(OUTPUTS);
     roms[1] = Some(INPUTS);
@@ -41,7 +42,7 @@ fn keys_of(rows: u8) -> Result<Board, BoardFault> {
 }
 
 /// Writes bytes to consecutive ROM addresses.
-fn put(rig: &mut BenchRig, from: u16, bytes: &[u8]) {
+fn write_rom(rig: &mut BenchRig, from: u16, bytes: &[u8]) {
     let mut at = Addr::ZERO.plus(from);
     for byte in bytes {
         rig.set_rom_byte(at, *byte);
@@ -49,25 +50,26 @@ fn put(rig: &mut BenchRig, from: u16, bytes: &[u8]) {
     }
 }
 
-/// Returns a rig with such a board and with the given program, before its first cycle.
-fn rig_of(
+/// Returns a rig with the die's board, its faces and the given program, before its first cycle. The board has keys in
+/// `rows` rows.
+fn rig_with_keys(
     alloc: Global,
     rt: &impl Abort,
     rows: u8,
     program: &[u8],
 ) -> Result<BenchRig, AllocError> {
-    let board = keys_of(rows).expect(rt, "a board");
+    let board = board_with_keys(rows).expect(rt, "a board");
     let mut rig = BenchRig::new(alloc)?;
     assert!(rt; BenchRig::fits(&board));
     rig.wire(&board);
-    put(&mut rig, 0, program);
-    put(&mut rig, FACES_AT, &FACES);
+    write_rom(&mut rig, 0, program);
+    write_rom(&mut rig, FACES_AT, &FACES);
     Ok(rig)
 }
 
 /// Returns a rig with the die's board, which has one key, and with the given program, before its first cycle.
 pub(crate) fn rig(alloc: Global, rt: &impl Abort, program: &[u8]) -> Result<BenchRig, AllocError> {
-    rig_of(alloc, rt, 1, program)
+    rig_with_keys(alloc, rt, 1, program)
 }
 
 /// Returns a machine with the die's board and faces and with the given program, before its first
@@ -81,17 +83,17 @@ pub(crate) fn machine(
     Ok(Replica::of(Cpu::new(), rig))
 }
 
-/// Returns a machine whose board has two keys, in two rows of one column.
-pub(crate) fn two_keys(
+/// Returns a machine with the given program, before its first cycle. Its board has two keys, in two rows of one column.
+pub(crate) fn machine_with_two_keys(
     alloc: Global,
     rt: &impl Abort,
     program: &[u8],
 ) -> Result<Replica, AllocError> {
-    let rig = rig_of(alloc, rt, 2, program)?;
+    let rig = rig_with_keys(alloc, rt, 2, program)?;
     Ok(Replica::of(Cpu::new(), rig))
 }
 
 /// Returns a machine that runs the die's program, before its first cycle.
 pub(crate) fn die(alloc: Global, rt: &impl Abort) -> Result<Replica, AllocError> {
-    machine(alloc, rt, &PROGRAM)
+    machine(alloc, rt, &DIE_PROGRAM)
 }

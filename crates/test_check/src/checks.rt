@@ -26,7 +26,7 @@ const LAMPS: Cell = Cell {
 
 /// Returns the condition that the lamps show the pattern `n`, or another pattern if `inside` is
 /// false.
-fn shown(n: u8, inside: bool) -> Condition {
+fn lamps_show(n: u8, inside: bool) -> Condition {
     Condition::Compare(Comparison {
         cell: LAMPS,
         part: Part::Whole,
@@ -36,12 +36,12 @@ fn shown(n: u8, inside: bool) -> Condition {
     })
 }
 
-/// Returns the aim that the lamps never show a pattern that is neither a face nor dark.
-pub(crate) fn no_face(alloc: Global) -> Result<Aim, AllocError> {
+/// Returns the aim that the lamps show only faces, or are dark.
+pub(crate) fn only_faces(alloc: Global) -> Result<Aim, AllocError> {
     let mut conditions = Vec::new(alloc);
-    conditions.push(shown(0, false))?;
+    conditions.push(lamps_show(0, false))?;
     for face in FACES {
-        conditions.push(shown(face, false))?;
+        conditions.push(lamps_show(face, false))?;
     }
     let mut nevers = Vec::new(alloc);
     nevers.push(Conjunction::of(conditions))?;
@@ -49,23 +49,24 @@ pub(crate) fn no_face(alloc: Global) -> Result<Aim, AllocError> {
 }
 
 /// Returns the aim that the lamps never show the pattern `n`.
-fn lamps_are(alloc: Global, n: u8) -> Result<Aim, AllocError> {
+fn lamps_never_show(alloc: Global, n: u8) -> Result<Aim, AllocError> {
     let mut conditions = Vec::new(alloc);
-    conditions.push(shown(n, true))?;
+    conditions.push(lamps_show(n, true))?;
     let mut nevers = Vec::new(alloc);
     nevers.push(Conjunction::of(conditions))?;
     Ok(Aim::never(alloc, nevers))
 }
 
 /// Checks an aim on the die, with at most `STATES` states.
-pub(crate) fn all_checked(alloc: Global, rt: &impl Abort, aim: Aim) -> Result<Outcome, AllocError> {
+pub(crate) fn check_die(alloc: Global, rt: &impl Abort, aim: Aim) -> Result<Outcome, AllocError> {
     check_all(alloc, die(alloc, rt)?, aim, STATES, MEMORY, PAUSE)
 }
 
-/// Returns true if a check says that the lamps may show the pattern `n`.
+/// Checks that the lamps never show the pattern `n`. Returns true if the outcome is that they may show it, and false if
+/// the check proves it.
 fn may_show(alloc: Global, rt: &impl Abort, n: u8) -> bool {
-    let aim = lamps_are(alloc, n).expect(rt, "memory");
-    match all_checked(alloc, rt, aim).expect(rt, "memory") {
+    let aim = lamps_never_show(alloc, n).expect(rt, "memory");
+    match check_die(alloc, rt, aim).expect(rt, "memory") {
         Outcome::MayFail(_) => true,
         outcome => {
             expect_holds(rt, outcome);
@@ -74,7 +75,7 @@ fn may_show(alloc: Global, rt: &impl Abort, n: u8) -> bool {
     }
 }
 
-/// Checks that the outcome is that the aim holds, and that the number of states is right.
+/// Expects the outcome that the aim holds, with `STATES` states.
 pub(crate) fn expect_holds(rt: &impl Abort, outcome: Outcome) {
     match outcome {
         Outcome::Holds(n) => assert_eq!(rt; n, STATES),
@@ -83,9 +84,9 @@ pub(crate) fn expect_holds(rt: &impl Abort, outcome: Outcome) {
 }
 
 #[test]
-fn faces_alone_are_shown(rt: HostRuntime) {
-    let aim = no_face(rt.alloc()).expect(&rt, "memory");
-    let outcome = all_checked(rt.alloc(), &rt, aim).expect(&rt, "memory");
+fn only_faces_are_shown(rt: HostRuntime) {
+    let aim = only_faces(rt.alloc()).expect(&rt, "memory");
+    let outcome = check_die(rt.alloc(), &rt, aim).expect(&rt, "memory");
     expect_holds(&rt, outcome);
     for n in 0..16 {
         // the lamps are dark at the start
@@ -95,20 +96,22 @@ fn faces_alone_are_shown(rt: HostRuntime) {
 }
 
 #[test]
-fn no_state_more_than_asked_for(rt: HostRuntime) {
-    for most in [0, 1, STATES - 1] {
+fn a_limit_on_states_stops_the_check(rt: HostRuntime) {
+    for max_states in [0, 1, STATES - 1] {
         let die = die(rt.alloc(), &rt).expect(&rt, "memory");
-        let aim = no_face(rt.alloc()).expect(&rt, "memory");
-        let outcome = check_all(rt.alloc(), die, aim, most, MEMORY, PAUSE).expect(&rt, "memory");
-        assert!(&rt; matches!(outcome, Outcome::TooMany), "{most}");
+        let aim = only_faces(rt.alloc()).expect(&rt, "memory");
+        let outcome = check_all(rt.alloc(), die, aim, max_states, MEMORY, PAUSE).expect(
+            &rt, "memory",
+        );
+        assert!(&rt; matches!(outcome, Outcome::TooMany), "{max_states}");
     }
 }
 
 #[test]
-fn no_state_more_than_memory_has_room_for(rt: HostRuntime) {
+fn a_limit_on_memory_stops_the_check(rt: HostRuntime) {
     for memory in [0, 1, 1_000] {
         let die = die(rt.alloc(), &rt).expect(&rt, "memory");
-        let aim = no_face(rt.alloc()).expect(&rt, "memory");
+        let aim = only_faces(rt.alloc()).expect(&rt, "memory");
         let outcome = check_all(rt.alloc(), die, aim, STATES, memory, PAUSE).expect(&rt, "memory");
         assert!(&rt; matches!(outcome, Outcome::NoMemory(_)), "{memory}");
     }

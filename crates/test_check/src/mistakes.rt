@@ -5,7 +5,7 @@ use mcs_check::{Aim, Condition, Conjunction, Mistakes, Outcome, check_all};
 use std::alloc::{AllocError, Global};
 
 /// All common mistakes.
-pub(crate) const ALL: Mistakes = Mistakes {
+pub(crate) const ALL_MISTAKES: Mistakes = Mistakes {
     no_code: true,
     fourth_call: true,
     lone_return: true,
@@ -16,18 +16,18 @@ pub(crate) const ALL: Mistakes = Mistakes {
 };
 
 /// Returns the aim that a program never makes any of these mistakes.
-fn never(alloc: Global, asked: Mistakes) -> Result<Aim, AllocError> {
+fn never_mistaken(alloc: Global, mistakes: Mistakes) -> Result<Aim, AllocError> {
     let mut conditions = Vec::new(alloc);
-    conditions.push(Condition::Mistaken(asked))?;
+    conditions.push(Condition::Mistaken(mistakes))?;
     let mut nevers = Vec::new(alloc);
     nevers.push(Conjunction::of(conditions))?;
     Ok(Aim::never(alloc, nevers))
 }
 
 #[test]
-fn the_die_makes_none(rt: HostRuntime) {
+fn the_die_makes_no_mistake(rt: HostRuntime) {
     let die = die(rt.alloc(), &rt).expect(&rt, "memory");
-    let aim = never(rt.alloc(), ALL).expect(&rt, "memory");
+    let aim = never_mistaken(rt.alloc(), ALL_MISTAKES).expect(&rt, "memory");
     expect_holds(
         &rt,
         check_all(rt.alloc(), die, aim, STATES, MEMORY, PAUSE).expect(&rt, "memory"),
@@ -37,7 +37,7 @@ fn the_die_makes_none(rt: HostRuntime) {
 /// Programs that make one mistake each: an invalid opcode, four nested calls, BBL without a call,
 /// WRM after DCL of bank 1, a jump to 0x200, RDR of the port of ROM 0, and WRR to the port of ROM
 /// 1. No program runs on into the die's faces.
-pub(crate) const PROGRAMS: [[u8; 10]; 7] = [
+pub(crate) const MISTAKEN_PROGRAMS: [[u8; 10]; 7] = [
     [0xFE, 0, 0, 0, 0, 0, 0, 0, 0, 0],
     [0x50, 2, 0x50, 4, 0x50, 6, 0x50, 8, 0x40, 8],
     [0x40, 2, 0xC0, 0x40, 0, 0, 0, 0, 0, 0],
@@ -48,31 +48,31 @@ pub(crate) const PROGRAMS: [[u8; 10]; 7] = [
 ];
 
 /// Returns the mistake that program `k` makes.
-pub(crate) fn mistake(k: usize) -> Mistakes {
-    let mut asked = Mistakes::NONE;
+pub(crate) fn mistake_of(k: usize) -> Mistakes {
+    let mut mistakes = Mistakes::NONE;
     match k {
-        0 => asked.no_code = true,
-        1 => asked.fourth_call = true,
-        2 => asked.lone_return = true,
-        3 => asked.absent_ram = true,
-        4 => asked.absent_rom = true,
-        5 => asked.no_inputs = true,
-        _ => asked.no_outputs = true,
+        0 => mistakes.no_code = true,
+        1 => mistakes.fourth_call = true,
+        2 => mistakes.lone_return = true,
+        3 => mistakes.absent_ram = true,
+        4 => mistakes.absent_rom = true,
+        5 => mistakes.no_inputs = true,
+        _ => mistakes.no_outputs = true,
     }
-    asked
+    mistakes
 }
 
 #[test]
-fn each_program_makes_one(rt: HostRuntime) {
+fn each_program_makes_its_mistake(rt: HostRuntime) {
     for k in 0..7 {
-        for asked in 0..7 {
-            let made = machine(rt.alloc(), &rt, &PROGRAMS[k]).expect(&rt, "memory");
-            let aim = never(rt.alloc(), mistake(asked)).expect(&rt, "memory");
-            let outcome = check_all(rt.alloc(), made, aim, STATES, MEMORY, 5_000).expect(
+        for kind in 0..7 {
+            let machine = machine(rt.alloc(), &rt, &MISTAKEN_PROGRAMS[k]).expect(&rt, "memory");
+            let aim = never_mistaken(rt.alloc(), mistake_of(kind)).expect(&rt, "memory");
+            let outcome = check_all(rt.alloc(), machine, aim, STATES, MEMORY, 5_000).expect(
                 &rt, "memory",
             );
             let is_made = matches!(outcome, Outcome::MayFail(_));
-            assert!(&rt; is_made == (asked == k), "program {k}, mistake {asked}");
+            assert!(&rt; is_made == (kind == k), "program {k}, mistake {kind}");
         }
     }
 }

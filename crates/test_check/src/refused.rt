@@ -1,13 +1,13 @@
 //! Tests with one failing allocation. `checks/allocations` makes each allocation fail in turn; in
 //! the gate, none fails.
-use crate::checks::{STATES, all_checked, expect_holds, no_face};
+use crate::checks::{STATES, check_die, expect_holds, only_faces};
 use mcs_check::{Aim, Outcome};
 use std::alloc::Global;
 use std::process::Abort;
 
-/// Checks the die. Returns the part whose allocation failed, or `nothing`.
+/// Checks the die once. Returns the part whose allocation failed, or `nothing`.
 fn check_once(alloc: Global, rt: &impl Abort, aim: Aim) -> &'static str {
-    match all_checked(alloc, rt, aim) {
+    match check_die(alloc, rt, aim) {
         Ok(Outcome::NoMemory(states)) => {
             assert!(rt; states <= STATES);
             "a state"
@@ -23,19 +23,19 @@ fn check_once(alloc: Global, rt: &impl Abort, aim: Aim) -> &'static str {
 /// Checks the die, and repeats the check if an allocation failed in it. Returns the part whose
 /// allocation failed, or `nothing`.
 fn run(alloc: Global, rt: &impl Abort) -> &'static str {
-    let Ok(aim) = no_face(alloc) else {
+    let Ok(aim) = only_faces(alloc) else {
         return "the conditions";
     };
-    let refused = check_once(alloc, rt, aim);
-    if refused != "nothing" {
-        let aim = no_face(alloc).expect(rt, "memory");
+    let failed_part = check_once(alloc, rt, aim);
+    if failed_part != "nothing" {
+        let aim = only_faces(alloc).expect(rt, "memory");
         assert!(rt; check_once(alloc, rt, aim) == "nothing");
     }
-    refused
+    failed_part
 }
 
 #[test]
 fn one_allocation(rt: HostRuntime) {
-    let refused = run(rt.alloc(), &rt);
-    let _ = println!(rt; "refused: {refused}");
+    let failed_part = run(rt.alloc(), &rt);
+    let _ = println!(rt; "refused: {failed_part}");
 }

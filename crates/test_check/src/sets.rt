@@ -1,7 +1,7 @@
 //! Tests of checks by sets of values.
-use crate::boards::{PROGRAM, rig};
+use crate::boards::{DIE_PROGRAM, rig};
 use crate::checks::MEMORY;
-use crate::mistakes::{ALL, PROGRAMS, mistake};
+use crate::mistakes::{ALL_MISTAKES, MISTAKEN_PROGRAMS, mistake_of};
 use mcs_check::{Condition, Mistakes, Outcome};
 use mcs_cpu4004::Cpu;
 use mcs_sets::check_by_sets;
@@ -11,33 +11,35 @@ use std::process::Abort;
 /// More entries than a check of any of these programs needs.
 const ENTRIES: usize = 10_000;
 
-/// Returns condition lists that must never be met. The only condition is that the program makes one
-/// of the given mistakes.
-fn never(alloc: Global, asked: Mistakes) -> Result<Vec<Vec<Condition>>, AllocError> {
+/// Returns the conditions that must never be met if a program makes none of these mistakes: one list with one condition.
+fn nevers_of_mistakes(
+    alloc: Global,
+    mistakes: Mistakes,
+) -> Result<Vec<Vec<Condition>>, AllocError> {
     let mut conditions = Vec::new(alloc);
-    conditions.push(Condition::Mistaken(asked))?;
+    conditions.push(Condition::Mistaken(mistakes))?;
     let mut nevers = Vec::new(alloc);
     nevers.push(conditions)?;
     Ok(nevers)
 }
 
-/// Checks a program on the die's board.
-fn checked(
+/// Checks by sets of values that a program on the die's board makes none of these mistakes. Returns the outcome.
+fn check_program(
     alloc: Global,
     rt: &impl Abort,
     program: &[u8],
-    asked: Mistakes,
+    mistakes: Mistakes,
     entries: usize,
     memory: usize,
 ) -> Outcome {
     let mut machine = rig(alloc, rt, program).expect(rt, "memory");
-    let mut own = rig(alloc, rt, program).expect(rt, "memory");
-    let nevers = never(alloc, asked).expect(rt, "memory");
+    let mut search_rig = rig(alloc, rt, program).expect(rt, "memory");
+    let nevers = nevers_of_mistakes(alloc, mistakes).expect(rt, "memory");
     check_by_sets(
         alloc,
         &Cpu::new(),
         &mut machine,
-        &mut own,
+        &mut search_rig,
         nevers.as_slice(),
         entries,
         memory,
@@ -45,23 +47,30 @@ fn checked(
 }
 
 #[test]
-fn the_die_makes_none(rt: HostRuntime) {
-    let outcome = checked(rt.alloc(), &rt, &PROGRAM, ALL, ENTRIES, MEMORY);
+fn the_die_makes_no_mistake(rt: HostRuntime) {
+    let outcome = check_program(rt.alloc(), &rt, &DIE_PROGRAM, ALL_MISTAKES, ENTRIES, MEMORY);
     assert!(rt; matches!(&outcome, Outcome::Holds(_)));
 }
 
 #[test]
-fn each_mistake_is_left_open(rt: HostRuntime) {
-    for k in 0..PROGRAMS.len() {
-        let outcome = checked(rt.alloc(), &rt, &PROGRAMS[k], mistake(k), ENTRIES, MEMORY);
+fn no_mistake_is_missed(rt: HostRuntime) {
+    for k in 0..MISTAKEN_PROGRAMS.len() {
+        let outcome = check_program(
+            rt.alloc(),
+            &rt,
+            &MISTAKEN_PROGRAMS[k],
+            mistake_of(k),
+            ENTRIES,
+            MEMORY,
+        );
         assert!(rt; matches!(&outcome, Outcome::GaveUp));
     }
 }
 
 #[test]
-fn limits_are_kept(rt: HostRuntime) {
-    let few = checked(rt.alloc(), &rt, &PROGRAM, ALL, 1, MEMORY);
+fn limits_stop_the_search(rt: HostRuntime) {
+    let few = check_program(rt.alloc(), &rt, &DIE_PROGRAM, ALL_MISTAKES, 1, MEMORY);
     assert!(rt; matches!(&few, Outcome::TooMany));
-    let little = checked(rt.alloc(), &rt, &PROGRAM, ALL, ENTRIES, 300);
+    let little = check_program(rt.alloc(), &rt, &DIE_PROGRAM, ALL_MISTAKES, ENTRIES, 300);
     assert!(rt; matches!(&little, Outcome::NoMemory(1)));
 }

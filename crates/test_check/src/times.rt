@@ -8,15 +8,15 @@ use mcs_check::{
 use std::alloc::{AllocError, Global};
 use std::process::Abort;
 
-/// More states than these programs have.
-const MOST: usize = 10_000;
+/// The maximum number of states of a check, more than these programs have.
+const MAX_STATES: usize = 10_000;
 
 /// The number of cycles after which a search step ends if the program reads no input. A loop is
 /// recognised when it runs once more after that. In the nested loops, the upper byte of the
 /// stopwatch is not 0 at the end of such a step.
 const PAUSE: u32 = 137_000;
 
-/// FIM P0 0, ISZ R0 2, JUN 0. They take 2 cycles, 16 times 2 cycles, and 2 cycles.
+/// FIM P0 0, ISZ R0 2, JUN 0. The FIM takes 2 cycles, the ISZ 16 times 2 cycles, and the JUN 2 cycles.
 const DELAY: [u8; 6] = [0x20, 0, 0x70, 2, 0x40, 0];
 
 /// The number of cycles from address 0 back to address 0.
@@ -44,7 +44,7 @@ const NESTED: [u8; 14] = [
 const NESTED_CYCLES: u32 = 69_910;
 
 /// Returns the condition that a counter equals `n`.
-fn is(index: u16, n: u8) -> Condition {
+fn counter_is(index: u16, n: u8) -> Condition {
     Condition::Compare(Comparison {
         cell: Cell {
             list: CellList::Counters,
@@ -60,16 +60,16 @@ fn is(index: u16, n: u8) -> Condition {
 /// Returns the condition that an instruction begins at an address of page 0.
 pub(crate) fn begins_at(alloc: Global, low: u8) -> Result<Vec<Conjunction>, AllocError> {
     let mut conditions = Vec::new(alloc);
-    conditions.push(is(3, 0))?;
-    conditions.push(is(4, 0))?;
-    conditions.push(is(5, low))?;
+    conditions.push(counter_is(3, 0))?;
+    conditions.push(counter_is(4, 0))?;
+    conditions.push(counter_is(5, low))?;
     let mut lists = Vec::new(alloc);
     lists.push(Conjunction::of(conditions))?;
     Ok(lists)
 }
 
-/// Checks that a program always gets from one address to another within `limit` cycles.
-fn checked(
+/// Checks that a program always gets from one address to another within `limit` cycles. Returns the outcome.
+fn check_time(
     alloc: Global,
     rt: &impl Abort,
     program: &[u8],
@@ -84,14 +84,14 @@ fn checked(
     let mut nevers = Vec::new(alloc);
     add_limit(alloc, &mut nevers, limit).expect(rt, "memory");
     let aim = Aim::timed(alloc, nevers, begins, ends);
-    check_all(alloc, machine, aim, MOST, MEMORY, PAUSE).expect(rt, "memory")
+    check_all(alloc, machine, aim, MAX_STATES, MEMORY, PAUSE).expect(rt, "memory")
 }
 
 /// Checks that `cycles` is the longest time that a program takes from one address to another.
 fn expect_longest(alloc: Global, rt: &impl Abort, program: &[u8], from: u8, to: u8, cycles: u32) {
-    let outcome = checked(alloc, rt, program, from, to, cycles);
+    let outcome = check_time(alloc, rt, program, from, to, cycles);
     assert!(rt; matches!(&outcome, Outcome::Holds(_)), "{cycles}");
-    let outcome = checked(alloc, rt, program, from, to, cycles.saturating_sub(1));
+    let outcome = check_time(alloc, rt, program, from, to, cycles.saturating_sub(1));
     assert!(rt;
         matches!(&outcome, Outcome::MayFail(_)),
         "less than {cycles}"
@@ -99,20 +99,20 @@ fn expect_longest(alloc: Global, rt: &impl Abort, program: &[u8], from: u8, to: 
 }
 
 #[test]
-fn a_loop_has_its_time(rt: HostRuntime) {
+fn a_loop_takes_its_time(rt: HostRuntime) {
     expect_longest(rt.alloc(), &rt, &DELAY, 0, 0, DELAY_CYCLES);
     expect_longest(rt.alloc(), &rt, &DELAY, 0, 4, DELAY_CYCLES - 2);
     expect_longest(rt.alloc(), &rt, &DELAY, 4, 0, 2);
 }
 
 #[test]
-fn inputs_choose_the_time(rt: HostRuntime) {
+fn inputs_determine_the_time(rt: HostRuntime) {
     expect_longest(rt.alloc(), &rt, &BRANCHES, 0, 0, BRANCHES_CYCLES);
 }
 
 #[test]
-fn states_differ_in_time_alone(rt: HostRuntime) {
-    match checked(rt.alloc(), &rt, &BRANCHES, 0, 0, BRANCHES_CYCLES) {
+fn states_differ_only_in_time(rt: HostRuntime) {
+    match check_time(rt.alloc(), &rt, &BRANCHES, 0, 0, BRANCHES_CYCLES) {
         Outcome::Holds(states) => assert_eq!(&rt; states, BRANCHES_STATES),
         _ => panic!(&rt; "another outcome"),
     }
@@ -124,19 +124,19 @@ fn a_long_time_has_three_bytes(rt: HostRuntime) {
 }
 
 #[test]
-fn what_never_begins_takes_no_time(rt: HostRuntime) {
-    let outcome = checked(rt.alloc(), &rt, &DELAY, 6, 0, 0);
+fn a_stopwatch_that_never_begins_shows_0(rt: HostRuntime) {
+    let outcome = check_time(rt.alloc(), &rt, &DELAY, 6, 0, 0);
     assert!(&rt; matches!(&outcome, Outcome::Holds(_)));
 }
 
 #[test]
-fn what_begins_takes_some_time(rt: HostRuntime) {
-    let outcome = checked(rt.alloc(), &rt, &DELAY, 0, 0, 0);
+fn a_stopwatch_that_begins_exceeds_0(rt: HostRuntime) {
+    let outcome = check_time(rt.alloc(), &rt, &DELAY, 0, 0, 0);
     assert!(&rt; matches!(&outcome, Outcome::MayFail(_)));
 }
 
 #[test]
-fn what_never_ends_takes_too_long(rt: HostRuntime) {
-    let outcome = checked(rt.alloc(), &rt, &DELAY, 0, 6, 40_000);
+fn a_stopwatch_that_never_ends_exceeds_its_limit(rt: HostRuntime) {
+    let outcome = check_time(rt.alloc(), &rt, &DELAY, 0, 6, 40_000);
     assert!(&rt; matches!(&outcome, Outcome::MayFail(_)));
 }

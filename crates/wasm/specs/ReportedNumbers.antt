@@ -13,15 +13,15 @@ use Rattle.mcs_shell.specs.declared.ends.ShellEnd.{ShellEnd}
 pub record ReportsAnswers (file input : List ℕ) (number count : ℕ) (buffer buffer' after : List ℕ)
     : Type 0 where
   pub end : ShellEnd
-  pub report : number ≡ exit_status_of end
+  pub number_reported : number ≡ exit_status_of end
   pub answers : AnswersInBuffer file input end count buffer buffer' after
 
 -- Holds if the input was served as in ReportsAnswers, and a snapshot then replaced the records of the
 -- file.
-pub record ReportsAndSettles (file input : List ℕ) (number count : ℕ)
+pub record ReportsAnswersAndSettles (file input : List ℕ) (number count : ℕ)
     (buffer buffer' after : List ℕ) : Type 0 where
   pub end : ShellEnd
-  pub report : number ≡ exit_status_of end
+  pub number_reported : number ≡ exit_status_of end
   pub answers : AnswersAndSettles file input end count buffer buffer' after
 
 -- Holds if serving the input would give these answers and this number, as in ReportsAnswers. The file
@@ -29,42 +29,44 @@ pub record ReportsAndSettles (file input : List ℕ) (number count : ℕ)
 pub record ReportsDryRun (file input : List ℕ) (number count : ℕ) (buffer buffer' : List ℕ)
     : Type 0 where
   pub end : ShellEnd
-  pub report : number ≡ exit_status_of end
+  pub number_reported : number ≡ exit_status_of end
   pub answers : WouldAnswer file input end count buffer buffer'
 
--- the number that reports why input was not served
-abbrev pub reported_number : ServeFault → ℕ
-reported_number (Refused fault) = store_fault_number fault
-reported_number (NoRoom count) = 0
+-- the number that a call reports if input was not served: that of the refusal, or 0 if the answers do
+-- not fit
+abbrev pub number_of_fault : ServeFault → ℕ
+number_of_fault (Refused fault) = store_fault_number fault
+number_of_fault (NoRoom count) = 0
 
--- the count that is reported if input was not served: the size of answers that do not fit, or 0
-abbrev pub reported_count : ServeFault → ℕ
-reported_count (Refused fault) = 0
-reported_count (NoRoom count) = count
+-- the count that a call reports if input was not served: the size of answers that do not fit, or 0
+abbrev pub count_of_fault : ServeFault → ℕ
+count_of_fault (Refused fault) = 0
+count_of_fault (NoRoom count) = count
 
--- holds if the input was not served, and the number and the count report the reason
-pub record ReportsWhyNot (file input : List ℕ) (number count room : ℕ) : Type 0 where
-  pub why : ServeFault
-  pub report : number ≡ reported_number why
-  pub counted : count ≡ reported_count why
-  pub is : IsWhyNotServed why file input room
+-- holds if the input was not served, and the number and the count report the fault
+pub record ReportsFault (file input : List ℕ) (number count room : ℕ) : Type 0 where
+  pub fault : ServeFault
+  pub number_reported : number ≡ number_of_fault fault
+  pub count_reported : count ≡ count_of_fault fault
+  pub is_fault : IsWhyNotServed fault file input room
 
--- Holds if this is a possible reason why a question to the prover has no line of answer: memory ran
--- out, or the line has `count` bytes and does not fit.
-abbrev pub IsWhyNoLine : ServeFault → ℕ → Type 0
-IsWhyNoLine (Refused store_fault.NoMemory) room = Unit {0}
-IsWhyNoLine (Refused fault) room = ⊥
-IsWhyNoLine (NoRoom count) room = room < count
+-- Holds if a question to the prover can have no line of answer because of this fault: memory ran out,
+-- or the line has `count` bytes and does not fit.
+abbrev pub IsProverFault : ServeFault → ℕ → Type 0
+IsProverFault (Refused store_fault.NoMemory) room = Unit {0}
+IsProverFault (Refused fault) room = ⊥
+IsProverFault (NoRoom count) room = room < count
 
--- holds if the number and the count report why a question to the prover has no line of answer
-pub record ReportsWhyNoLine (number count room : ℕ) : Type 0 where
-  pub why : ServeFault
-  pub report : number ≡ reported_number why
-  pub counted : count ≡ reported_count why
-  pub is : IsWhyNoLine why room
+-- holds if the number and the count report the fault because of which a question to the prover has no
+-- line of answer
+pub record ReportsProverFault (number count room : ℕ) : Type 0 where
+  pub fault : ServeFault
+  pub number_reported : number ≡ number_of_fault fault
+  pub count_reported : count ≡ count_of_fault fault
+  pub is_fault : IsProverFault fault room
 
 -- holds if a line of `count` bytes is at the front of the buffer, and the rest of the buffer is
 -- unchanged
-pub record HasLineInFront (count : ℕ) (buffer buffer' : List ℕ) : Type 0 where
-  pub within : count ≤ length buffer
-  pub rest : drop count buffer' ≡ drop count buffer
+pub record HasLineAtFront (count : ℕ) (buffer buffer' : List ℕ) : Type 0 where
+  pub fits : count ≤ length buffer
+  pub rest_unchanged : drop count buffer' ≡ drop count buffer

@@ -5,8 +5,8 @@
 ghost use Rattle.std.specs.Prelude.{◌≡◌, length, true, false};
 ghost use Rattle.mcs_journal.specs.declared.format.TheConstants.{FILE_SIZE};
 ghost use Rattle.mcs_wasm.specs.Page.{IsNewFile, StandsForSameState};
-ghost use Rattle.wasm.specs.ReportedNumbers.{HasLineInFront, ReportsAndSettles, ReportsAnswers, ReportsDryRun, ReportsWhyNoLine};
-ghost use Rattle.wasm.specs.ReportedNumbers.{ReportsWhyNot, reported_count, reported_number};
+ghost use Rattle.wasm.specs.ReportedNumbers.{HasLineAtFront, ReportsAnswers, ReportsAnswersAndSettles, ReportsDryRun, ReportsProverFault};
+ghost use Rattle.wasm.specs.ReportedNumbers.{ReportsFault, count_of_fault, number_of_fault};
 ghost use Rattle.mcs_shell.specs.Shell.{exit_status_of};
 
 use mcs_journal::StoreFault;
@@ -29,9 +29,9 @@ pub struct CallResult {
     pub count: usize,
 }
 
-/// Writes the result of input that was served, and returns true.
+/// Writes the result of input that was served to `report`, and returns true.
 fn report_served(served: ServedInput, report: &mut CallResult) -> bool
-    ensures is { result ≡ true }
+    ensures value { result ≡ true }
     ensures number { report.new.number ≡ exit_status_of served.end }
     ensures count { report.new.count ≡ served.count }
 {
@@ -42,13 +42,13 @@ fn report_served(served: ServedInput, report: &mut CallResult) -> bool
     true
 }
 
-/// Writes the reason why input was not served, and returns false.
-fn report_why(why: ServeFault, report: &mut CallResult) -> bool
-    ensures is { result ≡ false }
-    ensures number { report.new.number ≡ reported_number why }
-    ensures count { report.new.count ≡ reported_count why }
+/// Writes the fault because of which input was not served to `report`, and returns false.
+fn report_fault(fault: ServeFault, report: &mut CallResult) -> bool
+    ensures value { result ≡ false }
+    ensures number { report.new.number ≡ number_of_fault fault }
+    ensures count { report.new.count ≡ count_of_fault fault }
 {
-    *report = match why {
+    *report = match fault {
         ServeFault::Refused(fault) => CallResult {
             number: u32::from(store_number(fault)),
             count: 0,
@@ -70,8 +70,8 @@ pub extern "C" fn bench_file_size() -> usize
 #[unsafe(no_mangle)]
 pub extern "C" fn bench_begin(alloc: Global, file: &mut [u8]) -> bool
     requires size { length file.old ≡ FILE_SIZE }
-    ensures made { result ≡ true → IsNewFile file.new }
-    ensures stays { result ≡ false → file.new ≡ file.old }
+    ensures new_file { result ≡ true → IsNewFile file.new }
+    ensures unchanged { result ≡ false → file.new ≡ file.old }
 {
     begin(alloc, file).is_ok()
 }
@@ -89,13 +89,13 @@ pub extern "C" fn bench_serve(
 ) -> bool
     ensures served { result ≡ true → ReportsAnswers file.old input.now report.new.number report.new.count
         answers.old answers.new file.new }
-    ensures refused { result ≡ false → ReportsWhyNot file.old input.now report.new.number report.new.count
+    ensures refused { result ≡ false → ReportsFault file.old input.now report.new.number report.new.count
         (length answers.old) }
-    ensures stays { result ≡ false → (file.new ≡ file.old) × (answers.new ≡ answers.old) }
+    ensures unchanged { result ≡ false → (file.new ≡ file.old) × (answers.new ≡ answers.old) }
 {
     match serve(alloc, file, input, answers) {
         Ok(served) => report_served(served, report),
-        Err(why) => report_why(why, report),
+        Err(fault) => report_fault(fault, report),
     }
 }
 
@@ -109,15 +109,15 @@ pub extern "C" fn bench_serve_and_settle(
     answers: &mut [u8],
     report: &mut CallResult,
 ) -> bool
-    ensures served { result ≡ true → ReportsAndSettles file.old input.now report.new.number
+    ensures served { result ≡ true → ReportsAnswersAndSettles file.old input.now report.new.number
         report.new.count answers.old answers.new file.new }
-    ensures refused { result ≡ false → ReportsWhyNot file.old input.now report.new.number report.new.count
+    ensures refused { result ≡ false → ReportsFault file.old input.now report.new.number report.new.count
         (length answers.old) }
-    ensures stays { result ≡ false → (file.new ≡ file.old) × (answers.new ≡ answers.old) }
+    ensures unchanged { result ≡ false → (file.new ≡ file.old) × (answers.new ≡ answers.old) }
 {
     match serve_and_settle(alloc, file, input, answers) {
         Ok(served) => report_served(served, report),
-        Err(why) => report_why(why, report),
+        Err(fault) => report_fault(fault, report),
     }
 }
 
@@ -133,13 +133,13 @@ pub extern "C" fn bench_ask(
 ) -> bool
     ensures served { result ≡ true → ReportsDryRun file.now input.now report.new.number
         report.new.count answers.old answers.new }
-    ensures refused { result ≡ false → ReportsWhyNot file.now input.now report.new.number report.new.count
+    ensures refused { result ≡ false → ReportsFault file.now input.now report.new.number report.new.count
         (length answers.old) }
-    ensures stays { result ≡ false → answers.new ≡ answers.old }
+    ensures unchanged { result ≡ false → answers.new ≡ answers.old }
 {
     match ask(alloc, file, input, answers) {
         Ok(served) => report_served(served, report),
-        Err(why) => report_why(why, report),
+        Err(fault) => report_fault(fault, report),
     }
 }
 
@@ -148,7 +148,7 @@ pub extern "C" fn bench_ask(
 #[unsafe(no_mangle)]
 pub extern "C" fn bench_settle(alloc: Global, file: &mut [u8]) -> bool
     ensures settled { result ≡ true → StandsForSameState file.old file.new }
-    ensures stays { result ≡ false → file.new ≡ file.old }
+    ensures unchanged { result ≡ false → file.new ≡ file.old }
 {
     settle(alloc, file).is_ok()
 }
@@ -163,19 +163,19 @@ pub extern "C" fn bench_prove(
     answers: &mut [u8],
     report: &mut CallResult,
 ) -> bool
-    ensures answered { result ≡ true → HasLineInFront report.new.count answers.old answers.new }
+    ensures answered { result ≡ true → HasLineAtFront report.new.count answers.old answers.new }
     ensures refused { result ≡ false →
-        ReportsWhyNoLine report.new.number report.new.count (length answers.old) }
-    ensures stays { result ≡ false → answers.new ≡ answers.old }
+        ReportsProverFault report.new.number report.new.count (length answers.old) }
+    ensures unchanged { result ≡ false → answers.new ≡ answers.old }
 {
-    // as in the program, bytes that are not valid text are not a question
+    // The program mcs4_prove, too, takes bytes that are not valid text for an empty question.
     let Ok(Answer { text, status }) = answer_to(alloc, str::from_utf8(question).unwrap_or(""))
     else {
-        return report_why(ServeFault::Refused(StoreFault::NoMemory), report);
+        return report_fault(ServeFault::Refused(StoreFault::NoMemory), report);
     };
     let line = text.as_bytes();
     if answers.len() < line.len() {
-        return report_why(ServeFault::NoRoom(line.len()), report);
+        return report_fault(ServeFault::NoRoom(line.len()), report);
     }
     *report = CallResult {
         number: u32::from(status),
