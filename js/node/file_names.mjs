@@ -2,7 +2,7 @@
 import { readdirSync, statSync } from "node:fs";
 import { homedir } from "node:os";
 import { join } from "node:path";
-import { escaped } from "../core/text/escaped.js";
+import { escaped } from "../core/text/control_escapes.js";
 
 /** The maximum number of completions. */
 const MAX_NAMES = 1000;

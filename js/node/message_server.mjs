@@ -1,7 +1,7 @@
 // The code that `mcs4 lsp` and `mcs4 dap` share. Passes the bytes of standard input to a connection. When no further message can arrive, the process
 // ends and prints the reason on standard error.
 import { isatty } from "node:tty";
-import { escaped } from "../core/text/escaped.js";
+import { escaped } from "../core/text/control_escapes.js";
 import { WAITS_FOR_EDITOR } from "../words/commands.js";
 import { printError } from "./output.mjs";
 

@@ -1,6 +1,6 @@
 // The output of the Node tools. A call returns only after everything is written. Control characters in texts are printed in the form `\x1B`.
 import { fstatSync, writeSync } from "node:fs";
-import { escaped } from "../core/text/escaped.js";
+import { escaped } from "../core/text/control_escapes.js";
 
 const STDOUT = 1;
 const STDERR = 2;

@@ -1,5 +1,5 @@
 // The progress line of a long command on standard error, updated once per second. The line appears only on a terminal.
-import { escaped } from "../core/text/escaped.js";
+import { escaped } from "../core/text/control_escapes.js";
 
 /** The time in milliseconds until the line appears, and between two updates. Shorter commands do not show the line. */
 const UPDATE_INTERVAL = 1000;

@@ -3,7 +3,7 @@
 // until the prompt ends.
 import { closeSync, constants, existsSync, fchmodSync, fstatSync, mkdirSync, openSync, readSync, rmSync, statSync, writeSync } from "node:fs";
 import { dirname, isAbsolute, join } from "node:path";
-import { escaped } from "../core/text/escaped.js";
+import { escaped } from "../core/text/control_escapes.js";
 import { prepareReplacement } from "./user_files.mjs";
 
 /** The maximum number of lines in the history. */

@@ -4,11 +4,11 @@ import { joinLines } from "../core/bench/inputs.js";
 import { SessionPrompt } from "../core/prompt/bench_prompt.js";
 import { BEGINNING } from "../words/session_prompt.js";
 import { fileNames, expandTilde } from "./file_names.mjs";
-import { MAX_SCRIPT, readDecodedFile } from "./given_texts.mjs";
+import { MAX_SCRIPT, readDecodedFile } from "./input_texts.mjs";
 import { print } from "./output.mjs";
 import { readPageData } from "./page_parts.mjs";
-import { describeRefusal } from "./refused_texts.mjs";
-import { ProgramEnded, SessionProgram } from "./program_on_file.mjs";
+import { describeRefusal } from "./rejected_texts.mjs";
+import { ProgramEnded, SessionProgram } from "./session_process.mjs";
 import { TerminalPrompt } from "./terminal_prompt.mjs";
 
 /**

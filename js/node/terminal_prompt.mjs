@@ -6,8 +6,8 @@
 import { constants } from "node:os";
 import { createInterface } from "node:readline";
 import { PassThrough } from "node:stream";
-import { escaped } from "../core/text/escaped.js";
-import { QUOTED, wrapMessage } from "../core/text/folded.js";
+import { escaped } from "../core/text/control_escapes.js";
+import { QUOTED, wrapMessage } from "../core/text/line_wrapping.js";
 import { MAX_LINES, PromptHistory } from "./prompt_history.mjs";
 import { isDumb, makePainter } from "./terminal.mjs";
 

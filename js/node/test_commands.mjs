@@ -3,16 +3,16 @@ import { runTests } from "../core/testing/test_suite.js";
 import { failureLine } from "../core/testing/tap.js";
 import { excludeEachOther, otherProgram, sessionStopped } from "../words/commands.js";
 import { parseCount, projectFiles, checkArguments, findProject } from "./arguments.mjs";
-import { GivenTexts } from "./given_texts.mjs";
+import { GivenTexts } from "./input_texts.mjs";
 import { yieldToMessages, rejectedTextsError, openSession, startEngine } from "./native_program.mjs";
 import { CommandError, UsageError, print, printError } from "./output.mjs";
 
 /**
- * @typedef {import("../core/testing/account.js").ExecutionRecorder} ExecutionRecorder
+ * @typedef {import("../core/testing/recorders.js").ExecutionRecorder} ExecutionRecorder
  * @typedef {import("../core/testing/coverage.js").Coverage} Coverage
  * @typedef {import("../core/testing/profile.js").Profile} Profile
  * @typedef {import("../core/testing/test_run.js").Outcome} Outcome
- * @typedef {import("./given_texts.mjs").GivenText} GivenText
+ * @typedef {import("./input_texts.mjs").GivenText} GivenText
  *
  * The callbacks of a command. `checkNames` checks the file names before the files are read. `outcome` formats the result of each test. `report`
  * prints the counts at the end. `Counting` is the class that counts.

@@ -7,7 +7,7 @@ import {
 } from "node:fs";
 import { createRequire } from "node:module";
 import { dirname, join, resolve, sep } from "node:path";
-import { STORED_LIMIT } from "../core/text/text_fault.js";
+import { STORED_LIMIT } from "../core/text/sendable_text.js";
 import * as say from "../words/commands.js";
 import { CommandError } from "./output.mjs";
 

@@ -1,11 +1,11 @@
 // Creates the views and controllers that show and draw the board. The callbacks connect each of them to the page's other components.
 
 import { partAtLine } from "../core/bench/part_lines.js";
-import { CancelledError } from "../core/bench/faults.js";
+import { CancelledError } from "../core/bench/bench_errors.js";
 import { findBoardKey } from "../core/board/board_keys.js";
 import { Face } from "../core/board/face.js";
 import { findBuzzer } from "../core/board/face_board.js";
-import { KeyPresser, wantsKey } from "./board/pressing.js";
+import { KeyPresser, wantsKey } from "./board/key_presser.js";
 import { DrawingController } from "./drawing/drawing_controller.js";
 import { insertKeyScan } from "./compose_texts.js";
 import { drawnPartLines } from "../core/drawing/drawn_part_lines.js";

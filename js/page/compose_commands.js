@@ -6,12 +6,12 @@ import { fillEmptyPanels } from "./commands/empty_panels.js";
 import { listenToKeys } from "./commands/keys.js";
 import { PaletteView } from "./commands/palette_view.js";
 import { listDestinations } from "./commands/palette_places.js";
-import { isAvailable } from "./commands/offered.js";
+import { isAvailable } from "./commands/availability.js";
 import { WelcomeView } from "./session/welcome_view.js";
 import { ToolbarView } from "./commands/toolbar_view.js";
 import { runToLine } from "./compose_debug.js";
 import { insertKeyScan } from "./compose_texts.js";
-import { Choices } from "./ui/choices.js";
+import { Choices } from "./ui/preferences.js";
 import { block, button, byId, field, isDialogOpen } from "./ui/dom.js";
 import { Theme } from "./ui/theme.js";
 import { Tooltips } from "./ui/tooltips.js";
@@ -120,7 +120,7 @@ function textCalls(page) {
     hasText: (isSource) => findFrontEditor() !== undefined && (!isSource || findFrontEditor() === programEditor),
     /** @param {import("./commands/command_table.js").TextAct} textAction */
     inText: (textAction) => findFrontEditor() && findFrontEditor().performAct(textAction),
-    /** @param {import("./machine/breakpoint_row.js").BreakpointField} [fieldName] */
+    /** @param {import("./machine/breakpoint_form.js").BreakpointField} [fieldName] */
     breakpoint: (fieldName) => {
       show(page, "program");
       if (fieldName) programEditor.editBreakpoint(fieldName);

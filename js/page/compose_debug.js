@@ -1,7 +1,7 @@
 // Creates the debugger's components: breakpoints, steps back and forward, and values. The callbacks connect each of them to the page's
 // other components.
 
-import { CancelledError, WorkerDiedError } from "../core/bench/faults.js";
+import { CancelledError, WorkerDiedError } from "../core/bench/bench_errors.js";
 import { hex } from "../core/bench/numbers.js";
 import { NO_ADDRESS } from "../words/machine.js";
 import { wordsOfLastChange, wordsOfAddress } from "../words/stops.js";
@@ -10,9 +10,9 @@ import { HeatView } from "./machine/heat_view.js";
 import { LastChangeView } from "./machine/last_change_view.js";
 import { listenForRunToCaret, listenForRunToLine } from "./machine/run_to.js";
 import { SourceValues } from "../core/machine/source_values.js";
-import { collectWatchNames } from "../core/debug/watched.js";
-import { MistakesView } from "./machine/usual_view.js";
-import { WatchView } from "./machine/watched_view.js";
+import { collectWatchNames } from "../core/debug/watch_expressions.js";
+import { MistakesView } from "./machine/mistakes_view.js";
+import { WatchView } from "./machine/watch_view.js";
 import { nameCharacters } from "./compose_texts.js";
 import { HistoryView } from "./time/history_view.js";
 import { Travel } from "../core/time/travel.js";

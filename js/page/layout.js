@@ -1,6 +1,6 @@
 // The workbench: the text tabs, the dock, the panels with their splitters, and printing.
 
-import { Choices } from "./ui/choices.js";
+import { Choices } from "./ui/preferences.js";
 import { block } from "./ui/dom.js";
 import { makeFolds, unfold } from "./ui/folds.js";
 import { Panels } from "./ui/panels.js";

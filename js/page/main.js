@@ -13,7 +13,7 @@ import { requestedStory } from "./session/address.js";
 import { makeGuide } from "./compose_session.js";
 import { SPEEDS, findSpeed } from "../core/time/speeds.js";
 import { withTimeout, MemoryStore, Store } from "./session/store.js";
-import { ErrorMessages } from "../core/bench/words.js";
+import { ErrorMessages } from "../core/bench/error_messages.js";
 import * as say from "../words/page.js";
 
 /**

@@ -4,7 +4,7 @@ import { test } from "node:test";
 import { readFileSync } from "node:fs";
 import { MAX_MESSAGE, frameMessage } from "../core/server/framing.js";
 import { EYE_CYCLES } from "../core/time/mcs4_time.js";
-import { FILES, FakeFile, LOCK, SOURCE, engine, served } from "./served_adapter.js";
+import { FILES, FakeFile, LOCK, SOURCE, engine, served } from "./adapter_client.js";
 
 test("messages are answered in their order, each by a number of its own; what is none is reported", async () => {
   const { connection, messages, answer, ask, until } = served();

@@ -5,7 +5,7 @@ import {
   isStop, readBoard, readListing, readMap, readItems, readRam, readRegisters, readRun, parseRefusal, watchedPlaces,
 } from "../core/bench/answers.js";
 import { ADDRESS_COUNT, NO_BYTE, parseRomBytes } from "../core/bench/rom_bytes.js";
-import { Answers, parseTraceLine, rowValues } from "../core/engine/tracing.js";
+import { Answers, parseTraceLine, rowValues } from "../core/engine/forecast_answers.js";
 
 test("refusals, with a line and without", () => {
   assert.deepEqual(parseRefusal("no 34 line 2"), { number: 34, line: 2 });

@@ -10,7 +10,7 @@ import { DisplayText } from "../core/board/display_text.js";
 import { Face } from "../core/board/face.js";
 import { SoundPieces, soundSamples } from "../core/board/sound_samples.js";
 import { BenchCalls } from "../core/engine/bench_calls.js";
-import { PerceivedText } from "../core/engine/seen_text.js";
+import { PerceivedText } from "../core/engine/perceived_text.js";
 import { examplesOfPage, pageModule } from "./page_session.js";
 
 /** A frame of a screen that shows 60 a second, in cycles and in milliseconds. */

@@ -5,7 +5,7 @@ import { matrixKey, pinKey } from "../core/board/key_place.js";
 import { DebugSession } from "../core/debug/debug_session.js";
 import { KINDS } from "../words/debug.js";
 import { SourceMap } from "../core/machine/source_map.js";
-import { sentText } from "../core/text/text_fault.js";
+import { sentText } from "../core/text/sendable_text.js";
 import { readProgram } from "../core/engine/program_check.js";
 import { Engine } from "../core/engine/engine.js";
 import { pageModule } from "./page_session.js";

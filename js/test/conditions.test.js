@@ -7,7 +7,7 @@ import { MAX_PLACES } from "../core/bench/inputs.js";
 import { compileCondition, compileTestCondition } from "../core/conditions/condition_language.js";
 import { parseDuration, parseWholeDuration } from "../core/conditions/durations.js";
 import { SourceMap } from "../core/machine/source_map.js";
-import { Answers, rowValues } from "../core/engine/tracing.js";
+import { Answers, rowValues } from "../core/engine/forecast_answers.js";
 import { begin } from "./page_session.js";
 
 const WIRED = [

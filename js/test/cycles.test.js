@@ -1,6 +1,6 @@
 import assert from "node:assert/strict";
 import { test } from "node:test";
-import { CycleCount, findAcceptedCommands } from "../core/engine/accepted.js";
+import { CycleCount, findAcceptedCommands } from "../core/engine/accepted_commands.js";
 import { Cycles, formatCycles } from "../core/time/cycles.js";
 import { readBoard } from "../core/bench/answers.js";
 import { readInputs } from "../core/bench/inputs.js";

@@ -4,13 +4,13 @@ import { test } from "node:test";
 import { readBoard } from "../core/bench/answers.js";
 import { Face, findFaceErrors } from "../core/board/face.js";
 import { printerLines, missingParts } from "../core/board/face_board.js";
-import { SHELF_PARTS, applyAction, matchesBench } from "../core/drawing/acts.js";
+import { SHELF_PARTS, applyAction, matchesBench } from "../core/drawing/drawing_actions.js";
 import { boardLines } from "../core/bench/board_form.js";
 import { canWire, possibleSources, possibleTargets, inputLines, boardWithBuzzer } from "../core/drawing/board_lines.js";
-import { selectionForm } from "../core/drawing/fields.js";
+import { selectionForm } from "../core/drawing/selection_form.js";
 import { edited, inverseEdits } from "../core/drawing/text_edits.js";
 import { parseFaceLine } from "../core/board/face_words.js";
-import { sentText } from "../core/text/text_fault.js";
+import { sentText } from "../core/text/sendable_text.js";
 import { Engine } from "../core/engine/engine.js";
 import { examplesOfPage, pageModule } from "./page_session.js";
 

@@ -13,7 +13,7 @@ import { largeDigitRows } from "../core/panel/large_digits.js";
 import { Panel } from "../core/panel/terminal_panel.js";
 import { Screen, fitsPanel, middleRows } from "../core/panel/screen.js";
 import { splitKeys } from "../core/panel/terminal_keys.js";
-import { sentText } from "../core/text/text_fault.js";
+import { sentText } from "../core/text/sendable_text.js";
 import { PanelTerminal } from "../node/panel_terminal.mjs";
 import { pageModule } from "./page_session.js";
 

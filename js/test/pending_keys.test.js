@@ -4,7 +4,7 @@ import assert from "node:assert/strict";
 import test from "node:test";
 import { PendingKeys } from "../core/board/pending_keys.js";
 import { matrixKey } from "../core/board/key_place.js";
-import { KeyPresser } from "../page/board/pressing.js";
+import { KeyPresser } from "../page/board/key_presser.js";
 import { begin } from "./page_session.js";
 
 const KEY = { key: matrixKey(0, 0), isSwitch: false };

@@ -2,15 +2,15 @@
 import assert from "node:assert/strict";
 import { readFileSync } from "node:fs";
 import { test } from "node:test";
-import { editDistance, findSimilarWords } from "../core/text/alike.js";
+import { editDistance, findSimilarWords } from "../core/text/similar_words.js";
 import { counted } from "../core/bench/numbers.js";
-import { programTexts, describeAssembled } from "../core/text/assembling.js";
+import { programTexts, describeAssembled } from "../core/text/asm_texts.js";
 import { findDefinedNames, splitStatement, tokenizeLine, wordAt } from "../core/text/assembly.js";
 import { completeProgram } from "../core/text/completion.js";
 import { readInstructions } from "../core/help/manual.js";
-import { findProgramFaults, isNoProgram } from "../core/text/program_faults.js";
+import { findProgramFaults, isNoProgram } from "../core/text/program_errors.js";
 import { explainProgramLine } from "../core/text/program_words.js";
-import { LONGEST_TEXT, findLineFaults, sentText } from "../core/text/text_fault.js";
+import { LONGEST_TEXT, findLineFaults, sentText } from "../core/text/sendable_text.js";
 import { helpForProgram } from "../core/text/text_help.js";
 
 // The table of the manual, as page/build reads it.

@@ -7,8 +7,8 @@ import { Engine } from "../core/engine/engine.js";
 import { Prover } from "../core/prove/prover.js";
 import { beginProving, createJudgedLine } from "../core/prove/bounded_proof.js";
 import { boundsUpTo } from "../core/prove/question.js";
-import { findPropertyLine, isStillValid } from "../core/prove/still_valid.js";
-import { markOf, markOfTab, wordsOfEnd, wordsOfVerdict, wordsSoFar } from "../words/proved.js";
+import { findPropertyLine, isStillValid } from "../core/prove/verdict_validity.js";
+import { markOf, markOfTab, wordsOfEnd, wordsOfVerdict, wordsSoFar } from "../words/prove_results.js";
 import { pageModule } from "./page_session.js";
 
 // The lamp is on while TEST is 0; R1 counts how often that was read.

@@ -2,10 +2,10 @@
 import assert from "node:assert/strict";
 import { test } from "node:test";
 import { SessionPrompt } from "../core/prompt/bench_prompt.js";
-import { folded, wrapMessage } from "../core/text/folded.js";
+import { folded, wrapMessage } from "../core/text/line_wrapping.js";
 import { Engine } from "../core/engine/engine.js";
 import { readPageData } from "../node/page_parts.mjs";
-import { describeRefusal } from "../node/refused_texts.mjs";
+import { describeRefusal } from "../node/rejected_texts.mjs";
 import { findTextErrors } from "../node/text_errors.mjs";
 import { pageModule } from "./page_session.js";
 

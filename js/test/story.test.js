@@ -6,7 +6,7 @@ import { matrixKey } from "../core/board/key_place.js";
 import { parsePlace } from "../core/conditions/places.js";
 import { Face } from "../core/board/face.js";
 import { parseStory } from "../core/help/story.js";
-import { runAct } from "../core/help/story_acts.js";
+import { runAct } from "../core/help/story_actions.js";
 import { requestedStory } from "../page/session/address.js";
 
 const EXAMPLES = new URL("../../examples/", import.meta.url);

@@ -3,7 +3,7 @@ import { test } from "node:test";
 import { Rate } from "../core/time/rate.js";
 import { CYCLES_PER_SECOND, CYCLE_US, EYE_CYCLES, FRAME_CYCLES, FRAME_MS, cyclesFromMilliseconds } from "../core/time/mcs4_time.js";
 import { MAX_AHEAD, MAX_DUE, RealTime } from "../core/time/real_time.js";
-import { formatDuration } from "../core/bench/words.js";
+import { formatDuration } from "../core/bench/error_messages.js";
 import { PLACES_ARE } from "../words/conditions.js";
 import { cannotSearchFor } from "../words/time.js";
 

@@ -6,11 +6,11 @@ import { Face } from "../core/board/face.js";
 import { DebugSession } from "../core/debug/debug_session.js";
 import { LineChanges } from "../core/debug/line_changes.js";
 import { MachineState } from "../core/debug/machine_state.js";
-import { textOf, valuesAt } from "../core/debug/value_words.js";
-import { readPlaceValue } from "../core/debug/standing_places.js";
-import { collectWatchNames, parseWatches, parseWatch } from "../core/debug/watched.js";
+import { textOf, valuesAt } from "../core/debug/word_values.js";
+import { readPlaceValue } from "../core/debug/snapshot_values.js";
+import { collectWatchNames, parseWatches, parseWatch } from "../core/debug/watch_expressions.js";
 import { Engine } from "../core/engine/engine.js";
-import { Answers, rowValues } from "../core/engine/tracing.js";
+import { Answers, rowValues } from "../core/engine/forecast_answers.js";
 import { createRandom } from "../core/explore/walks.js";
 import { pageModule } from "./page_session.js";
 

@@ -1,7 +1,7 @@
 // The arrangement of rows of waves, their measurements, and their picture as a file.
 import assert from "node:assert/strict";
 import { test } from "node:test";
-import { measureAt, describeMeasurement } from "../core/waves/measuring.js";
+import { measureAt, describeMeasurement } from "../core/waves/measurement.js";
 import { WaveRows } from "../core/waves/wave_rows.js";
 import { WaveWindow } from "../core/waves/wave_window.js";
 import { Waves } from "../core/waves/wave_recording.js";

@@ -5,9 +5,9 @@ import { readBoard } from "../core/bench/answers.js";
 import { vcdParts } from "../core/waves/vcd.js";
 import { listRecordableLines, searchLines, chosenValueNames } from "../core/waves/wave_catalog.js";
 import { createBoardLines, createValueLine } from "../core/waves/wave_lines.js";
-import { Answers } from "../core/engine/tracing.js";
-import { WaveBuilder } from "../core/engine/wave_taking.js";
-import { countUpTo } from "../core/waves/growing.js";
+import { Answers } from "../core/engine/forecast_answers.js";
+import { WaveBuilder } from "../core/engine/wave_builder.js";
+import { countUpTo } from "../core/waves/number_queue.js";
 import { Waves } from "../core/waves/wave_recording.js";
 
 const BOARD = readBoard([

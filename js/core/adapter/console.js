@@ -4,12 +4,12 @@
 import { ANSWER_FORMS, isQuery } from "../bench/answer_table.js";
 import { readRun, parseRefusal } from "../bench/answers.js";
 import { readInputs } from "../bench/inputs.js";
-import { replaceNames } from "../bench/names_in_lines.js";
+import { replaceNames } from "../bench/name_substitution.js";
 import { LAST_ADDRESS, parseNumber } from "../bench/numbers.js";
-import { parseGoal } from "../debug/becoming.js";
+import { parseGoal } from "../debug/condition_search.js";
 import { listNamedKeys } from "../testing/test_text.js";
 import { AdapterError, fail, errorMessage } from "./dap_protocol.js";
-import { compileSetLine } from "./set_place.js";
+import { compileSetLine } from "./place_assignment.js";
 import { evaluateExpression } from "./expression_values.js";
 import * as say from "../../words/adapter.js";
 import { noKey } from "../../words/testing.js";
@@ -17,7 +17,7 @@ import { noKey } from "../../words/testing.js";
 /**
  * @typedef {import("./debugged_machine.js").Machine} Machine
  * @typedef {import("./expression_values.js").ExpressionContext} ExpressionContext
- * @typedef {import("../bench/words.js").ErrorMessages} ErrorMessages
+ * @typedef {import("../bench/error_messages.js").ErrorMessages} ErrorMessages
  *
  * The result of a line: the text to show, whether the machine changed, and a move that begins after the text is shown (null for none).
  * @typedef {{ words: string, changes: boolean, move: (() => void) | null }} LineResult

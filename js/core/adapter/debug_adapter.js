@@ -1,7 +1,7 @@
 // The debug adapter: an editor launches a program on a board, or opens a session file. The editor then sets breakpoints, runs forward and
 // back, and shows the machine state. The page uses the same debugger (debug/debug_session.js).
 //
-//     const adapter = new DebugAdapter(new AdapterConnection(write), engine, data, host);     launching.js describes the host
+//     const adapter = new DebugAdapter(new AdapterConnection(write), engine, data, host);     session_launch.js describes the host
 //     connection.take(bytes);                                                                for all bytes of the client
 //     await adapter.leave();                                                                 after the end of the connection
 
@@ -11,12 +11,12 @@ import { KINDS } from "../../words/debug.js";
 import { stoppedAt } from "../../words/stops.js";
 import { readInstructions } from "../help/manual.js";
 import { getField } from "../server/framing.js";
-import { ErrorMessages } from "../bench/words.js";
+import { ErrorMessages } from "../bench/error_messages.js";
 import { ResponseWithFollowUp } from "./adapter_connection.js";
 import { QueryHandlers } from "./query_handlers.js";
 import { ClientBreakpoints, describeDataBreakpoint } from "./client_breakpoints.js";
 import { Console, addressOf } from "./console.js";
-import { attach, describeDifference, launch } from "./launching.js";
+import { attach, describeDifference, launch } from "./session_launch.js";
 import { Machine } from "./debugged_machine.js";
 import { formatReference } from "./memory.js";
 import { Moves, THREAD } from "./move_requests.js";
@@ -24,14 +24,14 @@ import { requestedBase } from "./number_format.js";
 import { Progress } from "./progress.js";
 import { NOT_STOPPED, fail, optionalList, needNumber, needText, optionalText } from "./dap_protocol.js";
 import { Scopes } from "./scopes.js";
-import { ShownBoard, changeKey } from "./shown_board.js";
+import { ShownBoard, changeKey } from "./remote_front_panel.js";
 import * as say from "../../words/adapter.js";
 
 /**
  * @typedef {import("./adapter_connection.js").RequestHandler} RequestHandler
  * @typedef {import("./adapter_connection.js").AdapterConnection} AdapterConnection
- * @typedef {import("./launching.js").Host} Host
- * @typedef {import("./launching.js").LaunchResult} LaunchResult
+ * @typedef {import("./session_launch.js").Host} Host
+ * @typedef {import("./session_launch.js").LaunchResult} LaunchResult
  * @typedef {import("./debugged_machine.js").MoveEnd} MoveEnd
  *
  * The parts of a debug session, which exists from launch or attach until the end of debugging.

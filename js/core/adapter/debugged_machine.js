@@ -1,10 +1,10 @@
 // Runs the debugged session. The machine makes one move at a time, such as a step or a run, and divides the move into pieces. Other work
 // waits for the end of a piece. The machine reports each stop and saves the session there.
 
-import { CancelledError } from "../bench/faults.js";
+import { CancelledError } from "../bench/bench_errors.js";
 import { formatCycles } from "../time/cycles.js";
 import { CYCLE_MS, FRAME_CYCLES } from "../time/mcs4_time.js";
-import { ShownText } from "./shown.js";
+import { ShownText } from "./front_panel_text.js";
 import { fail, errorMessage } from "./dap_protocol.js";
 import * as say from "../../words/adapter.js";
 import { stoppedAt } from "../../words/stops.js";
@@ -14,7 +14,7 @@ import { stoppedAt } from "../../words/stops.js";
  * @typedef {import("../debug/debug_session.js").DescribedStop} DescribedStop
  * @typedef {import("../debug/debugger.js").Tally} Tally
  * @typedef {import("../debug/goals.js").Goal} Goal
- * @typedef {import("../engine/going_back.js").BackGoal} BackGoal
+ * @typedef {import("../engine/past_search.js").BackGoal} BackGoal
  * @typedef {import("./session_writer.js").SessionWriter} SessionWriter
  * @typedef {ReturnType<import("./progress.js").Progress["begin"]>} Work
  *

@@ -4,7 +4,7 @@ import { hex } from "../bench/numbers.js";
 import { compileExpression } from "../conditions/condition_language.js";
 import { parsePlace } from "../conditions/places.js";
 import { MachineState } from "../debug/machine_state.js";
-import { textOf, valuesAt } from "../debug/value_words.js";
+import { textOf, valuesAt } from "../debug/word_values.js";
 import { convertToBase, formatInBase } from "./number_format.js";
 import { AdapterError } from "./dap_protocol.js";
 import * as say from "../../words/adapter.js";
@@ -105,7 +105,7 @@ export function evaluateExpression(text, context, base = "usual") {
 export function expressionHover(text, context) {
   const { session, instructions } = context;
   const trimmed = text.trim();
-  /** @type {(name: string) => import("../debug/value_words.js").NamedValue | undefined} */
+  /** @type {(name: string) => import("../debug/word_values.js").NamedValue | undefined} */
   const nameOf = (name) => {
     const found = session.map.names.get(name);
     return found && { ...found, words: session.map.meaningOf(name) };

@@ -12,13 +12,13 @@ import { isCall, neverContinues, jumpTarget, instructionWords } from "../engine/
 import { getField } from "../server/framing.js";
 import { listNamedKeys } from "../testing/test_text.js";
 import { fail, needNumber, needText } from "./dap_protocol.js";
-import { findSettablePlace, setPlace } from "./set_place.js";
+import { findSettablePlace, setPlace } from "./place_assignment.js";
 import { expressionHover, evaluateExpression } from "./expression_values.js";
 import * as say from "../../words/adapter.js";
 import { wordsOfLine } from "../../words/stops.js";
 
 /**
- * @typedef {import("./launching.js").LaunchResult} LaunchResult
+ * @typedef {import("./session_launch.js").LaunchResult} LaunchResult
  * @typedef {import("./scopes.js").Scopes} Scopes
  * @typedef {import("./expression_values.js").ExpressionContext} ExpressionContext
  */

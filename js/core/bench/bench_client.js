@@ -1,7 +1,7 @@
 // Connects the page to the bench: sends requests to the worker and receives the replies. Terminates and replaces a worker that stops
 // answering.
 
-import { WorkerDiedError, unpackFault } from "./faults.js";
+import { WorkerDiedError, unpackFault } from "./bench_errors.js";
 
 /**
  * @typedef {import("../engine/bench_calls.js").Requests} Requests

@@ -3,10 +3,10 @@
 
 import { MAX_PLACES } from "../bench/inputs.js";
 import { stateValue } from "../bench/state_line.js";
-import { rowValues } from "../engine/tracing.js";
+import { rowValues } from "../engine/forecast_answers.js";
 import { STATE_PLACES } from "./values.js";
 
-/** @typedef {import("../engine/tracing.js").Answers} Answers */
+/** @typedef {import("../engine/forecast_answers.js").Answers} Answers */
 
 /** The queries for a list of places. */
 export class Probes {

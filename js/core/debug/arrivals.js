@@ -3,8 +3,8 @@
 // that the conditions use.
 
 import { Probes } from "../conditions/probes.js";
-import { Answers } from "../engine/tracing.js";
-import { plannedCycles } from "./ahead.js";
+import { Answers } from "../engine/forecast_answers.js";
+import { plannedCycles } from "./goal_search.js";
 
 /**
  * @typedef {import("../engine/engine_host.js").EngineHost} Engine

@@ -6,7 +6,7 @@
 // - an instruction at an address outside the program text;
 // - an instruction that uses an SRC that the program sent for another instruction.
 //
-// Before each run, this module asks the bench what the run will do. This module does not simulate instructions. selected.js determines
+// Before each run, this module asks the bench what the run will do. This module does not simulate instructions. src_selection.js determines
 // which instructions use the chip and register that SRC selects.
 //
 //     const mistakes = new CommonMistakes(session);
@@ -17,17 +17,17 @@
 import { readBoard } from "../bench/answers.js";
 import { hex } from "../bench/numbers.js";
 import { Probes } from "../conditions/probes.js";
-import { findLiveReturns, callAddress } from "../machine/returns.js";
+import { findLiveReturns, callAddress } from "../machine/return_addresses.js";
 import { isCall, isReturn, romCodes } from "../engine/rom_codes.js";
-import { Answers, rowValues } from "../engine/tracing.js";
-import { plannedCycles, truncateLines } from "./ahead.js";
-import { SrcSelection, usesSelection } from "./selected.js";
+import { Answers, rowValues } from "../engine/forecast_answers.js";
+import { plannedCycles, truncateLines } from "./goal_search.js";
+import { SrcSelection, usesSelection } from "./src_selection.js";
 import * as say from "../../words/debug.js";
 
 /**
  * @typedef {import("../machine/source_map.js").SourceMap} SourceMap
  * @typedef {import("../engine/key_queue.js").PlannedLine} PlannedLine
- * @typedef {import("../engine/tracing.js").Trace} Trace
+ * @typedef {import("../engine/forecast_answers.js").Trace} Trace
  * @typedef {import("../engine/worker_session.js").WorkerSession} WorkerSession
  * @typedef {"calls" | "return" | "lines" | "chip" | "bytes" | "source"} Kind
  *

@@ -16,8 +16,8 @@
 import { readBoard, readRegisters, readRun, parseRefusal } from "../bench/answers.js";
 import { Face } from "../board/face.js";
 import { SourceMap } from "../machine/source_map.js";
-import { sentText } from "../text/text_fault.js";
-import { PieceSize } from "../engine/pieces.js";
+import { sentText } from "../text/sendable_text.js";
+import { PieceSize } from "../engine/piece_size.js";
 import { readProgram } from "../engine/program_check.js";
 import { WorkerSession } from "../engine/worker_session.js";
 import { BreakpointList } from "./breakpoints.js";
@@ -28,7 +28,7 @@ import * as say from "../../words/debug.js";
 /**
  * @typedef {import("../bench/answers.js").Refusal} Refusal
  * @typedef {import("../engine/engine_host.js").EngineHost} Engine
- * @typedef {import("../engine/going_back.js").BackGoal} BackGoal
+ * @typedef {import("../engine/past_search.js").BackGoal} BackGoal
  * @typedef {import("./debugger.js").ShouldContinue} ShouldContinue
  * @typedef {import("./debugger.js").Stop} Stop
  * @typedef {import("./debugger.js").Tally} Tally

@@ -17,14 +17,14 @@ import { readBoard, readRun } from "../bench/answers.js";
 import { hex } from "../bench/numbers.js";
 import { parsePlace } from "../conditions/places.js";
 import { Probes } from "../conditions/probes.js";
-import { EMPTY_REPORT, findBackTarget } from "../engine/going_back.js";
+import { EMPTY_REPORT, findBackTarget } from "../engine/past_search.js";
 import { runLines } from "../engine/key_queue.js";
-import { SEARCH_PIECE_CYCLES } from "../engine/pieces.js";
-import { Answers } from "../engine/tracing.js";
+import { SEARCH_PIECE_CYCLES } from "../engine/piece_size.js";
+import { Answers } from "../engine/forecast_answers.js";
 import { CYCLES_PER_SECOND } from "../time/mcs4_time.js";
-import { cyclesToGoal, searchGoal, truncateLines } from "./ahead.js";
+import { cyclesToGoal, searchGoal, truncateLines } from "./goal_search.js";
 import { Arrivals, MAX_NOTES, emptyEvents } from "./arrivals.js";
-import { compileSearchCondition } from "./becoming.js";
+import { compileSearchCondition } from "./condition_search.js";
 import { DataWatches, SoftStops, compileWatches } from "./data_watches.js";
 import { parseCounter, createWatcher } from "./goals.js";
 import { findLastArrival, findLastCall } from "./last_arrival.js";
@@ -43,8 +43,8 @@ import { CommonMistakes } from "./common_mistakes.js";
  * @typedef {import("./goals.js").Watcher} Watcher
  * @typedef {import("./soft_breakpoints.js").LocatedBreakpoint} LocatedBreakpoint
  * @typedef {import("./common_mistakes.js").CommonMistake} CommonMistake
- * @typedef {import("../engine/going_back.js").BackSearchResult} BackSearchResult
- * @typedef {import("../engine/going_back.js").BackGoal} BackGoal
+ * @typedef {import("../engine/past_search.js").BackSearchResult} BackSearchResult
+ * @typedef {import("../engine/past_search.js").BackGoal} BackGoal
  * @typedef {import("../engine/timeline.js").Present} Present
  * @typedef {import("../engine/worker_session.js").Frame} Frame
  * @typedef {import("../engine/worker_session.js").LinesResult} LinesResult

@@ -5,17 +5,17 @@ import { readBoard, parseRefusal } from "../bench/answers.js";
 import { boardLines } from "../bench/board_form.js";
 import { counted } from "../bench/numbers.js";
 import { Face } from "../board/face.js";
-import { sentText } from "../text/text_fault.js";
-import { SHELF_PARTS, applyAction, reasonNotToAdd, matchesBench } from "./acts.js";
+import { sentText } from "../text/sendable_text.js";
+import { SHELF_PARTS, applyAction, reasonNotToAdd, matchesBench } from "./drawing_actions.js";
 import { targetName, possibleSources, possibleTargets, inputLines, boardWithBuzzer } from "./board_lines.js";
-import { selectionForm } from "./fields.js";
+import { selectionForm } from "./selection_form.js";
 import { MovedParts } from "./moved_parts.js";
 import * as say from "../../words/drawing.js";
 
 /**
  * @typedef {import("./board_lines.js").Board} Board
- * @typedef {import("./acts.js").DrawingAction} DrawingAction
- * @typedef {import("./acts.js").ShelfPart} ShelfPart
+ * @typedef {import("./drawing_actions.js").DrawingAction} DrawingAction
+ * @typedef {import("./drawing_actions.js").ShelfPart} ShelfPart
  * @typedef {import("./text_edits.js").TextEdit} TextEdit
  *
  * The state for the view. `board` and `face`: the board that the text describes, and its front panel. `isWired`: true if the session has
@@ -23,7 +23,7 @@ import * as say from "../../words/drawing.js";
  * cannot be added now, or "". `chosen` and `fields`: the selection and its fields. `begun`: the start pin of an unfinished wire, or "".
  * `ends`: the possible end pins of the wire. `lastMessage`: the last message.
  * @typedef {{ board: Board, face: Face, isWired: boolean, fault: string, shelf: Map<ShelfPart, string>, chosen: string,
- *   fields: import("./fields.js").SelectionForm, begun: string, ends: Set<string>, lastMessage: string }} DrawingState
+ *   fields: import("./selection_form.js").SelectionForm, begun: string, ends: Set<string>, lastMessage: string }} DrawingState
  */
 
 /**

@@ -2,7 +2,7 @@
 
 import { readBoard } from "../bench/answers.js";
 import { Face } from "../board/face.js";
-import { collectWatchNames } from "../debug/watched.js";
+import { collectWatchNames } from "../debug/watch_expressions.js";
 import { SourceMap } from "../machine/source_map.js";
 
 /**

@@ -3,7 +3,7 @@
 
 import { digitPatterns, UNLIT_PATTERN, isLit } from "../board/digit_patterns.js";
 import { fittingGroups, isScanned } from "../board/face_board.js";
-import { Answers, parseTraceLine } from "./tracing.js";
+import { Answers, parseTraceLine } from "./forecast_answers.js";
 
 /**
  * @typedef {import("../board/face.js").Face} Face

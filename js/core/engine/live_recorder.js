@@ -4,16 +4,16 @@
 import { readBoard, readRun } from "../bench/answers.js";
 import { ADDRESS_COUNT } from "../bench/rom_bytes.js";
 import { createBoardLines } from "../waves/wave_lines.js";
-import { linesWithQueries, splitAnswers, replayLine } from "./asking.js";
-import { Answers, parseTraceLine, rowValues } from "./tracing.js";
+import { linesWithQueries, splitAnswers, replayLine } from "./forecast_queries.js";
+import { Answers, parseTraceLine, rowValues } from "./forecast_answers.js";
 import { listingLinesAt } from "./wave_recorder.js";
-import { WaveBuilder } from "./wave_taking.js";
-import { RECORDING_PIECE_CYCLES, RECORDING_PIECE_UNITS } from "./pieces.js";
+import { WaveBuilder } from "./wave_builder.js";
+import { RECORDING_PIECE_CYCLES, RECORDING_PIECE_UNITS } from "./piece_size.js";
 
 /**
- * @typedef {import("./accepted.js").AcceptedCommand} AcceptedCommand
+ * @typedef {import("./accepted_commands.js").AcceptedCommand} AcceptedCommand
  * @typedef {import("./engine_host.js").EngineHost} Engine
- * @typedef {import("./asking.js").SentLine} SentLine
+ * @typedef {import("./forecast_queries.js").SentLine} SentLine
  * @typedef {import("./wave_recorder.js").Recording} Recording
  * @typedef {import("./wave_recorder.js").RecordedPart} RecordedPart
  * @typedef {import("./wave_recorder.js").Texts} Texts

@@ -3,9 +3,9 @@
 import { readBoard } from "../bench/answers.js";
 import { Face } from "../board/face.js";
 import { NO_TALLY, joinTallies } from "../debug/debugger.js";
-import { collectWatchNames } from "../debug/watched.js";
+import { collectWatchNames } from "../debug/watch_expressions.js";
 import { SourceMap } from "../machine/source_map.js";
-import { sentText } from "../text/text_fault.js";
+import { sentText } from "../text/sendable_text.js";
 import { recordedProgram } from "../waves/wave_program.js";
 import { FullSpeed } from "./full_speed.js";
 import { findDifference, readProgram } from "./program_check.js";

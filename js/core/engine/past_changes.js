@@ -1,11 +1,11 @@
 // Finds the changes of values in some units of the past. A copy of the session replays the units, and the bench forecasts the changes.
 
-import { Answers, parseTraceLine } from "./tracing.js";
+import { Answers, parseTraceLine } from "./forecast_answers.js";
 
 /**
  * @typedef {import("./engine_host.js").EngineHost} Engine
- * @typedef {import("./tracing.js").Trace} Trace
- * @typedef {import("./units.js").Unit} Unit
+ * @typedef {import("./forecast_answers.js").Trace} Trace
+ * @typedef {import("./replay_units.js").Unit} Unit
  *
  * A change in a group of values: the rows before and after the change, the unit, and the cycles of the unit before the change. `address` is
  * the address of the instruction that made the change; it is -1 if the command `line` made it.

@@ -1,9 +1,9 @@
 // Requests that open a session, serve lines and answer queries.
 
-import { BenchRefusal } from "../bench/faults.js";
+import { BenchRefusal } from "../bench/bench_errors.js";
 import { NO_TALLY, Debugger } from "../debug/debugger.js";
-import { CycleCount } from "./accepted.js";
-import { PrinterCodes } from "./printing.js";
+import { CycleCount } from "./accepted_commands.js";
+import { PrinterCodes } from "./printer_codes.js";
 import { WorkerSession } from "./worker_session.js";
 
 /**
@@ -23,7 +23,7 @@ export class SessionRequests {
    * @param {Uint8Array} file
    * @param {number} [totalCycles] the cycle count
    * @param {number} [resetCycles] the cycle count at the last reset
-   * @param {import("./printing.js").PrintoutData | null} [printout]
+   * @param {import("./printer_codes.js").PrintoutData | null} [printout]
    */
   open(file, totalCycles = 0, resetCycles = 0, printout = null) {
     const session = new WorkerSession(this.bench.engine, file, new CycleCount(totalCycles, resetCycles));

@@ -2,13 +2,13 @@
 
 import { readBoard } from "../bench/answers.js";
 import { nearDistance } from "../debug/debugger.js";
-import { measureHeat } from "./heat.js";
+import { measureHeat } from "./heat_map.js";
 
 /**
  * @typedef {import("./open_bench.js").OpenBench} OpenBench
  * @typedef {import("../bench/protocol.js").GoalReply} GoalReply
  * @typedef {import("../debug/debugger.js").BackResult} BackResult
- * @typedef {import("./going_back.js").BackGoal} BackGoal
+ * @typedef {import("./past_search.js").BackGoal} BackGoal
  * @typedef {import("../bench/protocol.js").TravelResult} TravelResult
  * @typedef {import("../debug/goals.js").Goal} Goal
  */

@@ -2,8 +2,8 @@
 // long recording.
 
 import { Waves } from "../waves/wave_recording.js";
-import { Answers } from "./tracing.js";
-import { WaveBuilder } from "./wave_taking.js";
+import { Answers } from "./forecast_answers.js";
+import { WaveBuilder } from "./wave_builder.js";
 
 /**
  * @typedef {import("./engine_host.js").EngineHost} EngineHost

@@ -1,34 +1,34 @@
 // The session in the worker: the bytes of its file, the queued key changes, and the calls that use them. A call either succeeds completely,
 // or throws and changes nothing.
 
-import { CycleCount, findAcceptedCommands } from "./accepted.js";
-import { linesWithQueries, splitAnswers } from "./asking.js";
-import { plannedCycles, truncateLines } from "../debug/ahead.js";
+import { CycleCount, findAcceptedCommands } from "./accepted_commands.js";
+import { linesWithQueries, splitAnswers } from "./forecast_queries.js";
+import { plannedCycles, truncateLines } from "../debug/goal_search.js";
 import { isStop, readBoard, readItems, readRun, parseRefusal } from "../bench/answers.js";
-import { CancelledError } from "../bench/faults.js";
+import { CancelledError } from "../bench/bench_errors.js";
 import { findInputEnd, joinLines, matchAnswers, readInputs } from "../bench/inputs.js";
 import { KeyQueue } from "./key_queue.js";
 import { buildSnapshot, snapshotQueries } from "../bench/snapshot.js";
-import { PieceSize } from "./pieces.js";
+import { PieceSize } from "./piece_size.js";
 import { romCodes } from "./rom_codes.js";
 import { EYE_CYCLES } from "../time/mcs4_time.js";
 import { MAX_MEASURED_CYCLES } from "./brightness_meter.js";
 import { SEGMENT_ENTRIES, Timeline } from "./timeline.js";
 
 /**
- * @typedef {import("./accepted.js").AcceptedCommand} AcceptedCommand
+ * @typedef {import("./accepted_commands.js").AcceptedCommand} AcceptedCommand
  * @typedef {import("./engine_host.js").EngineHost} Engine
  * @typedef {import("./engine.js").ServedAnswers} ServedAnswers
  * @typedef {import("../bench/inputs.js").Input} Input
  * @typedef {import("./key_queue.js").PlannedLine} PlannedLine
  * @typedef {import("./live_recorder.js").LiveRecorder} LiveRecorder
- * @typedef {import("./heating.js").HeatMeter} HeatMeter
- * @typedef {import("./heating.js").ChipHeat} ChipHeat
- * @typedef {import("./printing.js").PrinterCodes} PrinterCodes
+ * @typedef {import("./heat_meter.js").HeatMeter} HeatMeter
+ * @typedef {import("./heat_meter.js").ChipHeat} ChipHeat
+ * @typedef {import("./printer_codes.js").PrinterCodes} PrinterCodes
  * @typedef {import("./brightness_meter.js").BrightnessMeter} BrightnessMeter
  * @typedef {import("./brightness_meter.js").LitShares} LitShares
- * @typedef {import("./sounding.js").BuzzerLevels} BuzzerLevels
- * @typedef {import("./sounding.js").BuzzerMeter} BuzzerMeter
+ * @typedef {import("./buzzer_meter.js").BuzzerLevels} BuzzerLevels
+ * @typedef {import("./buzzer_meter.js").BuzzerMeter} BuzzerMeter
  * @typedef {import("../bench/run_log.js").RunEntry} RunEntry
  *
  * An input, the number of lines in its text, and its answer lines.
@@ -253,11 +253,11 @@ export class WorkerSession {
   tryPlanned(plannedLines) {
     const { recording, printing } = this;
     const { brightnessMeter, buzzerMeter, heatMeter } = this.metersFor(plannedLines);
-    /** @type {import("./asking.js").QuerySource[]} */
+    /** @type {import("./forecast_queries.js").QuerySource[]} */
     const querySources = [printing, brightnessMeter, buzzerMeter, heatMeter, recording].flatMap((querySource) => querySource || []);
     const lines = linesWithQueries(plannedLines, querySources) + this.statusQueries.lines;
     const { answers, sourceAnswers } = splitAnswers(plannedLines, querySources, this.engine.serve(this.file, lines, this.next).answers);
-    /** @type {(querySource: import("./asking.js").QuerySource) => string[][]} */
+    /** @type {(querySource: import("./forecast_queries.js").QuerySource) => string[][]} */
     const answersTo = (querySource) => sourceAnswers[querySources.indexOf(querySource)];
     const readMeters = () => {
       if (printing) printing.take(answersTo(printing), this.count.total);

@@ -1,11 +1,11 @@
 // Runs a campaign: the search, the minimising and confirmation of counterexamples, and the report.
 
 import { omittedGuards } from "../prove/question.js";
-import { formatTest, formatViolationLines } from "./find_test.js";
+import { formatTest, formatViolationLines } from "./counterexample_test.js";
 import { Model } from "./model.js";
-import { InitialProof } from "./proof_first.js";
+import { InitialProof } from "./initial_proof.js";
 import { Search } from "./search.js";
-import { Minimiser } from "./shortening.js";
+import { Minimiser } from "./minimiser.js";
 import { createRandom } from "./walks.js";
 
 /**

@@ -1,13 +1,13 @@
 // Lays out the lamps of a board as rows of characters: first the lamps of groups and of the grid, then the other named lamps.
 
 import { fittingGroups, isScanned, lampNames, looseLamps } from "../board/face_board.js";
-import { lampAt, scannedLampAt } from "../board/seen_lamps.js";
+import { lampAt, scannedLampAt } from "../board/lamp_state.js";
 import { indices } from "../bench/numbers.js";
 
 /**
  * @typedef {import("../board/face.js").Face} Face
  * @typedef {import("../board/face.js").Group} Group
- * @typedef {import("../board/seen_lamps.js").LampReader} LampReader
+ * @typedef {import("../board/lamp_state.js").LampReader} LampReader
  *
  * A cell in a row: its lamp (`seen`, null for a gap), its width in characters, the name of the lamp ("" for none) and its colour.
  * @typedef {{ seen: LampReader | null, width: number, name: string, colour: string }} LampCell

@@ -4,9 +4,9 @@
 // the rows to the terminal.
 
 import { hex, indices } from "../bench/numbers.js";
-import { printoutLines } from "../board/strip.js";
-import { escaped } from "../text/escaped.js";
-import { expandTabs } from "../text/without_tabs.js";
+import { printoutLines } from "../board/printout_lines.js";
+import { escaped } from "../text/control_escapes.js";
+import { expandTabs } from "../text/tab_expansion.js";
 import { LARGE_ROWS, largeDigitRows } from "./large_digits.js";
 import { buildLampRows, formatCell } from "./lamp_rows.js";
 import { CHIP_ROWS } from "./panel_snapshot.js";

@@ -1,7 +1,7 @@
 // The prompt of the debugger: each line is a command. Uses the same debugger as the page (js/core/debug), on a session in memory, and saves
 // the session to its file at each stop. Callbacks print output and errors.
 //
-//     const prompt = new Prompt(launched, readPageData, { print, complain, pause, source, isInteractive });   (see adapter/launching.js)
+//     const prompt = new Prompt(launched, readPageData, { print, complain, pause, source, isInteractive });   (see adapter/session_launch.js)
 //     await prompt.begin(); await prompt.take("break show"); prompt.isEnded; prompt.complete("br")
 
 import { KEYWORDS } from "../conditions/parser.js";
@@ -11,23 +11,23 @@ import { Face } from "../board/face.js";
 import { readInstructions } from "../help/manual.js";
 import { Console } from "../adapter/console.js";
 import { Machine } from "../adapter/debugged_machine.js";
-import { ErrorMessages } from "../bench/words.js";
+import { ErrorMessages } from "../bench/error_messages.js";
 import { BreakpointCommands } from "./breakpoint_commands.js";
 import { ChangeCommands } from "./change_commands.js";
 import { COMMANDS, findCommand } from "./prompt_commands.js";
-import { PromptKeys } from "./keys_of_prompt.js";
-import { INFO_WORDS, InspectCommands } from "./look_commands.js";
-import { nextInstruction } from "./looks.js";
+import { PromptKeys } from "./prompt_keys.js";
+import { INFO_WORDS, InspectCommands } from "./inspect_commands.js";
+import { nextInstruction } from "./state_text.js";
 import { MoveCommands } from "./move_commands.js";
-import { Sources } from "./sources.js";
+import { Sources } from "./source_command.js";
 import { StopCommands } from "./stop_commands.js";
-import { rejectCommand } from "./words_of_line.js";
+import { rejectCommand } from "./argument_parsers.js";
 import { boardHasNo } from "../../words/adapter.js";
 import * as say from "../../words/prompt.js";
 import { stoppedAt } from "../../words/stops.js";
 
 /**
- * @typedef {import("../adapter/launching.js").LaunchResult} LaunchResult
+ * @typedef {import("../adapter/session_launch.js").LaunchResult} LaunchResult
  *
  * A command handler, which receives the text after the command name.
  * @typedef {(argumentText: string) => void | Promise<void>} CommandHandler

@@ -1,14 +1,14 @@
 // Creates the view above the debugger's prompt, as terminal lines: the source near the next instruction, registers, lamps and displays.
-// js/node/view_on_terminal.mjs positions the lines.
+// js/node/terminal_view.mjs positions the lines.
 //
 //     const view = new View(prompt);
 //     view.lines(viewSize(24, 80), { head, here, other });      viewSize returns null if the terminal is too small
 
 import { indices } from "../bench/numbers.js";
 import { MachineState } from "../debug/machine_state.js";
-import { escaped } from "../text/escaped.js";
+import { escaped } from "../text/control_escapes.js";
 import { formatCycles } from "../time/cycles.js";
-import { codeLines, countSourceLines, pressedKeys, sourceLine } from "./looks.js";
+import { codeLines, countSourceLines, pressedKeys, sourceLine } from "./state_text.js";
 import * as say from "../../words/prompt.js";
 
 /**

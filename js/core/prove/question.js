@@ -3,13 +3,13 @@
 //
 // A list of conjunctions (`Comparisons[]`, cells.js) is a condition: it is true if all comparisons in at least one conjunction are true.
 
-import { UnsupportedQuestion, listComparisons } from "./decided.js";
+import { UnsupportedQuestion, listComparisons } from "./condition_comparisons.js";
 import { IMPOSSIBLE_COMPARISONS, counterComparisons } from "./cells.js";
 import { formatKey } from "../board/key_place.js";
 import { isJin, isReturn } from "../engine/rom_codes.js";
-import { listKeyInputs } from "../explore/explored_inputs.js";
+import { listKeyInputs } from "../explore/search_inputs.js";
 import { formatNumber } from "../explore/report.js";
-import { sentText } from "../text/text_fault.js";
+import { sentText } from "../text/sendable_text.js";
 import * as say from "../../words/prove.js";
 
 /**

@@ -4,7 +4,7 @@ import { readBoard } from "../bench/answers.js";
 import { counted, hex } from "../bench/numbers.js";
 import { NO_BYTE, PAGE_NUMBERS, PAGE_BYTES, parseRomBytes, listQueries } from "../bench/rom_bytes.js";
 import { writeHex } from "../bench/rom_image.js";
-import { createByteTexts } from "../text/assembling.js";
+import { createByteTexts } from "../text/asm_texts.js";
 import * as say from "../../words/session.js";
 
 /**

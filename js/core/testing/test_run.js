@@ -3,22 +3,22 @@
 import { counted, hex } from "../bench/numbers.js";
 import { parseItems, stateValue } from "../bench/state_line.js";
 import { MAX_RUN_CYCLES } from "../engine/key_queue.js";
-import { Answers, parseTraceLine, rowValues } from "../engine/tracing.js";
+import { Answers, parseTraceLine, rowValues } from "../engine/forecast_answers.js";
 import { instructionCycles } from "../engine/rom_codes.js";
 import { TOOL_KEY_DOWN_CYCLES, TOOL_KEY_UP_CYCLES } from "../time/mcs4_time.js";
 import { lastInstructions } from "./last_instructions.js";
-import { describeLastLabel } from "./last_passed.js";
+import { describeLastLabel } from "./last_label.js";
 import { Printout } from "./printout.js";
 import { TestSession } from "./test_session.js";
 import { listNamedKeys } from "./test_text.js";
 import * as say from "../../words/testing.js";
 
 /**
- * @typedef {import("./account.js").ExecutionRecorder} ExecutionRecorder
+ * @typedef {import("./recorders.js").ExecutionRecorder} ExecutionRecorder
  * @typedef {import("../conditions/condition_language.js").ExtraValues} ExtraValues
  * @typedef {import("../conditions/condition_language.js").Condition} Condition
  * @typedef {import("../engine/engine_host.js").EngineHost} Engine
- * @typedef {import("./prepared.js").PreparedTests} PreparedTests
+ * @typedef {import("./test_preparation.js").PreparedTests} PreparedTests
  * @typedef {import("./test_text.js").Action} Action
  * @typedef {import("./test_text.js").ChosenKey} ChosenKey
  * @typedef {import("./test_text.js").Key} Key

@@ -1,15 +1,15 @@
 // A session under test, in memory. Stores an earlier state and the later actions, so that the last instructions can be listed. Records the
 // execution of each run.
 
-import { LAMPS_FORECAST_QUERY } from "../engine/seen_text.js";
+import { LAMPS_FORECAST_QUERY } from "../engine/perceived_text.js";
 import { readCounter, readRegisters } from "../bench/answers.js";
 import { stateValue } from "../bench/state_line.js";
 import { romCodes } from "../engine/rom_codes.js";
 import { MAX_RUN_CYCLES } from "../engine/key_queue.js";
-import { Answers, parseTraceLine, rowValues } from "../engine/tracing.js";
+import { Answers, parseTraceLine, rowValues } from "../engine/forecast_answers.js";
 
 /**
- * @typedef {import("./account.js").ExecutionRecorder} ExecutionRecorder
+ * @typedef {import("./recorders.js").ExecutionRecorder} ExecutionRecorder
  * @typedef {import("../conditions/condition_language.js").ExtraValues} ExtraValues
  * @typedef {import("../conditions/condition_language.js").Condition} Condition
  * @typedef {import("../engine/engine_host.js").EngineHost} Engine

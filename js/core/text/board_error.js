@@ -2,18 +2,18 @@
 // position, and the manual describes the valid values of each key.
 
 import { PART_KEYS, LINE_NAMES, MAX_PARTS, MAX_COLUMNS, BITS_PER_CHIP, VALUE_RANGES, boardLines } from "../bench/board_form.js";
-import { findSimilarWords, formatSuggestion } from "./alike.js";
+import { findSimilarWords, formatSuggestion } from "./similar_words.js";
 import { collectParts, readBoardText } from "./board_reader.js";
-import { faultAt } from "./text_fault.js";
+import { faultAt } from "./sendable_text.js";
 import * as say from "../../words/text.js";
 
 /**
- * @typedef {import("../bench/text_judgement.js").BoardError} BoardError
+ * @typedef {import("../bench/text_check_answers.js").BoardError} BoardError
  * @typedef {import("./board_reader.js").BoardText} BoardText
  * @typedef {import("./board_reader.js").Entry} Entry
  * @typedef {import("./board_reader.js").Key} Key
  * @typedef {import("./board_reader.js").Value} Value
- * @typedef {import("./text_fault.js").Fault} Fault
+ * @typedef {import("./sendable_text.js").Fault} Fault
  *
  * The table and the key with the error; null if the text does not contain them.
  * @typedef {{ entry: Entry | null, key: Key | null }} WrongPart

@@ -4,7 +4,7 @@
 import { MAX_PLACES } from "../bench/inputs.js";
 import { stateValue } from "../bench/state_line.js";
 import { instructionCycles } from "../engine/rom_codes.js";
-import { Answers, parseTraceLine, rowValues } from "../engine/tracing.js";
+import { Answers, parseTraceLine, rowValues } from "../engine/forecast_answers.js";
 import { indices } from "../bench/numbers.js";
 import { tracePlaces } from "./trace_places.js";
 import * as say from "../../words/trace.js";
@@ -13,7 +13,7 @@ import * as say from "../../words/trace.js";
  * @typedef {import("../bench/answers.js").Board} Board
  * @typedef {import("../engine/engine_host.js").EngineHost} EngineHost
  * @typedef {import("../engine/engine_host.js").State} State
- * @typedef {import("../engine/tracing.js").Trace} Trace
+ * @typedef {import("../engine/forecast_answers.js").Trace} Trace
  * @typedef {import("./instruction_texts.js").InstructionTexts} InstructionTexts
  * @typedef {import("./trace_places.js").TracePlace} TracePlace
  *

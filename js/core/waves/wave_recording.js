@@ -3,7 +3,7 @@
 
 import { ADDRESS_COUNT } from "../bench/rom_bytes.js";
 import { deriveShift, findLastRise, scanText, shiftText } from "./decoders.js";
-import { NumberQueue, countUpTo } from "./growing.js";
+import { NumberQueue, countUpTo } from "./number_queue.js";
 import { Track, emptyTrack } from "./track.js";
 import { valueText } from "./wave_words.js";
 

@@ -4,7 +4,7 @@ import { once } from "node:events";
 import { closeSync, constants, fsyncSync, openSync, writeSync } from "node:fs";
 import * as say from "../../words/commands.js";
 import { parseCount, checkArguments } from "../arguments.mjs";
-import { GivenTexts } from "../given_texts.mjs";
+import { GivenTexts } from "../input_texts.mjs";
 import { openSession, programPath, startEngine } from "../native_program.mjs";
 import { CommandError, print } from "../output.mjs";
 import { checkWritableFile } from "../user_files.mjs";

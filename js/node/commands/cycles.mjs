@@ -3,7 +3,7 @@ import { joinLines } from "../../core/bench/inputs.js";
 import { runTimes } from "../../core/time/run_times.js";
 import { FIRST_AND_LAST, notALine } from "../../words/commands.js";
 import { checkArguments } from "../arguments.mjs";
-import { GivenTexts } from "../given_texts.mjs";
+import { GivenTexts } from "../input_texts.mjs";
 import { makeAddressDescriber, startEngine } from "../native_program.mjs";
 import { CommandError, UsageError, print } from "../output.mjs";
 

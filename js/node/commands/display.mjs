@@ -1,9 +1,9 @@
 // `mcs4 display`: prints the text on a board's display, from the bench's answers about lamps.
 import { joinLines } from "../../core/bench/inputs.js";
-import { convertLampAnswers } from "../../core/board/shown_answers.js";
+import { convertLampAnswers } from "../../core/board/lamp_answers.js";
 import { checkArguments, findProject } from "../arguments.mjs";
-import { readBoardAndFace } from "../board_texts.mjs";
-import { GivenTexts } from "../given_texts.mjs";
+import { readBoardAndFace } from "../board_file.mjs";
+import { GivenTexts } from "../input_texts.mjs";
 import { startEngine } from "../native_program.mjs";
 import { CommandError, print } from "../output.mjs";
 

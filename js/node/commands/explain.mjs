@@ -1,12 +1,12 @@
 // `mcs4 explain`: prints the rejected lines of a script, with the reasons.
-import { matchScriptAnswers } from "../../core/bench/answered_script.js";
+import { matchScriptAnswers } from "../../core/bench/script_answers.js";
 import { joinLines } from "../../core/bench/inputs.js";
 import { otherAnswers } from "../../words/commands.js";
 import { checkArguments } from "../arguments.mjs";
-import { GivenTexts } from "../given_texts.mjs";
+import { GivenTexts } from "../input_texts.mjs";
 import { makeAddressDescriber, startEngine } from "../native_program.mjs";
 import { CommandError, print } from "../output.mjs";
-import { RefusedLines } from "../refused_lines.mjs";
+import { RefusedLines } from "../rejected_lines.mjs";
 
 /** @type {import("./table.mjs").CommandModule["run"]} */
 export async function run({ source }, positionals) {

@@ -4,9 +4,9 @@ import { join } from "node:path";
 import { hasExpectedResult, formatTap, formatReportTests } from "../../core/explore/report.js";
 import { resolveFileNames, parseCount, checkArguments } from "../arguments.mjs";
 import { exploreAsJob, exploreTexts, jobSettings, mergeReports } from "../explore_processes.mjs";
-import { GivenTexts } from "../given_texts.mjs";
+import { GivenTexts } from "../input_texts.mjs";
 import { UsageError, print } from "../output.mjs";
-import { temporaryFolder } from "../temporary.mjs";
+import { temporaryFolder } from "../temporary_folders.mjs";
 import { checkOutputFile, writeUserFile } from "../user_files.mjs";
 import { NO_FINDS, NO_REPORT, excludeEachOther } from "../../words/commands.js";
 

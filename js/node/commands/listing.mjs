@@ -3,7 +3,7 @@ import { joinLines } from "../../core/bench/inputs.js";
 import { programNames, programListing } from "../../core/machine/program_listing.js";
 import { excludeEachOther } from "../../words/commands.js";
 import { checkArguments, findProject } from "../arguments.mjs";
-import { GivenTexts } from "../given_texts.mjs";
+import { GivenTexts } from "../input_texts.mjs";
 import { assembleProgram, startEngine } from "../native_program.mjs";
 import { UsageError, printFile } from "../output.mjs";
 

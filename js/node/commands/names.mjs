@@ -1,8 +1,8 @@
 // `mcs4 names`: replaces a program's names in session lines with their addresses.
-import { replaceNames } from "../../core/bench/names_in_lines.js";
+import { replaceNames } from "../../core/bench/name_substitution.js";
 import { inLine } from "../../words/commands.js";
 import { checkArguments, findProject } from "../arguments.mjs";
-import { GivenTexts } from "../given_texts.mjs";
+import { GivenTexts } from "../input_texts.mjs";
 import { assembleProgram, startEngine } from "../native_program.mjs";
 import { CommandError, printFile } from "../output.mjs";
 

@@ -2,7 +2,7 @@
 import { basename } from "node:path";
 import { parseRomCodes } from "../../core/engine/rom_codes.js";
 import { listQueries, PAGE_NUMBERS } from "../../core/bench/rom_bytes.js";
-import { differingLines } from "../../core/bench/begun_script.js";
+import { differingLines } from "../../core/bench/script_progress.js";
 import { missingParts } from "../../core/board/face_board.js";
 import { sortByLine } from "../../core/board/face.js";
 import { Panel } from "../../core/panel/terminal_panel.js";
@@ -10,17 +10,17 @@ import { Screen, fitsPanel, middleRows } from "../../core/panel/screen.js";
 import { otherBoard } from "../../words/commands.js";
 import { noteOfBoard } from "../../words/panel.js";
 import { checkArguments, findProject } from "../arguments.mjs";
-import { readBoardAndFace } from "../board_texts.mjs";
-import { GivenTexts, MAX_TEXT_BYTES } from "../given_texts.mjs";
+import { readBoardAndFace } from "../board_file.mjs";
+import { GivenTexts, MAX_TEXT_BYTES } from "../input_texts.mjs";
 import { endEngine, endOnSignals, readCheckedMap, programPath, startEngine } from "../native_program.mjs";
 import { CommandError } from "../output.mjs";
 import { PanelTerminal } from "../panel_terminal.mjs";
-import { describeRefusal } from "../refused_texts.mjs";
-import { openProgram } from "../program_on_file.mjs";
+import { describeRefusal } from "../rejected_texts.mjs";
+import { openProgram } from "../session_process.mjs";
 
 /**
- * @typedef {import("../given_texts.mjs").GivenText} GivenText
- * @typedef {import("../program_on_file.mjs").SessionProgram} SessionProgram
+ * @typedef {import("../input_texts.mjs").GivenText} GivenText
+ * @typedef {import("../session_process.mjs").SessionProgram} SessionProgram
  */
 
 const FAILED_STATUS = 1;

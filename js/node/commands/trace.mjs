@@ -3,7 +3,7 @@ import { romCodes } from "../../core/engine/rom_codes.js";
 import { SessionTrace } from "../../core/trace/session_trace.js";
 import { excludeEachOther } from "../../words/commands.js";
 import { parseCount, checkArguments, findProject } from "../arguments.mjs";
-import { GivenTexts } from "../given_texts.mjs";
+import { GivenTexts } from "../input_texts.mjs";
 import { yieldToMessages, openSession, readCheckedMap, startEngine } from "../native_program.mjs";
 import { UsageError, print } from "../output.mjs";
 

@@ -1,6 +1,6 @@
 // Controls the picture in the Wiring tab. The picture is drawn from the board's text in the Board tab.
 
-import { wantsKey } from "../board/pressing.js";
+import { wantsKey } from "../board/key_presser.js";
 import { button, isDialogOpen, onClick } from "../ui/dom.js";
 import { TITLE_HEIGHT } from "../../core/board/wiring.js";
 import { Drawing } from "../../core/drawing/board_drawing.js";
@@ -10,7 +10,7 @@ import { PictureZoom } from "./picture_zoom.js";
 
 /**
  * @typedef {import("../board/wiring_view.js").WiringView} WiringView
- * @typedef {import("../session/kept_session.js").OpenSession} OpenSession
+ * @typedef {import("../session/open_session.js").OpenSession} OpenSession
  * @typedef {import("../../core/drawing/board_drawing.js").DrawingCalls} DrawingCalls
  * @typedef {import("../../core/drawing/board_drawing.js").DrawingState} DrawingState
  * @typedef {import("../../core/bench/answers.js").Board} Board
@@ -139,7 +139,7 @@ export class DrawingController {
   /**
    * Adds a part from the shelf, with its title at a point of the sheet. If the part joins an existing part, as a lamp joins a row of lamps,
    * the point is not used.
-   * @param {import("../../core/drawing/acts.js").DrawingAction} action
+   * @param {import("../../core/drawing/drawing_actions.js").DrawingAction} action
    * @param {import("../../core/board/wiring.js").Point | null} point
    */
   async dropPart(action, point) {

@@ -7,10 +7,10 @@ import { ShelfDrag } from "./shelf_drag.js";
 import * as say from "../../words/drawing.js";
 
 /**
- * @typedef {import("../../core/drawing/acts.js").DrawingAction} DrawingAction
- * @typedef {import("../../core/drawing/acts.js").ShelfPart} ShelfPart
+ * @typedef {import("../../core/drawing/drawing_actions.js").DrawingAction} DrawingAction
+ * @typedef {import("../../core/drawing/drawing_actions.js").ShelfPart} ShelfPart
  * @typedef {import("../../core/drawing/board_drawing.js").DrawingState} DrawingState
- * @typedef {import("../../core/drawing/fields.js").Field} Field
+ * @typedef {import("../../core/drawing/selection_form.js").Field} Field
  * @typedef {import("../board/wiring_view.js").WiringView} WiringView
  * @typedef {import("../../core/board/wiring.js").Point} Point
  */
@@ -174,7 +174,7 @@ export class DrawingView {
    * @param {string} title
    * @param {string} part
    * @param {Field[]} fields
-   * @param {import("../../core/drawing/fields.js").Button[]} buttons
+   * @param {import("../../core/drawing/selection_form.js").Button[]} buttons
    * @param {boolean} isDisabled
    */
   drawFields(title, part, fields, buttons, isDisabled) {

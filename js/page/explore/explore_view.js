@@ -2,7 +2,7 @@
 
 import { Cell, Switch, block, buttonOf, descendant, element } from "../ui/dom.js";
 import { andMore } from "../../words/debug.js";
-import { coverageOf, markOf, wordsOfFigures, wordsOfProperty } from "../../words/explored.js";
+import { coverageOf, markOf, wordsOfFigures, wordsOfProperty } from "../../words/explore_results.js";
 import * as say from "../../words/explore.js";
 import { wordsOfLine } from "../../words/stops.js";
 

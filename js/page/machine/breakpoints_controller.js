@@ -1,11 +1,11 @@
 // Controls the breakpoints of the current session: their list, their marks in the margin and in the disassembly, their panel, the form that
 // edits one of them, and the margin menu.
 
-import { BreakpointKeeper } from "../../core/debug/breakpoint_keeper.js";
+import { BreakpointKeeper } from "../../core/debug/breakpoint_manager.js";
 import { breakpointMarks } from "../../core/machine/breakpoint_marks.js";
 import { commandById } from "../commands/command_table.js";
 import { ContextMenu } from "../commands/menu_view.js";
-import { BreakpointForm } from "./breakpoint_row.js";
+import { BreakpointForm } from "./breakpoint_form.js";
 import { BreakpointsView } from "./breakpoints_view.js";
 import * as say from "../../words/machine.js";
 
@@ -15,13 +15,13 @@ import * as say from "../../words/machine.js";
  * @typedef {import("../../core/bench/protocol.js").LinesReply} LinesReply
  * @typedef {import("../../core/debug/debugger.js").Tally} Tally
  * @typedef {import("../../core/debug/soft_breakpoints.js").LocatedBreakpoint} LocatedBreakpoint
- * @typedef {import("../session/kept_session.js").OpenSession} OpenSession
+ * @typedef {import("../session/open_session.js").OpenSession} OpenSession
  * @typedef {import("../session/store.js").SessionRecord} SessionRecord
  * @typedef {import("../../core/machine/breakpoint_marks.js").BreakpointMark} BreakpointMark
  * @typedef {import("../../core/machine/source_map.js").SourceMap} SourceMap
  *
  * @typedef {import("../../core/debug/breakpoints.js").Breakpoint} Breakpoint
- * @typedef {import("./breakpoint_row.js").BreakpointField} BreakpointField
+ * @typedef {import("./breakpoint_form.js").BreakpointField} BreakpointField
  */
 
 /**

@@ -13,7 +13,7 @@ import * as say from "../../words/machine.js";
  * @typedef {import("../../core/debug/breakpoints.js").SavedBreakpoint} SavedBreakpoint
  * @typedef {import("../../core/debug/debugger.js").Tally} Tally
  * @typedef {import("../../core/machine/source_map.js").SourceMap} SourceMap
- * @typedef {import("../../core/debug/breakpoint_keeper.js").BreakpointKeeper} BreakpointKeeper
+ * @typedef {import("../../core/debug/breakpoint_manager.js").BreakpointKeeper} BreakpointKeeper
  * @typedef {Pick<BreakpointKeeper, "list" | "faults" | "map">} Keeper
  * @typedef {{ root: HTMLLIElement, isOn: HTMLInputElement, mark: Cell, location: Cell, edit: HTMLButtonElement, hits: Cell, words: Cell,
  *   fault: Cell }} Row

@@ -5,13 +5,13 @@ import { block, byId, field } from "../ui/dom.js";
 import { parseCount } from "../../core/bench/numbers.js";
 import {
   PassingHeat, heatLevels, describeHeat, describeChanges, describeHeatStatus, describeSeenChanges,
-} from "../../core/machine/warmth.js";
+} from "../../core/machine/heat_levels.js";
 import * as say from "../../words/machine.js";
 
 /**
- * @typedef {import("../../core/engine/heat.js").Heat} Heat
- * @typedef {import("../../core/engine/heating.js").ChipHeat} ChipHeat
- * @typedef {import("../../core/machine/warmth.js").HeatKind} HeatKind
+ * @typedef {import("../../core/engine/heat_map.js").Heat} Heat
+ * @typedef {import("../../core/engine/heat_meter.js").ChipHeat} ChipHeat
+ * @typedef {import("../../core/machine/heat_levels.js").HeatKind} HeatKind
  * @typedef {import("../../core/machine/source_map.js").SourceMap} SourceMap
  * @typedef {{ warmth: number, words: string }} CellHeat
  */
@@ -38,7 +38,7 @@ const DRAW_INTERVAL = 200;
 
 export class HeatView {
   /**
-   * @param {import("../ui/choices.js").Choices} choices
+   * @param {import("../ui/preferences.js").Choices} choices
    * @param {HeatCalls} calls
    */
   constructor(choices, calls) {
@@ -170,7 +170,7 @@ export class HeatView {
 
   /**
    * @param {Heat} heat
-   * @param {(cell: import("../../core/engine/heat.js").HeatCell, map: SourceMap | null) => string} describeCell
+   * @param {(cell: import("../../core/engine/heat_map.js").HeatCell, map: SourceMap | null) => string} describeCell
    */
   showCells(heat, describeCell) {
     const map = this.calls.map();

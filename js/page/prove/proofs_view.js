@@ -1,7 +1,7 @@
 // The results of proofs: a row with the verdict of each property, and the progress.
 
 import { Cell, Switch, block, buttonOf, descendant, element } from "../ui/dom.js";
-import { isRight, markOf, wordsOfVerdict, wordsSoFar } from "../../words/proved.js";
+import { isRight, markOf, wordsOfVerdict, wordsSoFar } from "../../words/prove_results.js";
 import * as say from "../../words/prove.js";
 import { wordsOfLine } from "../../words/stops.js";
 

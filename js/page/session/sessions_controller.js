@@ -3,7 +3,7 @@
 import { readAddress } from "./address.js";
 import { Trash, formatNames } from "./trash.js";
 import { shortName } from "../../core/session/names.js";
-import { Openings } from "./openings.js";
+import { Openings } from "./opening_guard.js";
 import { SessionManager } from "./session_manager.js";
 import { FIRST_PROGRAM } from "../../core/help/tour.js";
 import { OfferedLines } from "./offered_lines.js";
@@ -13,11 +13,11 @@ import * as say from "../../words/session.js";
 
 /**
  * @typedef {import("../../core/engine/examples.js").Example} Example
- * @typedef {import("./kept_session.js").OpenSession} OpenSession
+ * @typedef {import("./open_session.js").OpenSession} OpenSession
  * @typedef {import("./locks.js").Release} Release
  * @typedef {import("./store.js").SessionRecord} SessionRecord
  * @typedef {{ bench: import("../../core/bench/bench_client.js").Bench, store: import("./store.js").SessionStore,
- *   locks: import("./locks.js").Locks, words: import("../../core/bench/words.js").ErrorMessages,
+ *   locks: import("./locks.js").Locks, words: import("../../core/bench/error_messages.js").ErrorMessages,
  *   notice: import("../ui/notice.js").Notice, examples: Example[] }} SessionServices
  */
 

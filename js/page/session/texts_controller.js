@@ -4,8 +4,8 @@ import { counted } from "../../core/bench/numbers.js";
 import * as say from "../../words/session.js";
 
 /**
- * @typedef {import("../ui/ask_view.js").ConfirmDialog} ConfirmDialog
- * @typedef {import("./kept_session.js").OpenSession} OpenSession
+ * @typedef {import("../ui/confirm_dialog.js").ConfirmDialog} ConfirmDialog
+ * @typedef {import("./open_session.js").OpenSession} OpenSession
  * @typedef {import("../ui/notice.js").Notice} Notice
  * @typedef {{ text: string, open: (session: string, text: string) => void, replaceText: (text: string) => void,
  *   undoOrRedo: (which: "undo" | "redo") => boolean }} TextEditor

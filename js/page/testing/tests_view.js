@@ -3,7 +3,7 @@
 import { Cell, block, buttonOf, descendant, element } from "../ui/dom.js";
 import { hex } from "../../core/bench/numbers.js";
 import { CYCLE_MS } from "../../core/time/mcs4_time.js";
-import { wordsOfCounts, wordsOfTime } from "../../words/results.js";
+import { wordsOfCounts, wordsOfTime } from "../../words/test_results.js";
 import { wordsOfLine } from "../../words/stops.js";
 import * as say from "../../words/testing.js";
 

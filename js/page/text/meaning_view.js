@@ -3,12 +3,12 @@
 
 import { element } from "../ui/dom.js";
 import { putBelow } from "../ui/popup_message.js";
-import { textOf } from "../../core/debug/value_words.js";
+import { textOf } from "../../core/debug/word_values.js";
 import * as say from "../../words/text.js";
 
 /**
- * @typedef {import("../../core/debug/value_words.js").Piece} Piece
- * @typedef {import("../../core/debug/value_words.js").Value} Value
+ * @typedef {import("../../core/debug/word_values.js").Piece} Piece
+ * @typedef {import("../../core/debug/word_values.js").Value} Value
  * @typedef {(cell: HTMLElement, value: Value) => void} MakeEditable makes a cell editable
  */
 

@@ -5,11 +5,11 @@ import { Face, moreErrors } from "../../core/board/face.js";
 import { button, onClick } from "../ui/dom.js";
 import { EditorView } from "./text_editor_view.js";
 import { PARTS } from "../../core/text/folding.js";
-import { LiveFaults } from "./live_faults.js";
+import { LiveFaults } from "./live_errors.js";
 import { COLOURS } from "../../core/text/test_colours.js";
 
 /**
- * @typedef {import("../../core/testing/prepared.js").TextFault} TextFault
+ * @typedef {import("../../core/testing/test_preparation.js").TextFault} TextFault
  * @typedef {import("../../core/text/completion.js").Completion} Completion
  * @typedef {{ keys: string[], lamps: string[], labels: string[] }} Names the names that the board and the program define
  */

@@ -4,7 +4,7 @@ import { block, element, onClick } from "./dom.js";
 import * as say from "../../words/page.js";
 
 /**
- * @typedef {import("./choices.js").Choices} Choices
+ * @typedef {import("./preferences.js").Choices} Choices
  */
 
 /**

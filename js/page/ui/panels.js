@@ -4,7 +4,7 @@ import { Switch, block, button, buttonOf, element, onClick } from "./dom.js";
 import * as say from "../../words/workbench.js";
 
 /**
- * @typedef {import("./choices.js").Choices} Choices
+ * @typedef {import("./preferences.js").Choices} Choices
  * @typedef {{ id: string, name: string, node: HTMLElement, isOpen: Switch, checkBox: HTMLInputElement }} Panel
  */
 

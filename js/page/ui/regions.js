@@ -4,7 +4,7 @@
 import { Switch, block, button, onClick, pressedSwitch } from "./dom.js";
 
 /**
- * @typedef {import("./choices.js").Choices} Choices
+ * @typedef {import("./preferences.js").Choices} Choices
  * @typedef {"board" | "source" | "debug" | "more"} RegionName
  */
 

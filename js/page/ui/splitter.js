@@ -2,7 +2,7 @@
 
 import { block } from "./dom.js";
 
-/** @typedef {import("./choices.js").Choices} Choices */
+/** @typedef {import("./preferences.js").Choices} Choices */
 
 /**
  * A splitter: the panel that it resizes, the side of the panel on which it is, and the CSS property and limits of the size in pixels.

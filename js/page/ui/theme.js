@@ -3,7 +3,7 @@
 /** @typedef {"system" | "light" | "dark"} ThemeName */
 
 export class Theme {
-  /** @param {import("./choices.js").Choices} choices */
+  /** @param {import("./preferences.js").Choices} choices */
   constructor(choices) {
     this.choices = choices;
     /** The listener for theme changes. */

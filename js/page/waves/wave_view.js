@@ -2,7 +2,7 @@
 
 import { Cell, block, button, byId, field, onClick, pressedSwitch } from "../ui/dom.js";
 import { AXIS, ROW, drawWaves } from "./wave_canvas.js";
-import { measureAt, describeMeasurement } from "../../core/waves/measuring.js";
+import { measureAt, describeMeasurement } from "../../core/waves/measurement.js";
 import { RowMenu } from "./row_menu.js";
 import { WavePointers } from "./wave_pointers.js";
 import { ROW_COLOURS, WaveRows } from "../../core/waves/wave_rows.js";

@@ -2,7 +2,7 @@
 
 import { BenchCalls } from "../../core/engine/bench_calls.js";
 import { earlySender } from "../bench/early_replies.js";
-import { packFault } from "../../core/bench/faults.js";
+import { packFault } from "../../core/bench/bench_errors.js";
 
 /**
  * @typedef {import("../../core/bench/protocol.js").Frame} Frame
