@@ -7,9 +7,9 @@ import tomllib
 SECTIONS = ("rom", "ram", "chain", "keys", "lamp")
 MAX_TABLES = {"rom": 16, "ram": 8, "chain": 4, "lamp": 64}
 MAX_COLUMNS = 8
-BITS_OF_CHIP = 10
+BITS_PER_CHIP = 10
 # The keys whose values must be unique within a section.
-NUMBERED = {"rom": "chip", "ram": "bank"}
+NUMBERED_PARTS = {"rom": "chip", "ram": "bank"}
 
 
 def is_within(first, last):
@@ -118,7 +118,7 @@ class BoardReading:
                 yield 27, "keys", 0, "columns"
 
     def twice(self):
-        for section, key in NUMBERED.items():
+        for section, key in NUMBERED_PARTS.items():
             seen = set()
             for _section, index, table in (each for each in self.tables if each[0] == section):
                 if table[key] in seen:
@@ -133,7 +133,7 @@ class BoardReading:
                 return "i" if table["port"][3 - others[0]] == "i" else "o"
             if section == kind == "ram" and table["bank"] == number and others[0] < table["chips"]:
                 return "o"
-            if section == kind == "chain" and index == number + 1 and others[0] < BITS_OF_CHIP * table["chips"]:
+            if section == kind == "chain" and index == number + 1 and others[0] < BITS_PER_CHIP * table["chips"]:
                 return "b"
         return None
 
@@ -146,7 +146,7 @@ class BoardReading:
             if section == "keys":
                 if table["chain"] >= len(chips):
                     yield 25, "keys", 0, "chain"
-                elif table["first"] + table["rows"] > BITS_OF_CHIP * chips[table["chain"]]:
+                elif table["first"] + table["rows"] > BITS_PER_CHIP * chips[table["chain"]]:
                     yield 25, "keys", 0, "rows"
                 yield from self.wrong_line("keys", 0, "columns", table["columns"], "i")
             if section == "lamp":

@@ -69,7 +69,7 @@ def has_line(board, line):
 
 
 def is_input(board, line):
-    """Returns true if a line is an input. The text of a port begins with line 3."""
+    """Returns true if a line is an input. The first character of a port is its line 3."""
     return has_line(board, line) and line[0] == 0 and board.roms[line[1]][3 - line[2]] == "i"
 
 

@@ -30,7 +30,7 @@ class SessionFile {
     try {
       program = await openProgram("open", replacement.name);
       check(await program.ask(lines, count));
-      replacement.put();
+      replacement.replaceTarget();
     } catch (fault) {
       replacement.drop();
       if (program) await program.end();

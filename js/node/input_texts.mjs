@@ -49,7 +49,7 @@ function isPipe(name) {
   return stat !== undefined && (stat.isFIFO() || stat.isCharacterDevice());
 }
 
-export class GivenTexts {
+export class InputTexts {
   constructor() {
     /** @type {Buffer | null} the contents of standard input, which can be read only once; null before it is read */
     this.standardInput = null;

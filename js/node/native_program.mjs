@@ -130,7 +130,7 @@ export function noRoomMessage() {
 /**
  * Returns the state of a session file. The engine works on a copy of the file. Errors name the file.
  * @param {EngineHost} engine
- * @param {import("./input_texts.mjs").GivenTexts} texts
+ * @param {import("./input_texts.mjs").InputTexts} texts
  * @param {string} session the session's file name
  */
 export async function openSession(engine, texts, session) {
@@ -152,12 +152,12 @@ export async function openSession(engine, texts, session) {
 /**
  * Returns the error for rejected texts. (Loads the modules with the messages only then.)
  * @param {EngineHost} engine
- * @param {ConstructorParameters<typeof import("./rejected_texts.mjs").RefusedTexts>[1]} givenTexts
+ * @param {ConstructorParameters<typeof import("./rejected_texts.mjs").RejectedTexts>[1]} givenTexts
  * @param {import("../core/testing/test_preparation.js").TextFault[]} faults
  */
 export async function rejectedTextsError(engine, givenTexts, faults) {
-  const { RefusedTexts } = await import("./rejected_texts.mjs");
-  return new CommandError(new RefusedTexts(engine, givenTexts).message(faults));
+  const { RejectedTexts } = await import("./rejected_texts.mjs");
+  return new CommandError(new RejectedTexts(engine, givenTexts).message(faults));
 }
 
 /**
@@ -196,7 +196,7 @@ export async function assembleProgram(engine, program) {
 
 /**
  * Reads a program, which must match the session's ROM. Returns a function that describes an address in terms of the program's source.
- * @param {import("./input_texts.mjs").GivenTexts} texts
+ * @param {import("./input_texts.mjs").InputTexts} texts
  * @param {EngineHost} engine
  * @param {string} programName
  * @param {string} session the session's file name

@@ -4,7 +4,7 @@ import { INVALID_CHARACTER, LINE_TOO_LONG, MAX_LINE_LENGTH, NOT_ASCII, opensText
 import { parseNumber } from "../core/bench/numbers.js";
 import { ADDRESS_COUNT } from "../core/bench/rom_bytes.js";
 import * as say from "../words/commands.js";
-import { MAX_SHOWN_LENGTH, NO_FORM, RefusedTexts, spellingHint, describeRefusal } from "./rejected_texts.mjs";
+import { MAX_SHOWN_LENGTH, NO_FORM, RejectedTexts, spellingHint, describeRefusal } from "./rejected_texts.mjs";
 
 /**
  * @typedef {import("../core/bench/script_answers.js").AnsweredInput} AnsweredInput
@@ -21,7 +21,7 @@ function foreignCharacter(line) {
 }
 
 /** The rejected lines of a script. */
-export class RefusedLines {
+export class RejectedLines {
   /**
    * @param {import("../core/engine/engine_host.js").EngineHost} engine
    * @param {string[]} lines the script's lines
@@ -49,7 +49,7 @@ export class RefusedLines {
     const makeUnnamedText = (/** @type {string} */ text) => ({ name: "", text, before: 0, encoding: /** @type {const} */ ("utf8") });
     const text = textLines.map((textLine) => `${textLine}\n`).join("");
     const board = this.boardText === null ? undefined : makeUnnamedText(this.boardText);
-    const texts = new RefusedTexts(this.engine, { board, program: makeUnnamedText(text) });
+    const texts = new RejectedTexts(this.engine, { board, program: makeUnnamedText(text) });
     const textKind = TEXT_KINDS[kind];
     return texts.findError({ text: textKind, line: textKind === "board" ? 0 : line, number, words: "" }, text);
   }

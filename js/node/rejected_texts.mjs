@@ -61,7 +61,7 @@ export function spellingHint(line) {
 }
 
 /** Composes the messages about rejected texts. An engine checks the texts again to find the details. */
-export class RefusedTexts {
+export class RejectedTexts {
   /**
    * @param {EngineHost} engine
    * @param {{ board?: GivenText, program: GivenText }} givenTexts

@@ -14,7 +14,7 @@ const SIGNAL_STATUS_OFFSET = 128;
 export class ProgramEnded extends CommandError {}
 
 /** A running program that serves a session file. */
-export class SessionProgram {
+export class SessionProcess {
   /**
    * @param {"new" | "open"} word
    * @param {string} name
@@ -133,7 +133,7 @@ async function addRefusalMessage(answer) {
  * @param {string} name
  */
 export async function openProgram(word, name) {
-  const program = new SessionProgram(word, name);
+  const program = new SessionProcess(word, name);
   const [firstLine] = await program.readLines(1);
   program.openingLine = firstLine;
   if (firstLine.startsWith("session ")) return program;

@@ -8,7 +8,7 @@ const BOLD = 1;
 const YELLOW = 33;
 const NO_ROOM_MESSAGE = `the view needs a terminal of ${MIN_COLUMNS} columns and ${MIN_ROWS} rows at least`;
 
-export class ViewOnTerminal {
+export class TerminalView {
   /** Creates a hidden view. The callback `showPrompt` shows the prompt again at the cursor. */
   constructor(prompt, output, env, showPrompt) {
     this.view = new View(prompt);

@@ -3,7 +3,7 @@ import { runTests } from "../core/testing/test_suite.js";
 import { failureLine } from "../core/testing/tap.js";
 import { excludeEachOther, otherProgram, sessionStopped } from "../words/commands.js";
 import { parseCount, projectFiles, checkArguments, findProject } from "./arguments.mjs";
-import { GivenTexts } from "./input_texts.mjs";
+import { InputTexts } from "./input_texts.mjs";
 import { yieldToMessages, rejectedTextsError, openSession, startEngine } from "./native_program.mjs";
 import { CommandError, UsageError, print, printError } from "./output.mjs";
 
@@ -45,7 +45,7 @@ export async function runTestCommand({ Counting, checkNames = () => {}, outcome:
   const allNames = await resolveNames(folder, givenNames);
   checkNames(allNames);
   const [boardName, programName, ...names] = allNames;
-  const texts = new GivenTexts();
+  const texts = new InputTexts();
   const board = texts.text(boardName, "wire");
   const program = texts.text(programName, "asm");
   const sources = names.map((fileName) => texts.source(fileName));
@@ -73,7 +73,7 @@ export async function countCycles({ name, Counting, checkNames = () => {}, repor
   const cycles = parseCount("CYCLES", word, MAX_CYCLES);
   checkNames([session, programName]);
   const { countSession } = await import("../core/testing/session_count.js");
-  const texts = new GivenTexts();
+  const texts = new InputTexts();
   const program = texts.text(programName, "asm");
   const engine = await startEngine();
   const state = await openSession(engine, texts, session);

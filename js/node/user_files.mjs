@@ -195,7 +195,7 @@ export class Replacement {
   }
 
   /** Renames the temporary file to the target. */
-  put() {
+  replaceTarget() {
     try {
       renameSync(this.name, this.target);
       temporaryFiles.delete(this.name);
@@ -264,7 +264,7 @@ function isStream(name) {
 export function writeUserFile(name, bytes) {
   withFileError(`cannot write ${name}`, () => {
     if (isStream(name)) writeFileSync(name, bytes, { flag: "a" });
-    else prepareReplacement(name, bytes).put();
+    else prepareReplacement(name, bytes).replaceTarget();
   });
 }
 
@@ -359,7 +359,7 @@ function putAll(replacements) {
   const targets = [];
   try {
     for (const replacement of replacements) {
-      replacement.put();
+      replacement.replaceTarget();
       targets.push(replacement.target);
     }
   } catch (error) {

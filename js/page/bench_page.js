@@ -16,7 +16,7 @@ import { makeExport, makeRomFiles, makeSessionsController, makeLinkSharing } fro
 import { makeEditors, makeExplore, makeProblems, makeSource, makeTests, makeTexts, nameCharacters } from "./compose_texts.js";
 import { CyclesView } from "./time/cycles_view.js";
 import { TextAppearance } from "./text/text_appearance.js";
-import { WorkView } from "./ui/progress_view.js";
+import { ProgressView } from "./ui/progress_view.js";
 import * as say from "../words/page.js";
 
 /**
@@ -53,7 +53,7 @@ export class Page {
     this.snapshotView = makeSnapshotView(this);
     this.logView = new LogView(words);
     this.layout = new Layout(() => this.printContents());
-    this.workView = new WorkView();
+    this.workView = new ProgressView();
     this.editors = makeEditors(this, manual);
     this.breakpoints = makeBreakpoints(this);
     this.source = makeSource(this);
@@ -66,7 +66,7 @@ export class Page {
     this.confirmDialog = new ConfirmDialog();
     this.testsTab = makeTests(this, manual);
     this.exploreTab = makeExplore(this, manual, makeBench);
-    this.appearance = new TextAppearance(this.layout.choices, this.textEditors.map(({ editor }) => editor.editor));
+    this.appearance = new TextAppearance(this.layout.preferences, this.textEditors.map(({ editor }) => editor.editor));
     this.mistakesView = makeMistakes(this, makeProblems(this));
     this.textsController = makeTexts(this);
     this.romFiles = makeRomFiles(this);
@@ -186,10 +186,10 @@ export class Page {
     const { session } = this.currentSession;
     if (!session) return;
     this.bench.returnBuffer(session.take(file));
-    this.runController.pendingKeys.waiting = waiting;
+    this.runController.pendingKeys.waitingChanges = waiting;
     this.storedHistory.take(past, { file: session.record.file, total, reset });
     this.cyclesView.update({ total, reset }, this.runController.clock.isRunning);
-    session.record.cycles = this.cyclesView.cycles.kept;
+    session.record.cycles = this.cyclesView.cycles.storedCounts;
     this.historyView.showFuture(future);
     if (board) this.draw(session.record, board);
     this.snapshotView.show(snapshot, isPassing, litShares);

@@ -48,7 +48,7 @@ export function makeSnapshotView(page) {
       page.currentSession.touch();
       page.bench.call("clearPrintout", []).catch((fault) => page.recovery.reportFailure(fault));
     },
-    timeOf: (cycles) => runController.clock.timeOf(cycles),
+    timeOf: (cycles) => runController.clock.displayDuration(cycles),
     reportFailure: (fault) => page.recovery.reportFailure(fault),
   });
 }
@@ -133,7 +133,7 @@ export function makeDrawing(page) {
 export function makeScope(page) {
   /** @type {(values: string[]) => { board: string, program: string, values: string[], watched: string[] }} */
   const textsWithValues = (values) => ({ board: page.boardEditor.text, program: page.programEditor.text, values,
-    watched: page.breakpoints.keeper.watched });
+    watched: page.breakpoints.keeper.watchTexts });
   const scope = new Scope({
     goTo: (address) => page.snapshotView.goTo.show(address),
     storeRows: (rows) => {

@@ -11,7 +11,7 @@ import { WelcomeView } from "./session/welcome_view.js";
 import { ToolbarView } from "./commands/toolbar_view.js";
 import { runToLine } from "./compose_debug.js";
 import { insertKeyScan } from "./compose_texts.js";
-import { Choices } from "./ui/preferences.js";
+import { Preferences } from "./ui/preferences.js";
 import { block, button, byId, field, isDialogOpen } from "./ui/dom.js";
 import { Theme } from "./ui/theme.js";
 import { Tooltips } from "./ui/tooltips.js";
@@ -49,7 +49,7 @@ function show({ layout }, name) {
  * @returns {Shell}
  */
 export function makeShell() {
-  const theme = new Theme(new Choices());
+  const theme = new Theme(new Preferences());
   const tips = new Tooltips();
   return { theme, tips, toolbar: new ToolbarView(tips, theme) };
 }
@@ -119,7 +119,7 @@ function textCalls(page) {
     /** @param {boolean} isSource */
     hasText: (isSource) => findFrontEditor() !== undefined && (!isSource || findFrontEditor() === programEditor),
     /** @param {import("./commands/command_table.js").TextAct} textAction */
-    inText: (textAction) => findFrontEditor() && findFrontEditor().performAct(textAction),
+    inText: (textAction) => findFrontEditor() && findFrontEditor().performAction(textAction),
     /** @param {import("./machine/breakpoint_form.js").BreakpointField} [fieldName] */
     breakpoint: (fieldName) => {
       show(page, "program");
@@ -215,13 +215,13 @@ export class Commands {
       beginTour: () => void guide.tour.begin(),
       begin: (name) => sessionsController.beginNamed(name),
       showWiring: () => show(this.page, "wiring"),
-      storeSeen: () => layout.choices.set(SEEN_KEY, "yes"),
+      storeSeen: () => layout.preferences.set(SEEN_KEY, "yes"),
     });
   }
 
   /** Shows the welcome cards on the first visit in this browser. */
   showFirstWelcome() {
-    if (!this.page.layout.choices.get(SEEN_KEY)) this.welcome.open();
+    if (!this.page.layout.preferences.get(SEEN_KEY)) this.welcome.open();
   }
 
   /** @returns {import("./commands/palette_places.js").PlaceCalls} */

@@ -137,7 +137,7 @@ export function makeValues(page) {
  */
 export function makeHeat(page) {
   const { bench, snapshotView, runController, recovery } = page;
-  return new HeatView(page.layout.choices, {
+  return new HeatView(page.layout.preferences, {
     isRunning: () => runController.clock.isRunning,
     countChanges: (cycles, signal) => bench.call("heat", [cycles], { signal }).catch((fault) => {
       if (!(fault instanceof CancelledError) && !(fault instanceof WorkerDiedError)) recovery.reportFailure(fault);
@@ -157,7 +157,7 @@ export function makeHeat(page) {
  * @param {Page} page
  */
 function pageNames({ snapshotView, source, breakpoints }) {
-  return { face: snapshotView.face, board: snapshotView.board, map: source.map, watched: collectWatchNames(breakpoints.keeper.watched) };
+  return { face: snapshotView.face, board: snapshotView.board, map: source.map, watched: collectWatchNames(breakpoints.keeper.watchTexts) };
 }
 
 /**
@@ -186,7 +186,7 @@ export function makeWatched(page) {
  * @returns {MistakesView}
  */
 export function makeMistakes(page, problems) {
-  const { choices } = page.layout;
+  const { preferences } = page.layout;
   return new MistakesView({
     describeAddress: (address) => wordsOfAddress(hex(address, 3), page.source.map),
     goTo: (address) => page.snapshotView.goTo.show(address),
@@ -194,7 +194,7 @@ export function makeMistakes(page, problems) {
       page.bench.call("stopAtFaults", [kinds]).catch((fault) => page.recovery.reportFailure(fault));
     },
     showCount: (count) => problems.showBugCount(count),
-    storedKinds: () => choices.get("stops"),
-    storeKinds: (kinds) => choices.set("stops", kinds),
+    storedKinds: () => preferences.get("stops"),
+    storeKinds: (kinds) => preferences.set("stops", kinds),
   });
 }

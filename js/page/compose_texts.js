@@ -28,7 +28,7 @@ export function makeEditors(page, manual) {
   const { runController } = page;
   return new Editors(page.bench, page.words, manual, {
     handleEdits: (edits) => {
-      page.breakpoints.keeper.edited(edits);
+      page.breakpoints.keeper.applyTextEdits(edits);
       page.textsController.handleEdit();
       page.drawingController.handleEdit();
     },
@@ -198,7 +198,7 @@ async function openWithLines(page, { name, lines, message }, texts) {
   if (!(await sessionsController.manager.openNew(makeRecord))) return;
   await page.lineServer.serveLines(lines);
   // `serveLines` hides the notice about the previous session, because it changes the new one. Show that notice again.
-  if (previousSession && !previousSession.isUntouched) sessionsController.reportLeft(previousSession.record);
+  if (previousSession && !previousSession.isUntouched) sessionsController.offerReturn(previousSession.record);
   page.layout.showText("program");
   page.runController.showMessage(message);
 }

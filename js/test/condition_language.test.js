@@ -15,7 +15,7 @@ import { DebugSession } from "../core/debug/debug_session.js";
 import { parseGoal } from "../core/debug/condition_search.js";
 import { compileNote, compileBreakpoint } from "../core/debug/soft_breakpoints.js";
 import { MachineState } from "../core/debug/machine_state.js";
-import { textOf } from "../core/debug/word_values.js";
+import { joinPieces } from "../core/debug/word_values.js";
 import { collectWatchNames, parseWatch } from "../core/debug/watch_expressions.js";
 import { readCampaign } from "../core/explore/campaign.js";
 import { createRandom } from "../core/explore/walks.js";
@@ -108,7 +108,7 @@ let session;
 let names;
 before(() => {
   session = new DebugSession(engine, { board: BOARD, program: PROGRAM });
-  assert.deepEqual(session.refused, []);
+  assert.deepEqual(session.rejectedTexts, []);
   names = { ...session.names, watched: collectWatchNames(WATCHED) };
 });
 
@@ -168,7 +168,7 @@ const USES = {
   Watch: (text) => {
     const { watched, fault } = parseWatch(text, names);
     const look = ["state\n", "ram 0\n"].map((line) => session.debugger.session.ask(line).join("\n"));
-    return fault || textOf(watched.pieces(new MachineState(look), names)) === "true";
+    return fault || joinPieces(watched.pieces(new MachineState(look), names)) === "true";
   },
   "mcs4 debug": async (text) => {
     known();

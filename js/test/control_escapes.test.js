@@ -5,7 +5,7 @@ import { mkdtempSync, rmSync, writeFileSync } from "node:fs";
 import { tmpdir } from "node:os";
 import { join } from "node:path";
 import { after, test } from "node:test";
-import { escaped } from "../core/text/control_escapes.js";
+import { escapeControls } from "../core/text/control_escapes.js";
 
 const folder = mkdtempSync(join(tmpdir(), "escaped."));
 after(() => rmSync(folder, { recursive: true }));
@@ -16,8 +16,8 @@ const SHOWN = "\\x1B]0;PWNED\\x07\\x1B[2J\\x9B2J\\u202E";
 const RAW = /[\u0000-\u0008\u000b-\u001f\u007f-\u009f\u202e]/;
 
 test("control characters are written out, and all else stays", () => {
-  assert.equal(escaped(ESCAPE), SHOWN);
-  assert.equal(escaped("a\tb\n\u00e9 \u{1F600} \\"), "a\tb\n\u00e9 \u{1F600} \\");
+  assert.equal(escapeControls(ESCAPE), SHOWN);
+  assert.equal(escapeControls("a\tb\n\u00e9 \u{1F600} \\"), "a\tb\n\u00e9 \u{1F600} \\");
 });
 
 test("source lines, labels, commands and names of files are shown with their control characters written out", () => {

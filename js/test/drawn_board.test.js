@@ -10,7 +10,7 @@ import { sessionTitle } from "../core/session/session_summary.js";
 import { selectionForm } from "../core/drawing/selection_form.js";
 import { lampLabels } from "../core/drawing/lamp_labels.js";
 import { MovedParts } from "../core/drawing/moved_parts.js";
-import { edited, inverseEdits } from "../core/drawing/text_edits.js";
+import { applyEdits, inverseEdits } from "../core/drawing/text_edits.js";
 import { Engine } from "../core/engine/engine.js";
 import { examplesOfPage, pageModule } from "./page_session.js";
 
@@ -32,11 +32,11 @@ async function drawn(text = "") {
     },
     edit: (edits) => {
       desk.steps.push(inverseEdits(desk.text, edits));
-      desk.text = edited(desk.text, edits);
+      desk.text = applyEdits(desk.text, edits);
     },
     undo: () => {
       const last = desk.steps.pop();
-      if (last) desk.text = edited(desk.text, last);
+      if (last) desk.text = applyEdits(desk.text, last);
       return last !== undefined;
     },
     redo: () => false,

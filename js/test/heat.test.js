@@ -3,7 +3,9 @@ import assert from "node:assert/strict";
 import { test } from "node:test";
 import { CancelledError } from "../core/bench/bench_errors.js";
 import { pinKey } from "../core/board/key_place.js";
-import { PassingHeat, heatLevels, describeHeat, describeChanges, describeHeatStatus, describeSeenChanges } from "../core/machine/heat_levels.js";
+import {
+  PassingHeat, heatLevels, describeHeat, describeChanges, describeHeatStatus, describeSeenChanges,
+} from "../core/machine/heat_levels.js";
 import { namedSrcBytes, nibbleNames } from "../core/machine/ram_names.js";
 import { SourceMap } from "../core/machine/source_map.js";
 import { parseWatch } from "../core/debug/watch_expressions.js";

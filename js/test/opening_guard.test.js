@@ -1,7 +1,7 @@
 // Sessions whose last opening did not end.
 import assert from "node:assert/strict";
 import { test } from "node:test";
-import { Openings } from "../page/session/opening_guard.js";
+import { OpeningGuard } from "../page/session/opening_guard.js";
 
 /** A browser's store of words, a clock, and timers that fire when the test says so. */
 function browser() {
@@ -13,7 +13,7 @@ function browser() {
     removeItem: (key) => words.delete(key),
   };
   let time = 1e12;
-  const load = () => new Openings(store, (act) => timers.push(act), () => time);
+  const load = () => new OpeningGuard(store, (act) => timers.push(act), () => time);
   const wait = (passed) => { time += passed; };
   return { load, words, wait, settle: () => timers.splice(0).forEach((act) => act()) };
 }
@@ -23,12 +23,12 @@ test("an opening that came to an end leaves nothing, also where it was refused",
   const openings = load();
   await openings.runOpening("one", async () => {
     wait(3000);
-    assert.equal(load().hasUnendedOpening("one"), true);
+    assert.equal(load().hasUnfinishedOpening("one"), true);
   });
-  assert.equal(load().hasUnendedOpening("one"), true);
+  assert.equal(load().hasUnfinishedOpening("one"), true);
   await assert.rejects(openings.runOpening("two", async () => { throw new Error("no 51"); }), /no 51/);
   settle();
-  assert.deepEqual([words.size, load().hasUnendedOpening("one"), load().hasUnendedOpening("two")], [0, false, false]);
+  assert.deepEqual([words.size, load().hasUnfinishedOpening("one"), load().hasUnfinishedOpening("two")], [0, false, false]);
 });
 
 test("one that did not is known at the next start, and forgotten once it did", async () => {
@@ -37,7 +37,7 @@ test("one that did not is known at the next start, and forgotten once it did", a
   await load().runOpening("two", async () => {});
   settle();
   wait(3000);
-  assert.deepEqual([load().hasUnendedOpening("one"), load().hasUnendedOpening("two")], [true, false]);
+  assert.deepEqual([load().hasUnfinishedOpening("one"), load().hasUnfinishedOpening("two")], [true, false]);
   await load().runOpening("one", async () => {});
   settle();
   assert.equal(words.size, 0);
@@ -49,11 +49,11 @@ test("a page that is left at once was not hung; one that is left later may have 
   openings.runOpening("one", () => new Promise(() => {}));
   openings.handleLeave();
   wait(3000);
-  assert.equal(load().hasUnendedOpening("one"), false);
+  assert.equal(load().hasUnfinishedOpening("one"), false);
   openings.runOpening("two", () => new Promise(() => {}));
   wait(3000);
   openings.handleLeave();
-  assert.equal(load().hasUnendedOpening("two"), true);
+  assert.equal(load().hasUnfinishedOpening("two"), true);
 });
 
 test("a page that is left while it shows a session was not hung by it, however long the opening took", async () => {
@@ -61,7 +61,7 @@ test("a page that is left while it shows a session was not hung by it, however l
   const openings = load();
   await openings.runOpening("one", async () => wait(3000));
   openings.handleLeave();
-  assert.equal(load().hasUnendedOpening("one"), false);
+  assert.equal(load().hasUnfinishedOpening("one"), false);
 });
 
 test("a page that is left learns so from each of two events, since a browser may pass over one", async () => {
@@ -74,7 +74,7 @@ test("a page that is left learns so from each of two events, since a browser may
     await openings.runOpening("one", async () => {});
     target.dispatchEvent(new Event(name));
     wait(3000);
-    assert.equal(load().hasUnendedOpening("one"), false, name);
+    assert.equal(load().hasUnfinishedOpening("one"), false, name);
   }
 });
 
@@ -82,9 +82,9 @@ test("another tab may just be opening it", () => {
   const { load, wait } = browser();
   load().runOpening("one", () => new Promise(() => {}));
   wait(1999);
-  assert.equal(load().hasUnendedOpening("one"), false);
+  assert.equal(load().hasUnfinishedOpening("one"), false);
   wait(1);
-  assert.equal(load().hasUnendedOpening("one"), true);
+  assert.equal(load().hasUnfinishedOpening("one"), true);
 });
 
 test("a session that is opened twice in a row is settled by its last opening", async () => {
@@ -94,15 +94,15 @@ test("a session that is opened twice in a row is settled by its last opening", a
   openings.pendingOpenings.set("one", { time: 0, isEnded: false });
   settle();
   wait(3000);
-  assert.equal(load().hasUnendedOpening("one"), true);
+  assert.equal(load().hasUnfinishedOpening("one"), true);
 });
 
 test("a browser that keeps nothing", async () => {
   const broken = () => { throw new DOMException("", "SecurityError"); };
   for (const store of [null, { getItem: broken, setItem: broken, removeItem: broken }]) {
-    const openings = new Openings(store, (act) => act());
+    const openings = new OpeningGuard(store, (act) => act());
     let isOpen = false;
     await openings.runOpening("one", async () => { isOpen = true; });
-    assert.deepEqual([isOpen, openings.hasUnendedOpening("one")], [true, false]);
+    assert.deepEqual([isOpen, openings.hasUnfinishedOpening("one")], [true, false]);
   }
 });

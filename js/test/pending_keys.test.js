@@ -29,7 +29,7 @@ async function typing() {
   });
   const arrive = () => {
     for (const [word, arrived] of onTheWay) {
-      asked.waiting = structuredClone(calls[word](KEY.key));
+      asked.waitingChanges = structuredClone(calls[word](KEY.key));
       arrived();
     }
     onTheWay = [];
@@ -39,7 +39,7 @@ async function typing() {
     arrive();
     const frame = structuredClone(calls.advance(cycles));
     isDown = / keys [^ ]*\b0\.0\b/.test(frame.snapshot.join("\n"));
-    asked.waiting = frame.waiting;
+    asked.waitingChanges = frame.waiting;
     return isDown;
   };
   return { pressing, words, arrive, look };

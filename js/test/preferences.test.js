@@ -1,8 +1,8 @@
-// A user's choices, in a store that keeps them, and in ones that do not.
+// A user's preferences, in a store that keeps them, and in ones that do not.
 
 import assert from "node:assert/strict";
 import test from "node:test";
-import { Choices } from "../page/ui/preferences.js";
+import { Preferences } from "../page/ui/preferences.js";
 
 /** A store like the browser's own, in memory. */
 function fakeStore(text = null) {
@@ -12,31 +12,31 @@ function fakeStore(text = null) {
 
 test("what was chosen is there at the next visit", () => {
   const store = fakeStore();
-  new Choices(store).set("fold.memory", "folded");
-  const again = new Choices(store);
+  new Preferences(store).set("fold.memory", "folded");
+  const again = new Preferences(store);
   assert.equal(again.get("fold.memory"), "folded");
   assert.equal(again.get("fold.ports"), "");
 });
 
-test("two tabs keep each other's choices", () => {
+test("two tabs keep each other's preferences", () => {
   const store = fakeStore();
-  const [first, second] = [new Choices(store), new Choices(store)];
+  const [first, second] = [new Preferences(store), new Preferences(store)];
   first.set("text", "board");
   second.set("fold.talk", "folded");
-  const again = new Choices(store);
+  const again = new Preferences(store);
   assert.deepEqual([again.get("text"), again.get("fold.talk")], ["board", "folded"]);
 });
 
 test("a store that is missing, blocked or damaged counts as none", () => {
   const blocked = { getItem: () => { throw new Error("SecurityError"); }, setItem: () => { throw new Error("SecurityError"); } };
   for (const store of [null, blocked, fakeStore("{broken"), fakeStore("null"), fakeStore("[1]"), fakeStore('{"text":7}')]) {
-    const choices = new Choices(store);
-    assert.equal(choices.get("text"), "");
-    choices.set("text", "board");
-    assert.equal(choices.get("text"), "board");
+    const preferences = new Preferences(store);
+    assert.equal(preferences.get("text"), "");
+    preferences.set("text", "board");
+    assert.equal(preferences.get("text"), "board");
   }
 });
 
 test("a name that every object has is not a choice", () => {
-  assert.equal(new Choices(null).get("toString"), "");
+  assert.equal(new Preferences(null).get("toString"), "");
 });

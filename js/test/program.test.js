@@ -3,7 +3,7 @@ import assert from "node:assert/strict";
 import { readFileSync } from "node:fs";
 import { test } from "node:test";
 import { editDistance, findSimilarWords } from "../core/text/similar_words.js";
-import { counted } from "../core/bench/numbers.js";
+import { formatQuantity } from "../core/bench/numbers.js";
 import { programTexts, describeAssembled } from "../core/text/asm_texts.js";
 import { findDefinedNames, splitStatement, tokenizeLine, wordAt } from "../core/text/assembly.js";
 import { completeProgram } from "../core/text/completion.js";
@@ -180,7 +180,9 @@ test("a program comes into ROM alone, by one text where it has room", () => {
 test("what assembling alone leaves, in words", () => {
   assert.equal(describeAssembled({ size: 3, left: [0x41, 0x42] }, "012"),
     "3 bytes assembled. 2 bytes from before stay in ROM, from 0x041. The counter stays at 012; nothing was reset.");
-  assert.deepEqual([counted(1, "byte"), counted(0, "byte"), counted(1543, "cycle"), counted(2, "property is", "properties are")],
+  assert.deepEqual(
+    [formatQuantity(1, "byte"), formatQuantity(0, "byte"), formatQuantity(1543, "cycle"),
+      formatQuantity(2, "property is", "properties are")],
     ["1 byte", "0 bytes", "1,543 cycles", "2 properties are"]);
 });
 

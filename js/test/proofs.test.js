@@ -212,7 +212,7 @@ function fakeWorker(engine) {
     return true;
   });
   calls.load = async () => {
-    calls.bench.loaded = engine;
+    calls.bench.loadedModule = engine;
     return engine.size;
   };
   worker.terminate = () => {
@@ -255,7 +255,7 @@ test("cancelling ends the worker at once; a worker that is silent is not dead", 
   assert.deepEqual(ended, { faults: [], isStopped: true });
   const { bench } = prover;
   bench.worker = fakeWorker(engine);
-  bench.waiting.set(1, { done: () => {}, fail: () => {}, progress: () => {} });
+  bench.pendingRequests.set(1, { done: () => {}, fail: () => {}, progress: () => {} });
   for (let look = 0; look < 50; look++) bench.watch();
   assert.notEqual(bench.worker, null);
 });

@@ -63,7 +63,7 @@ test("names and colours are kept by the names of lines", () => {
   rows.change("b", { title: "clock" });
   rows.change("b", { colour: "red" });
   rows.fold("x");
-  const kept = JSON.parse(JSON.stringify(rows.kept));
+  const kept = JSON.parse(JSON.stringify(rows.storedRows));
   assert.deepEqual(kept, { order: [], looks: { b: { title: "clock", colour: "red" } }, folded: ["x"] });
   assert.deepEqual(new WaveRows(kept).arrange(LINES, [1]), [
     { line: 1, name: "b", title: "clock", colour: "red", group: "", isFolded: false }]);

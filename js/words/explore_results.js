@@ -1,6 +1,6 @@
 // Messages about the results of a search for counterexamples: all properties, a single property, the coverage.
 
-import { counted } from "../core/bench/numbers.js";
+import { formatQuantity } from "../core/bench/numbers.js";
 import { Coverage } from "../core/explore/search_coverage.js";
 import { formatNumber, hasExpectedResult, formatRemark, formatSteps } from "../core/explore/report.js";
 
@@ -28,7 +28,7 @@ function countsOf({ properties }) {
  */
 export function wordsOfFigures({ seeds, steps, seconds, states }) {
   const rate = seconds > 0 ? `, ${formatNumber(steps / seconds)} a second` : "";
-  return `${formatSteps(steps)}${rate}; ${counted(states, "different state")}; seed ${seeds.join(" ")}.`;
+  return `${formatSteps(steps)}${rate}; ${formatQuantity(states, "different state")}; seed ${seeds.join(" ")}.`;
 }
 
 /**
@@ -37,7 +37,8 @@ export function wordsOfFigures({ seeds, steps, seconds, states }) {
  */
 export function wordsSoFar(report) {
   const { broken } = countsOf(report);
-  return broken === 0 ? "Searching for keys that break a property." : `${counted(broken, "property is", "properties are")} broken so far.`;
+  if (broken === 0) return "Searching for keys that break a property.";
+  return `${formatQuantity(broken, "property is", "properties are")} broken so far.`;
 }
 
 /**
@@ -48,8 +49,8 @@ export function wordsSoFar(report) {
 export function wordsOfEnd(report, isStopped) {
   const { broken, left } = countsOf(report);
   const summary = broken === 0 ? "Nothing was found that breaks a property."
-    : `${counted(broken, "property is", "properties are")} broken.`;
-  const goals = left === 0 ? "" : ` ${counted(left, "goal was", "goals were")} not reached.`;
+    : `${formatQuantity(broken, "property is", "properties are")} broken.`;
+  const goals = left === 0 ? "" : ` ${formatQuantity(left, "goal was", "goals were")} not reached.`;
   return `${isStopped ? "Stopped. " : ""}${summary}${goals}`;
 }
 

@@ -1,6 +1,6 @@
 // Messages about the results of tests: all tests, a single test, the coverage.
 
-import { counted } from "../core/bench/numbers.js";
+import { formatQuantity } from "../core/bench/numbers.js";
 import { formatCoverageSummary } from "../core/testing/coverage.js";
 import { CYCLE_MS } from "../core/time/mcs4_time.js";
 
@@ -19,8 +19,8 @@ const WHERE = { board: "Board", program: "Source", tests: "Tests", properties: "
  */
 export function wordsOfOutcomes(outcomes) {
   const failed = outcomes.filter(({ failure }) => failure).length;
-  if (failed === 0) return outcomes.length === 1 ? "The test passed." : `All ${counted(outcomes.length, "test")} passed.`;
-  return `${failed} of ${counted(outcomes.length, "test")} failed.`;
+  if (failed === 0) return outcomes.length === 1 ? "The test passed." : `All ${formatQuantity(outcomes.length, "test")} passed.`;
+  return `${failed} of ${formatQuantity(outcomes.length, "test")} failed.`;
 }
 
 /**
@@ -50,7 +50,7 @@ export function wordsOfFaults(faults, describeRefusal) {
  */
 export function wordsOfTime({ cycles }) {
   const time = cycles * CYCLE_MS;
-  return `${counted(cycles, "cycle")}, ${time < 1000 ? `${time.toFixed(1)} ms` : `${(time / 1000).toFixed(2)} s`}`;
+  return `${formatQuantity(cycles, "cycle")}, ${time < 1000 ? `${time.toFixed(1)} ms` : `${(time / 1000).toFixed(2)} s`}`;
 }
 
 /**
@@ -60,6 +60,6 @@ export function wordsOfTime({ cycles }) {
 export function wordsOfCounts({ coverage }) {
   if (!coverage || coverage.instructions === 0) return "";
   const ways = coverage.lines.filter(({ isJump, count, taken }) => isJump && count > 0 && (taken === 0 || taken === count)).length;
-  const oneWay = ways === 0 ? "" : ` ${counted(ways, "jump")} always went one way.`;
+  const oneWay = ways === 0 ? "" : ` ${formatQuantity(ways, "jump")} always went one way.`;
   return `${formatCoverageSummary(coverage)}.${oneWay} Counts are in the margin.`;
 }

@@ -155,7 +155,7 @@ export class Console {
       const goal = this.readGoal(target);
       return move(() => this.machine.go(goal));
     }
-    const address = addressOf(target, this.context);
+    const address = findAddress(target, this.context);
     return move(() => this.machine.go({ kind: "here", address }));
   }
 
@@ -203,7 +203,7 @@ export class Console {
     const isRejected = answers.every((answer) => parseRefusal(answer));
     if (isRejected && answers.length > 0) throw new AdapterError(words.join("\n"));
     this.machine.reportTally(tally, tally.noted);
-    if (answers.some((answer) => readRun(answer))) this.machine.reportShown();
+    if (answers.some((answer) => readRun(answer))) this.machine.reportFrontPanelText();
     return { words: [...words, ...(stopWords ? [stopWords] : [])].join("\n"), changes: true, move: null };
   }
 }
@@ -214,10 +214,10 @@ export class Console {
  * @param {ExpressionContext} context
  * @returns {number}
  */
-export function addressOf(text, { session }) {
+export function findAddress(text, { session }) {
   const word = text.trim().replace(/^@/, "");
   const number = /^[0-9A-Fa-f]{3}$/.test(word) && Number.isNaN(parseNumber(word)) ? parseInt(word, 16) : parseNumber(word);
-  const address = Number.isNaN(number) ? session.map.valueOf(word) : number;
+  const address = Number.isNaN(number) ? session.map.findValue(word) : number;
   if (address === undefined) return fail(say.noAddress(word));
   return address <= LAST_ADDRESS ? address : fail(say.ADDRESS_RANGE);
 }

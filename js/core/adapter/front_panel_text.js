@@ -7,7 +7,7 @@ import { LAMPS_FORECAST_QUERY, PerceivedText, hasScannedDisplay } from "../engin
 
 /** @typedef {import("../debug/debug_session.js").DebugSession} DebugSession */
 
-export class ShownText {
+export class FrontPanelText {
   /** @param {DebugSession} session */
   constructor(session) {
     this.session = session;
@@ -17,7 +17,7 @@ export class ShownText {
     this.displays = face.groups.filter(({ kind }) => kind === "display");
     this.names = [...face.lamps].map(([at, { text }]) => ({ at, text }));
     this.reader = new DisplayText(this.displays, this.names);
-    this.before = this.now();
+    this.lastText = this.currentText();
   }
 
   /** Returns one mark per lamp, `*` if the lamp is on. */
@@ -29,7 +29,7 @@ export class ShownText {
    * Returns the display text and the names of the other lamps that are on. Without a display, returns the marks of all lamps and the names
    * of those that are on. A multiplexed display shows the digits that a person perceives.
    */
-  now() {
+  currentText() {
     const { marks } = this;
     if (marks === "") return "";
     const { number, names } = this.isScanned ? this.perceivedText(marks.length) : this.reader.read(marks);
@@ -47,9 +47,9 @@ export class ShownText {
 
   /** Returns the current text if it differs from the last report; otherwise "". */
   take() {
-    const currentText = this.now();
-    if (currentText === this.before) return "";
-    this.before = currentText;
+    const currentText = this.currentText();
+    if (currentText === this.lastText) return "";
+    this.lastText = currentText;
     return currentText;
   }
 }

@@ -27,7 +27,7 @@ import * as say from "../../words/adapter.js";
  *   litShares?: import("../engine/brightness_meter.js").LitShares, printed?: import("../engine/printer_codes.js").PrintoutData }} BoardNews
  */
 
-export class ShownBoard {
+export class RemoteFrontPanel {
   /** @param {Machine} machine */
   constructor(machine) {
     this.machine = machine;

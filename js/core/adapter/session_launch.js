@@ -151,7 +151,7 @@ function sessionFromTexts(engine, requestedFiles, host, words) {
   }
   const [board, program] = [readBenchText(requestedFiles.board, "#", host), readBenchText(requestedFiles.program, ";", host)];
   const session = new DebugSession(engine, { board, program });
-  for (const { word, refusal } of session.refused) {
+  for (const { word, refusal } of session.rejectedTexts) {
     throw refusalError(word === "wire" ? requestedFiles.board : requestedFiles.program, refusal, words);
   }
   return session;
@@ -308,7 +308,7 @@ export async function attach(engine, args, host, words) {
  */
 function addOptions({ session, writer, note }, { program, board, test }, args, host) {
   if (session.boardText === "") session.boardText = session.debugger.session.ask("board\n").slice(1).join("\n");
-  session.debugger.usual.map = session.map;
+  session.debugger.commonMistakes.map = session.map;
   return {
     session, writer, test, note, program, board, stopsOnEntry: optionalFlag(args, "stopOnEntry", true),
     isDebugged: getField(args, "noDebug") !== true,

@@ -41,7 +41,7 @@ export const OUT_OF_MEMORY = 90;
  * @param {unknown} fault
  * @returns {PackedFault}
  */
-export function packFault(fault) {
+export function packError(fault) {
   if (fault instanceof BenchRefusal) return { kind: "refusal", words: fault.message, number: fault.number };
   if (fault instanceof BenchTrap) return { kind: "trap", words: fault.message, number: 0 };
   if (fault instanceof CancelledError) return { kind: "cancelled", words: fault.message, number: 0 };
@@ -53,7 +53,7 @@ export function packFault(fault) {
  * @param {PackedFault} fault
  * @returns {Error}
  */
-export function unpackFault({ kind, words, number }) {
+export function unpackError({ kind, words, number }) {
   if (kind === "refusal") return new BenchRefusal(number);
   if (kind === "trap") return new BenchTrap(words);
   if (kind === "cancelled") return new CancelledError();

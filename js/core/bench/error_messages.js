@@ -1,7 +1,7 @@
 // Texts for users: messages for refusals and errors, and durations.
 
 import { BenchRefusal, BenchTrap, CancelledError, WorkerDiedError } from "./bench_errors.js";
-import { counted } from "./numbers.js";
+import { formatQuantity } from "./numbers.js";
 import * as say from "../../words/bench.js";
 
 /** Messages for refusals and errors. */
@@ -48,7 +48,7 @@ export class ErrorMessages {
  * @param {number} count
  */
 export function formatErrorCount(count) {
-  return counted(count, "fault");
+  return formatQuantity(count, "fault");
 }
 
 /**
@@ -59,6 +59,6 @@ export function formatDuration(milliseconds) {
   const seconds = Math.round(milliseconds / 1000);
   /** @type {[number, string][]} */
   const parts = [[Math.floor(seconds / 3600), "hour"], [Math.floor(seconds / 60) % 60, "minute"], [seconds % 60, "second"]];
-  const units = parts.filter(([count]) => count > 0).map(([count, word]) => counted(count, word));
+  const units = parts.filter(([count]) => count > 0).map(([count, word]) => formatQuantity(count, word));
   return units.slice(0, 2).join(" ");
 }

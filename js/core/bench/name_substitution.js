@@ -41,7 +41,7 @@ export function replaceNames(lines, map) {
   };
   /** @type {(text: string, at: number) => string} */
   const replaceNamesIn = (text, at) => text.replace(NAME_REFERENCE, (found, before, name) => {
-    const value = map ? map.valueOf(name) : undefined;
+    const value = map ? map.findValue(name) : undefined;
     if (value !== undefined) return `${before}0x${hex(value, 3)}`;
     reportError(`${found.trim()}: ${map ? say.NO_SUCH_NAME : say.NAMES_UNKNOWN}.`, at);
     return found;

@@ -32,7 +32,7 @@ export function lampAt(lamp) {
 export function scannedLampAt({ first, rows, columns, by }, number, index) {
   const [column, row] = [first + (index % columns), by + Math.floor(index / columns)];
   /** @type {LampReader["part"]} */
-  const part = ({ scanned }) => Math.min(1, scanned[number][index] * rows);
+  const part = ({ scannedGroups }) => Math.min(1, scannedGroups[number][index] * rows);
   return {
     column, row, part,
     isLit: (marks) => isLit(marks, column) && isLit(marks, row),

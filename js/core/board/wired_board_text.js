@@ -22,13 +22,13 @@ export function describesBoard(text, wiredText) {
  * Returns the text of the board in the bench; "" if it is unknown.
  * @param {string[]} answers the answer to `board`
  * @param {string} text the text in the editor
- * @param {WiredText[] | undefined} stored the texts stored in the session; if undefined, the editor's text is returned
+ * @param {WiredText[] | undefined} storedTexts the texts stored in the session; if undefined, the editor's text is returned
  * @returns {WiredText}
  */
-export function currentWiredText(answers, text, stored) {
+export function currentWiredText(answers, text, storedTexts) {
   const board = answers.join("\n");
-  if (!stored || new BoardDraft(text).matchesAnswers(answers)) return { text, board };
-  return stored.find((each) => each.board === board) || { text: "", board };
+  if (!storedTexts || new BoardDraft(text).matchesAnswers(answers)) return { text, board };
+  return storedTexts.find((each) => each.board === board) || { text: "", board };
 }
 
 /**

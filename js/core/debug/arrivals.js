@@ -3,7 +3,7 @@
 // that the conditions use.
 
 import { Probes } from "../conditions/probes.js";
-import { Answers } from "../engine/forecast_answers.js";
+import { ForecastAnswers } from "../engine/forecast_answers.js";
 import { plannedCycles } from "./goal_search.js";
 
 /**
@@ -115,7 +115,7 @@ export class Arrivals {
       const cyclesLeft = cycles - cyclesRun;
       const runs = Math.min(cyclesLeft, MAX_RUNS, Math.max(1, Math.round(2 * this.density * cyclesLeft)));
       const pair = `run ${Math.floor(cyclesLeft / runs)}\n${this.probes.lines}`;
-      const answers = new Answers(engine.serve(file, before + pair.repeat(runs), file).answers);
+      const answers = new ForecastAnswers(engine.serve(file, before + pair.repeat(runs), file).answers);
       answers.skip(skippedCount);
       [before, skippedCount] = ["", 0];
       while (!answers.isEmpty) {

@@ -31,7 +31,7 @@ const TOO_MANY_ENABLED = say.tooManyEnabled(MAX_ENABLED);
 const MAX_LISTS = 30;
 
 /** The breakpoints of the current session, in the list and in the bench. */
-export class BreakpointKeeper {
+export class BreakpointManager {
   /** @param {KeeperCalls} calls */
   constructor(calls) {
     this.calls = calls;
@@ -43,7 +43,7 @@ export class BreakpointKeeper {
     /** The reason why ROM does not contain the bytes of the source, or "". */
     this.mapError = "";
     /** @type {string[]} the watch expressions, whose names conditions can use */
-    this.watched = [];
+    this.watchTexts = [];
     /** @type {Map<number, string>} the error messages of breakpoints that cannot be compiled, by id */
     this.faults = new Map();
     /** @type {Set<number> | null} the breakpoint addresses on the bench; null before the first report about a session */
@@ -56,7 +56,7 @@ export class BreakpointKeeper {
     this.pendingCount = 0;
     this.lastRequest = "";
     /** @type {Promise<void>} resolves after all requests are answered */
-    this.settled = Promise.resolve();
+    this.allSent = Promise.resolve();
     /** @type {{ id: number, changes: Partial<SavedBreakpoint> } | null} the changed fields of a breakpoint that the user edits */
     this.typedEdit = null;
   }
@@ -72,7 +72,7 @@ export class BreakpointKeeper {
    */
   open(id, savedBreakpoints) {
     const storedList = this.lists.get(id);
-    const isReusable = storedList && JSON.stringify(storedList.kept) === JSON.stringify(savedBreakpoints);
+    const isReusable = storedList && JSON.stringify(storedList.savedBreakpoints) === JSON.stringify(savedBreakpoints);
     this.list = storedList && isReusable ? storedList : new BreakpointList(savedBreakpoints);
     this.list.resetHits();
     this.lists.delete(id);
@@ -94,7 +94,7 @@ export class BreakpointKeeper {
    * @param {string[]} texts
    */
   setWatchExpressions(texts) {
-    this.watched = texts;
+    this.watchTexts = texts;
     if (this.onBench) this.apply();
   }
 
@@ -108,7 +108,7 @@ export class BreakpointKeeper {
    * Moves the breakpoints after edits of the source text.
    * @param {Edit[]} edits the edits, in order
    */
-  edited(edits) {
+  applyTextEdits(edits) {
     const effectiveEdits = edits.filter((edit) => this.list.edit(edit));
     if (effectiveEdits.length === 0) return;
     if (this.onBench) this.apply();
@@ -281,9 +281,10 @@ export class BreakpointKeeper {
    * The breakpoints to save in the session, including the changes that the user is typing.
    * @returns {SavedBreakpoint[]}
    */
-  get kept() {
+  get savedBreakpoints() {
     const { list, typedEdit } = this;
-    return list.kept.map((each, at) => (typedEdit && typedEdit.id === list.all[at].id ? { ...each, ...typedEdit.changes } : each));
+    return list.savedBreakpoints.map((each, at) => (
+      typedEdit && typedEdit.id === list.all[at].id ? { ...each, ...typedEdit.changes } : each));
   }
 
   /**
@@ -348,7 +349,7 @@ export class BreakpointKeeper {
     this.calls.changed();
     const { placed } = this.list;
     // A name can have another meaning in another text, so the comparison includes the texts.
-    const names = placed.some(isSoft) ? [this.map ? this.map.text : "", this.watched] : [];
+    const names = placed.some(isSoft) ? [this.map ? this.map.text : "", this.watchTexts] : [];
     const request = JSON.stringify([names, placed.map((each) => ({ ...each, line: 0, hits: 0 }))]);
     const isNothingSet = placed.length === 0 && this.onBench !== null && this.onBench.size === 0;
     if (request === this.lastRequest || (this.lastRequest === "" && isNothingSet)) return;
@@ -363,7 +364,7 @@ export class BreakpointKeeper {
   send(placed) {
     const { list, hardAddresses } = this;
     this.pendingCount += 1;
-    this.settled = Promise.all([this.calls.set(placed), this.settled])
+    this.allSent = Promise.all([this.calls.set(placed), this.allSent])
       .finally(() => {
         this.pendingCount -= 1;
       })

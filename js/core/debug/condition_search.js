@@ -21,7 +21,7 @@ import * as say from "../../words/debug.js";
 export function compileSearchCondition(text, names) {
   const { condition, ...conditionError } = compileTracedCondition(text, names);
   if (!condition) {
-    // For a text without a comparison that contains an unknown name, the message reports the name.
+    // If the text has no comparison but an unknown name, the message reports the name.
     const value = compileExpression(text, names);
     const { fault, column } = value.expression ? conditionError : value;
     return { searchCondition: null, fault: inColumn(fault, column) };

@@ -56,7 +56,7 @@ export class DebugSession {
   constructor(engine, { file, board = "", program = "" }) {
     const bytes = file ? file.slice() : engine.begin();
     /** @type {{ word: "wire" | "asm", refusal: Refusal }[]} the refusals of the texts that the bench rejected */
-    this.refused = [];
+    this.rejectedTexts = [];
     this.boardText = board;
     this.program = program;
     /** The maximum length of a piece of a run, in cycles. */
@@ -82,7 +82,7 @@ export class DebugSession {
   sendText(engine, file, word, text) {
     if (text === "") return;
     const refusal = parseRefusal(engine.serve(file, `${word}\n${text}.\n`, file).answers[0]);
-    if (refusal) this.refused.push({ word, refusal });
+    if (refusal) this.rejectedTexts.push({ word, refusal });
   }
 
   get file() {

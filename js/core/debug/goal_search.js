@@ -4,7 +4,7 @@
 import { CancelledError } from "../bench/bench_errors.js";
 import { MAX_RUN_CYCLES } from "../engine/key_queue.js";
 import { FIRST_PIECE_CYCLES, PieceSize } from "../engine/piece_size.js";
-import { Answers } from "../engine/forecast_answers.js";
+import { ForecastAnswers } from "../engine/forecast_answers.js";
 import { LARGEST_PIECE, missingGoalEnd, createWatcher } from "./goals.js";
 
 /**
@@ -31,7 +31,7 @@ function pieceLines(watcher, cycles) {
 
 /**
  * Searches the answers to run lines for the goal or a stop. Returns null if the runs reach neither.
- * @param {Answers} answers
+ * @param {ForecastAnswers} answers
  * @param {Watcher} watcher
  * @returns {SearchResult | null} the cycles count from the start of the first run
  */
@@ -64,7 +64,8 @@ export async function searchGoal(engine, file, goal, shouldContinue, maxCycles, 
   const piece = new PieceSize(FIRST_PIECE_CYCLES, 1, LARGEST_PIECE);
   for (let done = 0; done < maxCycles;) {
     const cycles = Math.min(piece.size, watcher.most(), maxCycles - done);
-    const found = piece.measure(() => searchAnswers(new Answers(engine.serve(copy, pieceLines(watcher, cycles), copy).answers), watcher));
+    const found = piece.measure(() => (
+      searchAnswers(new ForecastAnswers(engine.serve(copy, pieceLines(watcher, cycles), copy).answers), watcher)));
     if (found) return { ...found, cycles: done + found.cycles };
     done += cycles;
     if (!(await shouldContinue(done))) throw new CancelledError();
@@ -90,7 +91,7 @@ export function plannedCycles({ line, change }) {
 export function cyclesToGoal(engine, file, planned, watcher) {
   const lines = planned.map((each) => (
     each.change ? `${each.line}\n` : `${watcher.before(plannedCycles(each))}${each.line}\n${watcher.after}`));
-  const answers = new Answers(engine.ask(file, watcher.first + lines.join("")).answers);
+  const answers = new ForecastAnswers(engine.ask(file, watcher.first + lines.join("")).answers);
   if (watcher.first) answers.take();
   let done = 0;
   for (const { change } of planned) {

@@ -11,7 +11,7 @@ import { becomesTrue } from "./condition_search.js";
 
 /**
  * @typedef {import("../engine/engine_host.js").EngineHost} Engine
- * @typedef {import("../engine/forecast_answers.js").Answers} Answers
+ * @typedef {import("../engine/forecast_answers.js").ForecastAnswers} ForecastAnswers
  * @typedef {import("../engine/forecast_answers.js").TracedInstruction} TracedInstruction
  * @typedef {import("./condition_search.js").SearchCondition} SearchCondition
  *
@@ -29,7 +29,7 @@ import { becomesTrue } from "./condition_search.js";
  * run in cycles. `before`: returns the queries before a run. `after`: the queries after a run. `take`: reads the answers to the queries and
  * to the run, and returns the result. `returns`: true if a return from a subroutine reaches the goal.
  * @typedef {{ first: string, most: () => number, before: (cycles: number) => string, after: string,
- *   take: (answers: Answers) => SearchResult, returns: boolean }} Watcher
+ *   take: (answers: ForecastAnswers) => SearchResult, returns: boolean }} Watcher
  */
 
 /** The maximum length of a piece of a search, in cycles. */

@@ -33,7 +33,7 @@ const CHARACTER_INSTRUCTIONS = new Set(["WRM", "RDM", "ADM", "SBM"]);
  * Joins pieces into one text.
  * @param {Piece[]} pieces
  */
-export function textOf(pieces) {
+export function joinPieces(pieces) {
   return pieces.map((piece) => (typeof piece === "string" ? piece : piece.value)).join("");
 }
 

@@ -2,7 +2,7 @@
 // bench decides whether the resulting text is valid.
 
 import { boardLines } from "../bench/board_form.js";
-import { counted } from "../bench/numbers.js";
+import { formatQuantity } from "../bench/numbers.js";
 import { Face } from "../board/face.js";
 import { BUZZER, parseChainBit, canWire, targetName, splitTarget, inputLines } from "./board_lines.js";
 import {
@@ -12,7 +12,7 @@ import {
 import { deletePart, displayAt, lampsInSameGroup } from "./part_deletion.js";
 import { COLOURS, colourLamp, moveBuzzer, nameKey, nameLamp, setLineText, toWord } from "./face_edits.js";
 import { replaceValue, setValue } from "./part_edits.js";
-import { ImpossibleAction, Sketch } from "./edited_board.js";
+import { ImpossibleAction, EditedBoard } from "./edited_board.js";
 import * as say from "../../words/drawing.js";
 
 /**
@@ -46,62 +46,62 @@ export const SHELF_PARTS = ["rom", "inputs", "ram", "chain", "keys", "lamp", "bu
 
 /**
  * Adds a part from the shelf; returns its name.
- * @param {Sketch} sketch
+ * @param {EditedBoard} editedBoard
  * @param {Extract<DrawingAction, { kind: "add" }>} act
  * @returns {string}
  */
-function addFromShelf(sketch, { part, line, digits = 1 }) {
+function addFromShelf(editedBoard, { part, line, digits = 1 }) {
   switch (part) {
-    case "scanned": return addMultiplexedDisplay(sketch, digits);
-    case "rom": return addRom(sketch, OUTPUT_MASK);
-    case "inputs": return addRom(sketch, INPUT_MASK);
+    case "scanned": return addMultiplexedDisplay(editedBoard, digits);
+    case "rom": return addRom(editedBoard, OUTPUT_MASK);
+    case "inputs": return addRom(editedBoard, INPUT_MASK);
     case "ram":
-      ensureRom(sketch);
-      return addRam(sketch);
-    case "chain": return addChain(sketch);
-    case "keys": return addKeys(sketch);
-    case "lamp": return addLamp(sketch, line);
-    case "buzzer": return addBuzzer(sketch, line);
-    case "digit": case "segments": return addDisplay(sketch, part, digits);
-    default: return addTest(sketch, part);
+      ensureRom(editedBoard);
+      return addRam(editedBoard);
+    case "chain": return addChain(editedBoard);
+    case "keys": return addKeys(editedBoard);
+    case "lamp": return addLamp(editedBoard, line);
+    case "buzzer": return addBuzzer(editedBoard, line);
+    case "digit": case "segments": return addDisplay(editedBoard, part, digits);
+    default: return addTest(editedBoard, part);
   }
 }
 
 /**
  * Adds a button or switch at the TEST pin; returns the part name.
- * @param {Sketch} sketch
+ * @param {EditedBoard} editedBoard
  * @param {"button" | "switch"} kind
  */
-function addTest(sketch, kind) {
-  if (new Face(sketch.text).test) throw new ImpossibleAction(say.TEST_IN_USE);
-  ensureRom(sketch);
-  sketch.edit(setLineText(sketch.draft, "test", "", `${kind} ${kind === "button" ? "PUSH" : "RUN"}`));
+function addTest(editedBoard, kind) {
+  if (new Face(editedBoard.text).test) throw new ImpossibleAction(say.TEST_IN_USE);
+  ensureRom(editedBoard);
+  editedBoard.edit(setLineText(editedBoard.draft, "test", "", `${kind} ${kind === "button" ? "PUSH" : "RUN"}`));
   return "test";
 }
 
 /**
  * Connects a signal line to an input; throws `ImpossibleAction` if the connection is not allowed.
- * @param {Sketch} sketch
+ * @param {EditedBoard} editedBoard
  * @param {string} name the name of the line
  * @param {string} target the input
  */
-function connectLine(sketch, name, target) {
-  const { board, draft } = sketch;
+function connectLine(editedBoard, name, target) {
+  const { board, draft } = editedBoard;
   const line = boardLines(board).find((each) => each.name === name);
   if (!line || !inputLines(board).has(target)) throw new ImpossibleAction(say.boardHasNo(line ? target : name));
   if (!canWire(board, line, target)) throw new ImpossibleAction(wireRefusal(line, target));
   const [kind, number] = splitTarget(target);
-  if (kind === "clock" || kind === "data") sketch.edit([setValue(draft, draft.entry("chain", number), kind, name)]);
-  if (kind === "lamp") sketch.edit([setValue(draft, draft.entry("lamp", number), "line", name)]);
-  if (kind === "buzzer") sketch.edit(moveBuzzer(draft, name));
+  if (kind === "clock" || kind === "data") editedBoard.edit([setValue(draft, draft.entry("chain", number), kind, name)]);
+  if (kind === "lamp") editedBoard.edit([setValue(draft, draft.entry("lamp", number), "line", name)]);
+  if (kind === "buzzer") editedBoard.edit(moveBuzzer(draft, name));
   if (kind === "column") {
     const columns = draft.requireKey(draft.entry("keys", 0), "columns").value;
-    sketch.edit([replaceValue(draft, /** @type {import("../text/board_reader.js").Value[]} */ (columns.inner)[number], name)]);
+    editedBoard.edit([replaceValue(draft, /** @type {import("../text/board_reader.js").Value[]} */ (columns.inner)[number], name)]);
   }
   if (kind === "row") {
     const { chain, bit } = parseChainBit(name);
     const keys = draft.entry("keys", 0);
-    sketch.edit([setValue(draft, keys, "chain", chain), setValue(draft, keys, "first", bit - number)]);
+    editedBoard.edit([setValue(draft, keys, "chain", chain), setValue(draft, keys, "first", bit - number)]);
   }
 }
 
@@ -120,13 +120,13 @@ function wireRefusal({ name, kind, isInput }, target) {
 
 /**
  * Makes a ROM line an input or an output; throws `ImpossibleAction` if connected parts need the other direction.
- * @param {Sketch} sketch
+ * @param {EditedBoard} editedBoard
  * @param {string} line
  * @param {string} mode `i`, `0` or `1`
  */
-function setPort(sketch, line, mode) {
+function setPort(editedBoard, line, mode) {
   const [chip, at] = line.replace("rom", "").split(".").map(Number);
-  const { draft, board } = sketch;
+  const { draft, board } = editedBoard;
   const entry = draft.partByNumber("rom", chip);
   const port = String(draft.requireKey(entry, "port").value.inner);
   const users = [...inputLines(board)].filter(([target, name]) => name === line && target !== BUZZER).map(([target]) => target);
@@ -134,75 +134,75 @@ function setPort(sketch, line, mode) {
   if (changesDirection && users.length > 0) {
     throw new ImpossibleAction(say.takenLine(line, users.map(targetName).join(say.AND)));
   }
-  requireOutputs(sketch, (each) => changesDirection && each === line);
-  sketch.edit([setValue(draft, entry, "port", port.slice(0, 3 - at) + mode + port.slice(4 - at))]);
+  requireOutputs(editedBoard, (each) => changesDirection && each === line);
+  editedBoard.edit([setValue(draft, entry, "port", port.slice(0, 3 - at) + mode + port.slice(4 - at))]);
 }
 
 /**
  * Adds a copy of an existing part; returns its name.
- * @param {Sketch} sketch
+ * @param {EditedBoard} editedBoard
  * @param {string} part
  */
-function copyPart(sketch, part) {
-  const { board, text } = sketch;
+function copyPart(editedBoard, part) {
+  const { board, text } = editedBoard;
   const [kind, number] = splitTarget(part);
   const face = new Face(text);
-  if (kind === "rom") return addRom(sketch, (board.roms.find(({ chip }) => Number(chip) === number) || { port: OUTPUT_MASK }).port);
-  if (kind === "ram") return addRam(sketch);
-  if (kind === "chain") return addChain(sketch, board.chains[number].chips);
+  if (kind === "rom") return addRom(editedBoard, (board.roms.find(({ chip }) => Number(chip) === number) || { port: OUTPUT_MASK }).port);
+  if (kind === "ram") return addRam(editedBoard);
+  if (kind === "chain") return addChain(editedBoard, board.chains[number].chips);
   if (kind !== "lamp") throw new ImpossibleAction(say.ONLY_ONCE);
   const display = displayAt(face, number);
-  if (display) return addDisplay(sketch, display.columns < 7 ? "digit" : "segments", display.rows);
+  if (display) return addDisplay(editedBoard, display.columns < 7 ? "digit" : "segments", display.rows);
   if (lampsInSameGroup(face, number).length > 1) throw new ImpossibleAction(say.COPY_IN_TEXT);
-  return addLamp(sketch, "", (face.colours.get(number) || { text: "" }).text);
+  return addLamp(editedBoard, "", (face.colours.get(number) || { text: "" }).text);
 }
 
 /**
  * Names a lamp; throws `ImpossibleAction` if the new name would change the lamps on the grid.
- * @param {Sketch} sketch
+ * @param {EditedBoard} editedBoard
  * @param {number} lamp
  * @param {string} name
  */
-function renameLamp(sketch, lamp, name) {
+function renameLamp(editedBoard, lamp, name) {
   /** @type {(text: string) => string} */
   const describeGrid = (text) => new Face(text).grid.map((each) => `${each.row} ${each.column} ${each.lamp}`).join();
-  const grid = describeGrid(sketch.text);
-  sketch.edit(nameLamp(sketch.draft, lamp, name));
-  if (describeGrid(sketch.text) !== grid) throw new ImpossibleAction(say.GRID_DIFFERS);
+  const grid = describeGrid(editedBoard.text);
+  editedBoard.edit(nameLamp(editedBoard.draft, lamp, name));
+  if (describeGrid(editedBoard.text) !== grid) throw new ImpossibleAction(say.GRID_DIFFERS);
 }
 
 /**
  * Names a part; throws `ImpossibleAction` if the name is not allowed.
- * @param {Sketch} sketch
+ * @param {EditedBoard} editedBoard
  * @param {string} part
  * @param {string} name
  */
-function renamePart(sketch, part, name) {
-  const { draft, text, board } = sketch;
+function renamePart(editedBoard, part, name) {
+  const { draft, text, board } = editedBoard;
   const [kind, number] = splitTarget(part);
-  if (kind === "lamp") renameLamp(sketch, number, name);
-  else if (kind === "key") sketch.edit(nameKey(draft, { row: number, column: Number(part.split(" ")[2]) }, name));
-  else if (kind === "title") sketch.edit(setLineText(draft, "title", "", name));
+  if (kind === "lamp") renameLamp(editedBoard, number, name);
+  else if (kind === "key") editedBoard.edit(nameKey(draft, { row: number, column: Number(part.split(" ")[2]) }, name));
+  else if (kind === "title") editedBoard.edit(setLineText(draft, "title", "", name));
   else if (kind === "test") {
     const { test } = new Face(text);
     if (!test || toWord(name) === "") throw new ImpossibleAction(say.TEST_NEEDS_NAME);
-    sketch.edit(setLineText(draft, "test", "", `${test.kind} ${toWord(name)}${test.level ? " to 1" : ""}`));
+    editedBoard.edit(setLineText(draft, "test", "", `${test.kind} ${toWord(name)}${test.level ? " to 1" : ""}`));
   } else if (kind === "buzzer") {
     if (!board.buzzer || name.trim() === "") throw new ImpossibleAction(say.BUZZER_NEEDS_NAME);
-    sketch.edit(setLineText(draft, "buzzer", board.buzzer, name));
-  } else if (["rom", "ram", "chain"].includes(kind)) sketch.edit(setLineText(draft, "port", part.replace(" ", ""), name));
+    editedBoard.edit(setLineText(draft, "buzzer", board.buzzer, name));
+  } else if (["rom", "ram", "chain"].includes(kind)) editedBoard.edit(setLineText(draft, "port", part.replace(" ", ""), name));
   else throw new ImpossibleAction(say.NO_OWN_NAME);
 }
 
 /**
  * Sets the lamp colour; throws `ImpossibleAction` for an unknown colour.
- * @param {Sketch} sketch
+ * @param {EditedBoard} editedBoard
  * @param {number} lamp
  * @param {string} colour "" for the default
  */
-function setColour(sketch, lamp, colour) {
+function setColour(editedBoard, lamp, colour) {
   if (colour !== "" && !COLOURS.has(colour)) throw new ImpossibleAction(say.noColour(colour, [...COLOURS].join(", ")));
-  sketch.edit(colourLamp(sketch.draft, lamp, colour));
+  editedBoard.edit(colourLamp(editedBoard.draft, lamp, colour));
 }
 
 /**
@@ -224,45 +224,45 @@ function capitalize(text) {
 
 /**
  * Performs an action; returns the name of the affected part and the message.
- * @param {Sketch} sketch
+ * @param {EditedBoard} editedBoard
  * @param {DrawingAction} action
  * @returns {[string, string]}
  */
-function perform(sketch, action) {
-  const { board } = sketch;
+function perform(editedBoard, action) {
+  const { board } = editedBoard;
   switch (action.kind) {
     case "add": {
-      const part = addFromShelf(sketch, action);
+      const part = addFromShelf(editedBoard, action);
       const isDisplay = ["digit", "segments", "scanned"].includes(action.part);
       const digits = action.digits || 1;
-      return [part, isDisplay ? say.displayAdded(counted(digits, "digit")) : completionMessage(part, "added")];
+      return [part, isDisplay ? say.displayAdded(formatQuantity(digits, "digit")) : completionMessage(part, "added")];
     }
     case "copy": {
-      const part = copyPart(sketch, action.part);
+      const part = copyPart(editedBoard, action.part);
       return [part, say.copyAdded(capitalize(displayedPartName(part)), displayedPartName(action.part))];
     }
     case "wire":
-      connectLine(sketch, action.line, action.target);
+      connectLine(editedBoard, action.line, action.target);
       return [action.target, say.lineWired(action.line, targetName(action.target))];
     case "port":
-      setPort(sketch, action.line, action.as);
+      setPort(editedBoard, action.line, action.as);
       return [action.line, say.lineIs(action.line, action.as === "i" ? say.INPUT : say.outputReadsAs(action.as))];
     case "chips":
-      return [setChips(sketch, action.chain, action.chips), say.chainHas(action.chain, counted(action.chips, "chip"))];
+      return [setChips(editedBoard, action.chain, action.chips), say.chainHas(action.chain, formatQuantity(action.chips, "chip"))];
     case "rows":
-      if (board.matrix && action.rows < board.matrix.rows) deletePart(sketch, `row ${action.rows}`);
-      else setRows(sketch, action.rows);
-      return ["keys", say.keysHave(counted(action.rows, "row"))];
-    case "column": return [addColumn(sketch), say.MORE_COLUMNS];
+      if (board.matrix && action.rows < board.matrix.rows) deletePart(editedBoard, `row ${action.rows}`);
+      else setRows(editedBoard, action.rows);
+      return ["keys", say.keysHave(formatQuantity(action.rows, "row"))];
+    case "column": return [addColumn(editedBoard), say.MORE_COLUMNS];
     case "delete": {
-      const words = deletePart(sketch, action.part);
+      const words = deletePart(editedBoard, action.part);
       return ["", `${completionMessage(action.part, "deleted")}${words && say.andWithIt(words)}`];
     }
     case "name":
-      renamePart(sketch, action.part, action.name);
+      renamePart(editedBoard, action.part, action.name);
       return [action.part, say.named(capitalize(displayedPartName(action.part)), action.name.trim())];
     case "colour":
-      setColour(sketch, action.lamp, action.colour);
+      setColour(editedBoard, action.lamp, action.colour);
       return [`lamp ${action.lamp}`, say.lampIs(action.lamp, action.colour || say.USUAL_RED)];
   }
 }
@@ -288,15 +288,15 @@ function newPanelError(textBefore, textAfter) {
  */
 export function applyAction(text, action) {
   const unchanged = { edits: [], text, part: "", words: "", deletedChains: [] };
-  const sketch = new Sketch(text);
-  if (!sketch.draft.isToml || !sketch.draft.boardAnswers) return { ...unchanged, refusal: say.TEXT_HAS_ERRORS };
+  const editedBoard = new EditedBoard(text);
+  if (!editedBoard.draft.isToml || !editedBoard.draft.boardAnswers) return { ...unchanged, refusal: say.TEXT_HAS_ERRORS };
   try {
-    const [part, message] = perform(sketch, action);
-    const fault = newPanelError(text, sketch.text);
+    const [part, message] = perform(editedBoard, action);
+    const fault = newPanelError(text, editedBoard.text);
     if (fault) return { ...unchanged, refusal: fault };
-    const alsoAdded = sketch.addedParts.length > 0 ? say.withAlso(say.listOf(sketch.addedParts)) : "";
-    const { edits, deletedChains } = sketch;
-    return { edits, text: sketch.text, part, words: `${message}${alsoAdded}.`, deletedChains, refusal: "" };
+    const alsoAdded = editedBoard.addedParts.length > 0 ? say.withAlso(say.listOf(editedBoard.addedParts)) : "";
+    const { edits, deletedChains } = editedBoard;
+    return { edits, text: editedBoard.text, part, words: `${message}${alsoAdded}.`, deletedChains, refusal: "" };
   } catch (fault) {
     if (!(fault instanceof ImpossibleAction)) throw fault;
     return { ...unchanged, refusal: fault.message };
@@ -318,5 +318,5 @@ export function reasonNotToAdd(text, part) {
  * @param {string[]} answers the answer to `board` after the bench has wired the text
  */
 export function matchesBench(text, answers) {
-  return new Sketch(text).draft.matchesAnswers(answers);
+  return new EditedBoard(text).draft.matchesAnswers(answers);
 }

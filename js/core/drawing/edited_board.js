@@ -3,7 +3,7 @@
 import { Face } from "../board/face.js";
 import { BoardDraft } from "./board_draft.js";
 import { boardWithBuzzer } from "./board_lines.js";
-import { edited, makeSuccessive } from "./text_edits.js";
+import { applyEdits, makeSuccessive } from "./text_edits.js";
 
 /**
  * @typedef {import("./text_edits.js").TextEdit} TextEdit
@@ -13,7 +13,7 @@ import { edited, makeSuccessive } from "./text_edits.js";
 export class ImpossibleAction extends Error {}
 
 /** The board text during an action. */
-export class Sketch {
+export class EditedBoard {
   /** @param {string} text */
   constructor(text) {
     this.draft = new BoardDraft(text);
@@ -32,7 +32,7 @@ export class Sketch {
   edit(edits) {
     const successive = makeSuccessive(edits);
     this.edits.push(...successive);
-    this.draft = new BoardDraft(edited(this.draft.text, successive));
+    this.draft = new BoardDraft(applyEdits(this.draft.text, successive));
   }
 
   get text() {

@@ -1,6 +1,6 @@
 // Adds parts to a board and connects them to free signal lines. If there are too few free lines, also adds chips with free lines.
 
-import { counted, indices } from "../bench/numbers.js";
+import { formatQuantity, indices } from "../bench/numbers.js";
 import { Face } from "../board/face.js";
 import { printerLines } from "../board/face_board.js";
 import { limit } from "../board/face_words.js";
@@ -12,7 +12,7 @@ import { ImpossibleAction } from "./edited_board.js";
 import * as say from "../../words/drawing.js";
 
 /**
- * @typedef {import("./edited_board.js").Sketch} Sketch
+ * @typedef {import("./edited_board.js").EditedBoard} EditedBoard
  * @typedef {import("./board_lines.js").Board} Board
  */
 
@@ -32,42 +32,42 @@ function freeNumber(usedNumbers, count) {
 
 /**
  * Adds a ROM; returns its name.
- * @param {Sketch} sketch
+ * @param {EditedBoard} editedBoard
  * @param {string} port the port mask
  */
-export function addRom(sketch, port) {
-  const chip = freeNumber(sketch.board.roms.map((rom) => Number(rom.chip)), MAX_PARTS.rom);
+export function addRom(editedBoard, port) {
+  const chip = freeNumber(editedBoard.board.roms.map((rom) => Number(rom.chip)), MAX_PARTS.rom);
   if (chip === undefined) throw new ImpossibleAction(say.maxRoms(MAX_PARTS.rom));
-  sketch.edit(addPart(sketch.draft, "rom", { chip, port }));
+  editedBoard.edit(addPart(editedBoard.draft, "rom", { chip, port }));
   return `rom ${chip}`;
 }
 
 /**
  * Adds a RAM chip; returns its name.
- * @param {Sketch} sketch
+ * @param {EditedBoard} editedBoard
  */
-export function addRam(sketch) {
-  const { banks } = sketch.board;
+export function addRam(editedBoard) {
+  const { banks } = editedBoard.board;
   const { to: maxChips } = VALUE_RANGES["ram.chips"];
   const openBank = banks.find(({ chips }) => chips < maxChips);
   if (openBank) {
-    sketch.edit([setValue(sketch.draft, sketch.draft.partByNumber("ram", openBank.bank), "chips", openBank.chips + 1)]);
+    editedBoard.edit([setValue(editedBoard.draft, editedBoard.draft.partByNumber("ram", openBank.bank), "chips", openBank.chips + 1)]);
     return `ram ${openBank.bank}.${openBank.chips}`;
   }
   const bank = freeNumber(banks.map((each) => each.bank), MAX_PARTS.ram);
   if (bank === undefined) throw new ImpossibleAction(say.maxRams(MAX_PARTS.ram, maxChips));
-  sketch.edit(addPart(sketch.draft, "ram", { bank, chips: 1 }));
+  editedBoard.edit(addPart(editedBoard.draft, "ram", { bank, chips: 1 }));
   return `ram ${bank}.0`;
 }
 
 /**
  * Adds a part that another part needs; returns its name.
- * @param {Sketch} sketch
+ * @param {EditedBoard} editedBoard
  * @param {() => string} add adds the part and returns its name
  */
-function addRequired(sketch, add) {
+function addRequired(editedBoard, add) {
   const part = add();
-  sketch.addedParts.push(displayedPartName(part));
+  editedBoard.addedParts.push(displayedPartName(part));
   return part;
 }
 
@@ -85,22 +85,22 @@ export function displayedPartName(part) {
 
 /**
  * Adds a ROM for the program if the board has none.
- * @param {Sketch} sketch
+ * @param {EditedBoard} editedBoard
  */
-export function ensureRom(sketch) {
-  if (sketch.board.roms.length === 0) addRequired(sketch, () => addRom(sketch, OUTPUT_MASK));
+export function ensureRom(editedBoard) {
+  if (editedBoard.board.roms.length === 0) addRequired(editedBoard, () => addRom(editedBoard, OUTPUT_MASK));
 }
 
 /**
  * Adds parts until there are enough free lines; returns the first `count` free lines.
- * @param {Sketch} sketch
+ * @param {EditedBoard} editedBoard
  * @param {number} count the number of lines
  * @param {(board: Board) => string[]} find returns the suitable free lines
  * @param {() => string} add adds a part with suitable lines
  */
-function ensureLines(sketch, count, find, add) {
-  while (find(sketch.board).length < count) addRequired(sketch, add);
-  return find(sketch.board).slice(0, count);
+function ensureLines(editedBoard, count, find, add) {
+  while (find(editedBoard.board).length < count) addRequired(editedBoard, add);
+  return find(editedBoard.board).slice(0, count);
 }
 
 /**
@@ -130,14 +130,14 @@ function freeLampLines(board) {
 
 /**
  * Adds a chain; returns its name.
- * @param {Sketch} sketch
+ * @param {EditedBoard} editedBoard
  * @param {number} chips
  */
-export function addChain(sketch, chips = 1) {
-  const at = sketch.board.chains.length;
+export function addChain(editedBoard, chips = 1) {
+  const at = editedBoard.board.chains.length;
   if (at >= MAX_PARTS.chain) throw new ImpossibleAction(say.maxChains(MAX_PARTS.chain));
-  const [clock, data] = ensureLines(sketch, 2, freeOutputs, () => addRom(sketch, OUTPUT_MASK));
-  sketch.edit(addPart(sketch.draft, "chain", { clock, data, chips }));
+  const [clock, data] = ensureLines(editedBoard, 2, freeOutputs, () => addRom(editedBoard, OUTPUT_MASK));
+  editedBoard.edit(addPart(editedBoard.draft, "chain", { clock, data, chips }));
   return `chain ${at}`;
 }
 
@@ -158,35 +158,35 @@ function freeBits(board, count) {
 
 /**
  * Returns `count` consecutive free bits of a chain; adds a chain if necessary.
- * @param {Sketch} sketch
+ * @param {EditedBoard} editedBoard
  * @param {number} count
  */
-function ensureBits(sketch, count) {
-  if (!freeBits(sketch.board, count)) addRequired(sketch, () => addChain(sketch, Math.ceil(count / BITS_PER_CHIP)));
-  return /** @type {{ chain: number, first: number }} */ (freeBits(sketch.board, count));
+function ensureBits(editedBoard, count) {
+  if (!freeBits(editedBoard.board, count)) addRequired(editedBoard, () => addChain(editedBoard, Math.ceil(count / BITS_PER_CHIP)));
+  return /** @type {{ chain: number, first: number }} */ (freeBits(editedBoard.board, count));
 }
 
 /**
  * Adds a key matrix with one row and one column per free input line, at most four; returns its name.
- * @param {Sketch} sketch
+ * @param {EditedBoard} editedBoard
  */
-export function addKeys(sketch) {
-  if (sketch.board.matrix) throw new ImpossibleAction(say.ONE_MATRIX);
-  ensureRom(sketch);
-  const { chain, first } = ensureBits(sketch, 1);
-  if (freeInputs(sketch.board).length === 0) addRequired(sketch, () => addRom(sketch, INPUT_MASK));
-  const columns = freeInputs(sketch.board).slice(0, 4);
-  sketch.edit(addPart(sketch.draft, "keys", { chain, first, rows: 1, columns }));
+export function addKeys(editedBoard) {
+  if (editedBoard.board.matrix) throw new ImpossibleAction(say.ONE_MATRIX);
+  ensureRom(editedBoard);
+  const { chain, first } = ensureBits(editedBoard, 1);
+  if (freeInputs(editedBoard.board).length === 0) addRequired(editedBoard, () => addRom(editedBoard, INPUT_MASK));
+  const columns = freeInputs(editedBoard.board).slice(0, 4);
+  editedBoard.edit(addPart(editedBoard.draft, "keys", { chain, first, rows: 1, columns }));
   return "keys";
 }
 
 /**
  * Sets the number of key rows; returns the name of the part.
- * @param {Sketch} sketch
+ * @param {EditedBoard} editedBoard
  * @param {number} rows
  */
-export function setRows(sketch, rows) {
-  const { matrix, chains } = sketch.board;
+export function setRows(editedBoard, rows) {
+  const { matrix, chains } = editedBoard.board;
   if (!matrix) throw new ImpossibleAction(say.NO_KEYS);
   const { from, to } = VALUE_RANGES["keys.rows"];
   if (rows > to) throw new ImpossibleAction(say.maxRows(to));
@@ -194,27 +194,27 @@ export function setRows(sketch, rows) {
   if (matrix.first + rows > BITS_PER_CHIP * chains[matrix.chain].chips) {
     throw new ImpossibleAction(say.noBitForRow(matrix.chain));
   }
-  sketch.edit([setValue(sketch.draft, sketch.draft.entry("keys", 0), "rows", rows)]);
+  editedBoard.edit([setValue(editedBoard.draft, editedBoard.draft.entry("keys", 0), "rows", rows)]);
   return "keys";
 }
 
 /**
  * Adds a key column; returns the name of the part.
- * @param {Sketch} sketch
+ * @param {EditedBoard} editedBoard
  */
-export function addColumn(sketch) {
-  const { matrix } = sketch.board;
+export function addColumn(editedBoard) {
+  const { matrix } = editedBoard.board;
   if (!matrix) throw new ImpossibleAction(say.NO_KEYS);
   if (matrix.columns.length >= MAX_COLUMNS) throw new ImpossibleAction(say.maxColumns(MAX_COLUMNS));
-  const [line] = ensureLines(sketch, 1, freeInputs, () => addRom(sketch, INPUT_MASK));
-  const { draft } = sketch;
-  sketch.edit(appendElement(draft, draft.requireKey(draft.entry("keys", 0), "columns").value, formatToml(line)));
+  const [line] = ensureLines(editedBoard, 1, freeInputs, () => addRom(editedBoard, INPUT_MASK));
+  const { draft } = editedBoard;
+  editedBoard.edit(appendElement(draft, draft.requireKey(draft.entry("keys", 0), "columns").value, formatToml(line)));
   return "keys";
 }
 
 /**
  * Throws `ImpossibleAction` if `count` more lamps exceed the maximum.
- * @param {Sketch} sketch
+ * @param {EditedBoard} editedBoard
  * @param {number} count
  */
 function checkLampCount({ board }, count) {
@@ -223,115 +223,115 @@ function checkLampCount({ board }, count) {
 
 /**
  * Adds one lamp at each line.
- * @param {Sketch} sketch
+ * @param {EditedBoard} editedBoard
  * @param {string[]} lines
  */
-function addLamps(sketch, lines) {
-  for (const line of lines) sketch.edit(addPart(sketch.draft, "lamp", { line }));
+function addLamps(editedBoard, lines) {
+  for (const line of lines) editedBoard.edit(addPart(editedBoard.draft, "lamp", { line }));
 }
 
 /**
  * Adds a lamp; returns its name.
- * @param {Sketch} sketch
+ * @param {EditedBoard} editedBoard
  * @param {string} [line] "" for the next free line
  * @param {string} [colour] "" for the default colour
  */
-export function addLamp(sketch, line = "", colour = "") {
-  checkLampCount(sketch, 1);
-  ensureRom(sketch);
-  const at = sketch.board.lamps.length;
-  const hasRam = sketch.board.banks.length > 0;
+export function addLamp(editedBoard, line = "", colour = "") {
+  checkLampCount(editedBoard, 1);
+  ensureRom(editedBoard);
+  const at = editedBoard.board.lamps.length;
+  const hasRam = editedBoard.board.banks.length > 0;
   // The first lamp of a board without RAM gets a RAM chip, so that later lamps can be at the same port.
-  if (!line && !hasRam && at === 0) addRequired(sketch, () => addRam(sketch));
-  addLamps(sketch, [line || ensureLines(sketch, 1, freeLampLines, () => addRam(sketch))[0]]);
-  if (colour) sketch.edit(colourLamp(sketch.draft, at, colour));
+  if (!line && !hasRam && at === 0) addRequired(editedBoard, () => addRam(editedBoard));
+  addLamps(editedBoard, [line || ensureLines(editedBoard, 1, freeLampLines, () => addRam(editedBoard))[0]]);
+  if (colour) editedBoard.edit(colourLamp(editedBoard.draft, at, colour));
   return `lamp ${at}`;
 }
 
 /**
  * Adds a buzzer; returns its name.
- * @param {Sketch} sketch
+ * @param {EditedBoard} editedBoard
  * @param {string} [line] "" for the next free port line
  */
-export function addBuzzer(sketch, line = "") {
-  if (new Face(sketch.text).buzzer) throw new ImpossibleAction(say.ONE_BUZZER);
-  ensureRom(sketch);
-  const output = line || ensureLines(sketch, 1, freeOutputs, () => addRam(sketch))[0];
-  sketch.edit(setLineText(sketch.draft, "buzzer", output, "buzzer"));
+export function addBuzzer(editedBoard, line = "") {
+  if (new Face(editedBoard.text).buzzer) throw new ImpossibleAction(say.ONE_BUZZER);
+  ensureRom(editedBoard);
+  const output = line || ensureLines(editedBoard, 1, freeOutputs, () => addRam(editedBoard))[0];
+  editedBoard.edit(setLineText(editedBoard.draft, "buzzer", output, "buzzer"));
   return BUZZER;
 }
 
 /**
  * Adds a display; returns the name of its first lamp. Each BCD digit uses a RAM port; seven-segment digits use chain bits.
- * @param {Sketch} sketch
+ * @param {EditedBoard} editedBoard
  * @param {"digit" | "segments"} kind
  * @param {number} digits
  */
-export function addDisplay(sketch, kind, digits) {
+export function addDisplay(editedBoard, kind, digits) {
   if (!Number.isInteger(digits) || digits < 1) throw new ImpossibleAction(say.MIN_DIGITS);
-  checkLampCount(sketch, digits * LINES_PER_DIGIT[kind]);
-  ensureRom(sketch);
-  const at = sketch.board.lamps.length;
-  if (kind === "digit") for (let digit = 0; digit < digits; digit++) addLamps(sketch, takeDigitPort(sketch));
-  else addLamps(sketch, takeSegmentBits(sketch, digits * LINES_PER_DIGIT.segments));
+  checkLampCount(editedBoard, digits * LINES_PER_DIGIT[kind]);
+  ensureRom(editedBoard);
+  const at = editedBoard.board.lamps.length;
+  if (kind === "digit") for (let digit = 0; digit < digits; digit++) addLamps(editedBoard, takeDigitPort(editedBoard));
+  else addLamps(editedBoard, takeSegmentBits(editedBoard, digits * LINES_PER_DIGIT.segments));
   // (The next literal is a comment in the board text, in the syntax of tools/lib/face.txt.)
   // eslint-disable-next-line no-restricted-syntax
-  const display = `${counted(digits, "digit")}${kind === "segments" ? " of 7 segments" : ""}`;
-  sketch.edit(addGroup(sketch.draft, "display", at, display));
+  const display = `${formatQuantity(digits, "digit")}${kind === "segments" ? " of 7 segments" : ""}`;
+  editedBoard.edit(addGroup(editedBoard.draft, "display", at, display));
   return `lamp ${at}`;
 }
 
 /**
  * Adds a multiplexed display with seven segment lines, shared by all digits, and one line per digit. Returns the name of its first lamp.
- * @param {Sketch} sketch
+ * @param {EditedBoard} editedBoard
  * @param {number} digits
  */
-export function addMultiplexedDisplay(sketch, digits) {
+export function addMultiplexedDisplay(editedBoard, digits) {
   const maxDigits = limit("scanned");
   if (!Number.isInteger(digits) || digits < 1 || digits > maxDigits) throw new ImpossibleAction(say.maxMultiplexed(maxDigits));
   const count = LINES_PER_DIGIT.segments + digits;
-  checkLampCount(sketch, count);
-  ensureRom(sketch);
-  const at = sketch.board.lamps.length;
+  checkLampCount(editedBoard, count);
+  ensureRom(editedBoard);
+  const at = editedBoard.board.lamps.length;
   /** @type {(board: Board) => string[]} */
   const find = (board) => freeLampLines(board).filter((line) => line.startsWith("ram"));
-  addLamps(sketch, ensureLines(sketch, count, find, () => addRam(sketch)));
+  addLamps(editedBoard, ensureLines(editedBoard, count, find, () => addRam(editedBoard)));
   // (The next literal is a comment in the board text, in the syntax of tools/lib/face.txt.)
   // eslint-disable-next-line no-restricted-syntax
-  const display = `${counted(digits, "digit")} of 7 segments scanned by ${at + LINES_PER_DIGIT.segments}`;
-  sketch.edit(addGroup(sketch.draft, "display", at, display));
+  const display = `${formatQuantity(digits, "digit")} of 7 segments scanned by ${at + LINES_PER_DIGIT.segments}`;
+  editedBoard.edit(addGroup(editedBoard.draft, "display", at, display));
   return `lamp ${at}`;
 }
 
 /**
  * Returns the lines of a free RAM port, line 3 first; adds a RAM chip if necessary.
- * @param {Sketch} sketch
+ * @param {EditedBoard} editedBoard
  */
-function takeDigitPort(sketch) {
-  const freeNames = new Set(freeOutputs(sketch.board));
-  for (const { bank, chips } of sketch.board.banks) {
+function takeDigitPort(editedBoard) {
+  const freeNames = new Set(freeOutputs(editedBoard.board));
+  for (const { bank, chips } of editedBoard.board.banks) {
     for (const chip of indices(chips)) {
       const lines = [3, 2, 1, 0].map((line) => `ram${bank}.${chip}.${line}`);
       if (lines.every((line) => freeNames.has(line))) return lines;
     }
   }
-  const added = addRequired(sketch, () => addRam(sketch)).replace(" ", "");
+  const added = addRequired(editedBoard, () => addRam(editedBoard)).replace(" ", "");
   return [3, 2, 1, 0].map((line) => `${added}.${line}`);
 }
 
 /**
  * Returns consecutive free chain bits for segments.
- * @param {Sketch} sketch
+ * @param {EditedBoard} editedBoard
  * @param {number} count
  */
-function takeSegmentBits(sketch, count) {
-  const { chain, first } = ensureBits(sketch, count);
+function takeSegmentBits(editedBoard, count) {
+  const { chain, first } = ensureBits(editedBoard, count);
   return indices(count).map((bit) => `chain${chain}.${first + bit}`);
 }
 
 /**
  * Throws `ImpossibleAction` if an action removes an output line of the buzzer or the printer.
- * @param {Sketch} sketch
+ * @param {EditedBoard} editedBoard
  * @param {(line: string) => boolean} isLost returns true if a line is no longer an output after the action
  */
 export function requireOutputs({ text }, isLost) {
@@ -343,19 +343,19 @@ export function requireOutputs({ text }, isLost) {
 
 /**
  * Sets the number of chips in a chain; returns the chain name.
- * @param {Sketch} sketch
+ * @param {EditedBoard} editedBoard
  * @param {number} chain
  * @param {number} chips
  */
-export function setChips(sketch, chain, chips) {
+export function setChips(editedBoard, chain, chips) {
   const { from, to } = VALUE_RANGES["chain.chips"];
   if (chips > to) throw new ImpossibleAction(say.maxChips(to));
   if (chips < from) throw new ImpossibleAction(say.MIN_CHIPS);
   /** @type {(line: string) => boolean} */
   const isBeyond = (line) => line.startsWith(`chain${chain}.`) && parseChainBit(line).bit >= BITS_PER_CHIP * chips;
-  requireOutputs(sketch, isBeyond);
-  const lostLine = [...inputLines(sketch.board).values()].find(isBeyond);
+  requireOutputs(editedBoard, isBeyond);
+  const lostLine = [...inputLines(editedBoard.board).values()].find(isBeyond);
   if (lostLine) throw new ImpossibleAction(say.inUse(lostLine));
-  sketch.edit([setValue(sketch.draft, sketch.draft.entry("chain", chain), "chips", chips)]);
+  editedBoard.edit([setValue(editedBoard.draft, editedBoard.draft.entry("chain", chain), "chips", chips)]);
   return `chain ${chain}`;
 }

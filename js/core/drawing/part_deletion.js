@@ -1,6 +1,6 @@
 // Deletes parts of a board, and the parts that depend on them, such as the lamps of a deleted chain. All other parts keep their wires.
 
-import { counted } from "../bench/numbers.js";
+import { formatQuantity } from "../bench/numbers.js";
 import { Face } from "../board/face.js";
 import { isScanned, groupLamps } from "../board/face_board.js";
 import { removeColumns, removeRows, renamePorts, renumberLamps, setLineText } from "./face_edits.js";
@@ -12,7 +12,7 @@ import * as say from "../../words/drawing.js";
 
 /**
  * @typedef {import("./board_lines.js").Board} Board
- * @typedef {import("./edited_board.js").Sketch} Sketch
+ * @typedef {import("./edited_board.js").EditedBoard} EditedBoard
  * @typedef {import("../text/board_reader.js").Value} Value
  *
  * The parts to delete: ROMs by number, RAM chips as `bank.chip`, chains, columns and lamps.
@@ -81,18 +81,18 @@ function addDependents(board, face, deletedParts) {
 
 /**
  * Removes the parts to delete from the board text.
- * @param {Sketch} sketch
+ * @param {EditedBoard} editedBoard
  * @param {DeletedParts} deletedParts
  */
-function removeAll(sketch, deletedParts) {
-  const { matrix } = sketch.board;
-  if (deletedParts.lamps.size > 0) removeLamps(sketch, deletedParts.lamps);
-  if (deletedParts.keys && matrix) removeKeys(sketch);
-  else if (deletedParts.columns.size > 0) removeKeyColumns(sketch, deletedParts.columns);
-  for (const chain of sortDescending(deletedParts.chains)) removeChain(sketch, chain);
-  sketch.deletedChains.push(...deletedParts.chains);
-  for (const rom of deletedParts.roms) removeRom(sketch, rom);
-  for (const ram of deletedParts.rams) removeRam(sketch, ram);
+function removeAll(editedBoard, deletedParts) {
+  const { matrix } = editedBoard.board;
+  if (deletedParts.lamps.size > 0) removeLamps(editedBoard, deletedParts.lamps);
+  if (deletedParts.keys && matrix) removeKeys(editedBoard);
+  else if (deletedParts.columns.size > 0) removeKeyColumns(editedBoard, deletedParts.columns);
+  for (const chain of sortDescending(deletedParts.chains)) removeChain(editedBoard, chain);
+  editedBoard.deletedChains.push(...deletedParts.chains);
+  for (const rom of deletedParts.roms) removeRom(editedBoard, rom);
+  for (const ram of deletedParts.rams) removeRam(editedBoard, ram);
 }
 
 /**
@@ -105,79 +105,79 @@ function sortDescending(numbers) {
 
 /**
  * Removes lamps, and renumbers the other lamps in the front panel.
- * @param {Sketch} sketch
+ * @param {EditedBoard} editedBoard
  * @param {Set<number>} lamps
  */
-function removeLamps(sketch, lamps) {
-  sketch.edit(renumberLamps(sketch.draft, lamps));
-  for (const lamp of sortDescending(lamps)) sketch.edit(removePart(sketch.draft, "lamp", lamp));
+function removeLamps(editedBoard, lamps) {
+  editedBoard.edit(renumberLamps(editedBoard.draft, lamps));
+  for (const lamp of sortDescending(lamps)) editedBoard.edit(removePart(editedBoard.draft, "lamp", lamp));
 }
 
 /**
  * Removes the keys and their names.
- * @param {Sketch} sketch
+ * @param {EditedBoard} editedBoard
  */
-function removeKeys(sketch) {
-  sketch.edit(removeRows(sketch.draft, 0));
-  sketch.edit(removePart(sketch.draft, "keys", 0));
+function removeKeys(editedBoard) {
+  editedBoard.edit(removeRows(editedBoard.draft, 0));
+  editedBoard.edit(removePart(editedBoard.draft, "keys", 0));
 }
 
 /**
  * Removes key columns and their names.
- * @param {Sketch} sketch
+ * @param {EditedBoard} editedBoard
  * @param {Set<number>} columns
  */
-function removeKeyColumns(sketch, columns) {
-  sketch.edit(removeColumns(sketch.draft, columns));
+function removeKeyColumns(editedBoard, columns) {
+  editedBoard.edit(removeColumns(editedBoard.draft, columns));
   for (const column of sortDescending(columns)) {
-    const { draft } = sketch;
-    sketch.edit(removeElement(draft, draft.requireKey(draft.entry("keys", 0), "columns").value, column));
+    const { draft } = editedBoard;
+    editedBoard.edit(removeElement(draft, draft.requireKey(draft.entry("keys", 0), "columns").value, column));
   }
 }
 
 /**
  * Removes a chain, and renumbers the later chains and their bits.
- * @param {Sketch} sketch
+ * @param {EditedBoard} editedBoard
  * @param {number} chain
  */
-function removeChain(sketch, chain) {
+function removeChain(editedBoard, chain) {
   /** @type {(line: string) => string} */
   const rename = (line) => line.replace(/^chain(\d+)/, (_, number) => `chain${Number(number) - (Number(number) > chain ? 1 : 0)}`);
-  const { draft } = sketch;
+  const { draft } = editedBoard;
   const values = draft.partsOfKind("lamp").map((entry) => draft.requireKey(entry, "line").value);
   const bits = values.filter(({ inner }) => rename(String(inner)) !== inner);
   const numbers = draft.partsOfKind("keys").map((entry) => draft.requireKey(entry, "chain").value)
     .filter(({ inner }) => Number(inner) > chain);
-  sketch.edit([
+  editedBoard.edit([
     ...bits.map((value) => replaceValue(draft, value, rename(String(value.inner)))),
     ...numbers.map((value) => replaceValue(draft, value, Number(value.inner) - 1)),
   ]);
-  sketch.edit(renamePorts(sketch.draft, (port) => (port === `chain${chain}` ? "" : rename(port))));
-  sketch.edit(removePart(sketch.draft, "chain", chain));
+  editedBoard.edit(renamePorts(editedBoard.draft, (port) => (port === `chain${chain}` ? "" : rename(port))));
+  editedBoard.edit(removePart(editedBoard.draft, "chain", chain));
 }
 
 /**
  * Removes a ROM.
- * @param {Sketch} sketch
+ * @param {EditedBoard} editedBoard
  * @param {number} rom the chip number
  */
-function removeRom(sketch, rom) {
-  sketch.edit(renamePorts(sketch.draft, (port) => (port === `rom${rom}` ? "" : port)));
-  const { draft } = sketch;
-  sketch.edit(removePart(draft, "rom", draft.partsOfKind("rom").indexOf(draft.partByNumber("rom", rom))));
+function removeRom(editedBoard, rom) {
+  editedBoard.edit(renamePorts(editedBoard.draft, (port) => (port === `rom${rom}` ? "" : port)));
+  const { draft } = editedBoard;
+  editedBoard.edit(removePart(draft, "rom", draft.partsOfKind("rom").indexOf(draft.partByNumber("rom", rom))));
 }
 
 /**
  * Removes a RAM chip. The chip must be the last one of its bank.
- * @param {Sketch} sketch
+ * @param {EditedBoard} editedBoard
  * @param {string} ram `bank.chip`
  */
-function removeRam(sketch, ram) {
+function removeRam(editedBoard, ram) {
   const [bank, chip] = ram.split(".").map(Number);
-  sketch.edit(renamePorts(sketch.draft, (port) => (port === `ram${ram}` ? "" : port)));
-  const { draft } = sketch;
+  editedBoard.edit(renamePorts(editedBoard.draft, (port) => (port === `ram${ram}` ? "" : port)));
+  const { draft } = editedBoard;
   const entry = draft.partByNumber("ram", bank);
-  sketch.edit(chip > 0 ? [setValue(draft, entry, "chips", chip)] : removePart(draft, "ram", draft.partsOfKind("ram").indexOf(entry)));
+  editedBoard.edit(chip > 0 ? [setValue(draft, entry, "chips", chip)] : removePart(draft, "ram", draft.partsOfKind("ram").indexOf(entry)));
 }
 
 /**
@@ -224,40 +224,40 @@ function markRamDeleted({ banks }, deletedParts, ram) {
 /**
  * Deletes a part: `rom 1`, `ram 0.1`, `chain 0`, `keys`, `row 1` (the last row), `column 2`, `lamp 3`, `lamps`, `test` or `buzzer`. Returns
  * a description of the dependent parts that were also deleted, "" if there are none.
- * @param {Sketch} sketch
+ * @param {EditedBoard} editedBoard
  * @param {string} part
  */
-export function deletePart(sketch, part) {
-  const { board } = sketch;
+export function deletePart(editedBoard, part) {
+  const { board } = editedBoard;
   if (part === "test") {
-    sketch.edit(setLineText(sketch.draft, "test", "", ""));
+    editedBoard.edit(setLineText(editedBoard.draft, "test", "", ""));
     return "";
   }
   if (part === "buzzer" || part === BUZZER) {
-    sketch.edit(setLineText(sketch.draft, "buzzer", board.buzzer || "", ""));
+    editedBoard.edit(setLineText(editedBoard.draft, "buzzer", board.buzzer || "", ""));
     return "";
   }
-  if (part.startsWith("row ")) return deleteRow(sketch, Number(part.slice(4)));
+  if (part.startsWith("row ")) return deleteRow(editedBoard, Number(part.slice(4)));
   const deletedParts = makeEmptyDeletion();
   markDeleted(board, deletedParts, part);
   // Chains depend on ROMs and RAM chips. Keys and lamps depend on chains. Two passes are therefore enough.
-  const face = new Face(sketch.text);
+  const face = new Face(editedBoard.text);
   for (let pass = 0; pass < 2; pass++) addDependents(board, face, deletedParts);
   const description = describeDependents(board, deletedParts, part);
-  removeAll(sketch, deletedParts);
+  removeAll(editedBoard, deletedParts);
   return description;
 }
 
 /**
  * Deletes the last key row; throws `ImpossibleAction` for any other row. Returns "" because no other part is deleted.
- * @param {Sketch} sketch
+ * @param {EditedBoard} editedBoard
  * @param {number} row
  */
-function deleteRow(sketch, row) {
-  const { matrix } = sketch.board;
+function deleteRow(editedBoard, row) {
+  const { matrix } = editedBoard.board;
   if (!matrix || row !== matrix.rows - 1) throw new ImpossibleAction(say.DELETE_LAST_ROW);
-  setRows(sketch, row);
-  sketch.edit(removeRows(sketch.draft, row));
+  setRows(editedBoard, row);
+  editedBoard.edit(removeRows(editedBoard.draft, row));
   return "";
 }
 
@@ -272,8 +272,8 @@ function describeDependents({ buzzer }, deletedParts, part) {
   const others = [...chains].map((chain) => `chain ${chain}`).filter((name) => name !== part);
   const otherLamps = part === "lamps" || (part.startsWith("lamp ") && lamps.size === 1) ? 0 : lamps.size;
   if (keys && part !== "keys") others.push(displayedPartName("keys"));
-  else if (!keys && columns.size > 0 && !part.startsWith("column")) others.push(say.ofKeys(counted(columns.size, "column")));
-  if (otherLamps > 0) others.push(part.startsWith("lamp ") ? say.allLampsOf(otherLamps) : counted(otherLamps, "lamp"));
+  else if (!keys && columns.size > 0 && !part.startsWith("column")) others.push(say.ofKeys(formatQuantity(columns.size, "column")));
+  if (otherLamps > 0) others.push(part.startsWith("lamp ") ? say.allLampsOf(otherLamps) : formatQuantity(otherLamps, "lamp"));
   if (buzzer && isLineDeleted(deletedParts, buzzer)) others.push(say.THE_BUZZER);
   return say.listOf(others);
 }

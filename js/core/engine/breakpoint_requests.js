@@ -39,6 +39,6 @@ export class BreakpointRequests {
    */
   stopAtFaults(kinds) {
     this.bench.stopKinds = kinds;
-    if (this.bench.currentDebugger) this.bench.currentDebugger.usual.stops = new Set(kinds);
+    if (this.bench.currentDebugger) this.bench.currentDebugger.commonMistakes.stops = new Set(kinds);
   }
 }

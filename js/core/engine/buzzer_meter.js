@@ -1,7 +1,7 @@
 // Reports the edges of a signal line while time runs, so that the page can play the buzzer. Reads the edges from the answers to a `trace`
 // before each run.
 
-import { Answers, parseTraceLine } from "./forecast_answers.js";
+import { ForecastAnswers, parseTraceLine } from "./forecast_answers.js";
 
 /**
  * The levels of a signal line during an interval: the length of the interval in cycles, the first level, and the number of cycles before
@@ -39,7 +39,7 @@ export class BuzzerMeter {
     const heard = { cycles: 0, level: 0, edges: /** @type {number[]} */ ([]) };
     for (const answers of answerLists) {
       if (answers.length === 0) continue;
-      const { row, lines, cycles } = new Answers(answers).takeTrace();
+      const { row, lines, cycles } = new ForecastAnswers(answers).takeTrace();
       if (heard.cycles === 0) heard.level = Number(row.slice(1));
       for (const line of lines) heard.edges.push(heard.cycles + parseTraceLine(line).cycles + 1);
       heard.cycles += cycles;

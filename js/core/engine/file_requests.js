@@ -24,8 +24,8 @@ export class FileRequests {
    */
   async load(module, examples) {
     this.bench.examples = examples;
-    this.bench.loaded = await Engine.load(module);
-    return this.bench.loaded.size;
+    this.bench.loadedModule = await Engine.load(module);
+    return this.bench.loadedModule.size;
   }
 
   /**

@@ -49,7 +49,7 @@ export function rowValues(row) {
 }
 
 /** Reads consecutive answers. */
-export class Answers {
+export class ForecastAnswers {
   /** @param {string[]} answers */
   constructor(answers) {
     this.answers = answers;

@@ -1,7 +1,7 @@
 // Adds queries before each planned run, in the same call. With these queries the bench forecasts what happens in the run.
 
 import { plannedCycles } from "../debug/goal_search.js";
-import { Answers } from "./forecast_answers.js";
+import { ForecastAnswers } from "./forecast_answers.js";
 
 /**
  * @typedef {import("./accepted_commands.js").AcceptedCommand} AcceptedCommand
@@ -37,7 +37,7 @@ export function linesWithQueries(plannedLines, querySources) {
  * @returns {{ answers: string[], sourceAnswers: string[][][] }}
  */
 export function splitAnswers(plannedLines, querySources, allAnswers) {
-  const answers = new Answers(allAnswers);
+  const answers = new ForecastAnswers(allAnswers);
   /** @type {string[]} */
   const lineAnswers = [];
   /** @type {string[][][]} */

@@ -2,7 +2,7 @@
 // a time, so that the work per frame does not grow with the number of chips.
 
 import { ChangeCounter, GROUPS_PER_CHIP, nibbleGroups } from "./heat_map.js";
-import { Answers, parseTraceLine } from "./forecast_answers.js";
+import { ForecastAnswers, parseTraceLine } from "./forecast_answers.js";
 
 /**
  * @typedef {import("../bench/answers.js").Board} Board
@@ -48,14 +48,14 @@ export class HeatMeter {
    */
   take(answerLists) {
     const counter = new ChangeCounter(this.groups);
-    for (const answers of answerLists) if (answers.length > 0) this.add(counter, new Answers(answers));
+    for (const answers of answerLists) if (answers.length > 0) this.add(counter, new ForecastAnswers(answers));
     this.chip = (this.chip + 1) % this.chips;
     return { ...counter.heat, chips: this.chips };
   }
 
   /**
    * @param {ChangeCounter} counter
-   * @param {Answers} answers the answers to the queries before one run
+   * @param {ForecastAnswers} answers the answers to the queries before one run
    */
   add(counter, answers) {
     const startCycles = counter.cycles;

@@ -21,9 +21,9 @@ import { sumCycles, splitIntoPieces, unitsBetween } from "./replay_units.js";
  * The target of a move back. "arrival": a breakpoint, or the moment before a change of a watched value or of `place` ("" for none). "when":
  * the moment before a condition becomes true; `searchCondition` is the compiled condition. "call": the call of an open subroutine,
  * identified by the address of its JMS and the return addresses before it.
- * @typedef {{ kind: "stop" } | { kind: "instruction" } | { kind: "change", place: string } | { kind: "arrival", place: string } | { kind:
- * "when", condition: string, searchCondition?: import("../debug/condition_search.js").SearchCondition } | { kind: "call", call: number, returns:
- * string[] }} BackGoal
+ * @typedef {{ kind: "stop" } | { kind: "instruction" } | { kind: "change", place: string } | { kind: "arrival", place: string }
+ *   | { kind: "when", condition: string, searchCondition?: import("../debug/condition_search.js").SearchCondition }
+ *   | { kind: "call", call: number, returns: string[] }} BackGoal
  *
  * The result of a search of the past. `moment` is null if nothing was found; `why` then gives the reason: the past is too short, or the
  * board does not have the place. For a change: its place, the old and the new value, and the command that made it ("" for an instruction).

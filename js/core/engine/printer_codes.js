@@ -3,7 +3,7 @@
 
 import { linesWithQueries, splitAnswers, replayLine } from "./forecast_queries.js";
 import { RECORDING_PIECE_CYCLES, RECORDING_PIECE_UNITS } from "./piece_size.js";
-import { Answers, parseTraceLine, rowValues } from "./forecast_answers.js";
+import { ForecastAnswers, parseTraceLine, rowValues } from "./forecast_answers.js";
 
 /**
  * @typedef {import("./accepted_commands.js").AcceptedCommand} AcceptedCommand
@@ -85,7 +85,7 @@ export class PrinterCodes {
     let cyclesBefore = total;
     for (const answers of answerLists) {
       if (answers.length === 0) continue;
-      const { row, lines, cycles } = new Answers(answers).takeTrace();
+      const { row, lines, cycles } = new ForecastAnswers(answers).takeTrace();
       let [level] = rowValues(row);
       for (const line of lines) {
         const traced = parseTraceLine(line);

@@ -30,9 +30,9 @@ export class SessionRequests {
     session.printing = printout && new PrinterCodes(printout);
     const snapshot = session.takeSnapshot();
     this.bench.currentDebugger = new Debugger(session);
-    this.bench.currentDebugger.usual.stops = new Set(this.bench.stopKinds);
+    this.bench.currentDebugger.commonMistakes.stops = new Set(this.bench.stopKinds);
     this.bench.fullSpeed.stop();
-    return this.bench.shown(snapshot, true);
+    return this.bench.snapshotReport(snapshot, true);
   }
 
   /**
@@ -66,7 +66,7 @@ export class SessionRequests {
    */
   async serveTyped(lines) {
     const typedResult = { id: 0, why: "", change: "", cut: "", cycles: 0, tally: NO_TALLY };
-    const result = await this.bench.served(async () => {
+    const result = await this.bench.executeAndReport(async () => {
       const served = await this.bench.debugger.serveTyped(lines, (done) => this.bench.shouldContinue(done, lines.length));
       Object.assign(typedResult, served.typed);
       return served.result;

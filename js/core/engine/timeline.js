@@ -1,7 +1,7 @@
 // Stores the past of a session, for moves back in time: the session file at some moments, and the accepted commands after each of these
 // moments. To compute a past state, a copy of such a file runs the commands again. When the past becomes too long, segments without stops
-// are removed first. The past is stored in the memory of this worker. The page receives the additions (session/stored_history.js), and restores
-// the past after a reload.
+// are removed first. The past is stored in the memory of this worker. The page receives the additions (session/stored_history.js), and
+// restores the past after a reload.
 
 import { CancelledError } from "../bench/bench_errors.js";
 import { stripSeq } from "../bench/state_line.js";

@@ -7,7 +7,7 @@ import { Track, emptyTrack } from "../waves/track.js";
 import { parseTraceLine, rowValues } from "./forecast_answers.js";
 
 /**
- * @typedef {import("./forecast_answers.js").Answers} Answers
+ * @typedef {import("./forecast_answers.js").ForecastAnswers} ForecastAnswers
  * @typedef {import("../waves/track.js").TrackData} TrackData
  * @typedef {import("../waves/wave_lines.js").WaveLine} WaveLine
  *
@@ -136,8 +136,8 @@ export class WaveBuilder {
     this.elapsed = 0;
     /** True if the opcode at the program counter is not an instruction. */
     this.isStuck = false;
-    this.isOwed = false;
-    this.hasBegun = false;
+    this.isSecondCycle = false;
+    this.hasStarted = false;
     this.groups = makeGroups(lines);
     this.tracks = lines.map(({ width }) => new Track(emptyTrack(width)));
     this.moments = new NumberQueue(new Uint32Array(0));
@@ -157,11 +157,11 @@ export class WaveBuilder {
 
   /**
    * Reads the initial values from the answers to `state` and to the queries.
-   * @param {Answers} answers
+   * @param {ForecastAnswers} answers
    */
   begin(answers) {
     const state = answers.take();
-    this.isOwed = stateValue(state, "owed") === "1";
+    this.isSecondCycle = stateValue(state, "owed") === "1";
     this.takeState(state);
     if (this.hasCounter) answers.takeTrace();
     for (const group of this.groups) this.takeRow(group, answers.takeTrace().row, 0);
@@ -170,7 +170,7 @@ export class WaveBuilder {
 
   /**
    * Reads the answers to the queries and to the run.
-   * @param {Answers} answers
+   * @param {ForecastAnswers} answers
    */
   takeRun(answers) {
     this.takeForecast(answers);
@@ -179,9 +179,9 @@ export class WaveBuilder {
     this.takeEnd(run);
   }
 
-  /** @param {Answers} answers the answers to the queries */
+  /** @param {ForecastAnswers} answers the answers to the queries */
   takeForecast(answers) {
-    if (this.hasCounter) for (const line of answers.takeTrace().lines) this.takeBegun(line);
+    if (this.hasCounter) for (const line of answers.takeTrace().lines) this.takeInstructionLine(line);
     for (const group of this.groups) {
       const trace = answers.takeTrace();
       // A command before the run can have changed the row.
@@ -198,7 +198,7 @@ export class WaveBuilder {
    * character.
    * @param {string} line
    */
-  takeBegun(line) {
+  takeInstructionLine(line) {
     let cycles = 0;
     let at = 0;
     for (let letter = line.charCodeAt(0); letter !== BLANK_CODE; letter = line.charCodeAt(at)) {
@@ -227,7 +227,7 @@ export class WaveBuilder {
       if (kind === "test") this.tracks[member].set(test, this.elapsed);
     });
     // During the second cycle of an instruction, the counter already points to the next instruction.
-    if (stateValue(state, "owed") === "0" || !this.hasBegun) {
+    if (stateValue(state, "owed") === "0" || !this.hasStarted) {
       this.takeInstruction(this.elapsed, parseInt(stateValue(state, "pc"), 16));
     }
   }
@@ -237,7 +237,7 @@ export class WaveBuilder {
    * @param {number} counter
    */
   takeInstruction(moment, counter) {
-    this.hasBegun = true;
+    this.hasStarted = true;
     if (this.moments.last === moment) {
       this.counters.last = counter;
       return;
@@ -268,10 +268,10 @@ export class WaveBuilder {
    * @returns {WavePart}
    */
   take() {
-    const { from, elapsed, isStuck, isOwed } = this;
+    const { from, elapsed, isStuck, isSecondCycle } = this;
     this.from = elapsed;
-    this.isOwed = false;
+    this.isSecondCycle = false;
     const tracks = this.tracks.map((track) => track.take());
-    return { from, cycles: elapsed, isStuck, isOwed, tracks, moments: this.moments.take(), counters: this.counters.take() };
+    return { from, cycles: elapsed, isStuck, isOwed: isSecondCycle, tracks, moments: this.moments.take(), counters: this.counters.take() };
   }
 }

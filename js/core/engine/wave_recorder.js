@@ -7,7 +7,7 @@ import { joinLines } from "../bench/inputs.js";
 import { createBoardLines } from "../waves/wave_lines.js";
 import { MAX_RUN_CYCLES } from "./key_queue.js";
 import { FIRST_PIECE_CYCLES, PieceSize, RECORDING_PIECE_CYCLES, RECORDING_PIECE_UNITS } from "./piece_size.js";
-import { Answers } from "./forecast_answers.js";
+import { ForecastAnswers } from "./forecast_answers.js";
 import { splitIntoPieces, unitsBetween } from "./replay_units.js";
 import { WaveBuilder } from "./wave_builder.js";
 import { copyWithoutStops } from "./free_running_copy.js";
@@ -55,7 +55,7 @@ class WaveRecorder {
     this.program = texts.program;
     const board = readBoard(engine.ask(file, "board\n").answers);
     this.builder = new WaveBuilder(createBoardLines(board, texts.board, texts.program !== null, texts.values));
-    this.builder.begin(new Answers(engine.ask(file, `state\n${this.builder.queries(1)}`).answers));
+    this.builder.begin(new ForecastAnswers(engine.ask(file, `state\n${this.builder.queries(1)}`).answers));
   }
 
   /**
@@ -65,7 +65,7 @@ class WaveRecorder {
   record(units) {
     const { engine, file, builder } = this;
     const lines = units.map(({ line, cycles }) => (cycles > 0 ? `${builder.queries(cycles)}${line}\n` : `${line}\nstate\n`)).join("");
-    const answers = new Answers(engine.serve(file, lines, file).answers);
+    const answers = new ForecastAnswers(engine.serve(file, lines, file).answers);
     for (const { cycles } of units) {
       if (cycles > 0) {
         builder.takeRun(answers);

@@ -144,7 +144,7 @@ export class WorkerSession {
     const runs = answers.map(readRun);
     /** @type {(at: number) => number} */
     const cyclesOf = (at) => (runs[at] || { cycles: 0 }).cycles;
-    this.queue.done(servedLines, cyclesOf);
+    this.queue.markExecuted(servedLines, cyclesOf);
     const accepted = servedLines.map(({ line }, at) => ({ line, cycles: cyclesOf(at), resets: false }));
     this.record(accepted.filter((_, at) => parseRefusal(answers[at]) === null));
     const ranEntries = servedLines.map(({ line, change }, at) => (
@@ -321,12 +321,12 @@ export class WorkerSession {
     this.timeline.stop();
     this.count = report.count;
     this.printing = printing;
-    if (report.accepted.length > 0) this.timeline.record([...this.unrecordedCommands.splice(0), ...report.accepted], this);
+    if (report.acceptedCommands.length > 0) this.timeline.record([...this.unrecordedCommands.splice(0), ...report.acceptedCommands], this);
     this.timeline.stop();
     // The waiting key changes belong to the old board.
     if (report.wires) this.queue.clear();
     if (report.wires) this.forgetMeters();
-    if (fileBefore) this.follow(fileBefore, report.accepted);
+    if (fileBefore) this.follow(fileBefore, report.acceptedCommands);
     return { ...report.result(), snapshot };
   }
 }
@@ -364,7 +364,7 @@ class LinesReport {
   constructor(count) {
     this.count = count;
     /** @type {AcceptedCommand[]} the accepted commands; incomplete if there are too many to replay */
-    this.accepted = [];
+    this.acceptedCommands = [];
     /** @type {ServedInput[]} */
     this.entries = [];
     this.first = "";
@@ -383,7 +383,7 @@ class LinesReport {
     const answerLists = matchAnswers(inputs, answers);
     const acceptedCommands = findAcceptedCommands(inputs, answerLists);
     this.count.add(acceptedCommands);
-    if (this.accepted.length <= SEGMENT_ENTRIES) this.accepted = this.accepted.concat(acceptedCommands);
+    if (this.acceptedCommands.length <= SEGMENT_ENTRIES) this.acceptedCommands = this.acceptedCommands.concat(acceptedCommands);
     if (this.first === "" && answers.length > 0) this.first = answers[0];
     this.status = status;
     this.touchesRom = this.touchesRom || inputs.some((input) => ROM_COMMANDS[input.kind]);

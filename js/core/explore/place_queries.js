@@ -2,7 +2,7 @@
 
 import { MAX_PLACES } from "../bench/inputs.js";
 import { parseRefusal } from "../bench/answers.js";
-import { Answers, parseTraceLine, rowValues } from "../engine/forecast_answers.js";
+import { ForecastAnswers, parseTraceLine, rowValues } from "../engine/forecast_answers.js";
 
 /** @typedef {import("./properties.js").Property} Property */
 
@@ -79,7 +79,7 @@ function evaluateCondition({ condition, indexes }, values) {
 }
 
 /** Reads consecutive answers to place queries. */
-export class PlaceValues extends Answers {
+export class PlaceValues extends ForecastAnswers {
   /**
    * Returns the current values of all places; skips the lines of later changes.
    * @param {PlaceQueries} places

@@ -83,7 +83,7 @@ function findSpot(name, board) {
   return registerSpot(name) || memorySpot(name, board) || portSpot(name, board);
 }
 
-export class Snapshots {
+export class PlaceReader {
   /**
    * @param {string[]} names
    * @param {Board} board
@@ -92,13 +92,13 @@ export class Snapshots {
     const all = [...new Set(names)];
     const spots = all.map((name) => findSpot(name, board));
     /** The places that only `trace` reports. */
-    this.rest = new PlaceQueries(all.filter((_, at) => !spots[at]));
+    this.remainingPlaces = new PlaceQueries(all.filter((_, at) => !spots[at]));
     this.spots = spots.flatMap((spot) => spot || []);
     /** All places, in the order of the values. */
-    this.names = [...all.filter((_, at) => spots[at]), ...this.rest.names];
+    this.names = [...all.filter((_, at) => spots[at]), ...this.remainingPlaces.names];
     this.queries = [...new Set(this.spots.map(({ query }) => query))];
     /** The query lines. */
-    this.lines = this.queries.map((query) => `${query}\n`).join("") + this.rest.lines(1);
+    this.lines = this.queries.map((query) => `${query}\n`).join("") + this.remainingPlaces.lines(1);
     const counts = this.queries.map((query) => (
       query.startsWith("ram ") ? 1 + CHIP_LINES * countChips(board, Number(query.slice(4))) : 1));
     /** The line index of each position in the whole answer. */
@@ -120,7 +120,7 @@ export class Snapshots {
    * @param {PlaceValues} values
    */
   row(values) {
-    const { spots, answerIndexes, rest: tracedPlaces } = this;
+    const { spots, answerIndexes, remainingPlaces: tracedPlaces } = this;
     const first = values.at;
     let row = "";
     for (let each = 0; each < spots.length; each++) {

@@ -5,7 +5,7 @@
 import { countWalk, isCountingSufficient } from "./walk_counter.js";
 import { Coverage } from "./search_coverage.js";
 import { DeltaFiles } from "./delta_files.js";
-import { Snapshots } from "./place_reader.js";
+import { PlaceReader } from "./place_reader.js";
 import { Conditions, PlaceValues, listConditions } from "./place_queries.js";
 import { listAddresses } from "./properties.js";
 import { chooseStep, downInputsAfter, initialDownInputs, changeLine, walkLines, createRandom } from "./walks.js";
@@ -58,7 +58,7 @@ export class Search {
     this.coverage = new Coverage();
     this.watcher = new Watcher(subject, campaign, this.coverage);
     const conditionPlaces = campaign.properties.flatMap(listConditions).flatMap((condition) => (condition ? condition.places : []));
-    this.places = new Snapshots([...campaign.notes, ...conditionPlaces], subject.names.board);
+    this.places = new PlaceReader([...campaign.notes, ...conditionPlaces], subject.names.board);
     this.notes = this.places.indexes(campaign.notes);
     this.conditions = campaign.properties.map((property) => new Conditions(property, this.places));
     /** @type {number[]} the properties that are not violated so far */

@@ -86,7 +86,7 @@ export class Watcher {
     const memories = start.memories.map((memory) => [...memory]);
     const walk = new Walk(this, memories, openProperties, start);
     walk.values = new PlaceValues(this.subject.engine.ask(start.file, this.places.lines(1)).answers).changes(this.places).values;
-    walk.notifyChangeOf(step);
+    walk.notifyStep(step);
     return { broken: walk.broken && { ...walk.broken, step: 0 }, after: [{ time: walk.time, down: walk.down, memories, isNew: false }] };
   }
 
@@ -209,7 +209,7 @@ class Walk {
     this.time = startTime + end;
     this.notify("end", this.time);
     this.notifyCode(report);
-    if (!this.broken) this.notifyChangeOf(step);
+    if (!this.broken) this.notifyStep(step);
     return this.broken;
   }
 
@@ -268,7 +268,7 @@ class Walk {
   }
 
   /** @param {WalkStep} step */
-  notifyChangeOf(step) {
+  notifyStep(step) {
     const { campaign: { inputs } } = this.watcher;
     this.down = downInputsAfter(this.down, step);
     if (step.kind === "down") this.notify("down", this.time, { input: inputs[step.input].name });

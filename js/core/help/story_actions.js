@@ -7,7 +7,7 @@ import * as say from "../../words/help.js";
  * @typedef {import("../board/board_keys.js").BoardKey} BoardKey
  * @typedef {import("../debug/goals.js").Goal} Goal
  * @typedef {import("../engine/past_search.js").BackGoal} BackGoal
- * @typedef {import("./story.js").Act} Act
+ * @typedef {import("./story.js").StoryAction} StoryAction
  */
 
 /**
@@ -84,9 +84,9 @@ async function perform(act) {
 
 /**
  * Runs an action of a link. Resolves to an error message, "" for none.
- * @param {Act} act
+ * @param {StoryAction} act
  * @param {ActCalls} calls
  */
-export function runAct({ name, argument }, calls) {
+export function runAction({ name, argument }, calls) {
   return ACTS[name](argument, calls);
 }

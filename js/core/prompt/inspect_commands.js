@@ -42,7 +42,7 @@ export class InspectCommands {
   get handlers() {
     const { calls, machine, session } = this.prompt;
     return {
-      lamps: () => calls.print(machine.shown.now() || say.NO_LAMPS),
+      lamps: () => calls.print(machine.frontPanelText.currentText() || say.NO_LAMPS),
       print: (argumentText) => calls.print(this.evaluate(argumentText || rejectCommand(say.PRINT_FORM))),
       display: (argumentText) => this.addDisplay(argumentText),
       undisplay: (argumentText) => this.removeDisplays(argumentText),
@@ -160,7 +160,7 @@ export class InspectCommands {
 
   /** @returns {Record<string, (argumentText: string) => string>} the functions that return the text of `info`, by the word after `info` */
   get infoTexts() {
-    const { session, keys, launched, breakpoints, lastStop } = this.prompt;
+    const { session, keys, launchResult, breakpoints, lastStop } = this.prompt;
     return {
       registers: () => stateText.registerLines(session),
       ram: () => stateText.ramLines(session),
@@ -170,8 +170,8 @@ export class InspectCommands {
       watches: () => breakpoints.watches,
       display: () => this.displays.map((expression, at) => `${at + 1}: ${expression}`).join("\n") || say.NOTHING_DISPLAYED,
       names: () => stateText.nameLines(session),
-      source: () => say.linesOf(launched.program || DISASSEMBLED_FROM_ROM, stateText.countSourceLines(session)),
-      session: () => (launched.writer ? say.SESSION_FILE : say.IN_MEMORY),
+      source: () => say.linesOf(launchResult.program || DISASSEMBLED_FROM_ROM, stateText.countSourceLines(session)),
+      session: () => (launchResult.writer ? say.SESSION_FILE : say.IN_MEMORY),
       line: (place) => stateText.lineText(session, findInstruction(place, session)),
       symbol: (place) => {
         const address = parseAddress(place || rejectCommand(say.SYMBOL_FORM), session);

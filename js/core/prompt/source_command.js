@@ -12,7 +12,7 @@ import * as say from "../../words/session_prompt.js";
 /** The maximum nesting depth of `source` lines. */
 const MAX_NESTING = 8;
 
-export class Sources {
+export class SourceCommand {
   /**
    * @param {LineServer} server
    * @param {{ read: (name: string) => string, complain: (words: string) => void }} calls `read` throws an error if it cannot read a file

@@ -1,6 +1,6 @@
 // Formats the state of a debugged session as text for a prompt: source, registers, RAM, ports, ROM, calls and breakpoints.
 
-import { counted, hex, parseNumber, indices } from "../bench/numbers.js";
+import { formatQuantity, hex, parseNumber, indices } from "../bench/numbers.js";
 import { formatBreakpoints } from "../debug/breakpoint_lines.js";
 import { MachineState } from "../debug/machine_state.js";
 import { expandTabs } from "../text/tab_expansion.js";
@@ -182,11 +182,11 @@ export function nameLines({ map }) {
  * @param {(id: number) => string} extraText returns the additional text for a breakpoint
  */
 export function breakpointLines({ breakpoints }, extraText) {
-  const { all, kept } = breakpoints;
+  const { all, savedBreakpoints } = breakpoints;
   if (all.length === 0) return say.NO_BREAKPOINTS;
-  const lines = formatBreakpoints(kept);
+  const lines = formatBreakpoints(savedBreakpoints);
   return all.map(({ id, hits }, at) => (
-    `${id}  ${lines[at].slice("break ".length)}${hits > 0 ? `, ${counted(hits, "hit")}` : ""}${extraText(id)}`)).join("\n");
+    `${id}  ${lines[at].slice("break ".length)}${hits > 0 ? `, ${formatQuantity(hits, "hit")}` : ""}${extraText(id)}`)).join("\n");
 }
 
 /**

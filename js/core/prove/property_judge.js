@@ -60,9 +60,9 @@ export class PropertyJudge {
     this.subject = subject;
     this.campaign = campaign;
     this.calls = calls;
-    /** @type {{ property: Property, asked: PropertyQuestion }[]} the properties of the text, each with its question */
+    /** @type {{ property: Property, propertyQuestion: PropertyQuestion }[]} the properties of the text, each with its question */
     this.all = campaign.properties.filter(({ line }) => line > 0)
-      .map((property) => ({ property, asked: createQuestion(property, campaign, subject) }));
+      .map((property) => ({ property, propertyQuestion: createQuestion(property, campaign, subject) }));
     this.mistakes = allMistakes();
     /** The number of properties and mistakes that have a verdict. */
     this.count = 0;
@@ -90,7 +90,7 @@ export class PropertyJudge {
 
   /** The questions that can be combined into one. */
   get jointQuestions() {
-    return this.all.flatMap(({ property, asked: { question } }) => (
+    return this.all.flatMap(({ property, propertyQuestion: { question } }) => (
       !question || needsSeparateQuestion(property, question) ? [] : [question]));
   }
 
@@ -107,12 +107,12 @@ export class PropertyJudge {
   }
 
   /**
-   * @param {{ property: Property, asked: PropertyQuestion }} each
+   * @param {{ property: Property, propertyQuestion: PropertyQuestion }} each
    * @returns {Promise<JudgedProperty>}
    */
-  async judgeProperty({ property, asked }) {
-    if (!asked.question) return { property, verdict: { kind: "open", words: asked.words } };
-    return { property, verdict: await this.judge(property, asked.question) };
+  async judgeProperty({ property, propertyQuestion }) {
+    if (!propertyQuestion.question) return { property, verdict: { kind: "open", words: propertyQuestion.words } };
+    return { property, verdict: await this.judge(property, propertyQuestion.question) };
   }
 
   /**

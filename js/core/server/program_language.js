@@ -122,7 +122,7 @@ export class ProgramLanguage {
       instructions: this.instructions,
       conditions: this.conditions,
       meaningOf: (name) => (program ? program.map.meaningOf(name) : ""),
-      valueOf: (name) => (program ? program.map.valueOf(name) : undefined),
+      valueOf: (name) => (program ? program.map.findValue(name) : undefined),
       describeLine: (line) => (program ? this.describeLine(lines[line - 1], line, program) : ""),
     });
   }

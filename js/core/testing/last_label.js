@@ -2,7 +2,7 @@
 // counts the instructions of each piece.
 
 import { MAX_RUN_CYCLES } from "../engine/key_queue.js";
-import { Answers, parseTraceLine } from "../engine/forecast_answers.js";
+import { ForecastAnswers, parseTraceLine } from "../engine/forecast_answers.js";
 import * as say from "../../words/testing.js";
 
 /**
@@ -42,7 +42,7 @@ export function findLastPassed({ engine, initialFile, actions }, addresses) {
       engine.serve(file, `${line}\n`, file);
       continue;
     }
-    const counts = new Answers(engine.ask(file, `count ${cycles}\n`).answers).takeCounts();
+    const counts = new ForecastAnswers(engine.ask(file, `count ${cycles}\n`).answers).takeCounts();
     if (counts.some(({ address }) => addresses.has(address))) {
       stateBefore.set(file);
       [runCycles, from] = [cycles, elapsed];
@@ -51,7 +51,7 @@ export function findLastPassed({ engine, initialFile, actions }, addresses) {
     elapsed += cycles;
   }
   if (runCycles === 0) return null;
-  const { lines } = new Answers(engine.ask(stateBefore, `trace ${runCycles}\n`).answers).takeTrace();
+  const { lines } = new ForecastAnswers(engine.ask(stateBefore, `trace ${runCycles}\n`).answers).takeTrace();
   const last = [...lines].reverse().map(parseTraceLine).find(({ address }) => addresses.has(address));
   return last ? { address: last.address, cycles: from + last.cycles } : null;
 }

@@ -6,7 +6,7 @@ import { PrinterCodes } from "../engine/printer_codes.js";
 
 /**
  * @typedef {import("../board/face.js").Printer} Printer
- * @typedef {import("../engine/forecast_answers.js").Answers} Answers
+ * @typedef {import("../engine/forecast_answers.js").ForecastAnswers} ForecastAnswers
  */
 
 export class Printout {
@@ -29,7 +29,7 @@ export class Printout {
 
   /**
    * Reads the answers to the queries before a run.
-   * @param {Answers} answers
+   * @param {ForecastAnswers} answers
    * @param {number} elapsed the cycles from the start of the test to the run
    */
   take(answers, elapsed) {

@@ -7,7 +7,7 @@ import { parseTraceLine } from "../engine/forecast_answers.js";
 import { instructionCycles, isCall, isReturn, jumpTarget } from "../engine/rom_codes.js";
 
 /**
- * @typedef {import("../engine/forecast_answers.js").Answers} Answers
+ * @typedef {import("../engine/forecast_answers.js").ForecastAnswers} ForecastAnswers
  * @typedef {import("../engine/forecast_answers.js").InstructionCount} InstructionCount
  *
  * The calls of a routine: their number, their cycles including nested calls, and the length of the longest call in cycles.
@@ -66,9 +66,9 @@ export class ExecutionRecorder {
 
   /**
    * Counts a run, with the answers to the queries before it.
-   * @param {Answers} answers
+   * @param {ForecastAnswers} answers
    * @param {number} elapsed the cycles from the start of the test to the run
-   * @param {() => Answers} askAll returns a trace of all instructions in the run
+   * @param {() => ForecastAnswers} askAll returns a trace of all instructions in the run
    */
   take(answers, elapsed, askAll) {
     const callCount = this.count(answers.takeCounts());
@@ -203,7 +203,7 @@ export class LineRecorder extends ExecutionRecorder {
     return `count ${cycles}\n`;
   }
 
-  /** @param {Answers} answers */
+  /** @param {ForecastAnswers} answers */
   take(answers) {
     this.count(answers.takeCounts());
   }

@@ -1,6 +1,6 @@
 // Creates the `asm` texts that load bytes or a program into ROM. A text is as long as possible, so that few commands are necessary.
 
-import { counted, hex, indices } from "../bench/numbers.js";
+import { formatQuantity, hex, indices } from "../bench/numbers.js";
 import { PAGE_NUMBERS, PAGE_BYTES } from "../bench/rom_bytes.js";
 import { LONGEST_TEXT } from "./sendable_text.js";
 import * as say from "../../words/text.js";
@@ -124,6 +124,6 @@ export function programTexts(program, addresses) {
  */
 export function describeAssembled({ size, left }, counter) {
   const first = left.length > 0 ? `0x${hex(left[0], 3)}` : "";
-  const stay = say.stays(counted(left.length, "byte"), left.length === 1, first);
-  return say.assembled(counted(size, "byte"), left.length > 0 ? ` ${stay}` : "", counter);
+  const stay = say.stays(formatQuantity(left.length, "byte"), left.length === 1, first);
+  return say.assembled(formatQuantity(size, "byte"), left.length > 0 ? ` ${stay}` : "", counter);
 }

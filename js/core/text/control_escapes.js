@@ -8,7 +8,7 @@ const UNSAFE_CHARACTERS = /[\u0000-\u0008\u000b-\u001f\u007f-\u009f\u061c\u200e\
  * Replaces the control characters in a text by escape sequences such as `\x1B` or `\u202E`. Line feeds and tabs stay.
  * @param {string} text
  */
-export function escaped(text) {
+export function escapeControls(text) {
   return text.replace(UNSAFE_CHARACTERS, (character) => {
     const code = character.charCodeAt(0).toString(16).toUpperCase();
     return code.length > 2 ? `\\u${code.padStart(4, "0")}` : `\\x${code.padStart(2, "0")}`;

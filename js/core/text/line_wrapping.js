@@ -7,7 +7,7 @@
  * @param {string} [firstPrefix] the prefix of the first line
  * @param {string} [otherPrefix] the prefix of the other lines
  */
-export function folded(text, width, firstPrefix = "", otherPrefix = firstPrefix) {
+export function wrapText(text, width, firstPrefix = "", otherPrefix = firstPrefix) {
   const lines = [firstPrefix];
   let isFresh = true;
   for (const word of text.trim().split(/\s+/)) {
@@ -31,6 +31,6 @@ export function wrapMessage(message, width) {
   return message.split("\n").map((line) => {
     if (line.length <= width || line.startsWith(QUOTED)) return line;
     const indent = line.slice(0, line.length - line.trimStart().length);
-    return folded(line, width, indent, `${indent}  `);
+    return wrapText(line, width, indent, `${indent}  `);
   }).join("\n");
 }

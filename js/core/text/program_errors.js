@@ -29,15 +29,15 @@ export const MISSING_ROM = 42;
  * @param {number} lineNumber the line number
  * @param {WordError | null} error
  * @param {number} number the refusal number
- * @param {(number: number) => string} wordsOf
+ * @param {(number: number) => string} messageFor
  * @returns {Fault}
  */
-function createFault(source, lineNumber, error, number, wordsOf) {
+function createFault(source, lineNumber, error, number, messageFor) {
   const code = source.slice(0, splitStatement(source).comment);
   const from = code.length - code.trimStart().length;
   const range = error && error.word ? { from: error.word.from, to: error.word.to } : { from, to: Math.max(from, code.trimEnd().length) };
   const cures = error && error.word && error.cures ? { cures: error.cures } : {};
-  return { number, line: lineNumber, ...range, words: error ? error.words : wordsOf(number), ...cures };
+  return { number, line: lineNumber, ...range, words: error ? error.words : messageFor(number), ...cures };
 }
 
 /**

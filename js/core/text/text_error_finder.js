@@ -17,7 +17,8 @@ import { alignedText, findLineFaults, sentText } from "./sendable_text.js";
  * @typedef {object} FaultQueries
  * @property {(sent: string) => Promise<import("../bench/text_check_answers.js").BoardError | null>} wiring resolves to the error in a board
  *   text, or to null
- * @property {(sent: string) => Promise<import("../bench/text_check_answers.js").LineError[]>} errors resolves to the errors in program lines
+ * @property {(sent: string) => Promise<import("../bench/text_check_answers.js").LineError[]>} errors
+ *   resolves to the errors in program lines
  * @property {(sent: string) => Promise<Refusal | null>} refuse resolves to the refusal of a program on the board, or to null
  * @property {(sent: string) => Promise<string[]>} map resolves to the `map` answers for a program
  * @property {() => Promise<Set<number>>} roms resolves to the ROM numbers on the board
@@ -45,7 +46,7 @@ export class TextErrorFinder {
     this.queries = queries;
     this.instructions = instructions;
     this.tables = tables;
-    this.wordsOf = wordsOf;
+    this.messageFor = wordsOf;
   }
 
   /**
@@ -55,7 +56,7 @@ export class TextErrorFinder {
    * @returns {Promise<AllFaults | undefined>}
    */
   async findInProgram(text, isWanted) {
-    const found = await findProgramFaults(text, this.instructions, this.wordsOf, this.queries);
+    const found = await findProgramFaults(text, this.instructions, this.messageFor, this.queries);
     if (!isWanted()) return undefined;
     if (!found || !found.rest || found.rest.number !== MISSING_ROM || found.faults.length > 0) return found;
     const sent = sentText(text, ";");
@@ -75,7 +76,7 @@ export class TextErrorFinder {
     const error = await this.queries.wiring(sentText(text, "#"));
     if (!isWanted()) return undefined;
     if (!error) return { faults: [], isWhole: true, rest: null };
-    return { faults: [createBoardError(alignedText(text, "#"), error, this.tables, this.wordsOf)], isWhole: false, rest: null };
+    return { faults: [createBoardError(alignedText(text, "#"), error, this.tables, this.messageFor)], isWhole: false, rest: null };
   }
 }
 

@@ -78,7 +78,7 @@ export class Waves {
     this.cycles = cycles;
     this.isStuck = isStuck;
     for (const [line, track] of this.derivedTracks) {
-      // The part can change the value at the moment at which it starts.
+      // The first moment of the new part can also be the moment of a change.
       track.endAt(previousEnd - 1);
       this.extendTrack(line, track, previousEnd - 1);
     }

@@ -3,7 +3,7 @@ import { joinLines } from "../../core/bench/inputs.js";
 import { convertLampAnswers } from "../../core/board/lamp_answers.js";
 import { checkArguments, findProject } from "../arguments.mjs";
 import { readBoardAndFace } from "../board_file.mjs";
-import { GivenTexts } from "../input_texts.mjs";
+import { InputTexts } from "../input_texts.mjs";
 import { startEngine } from "../native_program.mjs";
 import { CommandError, print } from "../output.mjs";
 
@@ -13,7 +13,7 @@ export async function run({ folder }, positionals) {
   const words = project ? [project.board, ...positionals] : positionals;
   checkArguments(words, ["BOARD"], 1, true);
   const [name] = words;
-  const texts = new GivenTexts();
+  const texts = new InputTexts();
   const boardText = texts.text(name, "wire");
   // Read standard input before the engine starts, so that a signal ends the waiting process immediately.
   const answers = texts.answers("display");

@@ -4,7 +4,7 @@ import { readProgram } from "../../core/engine/program_check.js";
 import { findTextErrors } from "../../core/testing/test_preparation.js";
 import { sentText } from "../../core/text/sendable_text.js";
 import { checkArguments } from "../arguments.mjs";
-import { GivenTexts, MAX_TEXT_BYTES } from "../input_texts.mjs";
+import { InputTexts, MAX_TEXT_BYTES } from "../input_texts.mjs";
 import { rejectedTextsError, startEngine } from "../native_program.mjs";
 import { CommandError, printFile } from "../output.mjs";
 
@@ -32,7 +32,7 @@ export async function run(values, words) {
   checkArguments(words, ["PROGRAM"]);
   const [name] = words;
   // Latin 1 has one character per byte, so comments in any encoding keep their bytes.
-  const source = new GivenTexts().read(name, MAX_TEXT_BYTES).toString("latin1").replace(UTF8_MARK, "").replace(/\r\n?/g, "\n");
+  const source = new InputTexts().read(name, MAX_TEXT_BYTES).toString("latin1").replace(UTF8_MARK, "").replace(/\r\n?/g, "\n");
   const { text, faults } = importProgram(source);
   if (faults.length > 0) throw new CommandError(faults.map(({ line, words: why }) => `${name}:${line}: ${why}`).join("\n"));
   await checkOnBench(name, source, text);

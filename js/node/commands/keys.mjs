@@ -5,7 +5,7 @@ import { DEFAULT_PACE } from "../../core/testing/press_lines.js";
 import { benchRejected } from "../../words/commands.js";
 import { parseCount, checkArguments, findProject } from "../arguments.mjs";
 import { readBoardAndFace, makeKeyLines } from "../board_file.mjs";
-import { GivenTexts, MAX_TEXT_BYTES } from "../input_texts.mjs";
+import { InputTexts, MAX_TEXT_BYTES } from "../input_texts.mjs";
 import { programPath, startEngine } from "../native_program.mjs";
 import { CommandError, print, printFile } from "../output.mjs";
 
@@ -46,7 +46,7 @@ export async function run({ folder, down, up, "until-stop": session }, positiona
   const words = project ? [project.board, ...positionals] : positionals;
   checkArguments(words, ["BOARD", "KEYS"], 2, true);
   const [boardName, keys] = words;
-  const texts = new GivenTexts();
+  const texts = new InputTexts();
   const boardText = texts.text(boardName, "wire");
   if (session !== undefined) {
     texts.read(session, MAX_TEXT_BYTES);

@@ -5,7 +5,7 @@ import { parseRefusal } from "../../core/bench/answers.js";
 import { compareWithScript } from "../../core/bench/script_progress.js";
 import { changedMeanwhile, notBegun, sessionRefused, sessionWasRefused } from "../../words/commands.js";
 import { checkArguments } from "../arguments.mjs";
-import { GivenTexts, MAX_TEXT_BYTES, MAX_SCRIPT } from "../input_texts.mjs";
+import { InputTexts, MAX_TEXT_BYTES, MAX_SCRIPT } from "../input_texts.mjs";
 import { yieldToMessages, openSession, programPath, startEngine } from "../native_program.mjs";
 import { CommandError, printBytes, printError } from "../output.mjs";
 import { describeRefusal } from "../rejected_texts.mjs";
@@ -67,7 +67,7 @@ function afterLines(bytes, lines) {
 export async function run(_, positionals) {
   checkArguments(positionals, ["SCRIPT", "SESSION"]);
   const [scriptName, session] = positionals;
-  const texts = new GivenTexts();
+  const texts = new InputTexts();
   const bytes = texts.read(scriptName, MAX_SCRIPT);
   const sessionBytes = texts.read(session, MAX_TEXT_BYTES);
   // If there is no native program, fail before anything else.

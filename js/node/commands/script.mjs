@@ -6,7 +6,7 @@ import { LONGEST_TEXT, alignedText, sentText } from "../../core/text/sendable_te
 import { CYCLES_BEFORE_KEYS } from "../../core/time/mcs4_time.js";
 import { checkArguments, findProject } from "../arguments.mjs";
 import { makeKeyLines } from "../board_file.mjs";
-import { GivenTexts } from "../input_texts.mjs";
+import { InputTexts } from "../input_texts.mjs";
 import { rejectedTextsError, startEngine } from "../native_program.mjs";
 import { printFile } from "../output.mjs";
 
@@ -27,7 +27,7 @@ export async function run({ folder }, positionals) {
   const words = project ? [project.board, project.program, ...positionals] : positionals;
   checkArguments(words, ["BOARD", "PROGRAM", "KEYS?"], 3, true);
   const [boardName, programName, keys = ""] = words;
-  const texts = new GivenTexts();
+  const texts = new InputTexts();
   const board = texts.text(boardName, "wire");
   const program = texts.text(programName, "asm");
   const engine = await startEngine();

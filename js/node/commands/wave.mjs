@@ -12,7 +12,7 @@ import { createRecordedProgram } from "../../core/waves/wave_program.js";
 import { createWav } from "../../core/waves/wav.js";
 import * as say from "../../words/commands.js";
 import { parseCount, checkArguments, findProject } from "../arguments.mjs";
-import { GivenTexts } from "../input_texts.mjs";
+import { InputTexts } from "../input_texts.mjs";
 import { yieldToMessages, rejectedTextsError, openSession, readCheckedMap, startEngine } from "../native_program.mjs";
 import { CommandError, UsageError, print, printError } from "../output.mjs";
 import { checkOutputFile, writeUserFile } from "../user_files.mjs";
@@ -60,7 +60,7 @@ async function checkBoard(engine, boardFile, wantedAnswers) {
  * @returns {Promise<OpenedSession>}
  */
 async function openWiredSession(session, { board: boardName, program: programName }) {
-  const texts = new GivenTexts();
+  const texts = new InputTexts();
   const engine = await startEngine();
   const openedState = await openSession(engine, texts, session);
   const boardText = boardName === undefined ? null : texts.text(boardName, "wire");

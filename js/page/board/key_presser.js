@@ -94,7 +94,7 @@ export class KeyPresser {
   }
 
   /**
-   * Presses a key after SWIPE_TIME, unless the touch ends or becomes a swipe before.
+   * Presses a key after SWIPE_TIME, unless the touch ends or becomes a swipe first.
    * @param {number} pointer
    * @param {BoardKey} boardKey
    */

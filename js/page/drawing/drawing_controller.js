@@ -71,9 +71,9 @@ export class DrawingController {
   makeInput() {
     const { drawing } = this;
     return new PictureInput(this.picture, {
-      pressItem: (name) => this.reportFailure(drawing.pressed(name)),
+      pressItem: (name) => this.reportFailure(drawing.handleClick(name)),
       drawWire: (from, to) => {
-        drawing.begun = from;
+        drawing.wireStart = from;
         this.reportFailure(drawing.endWire(to));
       },
       movePart: (part, point) => this.movePart(part, point),
@@ -107,7 +107,7 @@ export class DrawingController {
   show(state) {
     this.view.show(state);
     if (this.drawing.movedParts.takeNews()) this.storePlaces();
-    this.input.setWire(state.begun, state.ends);
+    this.input.setWire(state.wireStart, state.ends);
   }
 
   /** Draws the board's text, if the picture is in front. */
@@ -147,14 +147,14 @@ export class DrawingController {
     const oldPartIds = new Set(picture.parts.keys());
     const text = this.calls.text();
     await drawing.act(action);
-    const { chosen } = drawing;
-    if (this.calls.text() === text || chosen === "") return;
-    const part = [...picture.parts.values()].find(({ id, pins }) => id === chosen || pins.some((pin) => pin.id === chosen));
+    const { selected } = drawing;
+    if (this.calls.text() === text || selected === "") return;
+    const part = [...picture.parts.values()].find(({ id, pins }) => id === selected || pins.some((pin) => pin.id === selected));
     if (part && point && !oldPartIds.has(part.id)) {
       this.movePart(part.id, { x: point.x - part.width / 2, y: point.y - TITLE_HEIGHT / 2 });
       this.storePlaces();
     }
-    picture.focus(chosen);
+    picture.focus(selected);
   }
 
   async applyBoard() {

@@ -5,7 +5,7 @@ import { HelpView } from "./help_view.js";
 import { LinesView } from "../lines/lines_view.js";
 import { readLineForms } from "../../core/help/manual.js";
 import { shortName } from "../../core/session/names.js";
-import { runAct } from "../../core/help/story_actions.js";
+import { runAction } from "../../core/help/story_actions.js";
 import { parseStory } from "../../core/help/story.js";
 import { isTourText } from "../../core/help/tour.js";
 import { TourView } from "./tour_view.js";
@@ -51,7 +51,7 @@ export class Guide {
       putProgram: (program) => this.putProgram(program),
       isProgramInSource: (program) => calls.program() === program,
       reveal: calls.reveal,
-      executeAction: (action) => runAct(action, calls.acts),
+      executeAction: (action) => runAction(action, calls.acts),
       handleTourEnd: calls.handleTourEnd,
     });
   }

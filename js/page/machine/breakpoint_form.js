@@ -2,7 +2,7 @@
 // list of breakpoints if the breakpoint has no line. Enter applies the changes, Escape discards them.
 
 import { parseCount } from "../../core/bench/numbers.js";
-import { Cell, buttonOf, element } from "../ui/dom.js";
+import { Cell, makeButton, element } from "../ui/dom.js";
 import * as say from "../../words/machine.js";
 
 /**
@@ -56,7 +56,7 @@ export class BreakpointForm {
     this.node = element("form", { "className": "breakpoint-row", "aria-label": say.BREAKPOINT_FIELDS },
       ...Object.values(labelledFields).map(({ label }) => label), element("div", { className: "bar" },
         element("button", { type: "submit", title: "Enter" }, say.APPLY),
-        buttonOf(say.CANCEL, () => this.cancel(), { title: "Escape" })), this.status.node);
+        makeButton(say.CANCEL, () => this.cancel(), { title: "Escape" })), this.status.node);
     this.addListeners();
   }
 

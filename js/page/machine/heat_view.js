@@ -38,11 +38,11 @@ const DRAW_INTERVAL = 200;
 
 export class HeatView {
   /**
-   * @param {import("../ui/preferences.js").Choices} choices
+   * @param {import("../ui/preferences.js").Preferences} preferences
    * @param {HeatCalls} calls
    */
-  constructor(choices, calls) {
-    this.choices = choices;
+  constructor(preferences, calls) {
+    this.preferences = preferences;
     this.calls = calls;
     this.kind = byId("heat", HTMLSelectElement);
     this.cycles = field("heat-cycles");
@@ -56,8 +56,8 @@ export class HeatView {
     this.passingHeat = new PassingHeat();
     /** The time of the last update while time was running, in milliseconds. */
     this.lastDrawTime = 0;
-    this.kind.value = choices.get("heat");
-    this.cycles.value = choices.get("heat-cycles") || this.cycles.value;
+    this.kind.value = preferences.get("heat");
+    this.cycles.value = preferences.get("heat-cycles") || this.cycles.value;
     this.kind.addEventListener("change", () => this.applyChoice());
     this.cycles.addEventListener("change", () => this.applyChoice());
     // Input cancels a count, so that the user's next action does not wait for it.
@@ -66,8 +66,8 @@ export class HeatView {
   }
 
   applyChoice() {
-    this.choices.set("heat", this.kind.value);
-    this.choices.set("heat-cycles", this.cycles.value);
+    this.preferences.set("heat", this.kind.value);
+    this.preferences.set("heat-cycles", this.cycles.value);
     this.showReach();
     this.clear();
     this.updateWatch();

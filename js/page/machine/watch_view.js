@@ -63,7 +63,7 @@ export class WatchView {
   /** @param {WatchExpression[]} expressions */
   setExpressions(expressions) {
     this.expressions = expressions;
-    this.rows = expressions.map((watched) => this.makeRow(watched));
+    this.rows = expressions.map((watch) => this.makeRow(watch));
     this.list.replaceChildren(...this.rows.map(({ root }) => root));
     this.calls.handleListChange();
     this.show();

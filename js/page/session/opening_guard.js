@@ -17,7 +17,7 @@ const RECENT_TIME = 2000;
 /** The window events that announce that the user leaves the page. Every browser sends at least one of them. */
 const LEAVE_EVENTS = ["beforeunload", "pagehide"];
 
-export class Openings {
+export class OpeningGuard {
   /**
    * @param {FlagStore | null} store null if the browser has no storage
    * @param {(action: () => void, time: number) => void} callLater calls a function after a time in milliseconds
@@ -56,7 +56,7 @@ export class Openings {
    * Returns true if the last opening of a session has not ended. Ignores a recent opening, which may still be in progress.
    * @param {string} id
    */
-  hasUnendedOpening(id) {
+  hasUnfinishedOpening(id) {
     /** @type {string | null} */
     let flag = null;
     this.accessStore((store) => {

@@ -30,7 +30,7 @@ import * as say from "../../words/session.js";
  * @property {(words: string, ...actions: NoticeAction[]) => void} refuse Shows a message about an action that was not executed, with
  *   buttons for alternatives.
  * @property {(id: string) => void} setSpeed Sets the speed that a project requests, by its id.
- * @property {(record: SessionRecord) => void} reportLeft Reports a session that the user has left for a new one, and offers to return to
+ * @property {(record: SessionRecord) => void} offerReturn Reports a session that the user has left for a new one, and offers to return to
  *   it.
  * @property {(name: string, texts: import("../../core/session/opened_file.js").FileTexts) => Promise<void>} loadTexts Loads the texts of a
  *   file into the editors.
@@ -109,7 +109,7 @@ export class SessionManager {
     try {
       const record = await makeRecord();
       await this.calls.useSession(record, (await this.locks.take(record.id)) || (() => {}), example);
-      if (previousSession && !previousSession.isUntouched) this.calls.reportLeft(previousSession.record);
+      if (previousSession && !previousSession.isUntouched) this.calls.offerReturn(previousSession.record);
       return true;
     } catch (fault) {
       return this.rejectAction(say.notMade(this.words.errorMessage(fault)));

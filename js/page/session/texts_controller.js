@@ -1,6 +1,6 @@
 // Saves the current session's texts, replaces texts, and restores replaced texts.
 
-import { counted } from "../../core/bench/numbers.js";
+import { formatQuantity } from "../../core/bench/numbers.js";
 import * as say from "../../words/session.js";
 
 /**
@@ -43,7 +43,7 @@ const EDIT_TIME = 600;
  */
 export function formatLineCount(text) {
   const count = text === "" ? 0 : text.replace(/\n$/, "").split("\n").length;
-  return counted(count, "line");
+  return formatQuantity(count, "line");
 }
 
 export class TextsController {

@@ -1,7 +1,7 @@
 // The editors of the board's text and of the source. The editors check the texts while the user types, and send the texts to the bench.
 
 import { readBoard, parseRefusal } from "../../core/bench/answers.js";
-import { counted } from "../../core/bench/numbers.js";
+import { formatQuantity } from "../../core/bench/numbers.js";
 import { TextErrorFinder, findFrontPanelErrors, keepTextRefusal } from "../../core/text/text_error_finder.js";
 import { programTexts, describeAssembled } from "../../core/text/asm_texts.js";
 import { assemblyColours } from "./assembly_colours.js";
@@ -12,7 +12,7 @@ import { block, button, onClick } from "../ui/dom.js";
 import { EditorView } from "./text_editor_view.js";
 import { moreErrors } from "../../core/board/face.js";
 import { PARTS } from "../../core/text/folding.js";
-import { LiveFaults } from "./live_errors.js";
+import { LiveErrors } from "./live_errors.js";
 import { readInstructions } from "../../core/help/manual.js";
 import { isNoProgram } from "../../core/text/program_errors.js";
 import { boardTables, helpForBoard, helpForProgram } from "../../core/text/text_help.js";
@@ -78,11 +78,11 @@ export class Editors {
     /** @type {string | null} the board's text while it is being applied; null at other times */
     this.pendingBoardText = null;
     this.faultSearch = this.makeFaultSearch(words);
-    this.programFaults = new LiveFaults((isWanted) => this.faultSearch.findInProgram(this.program.text, isWanted),
+    this.programFaults = new LiveErrors((isWanted) => this.faultSearch.findInProgram(this.program.text, isWanted),
       (result) => this.showFoundFaults("program", result), calls.reportFailure);
     onClick(button("assemble-only"), () => this.assembleOnly().catch(calls.reportFailure));
     onClick(button("first-board"), () => this.applyFirstBoard().catch(calls.reportFailure));
-    this.boardFaults = new LiveFaults((isWanted) => this.faultSearch.findInBoard(this.board.text, isWanted),
+    this.boardFaults = new LiveErrors((isWanted) => this.faultSearch.findInBoard(this.board.text, isWanted),
       (result) => this.showFoundFaults("board", result), calls.reportFailure);
   }
 
@@ -194,7 +194,7 @@ export class Editors {
     const answer = await this.calls.serveLines(`${lines}reset\n`);
     if (answer === null) return;
     const refusal = parseRefusal(answer);
-    const successMessage = say.assembledAll(counted(size, "byte"));
+    const successMessage = say.assembledAll(formatQuantity(size, "byte"));
     this.program.showMessage(refusal ? this.describeRefusal(refusal) : successMessage);
     if (refusal) return;
     await this.calls.handleAssembly(true);

@@ -10,7 +10,7 @@ import { wordsOfLine } from "../../words/stops.js";
  * @typedef {import("../../core/text/sendable_text.js").Fault} Fault
  */
 
-export class FaultView {
+export class ErrorView {
   /**
    * @param {LineEditor} editor
    * @param {LineMarks} marks

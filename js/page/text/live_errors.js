@@ -7,7 +7,7 @@ const CHECK_DELAY = 300;
 /**
  * @template Result
  */
-export class LiveFaults {
+export class LiveErrors {
   /**
    * @param {(isWanted: () => boolean) => Promise<Result | undefined>} find resolves to the errors, or to undefined if the check is
    *   cancelled

@@ -3,7 +3,7 @@
 
 import { element } from "../ui/dom.js";
 import { putBelow } from "../ui/popup_message.js";
-import { textOf } from "../../core/debug/word_values.js";
+import { joinPieces } from "../../core/debug/word_values.js";
 import * as say from "../../words/text.js";
 
 /**
@@ -53,7 +53,7 @@ export class MeaningView {
     this.cells.forEach((cell, index) => {
       if (cell.textContent !== values[index]) cell.textContent = values[index];
     });
-    const meaning = textOf(pieces);
+    const meaning = joinPieces(pieces);
     const description = meaning === "" ? words : words === "" || meaning.startsWith(words) ? "" : `. ${words}`;
     if (this.words.textContent !== description) this.words.textContent = description;
   }
@@ -74,7 +74,7 @@ export class MeaningView {
    * @param {{ left: number, top: number }} point window coordinates
    */
   showTooltip(pieces, { left, top }) {
-    this.tooltip.textContent = textOf(pieces);
+    this.tooltip.textContent = joinPieces(pieces);
     this.tooltip.hidden = pieces.length === 0;
     if (pieces.length > 0) putBelow(this.tooltip, { left, bottom: top }, BELOW_POINTER);
   }

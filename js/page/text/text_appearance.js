@@ -3,7 +3,7 @@
 import { block, button, field, onClick } from "../ui/dom.js";
 
 /**
- * @typedef {import("../ui/preferences.js").Choices} Choices
+ * @typedef {import("../ui/preferences.js").Preferences} Preferences
  * @typedef {import("./line_editor.js").LineEditor} LineEditor
  */
 
@@ -14,36 +14,36 @@ const MAX_SIZE = 28;
 
 export class TextAppearance {
   /**
-   * @param {Choices} choices
+   * @param {Preferences} preferences
    * @param {LineEditor[]} editors
    */
-  constructor(choices, editors) {
-    this.choices = choices;
+  constructor(preferences, editors) {
+    this.preferences = preferences;
     this.editors = editors;
     onClick(button("text-smaller"), () => this.resize(this.size - 1));
     onClick(button("text-larger"), () => this.resize(this.size + 1));
     const wrap = field("text-wrap");
-    wrap.checked = choices.get("wrap") === "on";
+    wrap.checked = preferences.get("wrap") === "on";
     wrap.addEventListener("change", () => {
-      choices.set("wrap", wrap.checked ? "on" : "");
+      preferences.set("wrap", wrap.checked ? "on" : "");
       this.show();
     });
     this.show();
   }
 
   get size() {
-    return Math.min(MAX_SIZE, Math.max(MIN_SIZE, Number(this.choices.get("size")) || DEFAULT_SIZE));
+    return Math.min(MAX_SIZE, Math.max(MIN_SIZE, Number(this.preferences.get("size")) || DEFAULT_SIZE));
   }
 
   /** @param {number} size */
   resize(size) {
-    this.choices.set("size", String(Math.min(MAX_SIZE, Math.max(MIN_SIZE, size))));
+    this.preferences.set("size", String(Math.min(MAX_SIZE, Math.max(MIN_SIZE, size))));
     this.show();
   }
 
   show() {
     block("texts").style.setProperty("--text-size", `${this.size}px`);
-    const wraps = this.choices.get("wrap") === "on";
+    const wraps = this.preferences.get("wrap") === "on";
     for (const editor of this.editors) {
       editor.wrap(wraps);
       editor.refresh();

@@ -103,7 +103,7 @@ export class RunController {
   }
 
   /** Starts a new measurement of the rate. */
-  beginRate() {
+  startRateMeasurement() {
     this.rate = new Rate(this.clock.now);
     this.showRate();
   }
@@ -126,7 +126,7 @@ export class RunController {
     this.showRunning(true);
     this.showMessage(goal ? wordsOfMove(goal) : say.isRunning(currentSession.name, calls.countUnreadable()));
     this.clock.start();
-    this.beginRate();
+    this.startRateMeasurement();
     bench.isRunning = this.clock.isFull;
     currentSession.keep();
   }
@@ -157,7 +157,7 @@ export class RunController {
     if (!speed.isFull && this.clock.isFull && this.clock.isRunning) this.handleFrame(await bench.call("halt", []));
     this.clock.setSpeed(speed);
     this.sound.update();
-    this.beginRate();
+    this.startRateMeasurement();
     bench.isRunning = speed.isFull && this.clock.isRunning;
     this.calls.drawListing();
   }
@@ -193,7 +193,7 @@ export class RunController {
    * @param {boolean} wasHidden
    */
   reportStandstill(time, wasHidden) {
-    this.beginRate();
+    this.startRateMeasurement();
     const message = say.wasPausedFor(formatDuration(time), wasHidden);
     this.showMessage(message);
     setTimeout(() => {
@@ -307,7 +307,7 @@ export class RunController {
     if (word === "press" && this.clock.pressNow(key)) return;
     const removePending = this.pendingKeys.send({ word, key });
     bench.call(word, [key]).finally(removePending).then((waiting) => {
-      this.pendingKeys.waiting = waiting;
+      this.pendingKeys.waitingChanges = waiting;
     }, calls.reportFailure);
   }
 

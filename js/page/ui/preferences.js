@@ -27,7 +27,7 @@ function readChoices(text) {
   }
 }
 
-export class Choices {
+export class Preferences {
   /** @param {ChoiceStore | null} store null if the browser has no storage */
   constructor(store = browserStore()) {
     this.store = store;
@@ -55,7 +55,7 @@ export class Choices {
    * @param {string} value
    */
   set(name, value) {
-    // Another tab may have stored other choices in the meantime.
+    // Another tab may have stored other preferences in the meantime.
     this.choiceByName = { ...this.choiceByName, ...readChoices(this.read()), [name]: value };
     try {
       if (this.store) this.store.setItem(KEY, JSON.stringify(this.choiceByName));

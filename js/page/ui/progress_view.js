@@ -6,7 +6,7 @@ import * as say from "../../words/page.js";
 /** The delay in milliseconds before the progress appears. Shorter work does not show any progress. */
 const SHOW_DELAY = 300;
 
-export class WorkView {
+export class ProgressView {
   constructor() {
     this.block = block("work");
     this.bar = descendant(this.block, "progress", HTMLProgressElement);
