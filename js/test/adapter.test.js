@@ -297,7 +297,7 @@ test("in real time a cycle takes as long as on a real board", async () => {
   await ask("pause", { threadId: 1 });
   await until(() => stops().length > before);
   const time = performance.now() - from;
-  const { total } = adapter.current.launch.session.debugger.session.count;
+  const { total } = adapter.current.launchResult.session.debugger.session.count;
   // A sixtieth of a second is done at once.
   assert.ok(total > 1000 && total * 0.0108 < time + 17, `${total} cycles in ${time} ms`);
 });
