@@ -131,7 +131,7 @@ async function changed(random) {
 /** The context of expressions, with the names of Watch. */
 function known() {
   Object.defineProperty(session, "names", { configurable: true, value: names });
-  return { session, face: names.face, instructions: new Map(), shown: () => "" };
+  return { session, face: names.face, instructions: new Map(), frontPanelText: () => "" };
 }
 
 /** Returns the result of a call, or the words of its error. */

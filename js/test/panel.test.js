@@ -228,12 +228,12 @@ test("rows fit the terminal, and no text of others controls it", async () => {
 test("a terminal that is restored gets no more pictures: a signal can come while one is made", () => {
   const written = [];
   const output = { ...SIZE, write: (text) => written.push(text) };
-  const terminal = Object.assign(Object.create(PanelTerminal.prototype), { output, paint: null, shown: [], isOn: true });
+  const terminal = Object.assign(Object.create(PanelTerminal.prototype), { output, paint: null, drawnRows: [], isOn: true });
   const rows = [{ pieces: [{ text: "a row", colour: "", level: 0 }], isInverse: false }];
   terminal.draw(rows);
   assert.deepEqual(written, ["\x1b[2J\x1b[1;1Ha row"]);
   terminal.isOn = false;
-  terminal.shown = [];
+  terminal.drawnRows = [];
   terminal.draw(rows);
   terminal.drawTooSmall();
   assert.equal(written.length, 1);
