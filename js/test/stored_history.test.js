@@ -21,7 +21,7 @@ function storeOf(room = 5000000) {
 }
 
 /** Handles the snapshot of a call, as the page does. */
-function seen(past, calls, shown = calls.bench.shown([], false)) {
+function seen(past, calls, shown = calls.bench.snapshotReport([], false)) {
   past.take(shown.past, { file: calls.bench.session.file.slice(), total: shown.total, reset: shown.reset });
 }
 
