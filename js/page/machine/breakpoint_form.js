@@ -166,8 +166,11 @@ export class BreakpointForm {
   /** @param {Breakpoint} originalBreakpoint */
   finish(originalBreakpoint) {
     const hadFocus = this.node.contains(document.activeElement);
-    this.close();
+    // From here on, the form applies nothing when it loses the focus.
+    this.originalBreakpoint = null;
+    // The focus returns first: in WebKit, the caret of the source would move to its start after the focused form is removed.
     if (hadFocus) this.calls.returnFocus(originalBreakpoint);
+    this.calls.removeForm(this.node);
   }
 
   /** Removes the form. */

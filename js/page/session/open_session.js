@@ -1,6 +1,7 @@
 // A session that is open in this tab: its record, which has the last state from the bench, and the writes of the record to the store.
 
 import { shortName } from "../../core/session/names.js";
+import { LeftTexts } from "./left_texts.js";
 import { withTimeout, describeStoreError } from "./store.js";
 
 /**
@@ -41,6 +42,8 @@ export class OpenSession {
     this.record = record;
     this.release = release;
     this.example = example;
+    this.leftTexts = new LeftTexts();
+    if (record.revision > 0) this.leftTexts.note(record);
     /** @type {Promise<string>} the write in progress */
     this.currentWrite = Promise.resolve("");
     /** @type {Promise<string> | null} the next write after the one in progress; null if there is none */
@@ -84,7 +87,10 @@ export class OpenSession {
    * the answer would arrive too late, and the unfinished write would block other pages.
    */
   keepNow() {
-    return this.store.isAtomic && !this.isUntouched ? this.write() : Promise.resolve("");
+    if (!this.store.isAtomic || this.isUntouched) return Promise.resolve("");
+    const write = this.write();
+    this.leftTexts.leave(this.record);
+    return write;
   }
 
   get isUntouched() {
@@ -102,7 +108,9 @@ export class OpenSession {
   async write() {
     try {
       this.record.changed = Date.now();
+      const writtenRecord = { ...this.record };
       await this.store.put(this.record);
+      this.leftTexts.note(writtenRecord);
       return "";
     } catch (fault) {
       return describeStoreError(fault);

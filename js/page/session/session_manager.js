@@ -3,6 +3,7 @@
 import { download } from "./download.js";
 import { runsAtOnce } from "../../core/engine/examples.js";
 import { newRecord } from "./open_session.js";
+import { LeftTexts } from "./left_texts.js";
 import { readFolderTexts } from "./folder_project.js";
 import { readOpenedFile } from "../../core/session/opened_file.js";
 import { MAX_PROJECT_BYTES, projectText, readProject, tooLongMessage } from "../../core/session/project_file.js";
@@ -54,6 +55,7 @@ export class SessionManager {
     this.locks = locks;
     this.words = words;
     this.calls = calls;
+    this.leftTexts = new LeftTexts();
   }
 
   /** Resolves to the saved sessions, the most recently changed first. */
@@ -70,6 +72,7 @@ export class SessionManager {
   async readRecord(id) {
     const record = await this.store.get(id);
     if (!record) throw new StoreError(say.NO_LONGER_KEPT);
+    this.leftTexts.restore(record);
     return record;
   }
 
