@@ -1,13 +1,13 @@
 // Joins the modules of each command into one file: `node join_commands.mjs FOLDER [NAME ..]`. Without names, it joins all commands. For each command,
 // it writes two files. FOLDER/NAME.cjs contains the command and the modules that it uses. FOLDER/sources/NAME contains a checksum and a list of
-// sources; the checksum covers these sources and the joined file. js/node/joined.cjs verifies the checksum before it uses a joined file. tools/ship
+// sources; the checksum covers these sources and the joined file. js/node/joined_loader.cjs verifies the checksum before it uses a joined file. tools/ship
 // calls this script, which needs esbuild.
 import { execFileSync } from "node:child_process";
 import { mkdirSync, readFileSync, rmSync, writeFileSync } from "node:fs";
 import { join, resolve } from "node:path";
 import { COMMANDS } from "../js/node/commands/table.mjs";
-import { hashFiles } from "../js/node/joined.cjs";
-import { TOP } from "../js/node/top.mjs";
+import { hashFiles } from "../js/node/joined_loader.cjs";
+import { TOP } from "../js/node/top_folder.mjs";
 
 const [, , folderName = "", ...commandNames] = process.argv;
 if (folderName === "" || folderName.startsWith("-") || commandNames.some((name) => !Object.hasOwn(COMMANDS, name))) {

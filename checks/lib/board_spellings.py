@@ -6,7 +6,7 @@ from session_file import Board, chain_line, ram_line, rom_line
 
 KINDS = ("rom", "ram", "chain", "keys", "lamp")
 EQUALS = (" = ", " = ", "=", "\t= ")
-ENDS = ("\n", "\n", "\n\n", " # one\n", "\t\n# one more\n")
+TEXT_ENDS = ("\n", "\n", "\n\n", " # one\n", "\t\n# one more\n")
 
 
 class Raw:
@@ -105,4 +105,4 @@ def spelled_tables(chance, tables):
     chance.shuffle(order)
     for below in order:
         lines += headed(chance, below, tables[below].pop(0))
-    return "".join(line + chance.choice(ENDS) for line in lines)
+    return "".join(line + chance.choice(TEXT_ENDS) for line in lines)

@@ -9,7 +9,7 @@ import { dirname, join } from "node:path";
 import { fileURLToPath } from "node:url";
 import { Engine } from "../../js/core/engine/engine.js";
 import { findInputEnd, matchAnswers, readInputs } from "../../js/core/bench/inputs.js";
-import { disassembleRom } from "../../js/core/engine/texts_of_file.js";
+import { disassembleRom } from "../../js/core/engine/text_recovery.js";
 
 const [modulePath, mcs4, count] = process.argv.slice(2);
 // The files are in memory if possible, because the program waits for its disk after each command.

@@ -85,6 +85,15 @@ class Driven:
             ],
         } for number, selector in enumerate(selectors)])
 
+    def touch(self, selector, time_down):
+        """Touches an element with one finger for a time in milliseconds. Unlike those of `fingers`, its events are a touch in every browser."""
+        self.fingers([selector], time_down)
+
+    def click_secondary(self, x, y):
+        """Clicks a point of the window with the secondary mouse button."""
+        self.actions({"type": "pointer", "id": "mouse", "parameters": {"pointerType": "mouse"}, "actions": [
+            {"type": "pointerMove", "duration": 0, "x": x, "y": y}, {"type": "pointerDown", "button": 2}, {"type": "pointerUp", "button": 2}]})
+
     def keys(self, keys, time_down=70, time_up=60):
         """Types keys on the keyboard in sequence."""
         steps = []

@@ -5,7 +5,7 @@ import pathlib
 import re
 
 from side_by_side import CHECKS
-from mutant_readings import WRONG_BOARDS, WRONG_SEARCHES, WRONG_TOOLS
+from mutants import WRONG_BOARDS, WRONG_SEARCHES, WRONG_TOOLS
 
 TOP = pathlib.Path(__file__).resolve().parent.parent.parent
 

@@ -246,7 +246,7 @@ def check_tooltips(browser):
     browser.actions({**HOVER, "actions": [{"type": "pointerMove", "duration": 0, "x": 300, "y": 300}]})
     eventually(browser, "not once it has gone", TIP, "")
     before = browser.script(STATUS)
-    browser.fingers(["#out"], 900)
+    browser.touch("#out", 900)
     eventually(browser, "and where a finger stays", TIP, re.compile("^Step out.* Shift\\+F11$"))
     verdict("which does nothing else", browser.script(STATUS), before)
     eventually(browser, "it leaves after the finger", TIP, "")

@@ -298,7 +298,7 @@ def check_row(browser):
     verdict("the row goes", browser.script(ROW_VALUES), "")
     verdict("the keyboard is the text's again", browser.script(IN_SOURCE), True)
     browser.chord(SHIFT, F9)
-    browser.until(ROW_VALUES, "r9 = 9; 2; ")
+    eventually(browser, "with the caret in the line that it had", ROW_VALUES, "r9 = 9; 2; ")
     browser.keys([*"at loop", TAB, TAB, *"seen"])
     verdict("a field that is left counts for itself not yet", browser.script(WORDS), "if r9 = 9 from hit 2 on")
     browser.keys([F10, F10])

@@ -3,7 +3,7 @@
 import re
 import time
 
-from page_in_browser import ALL_NOTICES, PUT_INTO_EDITOR, STATUS, TEXT_OF_EDITOR, choose_example, open_anew, show_text, stop_time
+from page_in_browser import ALL_NOTICES, PUT_INTO_EDITOR, STATUS, STEPPED, TEXT_OF_EDITOR, choose_example, open_anew, show_text, stop_time
 from verdicts import eventually, verdict
 
 CONTROL, SHIFT, ALT, ENTER, ESCAPE, TAB = "\ue009", "\ue008", "\ue00a", "\ue007", "\ue00c", "\ue004"
@@ -200,6 +200,9 @@ def check_folding(browser):
     browser.click(f"{PROGRAM} .send")
     eventually(browser, "it is assembled as it is", STATUS, re.compile("^Running"))
     stop_time(browser)
+    # On a busy machine, time can be paused before its first instruction, whose line is visible.
+    browser.click("#step")
+    browser.until(STATUS, STEPPED)
     # Time is paused at the loop's label, where the line below stays folded, or at the next line.
     eventually(browser, "and the line at which time stands still is unfolded", FOLDED, re.compile("^\u2026 1 line(,\u2026 1 line){1,2}$"))
 

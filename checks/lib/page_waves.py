@@ -318,6 +318,18 @@ def check_search(browser):
 PLACE = """
 const { left, top } = document.getElementById("wave-canvas").getBoundingClientRect();
 return [Math.round(left + arguments[0]), Math.round(top + 26 * (1.35 + arguments[1]))]"""
+# The stored arrangement of the rows: their order, a title, a group, and the folded groups.
+STORED_ROWS = """
+return new Promise((done) => {
+  indexedDB.open("fethsaim", 1).onsuccess = ({ target: { result: database } }) => {
+    const asked = database.transaction("sessions").objectStore("sessions").get(location.hash.slice("#session=".length));
+    asked.onsuccess = () => {
+      const { order = [], looks = {}, folded = [] } = asked.result?.rows || {};
+      database.close();
+      done([...order, looks.lamp13?.title, looks.lamp15?.group, ...folded]);
+    };
+  };
+})"""
 MEASURED = "const shown = document.getElementById('wave-measure'); return shown.hidden ? '' : shown.textContent"
 
 
@@ -373,14 +385,14 @@ def check_pointer(browser):
     there = dict(zip(("x", "y"), browser.script(PLACE, 40, 0)))
     at(browser, 40, 2, {"type": "pointerDown", "button": 0}, {"type": "pointerMove", "duration": 50, **there}, {"type": "pointerUp", "button": 0})
     eventually(browser, "a row is dragged by its name", NAMES, "lamp15 lamp13 lamp14")
-    at(browser, 40, 1, {"type": "pointerDown", "button": 2}, {"type": "pointerUp", "button": 2})
+    browser.click_secondary(*browser.script(PLACE, 40, 1))
     eventually(browser, "a row has a menu", "return document.activeElement.textContent", "Rename")
     browser.keys([ENTER])
     browser.keys([*"tens", ENTER])
     eventually(browser, "by which it is named", NAMES, "lamp15 tens lamp14")
     browser.chord("\ue00a", DOWN)
     eventually(browser, "Alt and an arrow move the row that is marked", NAMES, "lamp15 lamp14 tens")
-    at(browser, 40, 0, {"type": "pointerDown", "button": 2}, {"type": "pointerUp", "button": 2})
+    browser.click_secondary(*browser.script(PLACE, 40, 0))
     browser.until("return document.activeElement.textContent", "Rename")
     browser.keys([DOWN, ENTER])
     browser.keys([*"digit", ENTER])
@@ -391,7 +403,7 @@ def check_pointer(browser):
     eventually(browser, "Enter folds it", NAMES, "lamp14 tens")
     browser.keys([ENTER])
     eventually(browser, "and unfolds it", NAMES, "lamp15 lamp14 tens")
-    time.sleep(1)
+    eventually(browser, "the arrangement is stored", STORED_ROWS, ["lamp15", "lamp14", "lamp13", "tens", "digit"])
     browser.reload()
     until_ready(browser)
     record(browser, 5000)

@@ -28,6 +28,8 @@ import time
 from dataclasses import dataclass, field
 
 sys.dont_write_bytecode = True
+from browsers import installed_browsers  # noqa: E402
+
 TOP = pathlib.Path(__file__).resolve().parent.parent.parent
 CACHE = pathlib.Path(os.environ.get("XDG_CACHE_HOME") or pathlib.Path.home() / ".cache") / "fethsaim/check_seconds.json"
 # The time limit of a check: at least this many seconds, plus this factor times its usual time.
@@ -53,9 +55,9 @@ PACKAGES = {
 
 @dataclass(frozen=True)
 class Check:
-    """A script in checks/. Its fields: the commands and files that it needs, and those that parts of it need; its usual time in seconds; its
-    arguments, by mode if they differ; whether it runs alone; whether it reads what the gate builds; which part of it this is, if its parts run in
-    parallel."""
+    """A script in checks/. Its fields: the commands and files that it needs, and those that parts of it need; its usual time in seconds, and the
+    seconds that each installed browser adds; its arguments, by mode if they differ; whether it runs alone; whether it reads what the gate builds;
+    which part of it this is, if its parts run in parallel."""
 
     name: str
     needs: str = ""
@@ -67,6 +69,7 @@ class Check:
     reads_built: bool = False
     parts_need: str = ""
     part: str = ""
+    browser_seconds: int = 0
 
     @property
     def label(self):
@@ -81,14 +84,18 @@ class Check:
     def title(self, mode):
         return " ".join(self.command(mode))
 
+    def usual(self):
+        """Its usual time in seconds, with the installed browsers."""
+        return self.seconds + self.browser_seconds * len(installed_browsers())
+
     def limit(self):
         """The number of seconds after which the check is ended."""
-        return int(os.environ.get("CHECK_SECONDS", MIN_SECONDS + TIMES * self.seconds))
+        return int(os.environ.get("CHECK_SECONDS", MIN_SECONDS + TIMES * self.usual()))
 
 
 CHECKS = [
-    Check("page", "python3 node esbuild", 350, "--half 1", quick="--only layout use --browser Chromium", part="1"),
-    Check("page", "python3 node esbuild", 350, "--half 2 --scripts 100", long="--half 2 --scripts 400 --anew", part="2"),
+    Check("page", "python3 node esbuild", 20, "--half 1", quick="--only layout use --browser Chromium", part="1", browser_seconds=350),
+    Check("page", "python3 node esbuild", 20, "--half 2 --scripts 100", long="--half 2 --scripts 400 --anew", part="2", browser_seconds=350),
     Check("explore", "node parallel", 230, "3", long="60"),
     Check("power", "python3 cc", 240, "--seconds 240", long="--long", alone=True),
     Check("installed", "prove flock lintian zsh fish", 300),
@@ -205,7 +212,7 @@ class Run:
         self.mode = mode
         self.folder = folder
         self.checks = [] if mode == "gate" else [check for check in CHECKS if mode != "quick" or check.quick is not None]
-        self.usual = {**{check.label: check.seconds for check in [*CHECKS, GATE]}, **times_before(mode)}
+        self.usual = {**{check.label: check.usual() for check in [*CHECKS, GATE]}, **times_before(mode)}
         self.waiting = sorted(self.checks, key=lambda check: -self.usual[check.label])
         self.gate = None
         self.processors = len(os.sched_getaffinity(0))

@@ -14,6 +14,20 @@ import urllib.request
 
 from driven import BEFORE_SCRIPTS, ELEMENT, Driven, Fault
 
+# The events of a touch, and of a click with the secondary mouse button.
+TOUCH = """
+const [selector, time] = arguments;
+const node = document.querySelector(selector);
+const send = (kind) => node.dispatchEvent(new PointerEvent(kind, { pointerType: "touch", bubbles: true, cancelable: true }));
+send("pointerdown");
+return new Promise((done) => setTimeout(() => done(["pointerup", "click"].forEach(send)), time))"""
+CLICK_SECONDARY = """
+const [clientX, clientY] = arguments;
+const at = { clientX, clientY, pointerType: "mouse", button: 2, bubbles: true, cancelable: true };
+for (const kind of ["pointerdown", "contextmenu", "pointerup"]) {
+  document.elementFromPoint(clientX, clientY).dispatchEvent(new PointerEvent(kind, at));
+}"""
+
 
 def free_port():
     """Returns a free port. (Not all drivers that choose a port themselves report it.)"""
@@ -141,7 +155,7 @@ class WebKit(WebDriver):
     name = "WebKit"
     # It has no setting that blocks site data.
     blocks_data = None
-    # Its driver moves only one pointer, and its tabs are windows that do not hide each other.
+    # Its driver moves only one pointer, which is a mouse, and its tabs are windows that do not hide each other.
     has_fingers = False
     hides_tabs = False
     settles = 0.3
@@ -162,6 +176,13 @@ class WebKit(WebDriver):
         self.session = "/session/" + answer["sessionId"]
         self.version = answer["capabilities"]["browserVersion"]
         self.resize_back()
+
+    def touch(self, selector, time_down):
+        self.script(TOUCH, selector, time_down)
+
+    def click_secondary(self, x, y):
+        # After a press of this button, the driver would type every character without Shift.
+        self.script(CLICK_SECONDARY, x, y)
 
     def _display(self):
         """Starts Xvfb with a display number that Xvfb chooses. Returns the name of the display."""

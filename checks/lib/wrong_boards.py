@@ -2,7 +2,7 @@
 
 import random
 
-from board_spellings import ENDS, EQUALS, KINDS, Raw, seeded_board, spelled_tables
+from board_spellings import TEXT_ENDS, EQUALS, KINDS, Raw, seeded_board, spelled_tables
 
 # Wrong values for each key, in addition to the values that no key can have.
 WRONG = {
@@ -97,7 +97,7 @@ def spoil_text(chance, text):
 def top_of(chance):
     """Returns a line that goes before all others."""
     section, value = chance.choice([*KINDS, *UNKNOWN[:6]]), chance.choice(["1", "[1]", "[{}, 2]", "{}", "{ chip = 1 }", '"a"', "[\n]"])
-    return f"{section}{chance.choice(EQUALS)}{value}{chance.choice(ENDS)}"
+    return f"{section}{chance.choice(EQUALS)}{value}{chance.choice(TEXT_ENDS)}"
 
 
 def wrong_board(number):

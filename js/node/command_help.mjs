@@ -1,5 +1,5 @@
 // The help of commands for a terminal, generated from the command table and from js/words/commands.js.
-import { folded as foldedTo } from "../core/text/folded.js";
+import { wrapText as foldedTo } from "../core/text/line_wrapping.js";
 import * as say from "../words/commands.js";
 import { COMMANDS } from "./commands/table.mjs";
 

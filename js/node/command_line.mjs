@@ -21,7 +21,7 @@ const HELP_OPTION = { type: "boolean", short: "h" };
  * @param {string[]} words
  */
 async function findSuggestions(word, words) {
-  const { findSimilarWords } = await import("../core/text/alike.js");
+  const { findSimilarWords } = await import("../core/text/similar_words.js");
   return findSimilarWords(word, words);
 }
 
@@ -145,7 +145,7 @@ async function printHelp([name, ...extraWords]) {
   }
   const isAboutMcs4 = name === undefined || Object.hasOwn(say.MCS4_COMPLETED, name);
   if (!isAboutMcs4 && !Object.hasOwn(COMMANDS, name)) return rejectCommand(name);
-  const { TOP } = await import("./top.mjs");
+  const { TOP } = await import("./top_folder.mjs");
   try {
     print(isAboutMcs4 ? mcs4Help(TOP) : commandHelp(name));
     return 0;

@@ -4,7 +4,7 @@ import { closeSync, existsSync, fsyncSync, openSync, realpathSync } from "node:f
 import { dirname, isAbsolute, join, resolve, sep } from "node:path";
 import { findLockHolder, readUnlocked } from "./file_locks.mjs";
 import { CommandError } from "./output.mjs";
-import { openProgram } from "./program_on_file.mjs";
+import { openProgram } from "./session_process.mjs";
 import { heldBy } from "../words/adapter.js";
 import { isInside, readUserFile, readUserText, prepareReplacement } from "./user_files.mjs";
 
@@ -30,7 +30,7 @@ class SessionFile {
     try {
       program = await openProgram("open", replacement.name);
       check(await program.ask(lines, count));
-      replacement.put();
+      replacement.replaceTarget();
     } catch (fault) {
       replacement.drop();
       if (program) await program.end();
@@ -65,7 +65,7 @@ async function openSessionFile(name) {
   }
 }
 
-/** The host functions of the debugger, as js/core/adapter/launching.js describes them. */
+/** The host functions of the debugger, as js/core/adapter/session_launch.js describes them. */
 export const host = {
   nameOf: (name, folder) => {
     const path = isAbsolute(name) ? name : resolve(folder || ".", name);

@@ -3,21 +3,21 @@ import { createHash } from "node:crypto";
 import { writeFileSync } from "node:fs";
 import { dirname, join } from "node:path";
 import { Engine } from "../core/engine/engine.js";
-import { startCampaign } from "../core/explore/beginning.js";
+import { startCampaign } from "../core/explore/start_state.js";
 import { readCampaign } from "../core/explore/campaign.js";
 import { CampaignRun, minimisingCycles, initialProofTime } from "../core/explore/campaign_run.js";
 import { joinReports, propertyLocation, formatSteps } from "../core/explore/report.js";
 import { createSubject } from "../core/explore/subject.js";
-import { prepareTests } from "../core/testing/prepared.js";
+import { prepareTests } from "../core/testing/test_preparation.js";
 import * as say from "../words/commands.js";
-import { yieldToMessages, interruptChildren, rerunCommand, runCommand } from "./children.mjs";
+import { yieldToMessages, interruptChildren, rerunCommand, runCommand } from "./child_processes.mjs";
 import { rejectedTextsError } from "./native_program.mjs";
 import { CommandError, printError } from "./output.mjs";
 import { readPageModule } from "./page_parts.mjs";
 import { readUserText, writeUserFile } from "./user_files.mjs";
 
 /**
- * @typedef {import("./given_texts.mjs").GivenText} GivenText
+ * @typedef {import("./input_texts.mjs").GivenText} GivenText
  *
  * The settings of a search, including its texts. `folder` is a temporary folder. `report` is the file to which a job writes its report.
  * @typedef {{ seconds: number, jobs: number, seed: number, allowsModel: boolean, folder: string,

@@ -59,7 +59,7 @@ export function readUnlocked(name, maxBytes) {
     { maxBuffer: maxBytes + 1, stdio: ["ignore", "pipe", "ignore"] });
   if (status === LOCKED_STATUS) throw new CommandError(sessionInUse(name, findLockHolder(name)));
   if (!error && status === 0) return new Uint8Array(stdout);
-  // Without the `flock` command, look for a lock in /proc. A file whose contents have changed is also in use.
+  // Without the `flock` command, look for a lock in /proc. If the contents have changed since the first read, the file is in use, too.
   const holder = findLockHolder(name);
   if (holder !== "" || !bytes.equals(readUserFile(name, maxBytes))) throw new CommandError(sessionInUse(name, holder));
   return new Uint8Array(bytes);

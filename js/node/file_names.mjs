@@ -2,7 +2,7 @@
 import { readdirSync, statSync } from "node:fs";
 import { homedir } from "node:os";
 import { join } from "node:path";
-import { escaped } from "../core/text/escaped.js";
+import { escapeControls } from "../core/text/control_escapes.js";
 
 /** The maximum number of completions. */
 const MAX_NAMES = 1000;
@@ -30,7 +30,7 @@ export function fileNames(begin) {
   const [folder, name] = [begin.slice(0, nameStart), begin.slice(nameStart)];
   const folderPath = expandTilde(folder) || ".";
   try {
-    const isMatching = (file) => file.startsWith(name) && (name.startsWith(".") || !file.startsWith(".")) && escaped(file) === file;
+    const isMatching = (file) => file.startsWith(name) && (name.startsWith(".") || !file.startsWith(".")) && escapeControls(file) === file;
     return readdirSync(folderPath).filter(isMatching).sort().slice(0, MAX_NAMES)
       .map((file) => `${folder}${file}${isFolder(join(folderPath, file)) ? "/" : ""}`);
   } catch {

@@ -11,7 +11,7 @@ const MIN_NODE_VERSION = 18;
  * @param {string[]} words
  */
 async function runCommand(name, words) {
-  const { joinedCommand } = require("./joined.cjs");
+  const { joinedCommand } = require("./joined_loader.cjs");
   const joinedModule = joinedCommand(name);
   if (joinedModule) return joinedModule.run(words);
   const { runLine } = await import("./command_line.mjs");

@@ -1,7 +1,7 @@
 // The code that `mcs4 lsp` and `mcs4 dap` share. Passes the bytes of standard input to a connection. When no further message can arrive, the process
 // ends and prints the reason on standard error.
 import { isatty } from "node:tty";
-import { escaped } from "../core/text/escaped.js";
+import { escapeControls } from "../core/text/control_escapes.js";
 import { WAITS_FOR_EDITOR } from "../words/commands.js";
 import { printError } from "./output.mjs";
 
@@ -24,7 +24,7 @@ export function explainAtTerminal(name) {
  */
 export function exitAfterOutput(name) {
   return (status, words = "") => {
-    if (words) process.stderr.write(`${name}: ${escaped(words)}\n`);
+    if (words) process.stderr.write(`${name}: ${escapeControls(words)}\n`);
     process.exitCode = status;
     process.stdin.destroy();
     process.stdout.end(() => process.exit(status));

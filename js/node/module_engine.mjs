@@ -3,8 +3,8 @@
 import { closeSync, existsSync, openSync } from "node:fs";
 import { join } from "node:path";
 import { Engine } from "../core/engine/engine.js";
-import { IS_RUN_BY_COMMAND } from "./children.mjs";
-import joined from "./joined.cjs";
+import { IS_RUN_BY_COMMAND } from "./child_processes.mjs";
+import joined from "./joined_loader.cjs";
 import { printError } from "./output.mjs";
 import { readPageModule } from "./page_parts.mjs";
 

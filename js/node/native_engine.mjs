@@ -13,12 +13,12 @@ import {
 import { constants as system } from "node:os";
 import { join } from "node:path";
 import { isQuery } from "../core/bench/answer_table.js";
-import { BenchRefusal } from "../core/bench/faults.js";
+import { BenchRefusal } from "../core/bench/bench_errors.js";
 import { findInputEnd, isSeq, opensText, stripReturn } from "../core/bench/inputs.js";
 import { CommandError } from "./output.mjs";
-import { processes } from "./processes.mjs";
-import { removeFolder, temporaryFolder, temporaryRoot } from "./temporary.mjs";
-import { TOP } from "./top.mjs";
+import { processes } from "./lazy_child_process.mjs";
+import { removeFolder, temporaryFolder, temporaryRoot } from "./temporary_folders.mjs";
+import { TOP } from "./top_folder.mjs";
 
 /**
  * @typedef {import("../core/engine/engine_host.js").EngineHost} EngineHost

@@ -3,12 +3,12 @@
 import { existsSync } from "node:fs";
 import { type } from "node:os";
 import { join } from "node:path";
-import { BenchRefusal } from "../core/bench/faults.js";
-import { MAX_TEXT_BYTES } from "./given_texts.mjs";
+import { BenchRefusal } from "../core/bench/bench_errors.js";
+import { MAX_TEXT_BYTES } from "./input_texts.mjs";
 import { statInput } from "./user_files.mjs";
 import { CommandError } from "./output.mjs";
-import { processes } from "./processes.mjs";
-import { TOP } from "./top.mjs";
+import { processes } from "./lazy_child_process.mjs";
+import { TOP } from "./top_folder.mjs";
 import {
   NO_PROGRAM_IN_COPY, inUse, needsProgram, noNamedProver, noProver, notForSystem, otherProgram, runsOnModule, sessionRefused,
 } from "../words/commands.js";
@@ -130,7 +130,7 @@ export function noRoomMessage() {
 /**
  * Returns the state of a session file. The engine works on a copy of the file. Errors name the file.
  * @param {EngineHost} engine
- * @param {import("./given_texts.mjs").GivenTexts} texts
+ * @param {import("./input_texts.mjs").InputTexts} texts
  * @param {string} session the session's file name
  */
 export async function openSession(engine, texts, session) {
@@ -143,7 +143,7 @@ export async function openSession(engine, texts, session) {
     engine.ask(state, "seq\n");
   } catch (error) {
     if (!(error instanceof BenchRefusal)) throw error;
-    const { describeRefusal } = await import("./refused_texts.mjs");
+    const { describeRefusal } = await import("./rejected_texts.mjs");
     throw new CommandError(sessionRefused(session, error.number, describeRefusal(error.number)));
   }
   return state;
@@ -152,19 +152,19 @@ export async function openSession(engine, texts, session) {
 /**
  * Returns the error for rejected texts. (Loads the modules with the messages only then.)
  * @param {EngineHost} engine
- * @param {ConstructorParameters<typeof import("./refused_texts.mjs").RefusedTexts>[1]} givenTexts
- * @param {import("../core/testing/prepared.js").TextFault[]} faults
+ * @param {ConstructorParameters<typeof import("./rejected_texts.mjs").RejectedTexts>[1]} givenTexts
+ * @param {import("../core/testing/test_preparation.js").TextFault[]} faults
  */
 export async function rejectedTextsError(engine, givenTexts, faults) {
-  const { RefusedTexts } = await import("./refused_texts.mjs");
-  return new CommandError(new RefusedTexts(engine, givenTexts).message(faults));
+  const { RejectedTexts } = await import("./rejected_texts.mjs");
+  return new CommandError(new RejectedTexts(engine, givenTexts).message(faults));
 }
 
 /**
  * Returns the source map of a program. Throws an error if the contents of ROM are not this program.
  * @param {EngineHost} engine
  * @param {Uint8Array} codes the contents of ROM
- * @param {import("./given_texts.mjs").GivenText} program
+ * @param {import("./input_texts.mjs").GivenText} program
  */
 export async function readCheckedMap(engine, codes, program) {
   const { sessionProgram } = await import("../core/engine/session_program.js");
@@ -185,7 +185,7 @@ export async function yieldToMessages() {
 /**
  * Assembles a program without its board, on a board with all ROM chips. Returns its source map, and the byte at each address.
  * @param {EngineHost} engine
- * @param {import("./given_texts.mjs").GivenText} program
+ * @param {import("./input_texts.mjs").GivenText} program
  */
 export async function assembleProgram(engine, program) {
   const { readSource } = await import("../core/engine/session_program.js");
@@ -196,7 +196,7 @@ export async function assembleProgram(engine, program) {
 
 /**
  * Reads a program, which must match the session's ROM. Returns a function that describes an address in terms of the program's source.
- * @param {import("./given_texts.mjs").GivenTexts} texts
+ * @param {import("./input_texts.mjs").InputTexts} texts
  * @param {EngineHost} engine
  * @param {string} programName
  * @param {string} session the session's file name
@@ -204,7 +204,7 @@ export async function assembleProgram(engine, program) {
  */
 export async function makeAddressDescriber(texts, engine, programName, session) {
   const [{ romCodes }, { placeInSource }] = await Promise.all([
-    import("../core/engine/rom_codes.js"), import("../core/machine/source_places.js"),
+    import("../core/engine/rom_codes.js"), import("../core/machine/source_locations.js"),
   ]);
   const program = texts.text(programName, "asm");
   const map = await readCheckedMap(engine, romCodes(engine, await openSession(engine, texts, session)), program);

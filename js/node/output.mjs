@@ -1,6 +1,6 @@
 // The output of the Node tools. A call returns only after everything is written. Control characters in texts are printed in the form `\x1B`.
 import { fstatSync, writeSync } from "node:fs";
-import { escaped } from "../core/text/escaped.js";
+import { escapeControls } from "../core/text/control_escapes.js";
 
 const STDOUT = 1;
 const STDERR = 2;
@@ -68,7 +68,7 @@ export function exitOnOutputError(name) {
  * @param {string} text
  */
 export function print(text) {
-  printBytes(Buffer.from(escaped(text)));
+  printBytes(Buffer.from(escapeControls(text)));
 }
 
 /**
@@ -77,7 +77,7 @@ export function print(text) {
  */
 export function printError(text) {
   try {
-    writeAll(STDERR, Buffer.from(escaped(text)));
+    writeAll(STDERR, Buffer.from(escapeControls(text)));
   } catch {
     // There is no other way to report the text.
   }

@@ -64,7 +64,7 @@ export class PanelTerminal {
     /** @type {TypedKey[]} the typed keys that have not been handled yet */
     this.keys = [];
     /** @type {string[]} the rows that are on the screen */
-    this.shown = [];
+    this.drawnRows = [];
     this.wake = () => {};
     this.onResize = () => {};
   }
@@ -93,7 +93,7 @@ export class PanelTerminal {
     for (const event of ["end", "error", "close"]) this.input.on(event, markGone);
     this.output.on("error", markGone);
     this.output.on("resize", () => {
-      this.shown = [];
+      this.drawnRows = [];
       onResize();
       this.wake();
     });
@@ -150,10 +150,10 @@ export class PanelTerminal {
    */
   draw(rows) {
     if (!this.isOn) return;
-    const begin = this.shown.length === rows.length ? "" : CLEAR_SEQUENCE;
+    const begin = this.drawnRows.length === rows.length ? "" : CLEAR_SEQUENCE;
     const texts = rows.map((row) => this.rowText(row));
-    const changedText = texts.map((text, index) => (begin === "" && text === this.shown[index] ? "" : `\x1b[${index + 1};1H${text}`)).join("");
-    this.shown = texts;
+    const changedText = texts.map((text, index) => (begin === "" && text === this.drawnRows[index] ? "" : `\x1b[${index + 1};1H${text}`)).join("");
+    this.drawnRows = texts;
     if (changedText !== "") this.output.write(begin + changedText);
   }
 
@@ -161,7 +161,7 @@ export class PanelTerminal {
   drawTooSmall() {
     if (!this.isOn) return;
     const { columns, rows } = this.size;
-    this.shown = [];
+    this.drawnRows = [];
     this.output.write(`\x1b[H${CLEAR_SEQUENCE}${say.needsRoom(`${MIN_SIZE.columns} by ${MIN_SIZE.rows}`, columns, rows)}`);
   }
 

@@ -1,5 +1,5 @@
 // The progress line of a long command on standard error, updated once per second. The line appears only on a terminal.
-import { escaped } from "../core/text/escaped.js";
+import { escapeControls } from "../core/text/control_escapes.js";
 
 /** The time in milliseconds until the line appears, and between two updates. Shorter commands do not show the line. */
 const UPDATE_INTERVAL = 1000;
@@ -33,7 +33,7 @@ export class ProgressLine {
   /** Writes the line. */
   show() {
     const seconds = Math.round((performance.now() - this.startTime) / MILLISECONDS_PER_SECOND);
-    const text = escaped(this.makeText(seconds)).slice(0, (process.stderr.columns || 80) - 1);
+    const text = escapeControls(this.makeText(seconds)).slice(0, (process.stderr.columns || 80) - 1);
     if (text === "") return;
     process.stderr.write(CLEAR_SEQUENCE + text);
     this.isShown = true;

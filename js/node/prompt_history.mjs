@@ -3,7 +3,7 @@
 // until the prompt ends.
 import { closeSync, constants, existsSync, fchmodSync, fstatSync, mkdirSync, openSync, readSync, rmSync, statSync, writeSync } from "node:fs";
 import { dirname, isAbsolute, join } from "node:path";
-import { escaped } from "../core/text/escaped.js";
+import { escapeControls } from "../core/text/control_escapes.js";
 import { prepareReplacement } from "./user_files.mjs";
 
 /** The maximum number of lines in the history. */
@@ -83,11 +83,11 @@ function acquireLock(lock) {
 
 /** Shortens a file that is too long, keeping its last lines. */
 function shortenFile(name, file) {
-  if (fstatSync(file).size > MAX_BYTES) prepareReplacement(name, lastCompleteLines(readTail(file, 0), SHORTENED_BYTES)).put();
+  if (fstatSync(file).size > MAX_BYTES) prepareReplacement(name, lastCompleteLines(readTail(file, 0), SHORTENED_BYTES)).replaceTarget();
 }
 
 /** Returns true if a terminal can show a line unchanged. A file that the user has edited can contain other lines. */
-const isPrintable = (line) => line !== "" && escaped(line) === line;
+const isPrintable = (line) => line !== "" && escapeControls(line) === line;
 
 export class PromptHistory {
   /** @param {Record<string, string | undefined>} env */

@@ -4,16 +4,16 @@ import { joinLines } from "../core/bench/inputs.js";
 import { SessionPrompt } from "../core/prompt/bench_prompt.js";
 import { BEGINNING } from "../words/session_prompt.js";
 import { fileNames, expandTilde } from "./file_names.mjs";
-import { MAX_SCRIPT, readDecodedFile } from "./given_texts.mjs";
+import { MAX_SCRIPT, readDecodedFile } from "./input_texts.mjs";
 import { print } from "./output.mjs";
 import { readPageData } from "./page_parts.mjs";
-import { describeRefusal } from "./refused_texts.mjs";
-import { ProgramEnded, SessionProgram } from "./program_on_file.mjs";
+import { describeRefusal } from "./rejected_texts.mjs";
+import { ProgramEnded, SessionProcess } from "./session_process.mjs";
 import { TerminalPrompt } from "./terminal_prompt.mjs";
 
 /**
  * Returns the callbacks of the prompt for a program and a terminal.
- * @param {SessionProgram} program
+ * @param {SessionProcess} program
  * @param {{ print: (words: string) => void, complain: (words: string) => void }} terminal
  */
 function makePromptCalls(program, terminal) {
@@ -62,7 +62,7 @@ async function endProgram(program, unservedInput) {
  * @param {string} name the session's file name
  */
 export async function servePrompt(word, name) {
-  const program = new SessionProgram(word, name, true);
+  const program = new SessionProcess(word, name, true);
   let signalStatus = 0;
   let unservedInput = "";
   try {
@@ -74,7 +74,7 @@ export async function servePrompt(word, name) {
       const terminal = new TerminalPrompt(prompt, { output: process.stderr });
       terminal.print(BEGINNING);
       signalStatus = await terminal.run();
-      unservedInput = signalStatus === 0 ? prompt.rest : "";
+      unservedInput = signalStatus === 0 ? prompt.unfinishedText : "";
     }
   } catch (thrown) {
     if (!(thrown instanceof ProgramEnded)) throw thrown;

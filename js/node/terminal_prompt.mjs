@@ -6,8 +6,8 @@
 import { constants } from "node:os";
 import { createInterface } from "node:readline";
 import { PassThrough } from "node:stream";
-import { escaped } from "../core/text/escaped.js";
-import { QUOTED, wrapMessage } from "../core/text/folded.js";
+import { escapeControls } from "../core/text/control_escapes.js";
+import { QUOTED, wrapMessage } from "../core/text/line_wrapping.js";
 import { MAX_LINES, PromptHistory } from "./prompt_history.mjs";
 import { isDumb, makePainter } from "./terminal.mjs";
 
@@ -94,12 +94,12 @@ export class TerminalPrompt {
 
   /** @param {string} words */
   print(words) {
-    this.output.write(`${wrapMessage(escaped(words), this.width)}\n`);
+    this.output.write(`${wrapMessage(escapeControls(words), this.width)}\n`);
   }
 
   /** Prints an error message in red. Quoted lines are not coloured. */
   complain(words) {
-    const lines = wrapMessage(escaped(words), this.width).split("\n");
+    const lines = wrapMessage(escapeControls(words), this.width).split("\n");
     const paint = this.paint(RED);
     this.output.write(`${lines.map((line) => (line.startsWith(QUOTED) ? line : paint(line))).join("\n")}\n`);
   }

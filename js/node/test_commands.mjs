@@ -3,16 +3,16 @@ import { runTests } from "../core/testing/test_suite.js";
 import { failureLine } from "../core/testing/tap.js";
 import { excludeEachOther, otherProgram, sessionStopped } from "../words/commands.js";
 import { parseCount, projectFiles, checkArguments, findProject } from "./arguments.mjs";
-import { GivenTexts } from "./given_texts.mjs";
+import { InputTexts } from "./input_texts.mjs";
 import { yieldToMessages, rejectedTextsError, openSession, startEngine } from "./native_program.mjs";
 import { CommandError, UsageError, print, printError } from "./output.mjs";
 
 /**
- * @typedef {import("../core/testing/account.js").ExecutionRecorder} ExecutionRecorder
+ * @typedef {import("../core/testing/recorders.js").ExecutionRecorder} ExecutionRecorder
  * @typedef {import("../core/testing/coverage.js").Coverage} Coverage
  * @typedef {import("../core/testing/profile.js").Profile} Profile
  * @typedef {import("../core/testing/test_run.js").Outcome} Outcome
- * @typedef {import("./given_texts.mjs").GivenText} GivenText
+ * @typedef {import("./input_texts.mjs").GivenText} GivenText
  *
  * The callbacks of a command. `checkNames` checks the file names before the files are read. `outcome` formats the result of each test. `report`
  * prints the counts at the end. `Counting` is the class that counts.
@@ -45,7 +45,7 @@ export async function runTestCommand({ Counting, checkNames = () => {}, outcome:
   const allNames = await resolveNames(folder, givenNames);
   checkNames(allNames);
   const [boardName, programName, ...names] = allNames;
-  const texts = new GivenTexts();
+  const texts = new InputTexts();
   const board = texts.text(boardName, "wire");
   const program = texts.text(programName, "asm");
   const sources = names.map((fileName) => texts.source(fileName));
@@ -73,7 +73,7 @@ export async function countCycles({ name, Counting, checkNames = () => {}, repor
   const cycles = parseCount("CYCLES", word, MAX_CYCLES);
   checkNames([session, programName]);
   const { countSession } = await import("../core/testing/session_count.js");
-  const texts = new GivenTexts();
+  const texts = new InputTexts();
   const program = texts.text(programName, "asm");
   const engine = await startEngine();
   const state = await openSession(engine, texts, session);

@@ -1,7 +1,7 @@
 // Finds all errors in a text that the bench has rejected. The messages are the same as on the page.
 import { readInstructions } from "../core/help/manual.js";
 import { TextBench } from "../core/server/text_bench.js";
-import { TextErrorFinder } from "../core/text/all_faults.js";
+import { TextErrorFinder } from "../core/text/text_error_finder.js";
 import { boardTables } from "../core/text/text_help.js";
 import { Engine } from "../core/engine/engine.js";
 import { readPageModule } from "./page_parts.mjs";

@@ -7,7 +7,7 @@ import {
 } from "node:fs";
 import { createRequire } from "node:module";
 import { dirname, join, resolve, sep } from "node:path";
-import { STORED_LIMIT } from "../core/text/text_fault.js";
+import { STORED_LIMIT } from "../core/text/sendable_text.js";
 import * as say from "../words/commands.js";
 import { CommandError } from "./output.mjs";
 
@@ -195,7 +195,7 @@ export class Replacement {
   }
 
   /** Renames the temporary file to the target. */
-  put() {
+  replaceTarget() {
     try {
       renameSync(this.name, this.target);
       temporaryFiles.delete(this.name);
@@ -264,7 +264,7 @@ function isStream(name) {
 export function writeUserFile(name, bytes) {
   withFileError(`cannot write ${name}`, () => {
     if (isStream(name)) writeFileSync(name, bytes, { flag: "a" });
-    else prepareReplacement(name, bytes).put();
+    else prepareReplacement(name, bytes).replaceTarget();
   });
 }
 
@@ -359,7 +359,7 @@ function putAll(replacements) {
   const targets = [];
   try {
     for (const replacement of replacements) {
-      replacement.put();
+      replacement.replaceTarget();
       targets.push(replacement.target);
     }
   } catch (error) {

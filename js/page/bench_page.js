@@ -1,22 +1,22 @@
 // The page: creates its components and connects them to the current session. Every value on the page is from the bench's answers.
 
-import { ConfirmDialog } from "./ui/ask_view.js";
+import { ConfirmDialog } from "./ui/confirm_dialog.js";
 import { Face } from "../core/board/face.js";
-import { makeCurrentSession, makeRecovery, makeRunController, makeLineServer } from "./core.js";
+import { makeCurrentSession, makeRecovery, makeRunController, makeLineServer } from "./compose_core.js";
 import { connectSound, makeDrawing, makeKeyPresser, makeScope, makeSnapshotView } from "./compose_board.js";
 import { makeBreakpoints, makeHeat, makeHistory, makeMistakes, makeTravel, makeValues, makeWatched } from "./compose_debug.js";
 import { lampNames } from "../core/board/face_board.js";
-import { currentWiredText, describesBoard, textsToStore } from "../core/board/wired_text.js";
+import { currentWiredText, describesBoard, textsToStore } from "../core/board/wired_board_text.js";
 import { cellWords } from "../core/help/manual.js";
 import { Layout } from "./layout.js";
 import { LogView } from "./lines/log_view.js";
 import { sessionTitle } from "../core/session/session_summary.js";
-import { StoredHistory } from "./session/kept_past.js";
+import { StoredHistory } from "./session/stored_history.js";
 import { makeExport, makeRomFiles, makeSessionsController, makeLinkSharing } from "./compose_session.js";
 import { makeEditors, makeExplore, makeProblems, makeSource, makeTests, makeTexts, nameCharacters } from "./compose_texts.js";
 import { CyclesView } from "./time/cycles_view.js";
-import { TextAppearance } from "./text/text_looks.js";
-import { WorkView } from "./ui/work_view.js";
+import { TextAppearance } from "./text/text_appearance.js";
+import { ProgressView } from "./ui/progress_view.js";
 import * as say from "../words/page.js";
 
 /**
@@ -28,7 +28,7 @@ import * as say from "../words/page.js";
  * @typedef {import("../core/bench/protocol.js").PageState} PageState
  * @typedef {import("./session/store.js").SessionRecord} SessionRecord
  * @typedef {import("./session/store.js").SessionStore} SessionStore
- * @typedef {import("../core/bench/words.js").ErrorMessages} ErrorMessages
+ * @typedef {import("../core/bench/error_messages.js").ErrorMessages} ErrorMessages
  * @typedef {{ bench: Bench, makeBench: () => Bench, store: SessionStore, locks: Locks, words: ErrorMessages, notice: Notice, examples:
  *   Example[], manual: ManualSection[] }} PageServices the services that the page uses; `makeBench` creates another bench in a new worker
  */
@@ -53,7 +53,7 @@ export class Page {
     this.snapshotView = makeSnapshotView(this);
     this.logView = new LogView(words);
     this.layout = new Layout(() => this.printContents());
-    this.workView = new WorkView();
+    this.workView = new ProgressView();
     this.editors = makeEditors(this, manual);
     this.breakpoints = makeBreakpoints(this);
     this.source = makeSource(this);
@@ -66,7 +66,7 @@ export class Page {
     this.confirmDialog = new ConfirmDialog();
     this.testsTab = makeTests(this, manual);
     this.exploreTab = makeExplore(this, manual, makeBench);
-    this.appearance = new TextAppearance(this.layout.choices, this.textEditors.map(({ editor }) => editor.editor));
+    this.appearance = new TextAppearance(this.layout.preferences, this.textEditors.map(({ editor }) => editor.editor));
     this.mistakesView = makeMistakes(this, makeProblems(this));
     this.textsController = makeTexts(this);
     this.romFiles = makeRomFiles(this);
@@ -186,10 +186,10 @@ export class Page {
     const { session } = this.currentSession;
     if (!session) return;
     this.bench.returnBuffer(session.take(file));
-    this.runController.pendingKeys.waiting = waiting;
+    this.runController.pendingKeys.waitingChanges = waiting;
     this.storedHistory.take(past, { file: session.record.file, total, reset });
     this.cyclesView.update({ total, reset }, this.runController.clock.isRunning);
-    session.record.cycles = this.cyclesView.cycles.kept;
+    session.record.cycles = this.cyclesView.cycles.storedCounts;
     this.historyView.showFuture(future);
     if (board) this.draw(session.record, board);
     this.snapshotView.show(snapshot, isPassing, litShares);

@@ -1,11 +1,11 @@
 // Creates the views and controllers that show and draw the board. The callbacks connect each of them to the page's other components.
 
 import { partAtLine } from "../core/bench/part_lines.js";
-import { CancelledError } from "../core/bench/faults.js";
+import { CancelledError } from "../core/bench/bench_errors.js";
 import { findBoardKey } from "../core/board/board_keys.js";
 import { Face } from "../core/board/face.js";
 import { findBuzzer } from "../core/board/face_board.js";
-import { KeyPresser, wantsKey } from "./board/pressing.js";
+import { KeyPresser, wantsKey } from "./board/key_presser.js";
 import { DrawingController } from "./drawing/drawing_controller.js";
 import { insertKeyScan } from "./compose_texts.js";
 import { drawnPartLines } from "../core/drawing/drawn_part_lines.js";
@@ -48,7 +48,7 @@ export function makeSnapshotView(page) {
       page.currentSession.touch();
       page.bench.call("clearPrintout", []).catch((fault) => page.recovery.reportFailure(fault));
     },
-    timeOf: (cycles) => runController.clock.timeOf(cycles),
+    timeOf: (cycles) => runController.clock.displayDuration(cycles),
     reportFailure: (fault) => page.recovery.reportFailure(fault),
   });
 }
@@ -133,7 +133,7 @@ export function makeDrawing(page) {
 export function makeScope(page) {
   /** @type {(values: string[]) => { board: string, program: string, values: string[], watched: string[] }} */
   const textsWithValues = (values) => ({ board: page.boardEditor.text, program: page.programEditor.text, values,
-    watched: page.breakpoints.keeper.watched });
+    watched: page.breakpoints.keeper.watchTexts });
   const scope = new Scope({
     goTo: (address) => page.snapshotView.goTo.show(address),
     storeRows: (rows) => {

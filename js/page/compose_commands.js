@@ -6,12 +6,12 @@ import { fillEmptyPanels } from "./commands/empty_panels.js";
 import { listenToKeys } from "./commands/keys.js";
 import { PaletteView } from "./commands/palette_view.js";
 import { listDestinations } from "./commands/palette_places.js";
-import { isAvailable } from "./commands/offered.js";
+import { isAvailable } from "./commands/availability.js";
 import { WelcomeView } from "./session/welcome_view.js";
 import { ToolbarView } from "./commands/toolbar_view.js";
 import { runToLine } from "./compose_debug.js";
 import { insertKeyScan } from "./compose_texts.js";
-import { Choices } from "./ui/choices.js";
+import { Preferences } from "./ui/preferences.js";
 import { block, button, byId, field, isDialogOpen } from "./ui/dom.js";
 import { Theme } from "./ui/theme.js";
 import { Tooltips } from "./ui/tooltips.js";
@@ -49,7 +49,7 @@ function show({ layout }, name) {
  * @returns {Shell}
  */
 export function makeShell() {
-  const theme = new Theme(new Choices());
+  const theme = new Theme(new Preferences());
   const tips = new Tooltips();
   return { theme, tips, toolbar: new ToolbarView(tips, theme) };
 }
@@ -119,8 +119,8 @@ function textCalls(page) {
     /** @param {boolean} isSource */
     hasText: (isSource) => findFrontEditor() !== undefined && (!isSource || findFrontEditor() === programEditor),
     /** @param {import("./commands/command_table.js").TextAct} textAction */
-    inText: (textAction) => findFrontEditor() && findFrontEditor().performAct(textAction),
-    /** @param {import("./machine/breakpoint_row.js").BreakpointField} [fieldName] */
+    inText: (textAction) => findFrontEditor() && findFrontEditor().performAction(textAction),
+    /** @param {import("./machine/breakpoint_form.js").BreakpointField} [fieldName] */
     breakpoint: (fieldName) => {
       show(page, "program");
       if (fieldName) programEditor.editBreakpoint(fieldName);
@@ -215,13 +215,13 @@ export class Commands {
       beginTour: () => void guide.tour.begin(),
       begin: (name) => sessionsController.beginNamed(name),
       showWiring: () => show(this.page, "wiring"),
-      storeSeen: () => layout.choices.set(SEEN_KEY, "yes"),
+      storeSeen: () => layout.preferences.set(SEEN_KEY, "yes"),
     });
   }
 
   /** Shows the welcome cards on the first visit in this browser. */
   showFirstWelcome() {
-    if (!this.page.layout.choices.get(SEEN_KEY)) this.welcome.open();
+    if (!this.page.layout.preferences.get(SEEN_KEY)) this.welcome.open();
   }
 
   /** @returns {import("./commands/palette_places.js").PlaceCalls} */

@@ -1,7 +1,7 @@
 // Creates the debugger's components: breakpoints, steps back and forward, and values. The callbacks connect each of them to the page's
 // other components.
 
-import { CancelledError, WorkerDiedError } from "../core/bench/faults.js";
+import { CancelledError, WorkerDiedError } from "../core/bench/bench_errors.js";
 import { hex } from "../core/bench/numbers.js";
 import { NO_ADDRESS } from "../words/machine.js";
 import { wordsOfLastChange, wordsOfAddress } from "../words/stops.js";
@@ -10,9 +10,9 @@ import { HeatView } from "./machine/heat_view.js";
 import { LastChangeView } from "./machine/last_change_view.js";
 import { listenForRunToCaret, listenForRunToLine } from "./machine/run_to.js";
 import { SourceValues } from "../core/machine/source_values.js";
-import { collectWatchNames } from "../core/debug/watched.js";
-import { MistakesView } from "./machine/usual_view.js";
-import { WatchView } from "./machine/watched_view.js";
+import { collectWatchNames } from "../core/debug/watch_expressions.js";
+import { MistakesView } from "./machine/mistakes_view.js";
+import { WatchView } from "./machine/watch_view.js";
 import { nameCharacters } from "./compose_texts.js";
 import { HistoryView } from "./time/history_view.js";
 import { Travel } from "../core/time/travel.js";
@@ -137,7 +137,7 @@ export function makeValues(page) {
  */
 export function makeHeat(page) {
   const { bench, snapshotView, runController, recovery } = page;
-  return new HeatView(page.layout.choices, {
+  return new HeatView(page.layout.preferences, {
     isRunning: () => runController.clock.isRunning,
     countChanges: (cycles, signal) => bench.call("heat", [cycles], { signal }).catch((fault) => {
       if (!(fault instanceof CancelledError) && !(fault instanceof WorkerDiedError)) recovery.reportFailure(fault);
@@ -157,7 +157,7 @@ export function makeHeat(page) {
  * @param {Page} page
  */
 function pageNames({ snapshotView, source, breakpoints }) {
-  return { face: snapshotView.face, board: snapshotView.board, map: source.map, watched: collectWatchNames(breakpoints.keeper.watched) };
+  return { face: snapshotView.face, board: snapshotView.board, map: source.map, watched: collectWatchNames(breakpoints.keeper.watchTexts) };
 }
 
 /**
@@ -186,7 +186,7 @@ export function makeWatched(page) {
  * @returns {MistakesView}
  */
 export function makeMistakes(page, problems) {
-  const { choices } = page.layout;
+  const { preferences } = page.layout;
   return new MistakesView({
     describeAddress: (address) => wordsOfAddress(hex(address, 3), page.source.map),
     goTo: (address) => page.snapshotView.goTo.show(address),
@@ -194,7 +194,7 @@ export function makeMistakes(page, problems) {
       page.bench.call("stopAtFaults", [kinds]).catch((fault) => page.recovery.reportFailure(fault));
     },
     showCount: (count) => problems.showBugCount(count),
-    storedKinds: () => choices.get("stops"),
-    storeKinds: (kinds) => choices.set("stops", kinds),
+    storedKinds: () => preferences.get("stops"),
+    storeKinds: (kinds) => preferences.set("stops", kinds),
   });
 }

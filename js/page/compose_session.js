@@ -3,10 +3,10 @@
 import { Guide } from "./help/guide.js";
 import { forgetStory } from "./session/address.js";
 import { ExportView } from "./session/export_view.js";
-import { newRecord } from "./session/kept_session.js";
+import { newRecord } from "./session/open_session.js";
 import { RomFiles } from "../core/session/rom_files.js";
 import { SessionsController } from "./session/sessions_controller.js";
-import { LinkSharing } from "./session/sharing.js";
+import { LinkSharing } from "./session/link_sharing.js";
 import { byId } from "./ui/dom.js";
 import * as say from "../words/page.js";
 
@@ -84,7 +84,7 @@ export function makeLinkSharing(page) {
 /**
  * Returns the callbacks for the links in a story.
  * @param {Page} page
- * @returns {import("../core/help/story_acts.js").ActCalls}
+ * @returns {import("../core/help/story_actions.js").ActCalls}
  */
 function makeActCalls({ layout, snapshotView, keyPresser, runController, source, travel }) {
   return {

@@ -1,6 +1,6 @@
 // Creates the text editors, with their tests and searches. The callbacks connect each of them to the page's other components.
 
-import { formatErrorCount } from "../core/bench/words.js";
+import { formatErrorCount } from "../core/bench/error_messages.js";
 import { ExploreTab } from "./explore/explore_tab.js";
 import { Explorer } from "../core/explore/explorer.js";
 import { Prover } from "../core/prove/prover.js";
@@ -8,7 +8,7 @@ import { keyScanSource, routineInsertion } from "../core/drawing/scan_routine.js
 import { nibbleNames } from "../core/machine/ram_names.js";
 import { SourceSync } from "../core/machine/source_sync.js";
 import { sessionTitle } from "../core/session/session_summary.js";
-import { newRecord } from "./session/kept_session.js";
+import { newRecord } from "./session/open_session.js";
 import { TextsController } from "./session/texts_controller.js";
 import { TestsTab } from "./testing/tests_tab.js";
 import { Editors } from "./text/editors.js";
@@ -28,7 +28,7 @@ export function makeEditors(page, manual) {
   const { runController } = page;
   return new Editors(page.bench, page.words, manual, {
     handleEdits: (edits) => {
-      page.breakpoints.keeper.edited(edits);
+      page.breakpoints.keeper.applyTextEdits(edits);
       page.textsController.handleEdit();
       page.drawingController.handleEdit();
     },
@@ -185,7 +185,7 @@ function addTest({ testsTab, textsController }, test) {
  * Opens a new session with the texts and executes lines in it, so that the user can step back through them.
  * @param {Page} page
  * @param {{ name: string, lines: string, message: string }} scenario
- * @param {import("../core/explore/exploring.js").ExploredTexts} texts
+ * @param {import("../core/explore/sliced_search.js").ExploredTexts} texts
  */
 async function openWithLines(page, { name, lines, message }, texts) {
   const { boardText, programText } = texts;
@@ -198,7 +198,7 @@ async function openWithLines(page, { name, lines, message }, texts) {
   if (!(await sessionsController.manager.openNew(makeRecord))) return;
   await page.lineServer.serveLines(lines);
   // `serveLines` hides the notice about the previous session, because it changes the new one. Show that notice again.
-  if (previousSession && !previousSession.isUntouched) sessionsController.reportLeft(previousSession.record);
+  if (previousSession && !previousSession.isUntouched) sessionsController.offerReturn(previousSession.record);
   page.layout.showText("program");
   page.runController.showMessage(message);
 }

@@ -1,5 +1,5 @@
 // The board view of the editor extension: lamps, displays and keys, drawn by the page's views. The extension sends changes
-// (adapter/shown_board.js) and receives key presses. editors/vsix bundles this module into one script. The HTML is in
+// (adapter/remote_front_panel.js) and receives key presses. editors/vsix bundles this module into one script. The HTML is in
 // editors/vscode/board_view.html.
 
 import { readBoard } from "../core/bench/answers.js";
@@ -7,12 +7,12 @@ import { findBoardKey } from "../core/board/board_keys.js";
 import { Face } from "../core/board/face.js";
 import { pinKey, formatKey } from "../core/board/key_place.js";
 import { FrontView } from "./board/front_view.js";
-import { KeyPresser, wantsKey } from "./board/pressing.js";
+import { KeyPresser, wantsKey } from "./board/key_presser.js";
 import { PrinterView } from "./board/printer_view.js";
 import { block, button, field } from "./ui/dom.js";
 
 /**
- * @typedef {import("../core/adapter/shown_board.js").BoardNews} BoardNews
+ * @typedef {import("../core/adapter/remote_front_panel.js").BoardNews} BoardNews
  * @typedef {import("../core/board/key_place.js").Key} Key
  */
 

@@ -1,6 +1,6 @@
 // The workbench: the text tabs, the dock, the panels with their splitters, and printing.
 
-import { Choices } from "./ui/choices.js";
+import { Preferences } from "./ui/preferences.js";
 import { block } from "./ui/dom.js";
 import { makeFolds, unfold } from "./ui/folds.js";
 import { Panels } from "./ui/panels.js";
@@ -32,22 +32,22 @@ const BORDERS = [
 export class Layout {
   /** @param {() => Printed} readContents returns the contents to print */
   constructor(readContents) {
-    this.choices = new Choices();
-    const { choices } = this;
-    this.regions = new Regions(choices);
-    this.tabs = new Tabs(TEXT_TABS, choices.get("text"), (name) => {
-      choices.set("text", name);
+    this.preferences = new Preferences();
+    const { preferences } = this;
+    this.regions = new Regions(preferences);
+    this.tabs = new Tabs(TEXT_TABS, preferences.get("text"), (name) => {
+      preferences.set("text", name);
       this.regions.reveal(block("texts"));
     });
-    this.dock = new Tabs(DOCK_TABS, choices.get("dock"), (name) => {
-      choices.set("dock", name);
+    this.dock = new Tabs(DOCK_TABS, preferences.get("dock"), (name) => {
+      preferences.set("dock", name);
       this.regions.reveal(block("dock"));
     });
     this.status = new StatusView();
     this.print = new PrintView(readContents);
-    this.splitters = BORDERS.map((border) => new Splitter(choices, border));
-    this.folds = makeFolds(choices);
-    this.panels = new Panels(choices, () => this.reset());
+    this.splitters = BORDERS.map((border) => new Splitter(preferences, border));
+    this.folds = makeFolds(preferences);
+    this.panels = new Panels(preferences, () => this.reset());
   }
 
   /** Restores the initial sizes, folds and tabs. */

@@ -13,7 +13,7 @@ import { requestedStory } from "./session/address.js";
 import { makeGuide } from "./compose_session.js";
 import { SPEEDS, findSpeed } from "../core/time/speeds.js";
 import { withTimeout, MemoryStore, Store } from "./session/store.js";
-import { ErrorMessages } from "../core/bench/words.js";
+import { ErrorMessages } from "../core/bench/error_messages.js";
 import * as say from "../words/page.js";
 
 /**
@@ -90,8 +90,8 @@ function listenToButtons(page) {
 function listenToChoices(page) {
   const speed = byId("speed", HTMLSelectElement);
   const typingField = field("typing");
-  const { choices } = page.layout;
-  const speedChoice = SPEEDS.find(({ id }) => id === choices.get("speed"));
+  const { preferences } = page.layout;
+  const speedChoice = SPEEDS.find(({ id }) => id === preferences.get("speed"));
   if (speedChoice) page.runController.clock.setSpeed(speedChoice);
   const show = () => {
     speed.value = page.runController.clock.speed.id;
@@ -99,7 +99,7 @@ function listenToChoices(page) {
   };
   speed.replaceChildren(...SPEEDS.map(({ id, words }) => element("option", { value: id }, words)));
   speed.addEventListener("change", () => {
-    choices.set("speed", speed.value);
+    preferences.set("speed", speed.value);
     page.runController.setSpeed(findSpeed(speed.value)).catch((fault) => page.recovery.reportFailure(fault));
   });
   typingField.addEventListener("change", () => {

@@ -5,8 +5,8 @@ import * as say from "../words/page.js";
 /**
  * @typedef {import("../core/bench/bench_client.js").Bench} Bench
  * @typedef {import("../core/bench/protocol.js").Frame} Frame
- * @typedef {import("../core/bench/words.js").ErrorMessages} ErrorMessages
- * @typedef {import("./session/kept_session.js").OpenSession} OpenSession
+ * @typedef {import("../core/bench/error_messages.js").ErrorMessages} ErrorMessages
+ * @typedef {import("./session/open_session.js").OpenSession} OpenSession
  * @typedef {import("./session/store.js").SessionRecord} SessionRecord
  * @typedef {import("./ui/notice.js").Notice} Notice
  */

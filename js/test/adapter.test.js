@@ -4,7 +4,7 @@ import { test } from "node:test";
 import { readFileSync } from "node:fs";
 import { MAX_MESSAGE, frameMessage } from "../core/server/framing.js";
 import { EYE_CYCLES } from "../core/time/mcs4_time.js";
-import { FILES, FakeFile, LOCK, SOURCE, engine, served } from "./served_adapter.js";
+import { FILES, FakeFile, LOCK, SOURCE, engine, served } from "./adapter_client.js";
 
 test("messages are answered in their order, each by a number of its own; what is none is reported", async () => {
   const { connection, messages, answer, ask, until } = served();
@@ -297,7 +297,7 @@ test("in real time a cycle takes as long as on a real board", async () => {
   await ask("pause", { threadId: 1 });
   await until(() => stops().length > before);
   const time = performance.now() - from;
-  const { total } = adapter.current.launched.session.debugger.session.count;
+  const { total } = adapter.current.launchResult.session.debugger.session.count;
   // A sixtieth of a second is done at once.
   assert.ok(total > 1000 && total * 0.0108 < time + 17, `${total} cycles in ${time} ms`);
 });

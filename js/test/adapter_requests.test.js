@@ -3,7 +3,7 @@
 import assert from "node:assert/strict";
 import { test } from "node:test";
 import { frameMessage } from "../core/server/framing.js";
-import { FILES, FakeFile, LOCK, engine, served } from "./served_adapter.js";
+import { FILES, FakeFile, LOCK, engine, served } from "./adapter_client.js";
 
 const SHOW = 0x71;
 

@@ -1,7 +1,7 @@
 // Stops of a debug adapter other than breakpoints: changes of places, and common mistakes, both also with conditions.
 import assert from "node:assert/strict";
 import { test } from "node:test";
-import { FILES, LOCK, engine, served } from "./served_adapter.js";
+import { FILES, LOCK, engine, served } from "./adapter_client.js";
 
 /** Returns the bench's own trace of the first changes of a place: its value before and after, and the address of the next instruction. */
 function changesOf(place, count) {

@@ -5,7 +5,7 @@ import {
   isStop, readBoard, readListing, readMap, readItems, readRam, readRegisters, readRun, parseRefusal, watchedPlaces,
 } from "../core/bench/answers.js";
 import { ADDRESS_COUNT, NO_BYTE, parseRomBytes } from "../core/bench/rom_bytes.js";
-import { Answers, parseTraceLine, rowValues } from "../core/engine/tracing.js";
+import { ForecastAnswers, parseTraceLine, rowValues } from "../core/engine/forecast_answers.js";
 
 test("refusals, with a line and without", () => {
   assert.deepEqual(parseRefusal("no 34 line 2"), { number: 34, line: 2 });
@@ -64,7 +64,8 @@ test("where a program's lines and names stand", () => {
 });
 
 test("what a run would do, among other answers", () => {
-  const answers = new Answers(["trace ran 3 end lines 2 0 -", "0 000 1 -", "2 00A 2 *", "count ran 3 code lines 2", "000 1", "00A 12 3",
+  const answers = new ForecastAnswers([
+    "trace ran 3 end lines 2 0 -", "0 000 1 -", "2 00A 2 *", "count ran 3 code lines 2", "000 1", "00A 12 3",
     "ok 7 ran 3 code", "no 11"]);
   const { row, lines, cycles } = answers.takeTrace();
   assert.deepEqual([rowValues(row), lines.map(parseTraceLine), cycles],

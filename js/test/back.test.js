@@ -2,7 +2,7 @@
 import assert from "node:assert/strict";
 import { test } from "node:test";
 import { matrixKey } from "../core/board/key_place.js";
-import { CycleCount } from "../core/engine/accepted.js";
+import { CycleCount } from "../core/engine/accepted_commands.js";
 import { MAX_FORWARD, Timeline } from "../core/engine/timeline.js";
 import { FakeEngine } from "./fake_engine.js";
 import { begin, counterOf } from "./page_session.js";

@@ -2,7 +2,7 @@
 import assert from "node:assert/strict";
 import { mock, test } from "node:test";
 import { Bench } from "../core/bench/bench_client.js";
-import { CancelledError, WorkerDiedError } from "../core/bench/faults.js";
+import { CancelledError, WorkerDiedError } from "../core/bench/bench_errors.js";
 
 /** Returns a bench over workers that behave as the test says. */
 function begin() {

@@ -10,7 +10,7 @@ import { DisplayText } from "../core/board/display_text.js";
 import { Face } from "../core/board/face.js";
 import { SoundPieces, soundSamples } from "../core/board/sound_samples.js";
 import { BenchCalls } from "../core/engine/bench_calls.js";
-import { PerceivedText } from "../core/engine/seen_text.js";
+import { PerceivedText } from "../core/engine/perceived_text.js";
 import { examplesOfPage, pageModule } from "./page_session.js";
 
 /** A frame of a screen that shows 60 a second, in cycles and in milliseconds. */
@@ -104,7 +104,8 @@ test("a lamp between two lines is lit where both are 1, to the cycle", async () 
   const seen = new Brightness(new Face(SCANNED.board), 6);
   for (let frame = 0; frame < 20; frame++) seen.add(calls.advance(FRAME).litShares, FRAME_TIME);
   const turn = 28;
-  seen.scanned[0].forEach((part, at) => assert.ok(Math.abs(part - [5, 0, 5, 0, 10, 0][at] / turn) < 0.02, String(seen.scanned[0])));
+  const [scanned] = seen.scannedGroups;
+  scanned.forEach((part, at) => assert.ok(Math.abs(part - [5, 0, 5, 0, 10, 0][at] / turn) < 0.02, String(scanned)));
 });
 
 test("digits that are lit by turns show what they show longest while they are lit", () => {

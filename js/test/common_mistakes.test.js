@@ -5,7 +5,7 @@ import { matrixKey, pinKey } from "../core/board/key_place.js";
 import { DebugSession } from "../core/debug/debug_session.js";
 import { KINDS } from "../words/debug.js";
 import { SourceMap } from "../core/machine/source_map.js";
-import { sentText } from "../core/text/text_fault.js";
+import { sentText } from "../core/text/sendable_text.js";
 import { readProgram } from "../core/engine/program_check.js";
 import { Engine } from "../core/engine/engine.js";
 import { pageModule } from "./page_session.js";
@@ -24,10 +24,10 @@ before(async () => {
 /** A session with a program, whose lines are known. */
 function open(program) {
   const session = new DebugSession(engine, { board: BOARD, program });
-  assert.deepEqual(session.refused, []);
+  assert.deepEqual(session.rejectedTexts, []);
   const text = sentText(program, ";");
   const debug = session.debugger;
-  debug.usual.map = new SourceMap(readProgram(engine, text).map, text);
+  debug.commonMistakes.map = new SourceMap(readProgram(engine, text).map, text);
   debug.begin();
   return debug;
 }
@@ -35,7 +35,7 @@ function open(program) {
 /** Returns the reports on a program in some frames of real time, with the line. */
 function mistakesOf(program, frames = 3, debug = open(program)) {
   const faults = Array.from({ length: frames }, () => debug.advance(1543).tally.usual).flat();
-  return faults.map(({ address, words }) => `${debug.usual.map.lineOf(address)}: ${words}`);
+  return faults.map(({ address, words }) => `${debug.commonMistakes.map.lineOf(address)}: ${words}`);
 }
 
 test("each of them is reported once, with its line", () => {
@@ -80,7 +80,7 @@ test("nothing is reported of what is right", () => {
 
 test("time stops before one that it is to stop at, and goes on with it", () => {
   const debug = open("LDM 1\nFIM P0, 0x10\nSRC P0\nWRR\nLDM 2\nend: JUN end\n");
-  debug.usual.stops.add("lines");
+  debug.commonMistakes.stops.add("lines");
   const frame = debug.advance(1543);
   assert.deepEqual([frame.cycles, frame.stop.why, frame.tally.usual.length, debug.counter], [4, "usual", 1, 4]);
   debug.begin();
@@ -101,16 +101,17 @@ test("later a sample is looked at, and all again after a key", () => {
   const debug = open("turn: JUN turn\n");
   const looked = () => {
     let sum = 0;
-    for (let at = 0; at < 32; at++) sum += Number(debug.usual.cyclesToCheck([{ line: "run 1543", change: null }]) > 0);
+    for (let at = 0; at < 32; at++) sum += Number(debug.commonMistakes.cyclesToCheck([{ line: "run 1543", change: null }]) > 0);
     return sum;
   };
   assert.equal(looked(), 32);
-  assert.equal(debug.usual.cyclesToCheck([{ line: "run 8000000", change: null }]), 50000 - 32 * 1543);
+  assert.equal(debug.commonMistakes.cyclesToCheck([{ line: "run 8000000", change: null }]), 50000 - 32 * 1543);
   debug.begin();
-  assert.equal(debug.usual.cyclesToCheck([{ line: "run 8000000", change: null }]), 10000);
-  debug.usual.left = 0;
+  assert.equal(debug.commonMistakes.cyclesToCheck([{ line: "run 8000000", change: null }]), 10000);
+  debug.commonMistakes.remainingCycles = 0;
   assert.equal(looked(), 2);
-  debug.usual.cyclesToCheck([{ line: "press 0 0", change: { key: matrixKey(0, 0), word: "press" } }, { line: "run 5", change: null }]);
+  debug.commonMistakes.cyclesToCheck([
+    { line: "press 0 0", change: { key: matrixKey(0, 0), word: "press" } }, { line: "run 5", change: null }]);
   assert.equal(looked(), 32);
 });
 
@@ -139,7 +140,7 @@ test("but at once where time stops in that frame, or is to stop at a fault", () 
   const frame = broken.advance(1543, true);
   assert.deepEqual([frame.stop.why, frame.tally.usual.length], ["break", 1]);
   const stops = open(program);
-  stops.usual.stops.add("lines");
+  stops.commonMistakes.stops.add("lines");
   const stopped = stops.advance(1543, true);
   assert.deepEqual([stopped.stop.why, stopped.cycles, stopped.tally.usual.length], ["usual", 3, 1]);
 });

@@ -5,23 +5,23 @@ import { readFileSync, readdirSync } from "node:fs";
 import { before, test } from "node:test";
 import { evaluateExpression } from "../core/adapter/expression_values.js";
 import { Console } from "../core/adapter/console.js";
-import { replaceNames } from "../core/bench/names_in_lines.js";
+import { replaceNames } from "../core/bench/name_substitution.js";
 import {
   compileCondition, compileExpression, compileTestCondition, compileTracedCondition,
 } from "../core/conditions/condition_language.js";
 import { MAX_DEPTH, MAX_LENGTH } from "../core/conditions/parser.js";
-import { readSetting } from "../core/conditions/setting.js";
+import { readSetting } from "../core/conditions/set_command.js";
 import { DebugSession } from "../core/debug/debug_session.js";
-import { parseGoal } from "../core/debug/becoming.js";
+import { parseGoal } from "../core/debug/condition_search.js";
 import { compileNote, compileBreakpoint } from "../core/debug/soft_breakpoints.js";
 import { MachineState } from "../core/debug/machine_state.js";
-import { textOf } from "../core/debug/value_words.js";
-import { collectWatchNames, parseWatch } from "../core/debug/watched.js";
+import { joinPieces } from "../core/debug/word_values.js";
+import { collectWatchNames, parseWatch } from "../core/debug/watch_expressions.js";
 import { readCampaign } from "../core/explore/campaign.js";
 import { createRandom } from "../core/explore/walks.js";
 import { Engine } from "../core/engine/engine.js";
 import { Prompt } from "../core/prompt/debugger_prompt.js";
-import { ExecutionRecorder } from "../core/testing/account.js";
+import { ExecutionRecorder } from "../core/testing/recorders.js";
 import { TestSession } from "../core/testing/test_session.js";
 import { readTests } from "../core/testing/test_text.js";
 import { createBoardLines } from "../core/waves/wave_lines.js";
@@ -108,7 +108,7 @@ let session;
 let names;
 before(() => {
   session = new DebugSession(engine, { board: BOARD, program: PROGRAM });
-  assert.deepEqual(session.refused, []);
+  assert.deepEqual(session.rejectedTexts, []);
   names = { ...session.names, watched: collectWatchNames(WATCHED) };
 });
 
@@ -131,7 +131,7 @@ async function changed(random) {
 /** The context of expressions, with the names of Watch. */
 function known() {
   Object.defineProperty(session, "names", { configurable: true, value: names });
-  return { session, face: names.face, instructions: new Map(), shown: () => "" };
+  return { session, face: names.face, instructions: new Map(), frontPanelText: () => "" };
 }
 
 /** Returns the result of a call, or the words of its error. */
@@ -168,7 +168,7 @@ const USES = {
   Watch: (text) => {
     const { watched, fault } = parseWatch(text, names);
     const look = ["state\n", "ram 0\n"].map((line) => session.debugger.session.ask(line).join("\n"));
-    return fault || textOf(watched.pieces(new MachineState(look), names)) === "true";
+    return fault || joinPieces(watched.pieces(new MachineState(look), names)) === "true";
   },
   "mcs4 debug": async (text) => {
     known();

@@ -7,7 +7,7 @@ import { MAX_PLACES } from "../core/bench/inputs.js";
 import { compileCondition, compileTestCondition } from "../core/conditions/condition_language.js";
 import { parseDuration, parseWholeDuration } from "../core/conditions/durations.js";
 import { SourceMap } from "../core/machine/source_map.js";
-import { Answers, rowValues } from "../core/engine/tracing.js";
+import { ForecastAnswers, rowValues } from "../core/engine/forecast_answers.js";
 import { begin } from "./page_session.js";
 
 const WIRED = [
@@ -33,7 +33,7 @@ before(async () => {
 
 /** Returns the current values of a condition's places. */
 function valuesNow(calls, { places }) {
-  return places.length === 0 ? [] : rowValues(new Answers(calls.ask(`trace 1 ${places.join(" ")}\n`)).takeTrace().row);
+  return places.length === 0 ? [] : rowValues(new ForecastAnswers(calls.ask(`trace 1 ${places.join(" ")}\n`)).takeTrace().row);
 }
 
 const read = (text) => {

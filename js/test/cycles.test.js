@@ -1,6 +1,6 @@
 import assert from "node:assert/strict";
 import { test } from "node:test";
-import { CycleCount, findAcceptedCommands } from "../core/engine/accepted.js";
+import { CycleCount, findAcceptedCommands } from "../core/engine/accepted_commands.js";
 import { Cycles, formatCycles } from "../core/time/cycles.js";
 import { readBoard } from "../core/bench/answers.js";
 import { readInputs } from "../core/bench/inputs.js";
@@ -33,7 +33,7 @@ test("since the last stop: the stretch that ended there, until another one begin
   assert.equal(cycles.counts.sinceStop, 900);
   cycles.take({ total: 902, reset: 0 });
   assert.deepEqual([cycles.counts.sinceStop, cycles.counts.sinceReset], [2, 902]);
-  assert.deepEqual(new Cycles(cycles.kept).counts, cycles.counts);
+  assert.deepEqual(new Cycles(cycles.storedCounts).counts, cycles.counts);
 });
 
 test("marks: from one to here, between two, and then anew", () => {

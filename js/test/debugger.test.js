@@ -50,7 +50,7 @@ const open = (program = PROGRAM) => new DebugSession(engine, { board: BOARD, pro
 
 test("a session in memory: breakpoints at lines, moves, values, back and forward", async () => {
   const session = open();
-  assert.deepEqual(session.refused, []);
+  assert.deepEqual(session.rejectedTexts, []);
   session.breakpoints.add({ line: LINE.blank });
   const { moved, faults } = await session.applyBreakpoints();
   assert.deepEqual([moved, faults], [["Line 5 puts no bytes into ROM: its breakpoint is at the next instruction, line 6."], []]);
@@ -259,7 +259,7 @@ test("back to an arrival is found in what is kept of a long run, at once", async
   const turns = [0, 1, 2, 3].map((each) => ` ISZ R${each}, turn\n`).join("");
   const session = open(`start: FIM P0, 0\n FIM P1, 0\nturn: NOP\n${turns}hit: NOP\n JUN turn\n`);
   const { session: bench } = session.debugger;
-  const hit = session.map.valueOf("hit");
+  const hit = session.map.findValue("hit");
   session.breakpoints.add({ line: session.map.lineOf(hit) });
   await session.applyBreakpoints();
   const seen = await arrivalsOf(session, 3);

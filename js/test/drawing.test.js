@@ -4,13 +4,13 @@ import { test } from "node:test";
 import { readBoard } from "../core/bench/answers.js";
 import { Face, findFaceErrors } from "../core/board/face.js";
 import { printerLines, missingParts } from "../core/board/face_board.js";
-import { SHELF_PARTS, applyAction, matchesBench } from "../core/drawing/acts.js";
+import { SHELF_PARTS, applyAction, matchesBench } from "../core/drawing/drawing_actions.js";
 import { boardLines } from "../core/bench/board_form.js";
 import { canWire, possibleSources, possibleTargets, inputLines, boardWithBuzzer } from "../core/drawing/board_lines.js";
-import { selectionForm } from "../core/drawing/fields.js";
-import { edited, inverseEdits } from "../core/drawing/text_edits.js";
+import { selectionForm } from "../core/drawing/selection_form.js";
+import { applyEdits, inverseEdits } from "../core/drawing/text_edits.js";
 import { parseFaceLine } from "../core/board/face_words.js";
-import { sentText } from "../core/text/text_fault.js";
+import { sentText } from "../core/text/sendable_text.js";
 import { Engine } from "../core/engine/engine.js";
 import { examplesOfPage, pageModule } from "./page_session.js";
 
@@ -91,8 +91,8 @@ function check(name, text, act, wanted) {
   assert.match(after.first, /^ok/, `${said}\n${done.text}`);
   assert.ok(matchesBench(done.text, after.board), said);
   if (wanted) assert.deepEqual(readBoard(after.board), wanted, said);
-  assert.equal(edited(text, done.edits), done.text);
-  assert.equal(edited(done.text, inverseEdits(text, done.edits)), text);
+  assert.equal(applyEdits(text, done.edits), done.text);
+  assert.equal(applyEdits(done.text, inverseEdits(text, done.edits)), text);
   assert.ok(findFaceErrors(done.text).length <= findFaceErrors(text).length, said);
   const faults = (boardText, board) => missingParts(new Face(boardText), board).length;
   assert.ok(faults(done.text, readBoard(after.board)) <= faults(text, readBoard(first.board)), `${said}\n${done.text}`);
@@ -365,7 +365,7 @@ onBench("whatever is done one after the other, the bench takes the text, comment
         done += 1;
       }
     }
-    assert.equal(edited(text, back), begun);
+    assert.equal(applyEdits(text, back), begun);
   }
   assert.ok(done > 400 && refused > 20, `${done} done, ${refused} refused`);
 });

@@ -3,14 +3,14 @@ import assert from "node:assert/strict";
 import { test } from "node:test";
 import { readBoard } from "../core/bench/answers.js";
 import { Face } from "../core/board/face.js";
-import { applyAction } from "../core/drawing/acts.js";
+import { applyAction } from "../core/drawing/drawing_actions.js";
 import { possibleSources } from "../core/drawing/board_lines.js";
 import { Drawing } from "../core/drawing/board_drawing.js";
 import { sessionTitle } from "../core/session/session_summary.js";
-import { selectionForm } from "../core/drawing/fields.js";
+import { selectionForm } from "../core/drawing/selection_form.js";
 import { lampLabels } from "../core/drawing/lamp_labels.js";
 import { MovedParts } from "../core/drawing/moved_parts.js";
-import { edited, inverseEdits } from "../core/drawing/text_edits.js";
+import { applyEdits, inverseEdits } from "../core/drawing/text_edits.js";
 import { Engine } from "../core/engine/engine.js";
 import { examplesOfPage, pageModule } from "./page_session.js";
 
@@ -32,11 +32,11 @@ async function drawn(text = "") {
     },
     edit: (edits) => {
       desk.steps.push(inverseEdits(desk.text, edits));
-      desk.text = edited(desk.text, edits);
+      desk.text = applyEdits(desk.text, edits);
     },
     undo: () => {
       const last = desk.steps.pop();
-      if (last) desk.text = edited(desk.text, last);
+      if (last) desk.text = applyEdits(desk.text, last);
       return last !== undefined;
     },
     redo: () => false,
@@ -54,38 +54,38 @@ test("an empty bench: parts come with what they need, and a wire goes from pin t
   assert.deepEqual([desk.shown.fault, [...desk.shown.shelf.values()].every((why) => why === "")], ["", true]);
   await drawing.act({ kind: "add", part: "keys" });
   assert.equal(desk.shown.lastMessage, "The keys were added, with ROM 0, chain 0 and ROM 1.");
-  assert.deepEqual([desk.shown.chosen, desk.shown.shelf.get("keys")],
+  assert.deepEqual([desk.shown.selected, desk.shown.shelf.get("keys")],
     ["keys", "A board has one key matrix: give it more rows and columns."]);
   await drawing.act({ kind: "add", part: "lamp" });
-  await drawing.pressed("rom0.2");
+  await drawing.handleClick("rom0.2");
   assert.equal(desk.shown.lastMessage, "Wire from line rom0.2: it can end at 3 pins.");
   assert.deepEqual([...desk.shown.ends], ["clock 0", "data 0", "lamp 0"]);
-  await drawing.pressed("lamp 0");
+  await drawing.handleClick("lamp 0");
   assert.equal(desk.shown.lastMessage, "Line rom0.2 is wired to lamp 0.");
-  assert.deepEqual([desk.shown.board.lamps, desk.shown.chosen, desk.shown.begun], [["rom0.2"], "lamp 0", ""]);
+  assert.deepEqual([desk.shown.board.lamps, desk.shown.selected, desk.shown.wireStart], [["rom0.2"], "lamp 0", ""]);
   for (const wanted of ["Undone.", "Undone.", "Undone.", "There is nothing to undo."]) {
     await drawing.undoOrRedo("undo");
     assert.equal(desk.shown.lastMessage, wanted);
   }
-  assert.deepEqual([desk.text, desk.shown.chosen], ["", ""]);
+  assert.deepEqual([desk.text, desk.shown.selected], ["", ""]);
 });
 
 test("a wire may begin at what takes it; one that cannot be is none, and Escape leaves it", async () => {
   const desk = await drawn(boardOf("lock"));
   const { drawing } = desk;
-  await drawing.pressed("column 1");
+  await drawing.handleClick("column 1");
   assert.deepEqual([...desk.shown.ends], possibleSources(desk.shown.board, "column 1").filter((line) => line !== "rom1.1"));
-  await drawing.pressed("rom0.3");
-  assert.deepEqual([desk.shown.begun, desk.shown.chosen, desk.text], ["rom0.3", "rom0.3", boardOf("lock")]);
+  await drawing.handleClick("rom0.3");
+  assert.deepEqual([desk.shown.wireStart, desk.shown.selected, desk.text], ["rom0.3", "rom0.3", boardOf("lock")]);
   drawing.cancelWire();
-  assert.deepEqual([desk.shown.begun, desk.shown.chosen, desk.shown.lastMessage], ["", "rom0.3", "No wire was drawn."]);
+  assert.deepEqual([desk.shown.wireStart, desk.shown.selected, desk.shown.lastMessage], ["", "rom0.3", "No wire was drawn."]);
   drawing.cancelWire();
-  assert.equal(desk.shown.chosen, "");
-  await drawing.pressed("rom0.3");
-  await drawing.pressed("rom0.3");
-  assert.equal(desk.shown.begun, "");
-  await drawing.pressed("keys");
-  assert.deepEqual([desk.shown.begun, desk.shown.chosen], ["", "keys"]);
+  assert.equal(desk.shown.selected, "");
+  await drawing.handleClick("rom0.3");
+  await drawing.handleClick("rom0.3");
+  assert.equal(desk.shown.wireStart, "");
+  await drawing.handleClick("keys");
+  assert.deepEqual([desk.shown.wireStart, desk.shown.selected], ["", "keys"]);
 });
 
 test("what cannot be is refused in words, and the text stays", async () => {

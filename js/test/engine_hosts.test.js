@@ -7,11 +7,11 @@ import { chmodSync, existsSync, mkdtempSync, readFileSync, readdirSync, rmSync, 
 import { tmpdir } from "node:os";
 import { join } from "node:path";
 import { fileURLToPath } from "node:url";
-import { BenchRefusal } from "../core/bench/faults.js";
+import { BenchRefusal } from "../core/bench/bench_errors.js";
 /* global WebAssembly */
 import { Engine } from "../core/engine/engine.js";
 import { readBoard } from "../core/bench/answers.js";
-import { copyWithoutStops } from "../core/engine/without_stops.js";
+import { copyWithoutStops } from "../core/engine/free_running_copy.js";
 import { neededLines, recordPieces } from "../core/engine/wave_stream.js";
 import { runTests } from "../core/testing/test_suite.js";
 import { coverageText, lcovText } from "../core/testing/coverage_text.js";

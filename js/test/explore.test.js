@@ -2,22 +2,22 @@
 import assert from "node:assert/strict";
 import { test } from "node:test";
 import { isDeepStrictEqual } from "node:util";
-import { WorkerDiedError } from "../core/bench/faults.js";
+import { WorkerDiedError } from "../core/bench/bench_errors.js";
 import { CampaignRun } from "../core/explore/campaign_run.js";
 import { readCampaign } from "../core/explore/campaign.js";
-import { countWalk, isCountingSufficient } from "../core/explore/counting.js";
+import { countWalk, isCountingSufficient } from "../core/explore/walk_counter.js";
 import { Coverage } from "../core/explore/search_coverage.js";
-import { markOf, wordsOfEnd, wordsOfFigures, wordsOfProperty } from "../words/explored.js";
+import { markOf, wordsOfEnd, wordsOfFigures, wordsOfProperty } from "../words/explore_results.js";
 import { Explorer } from "../core/explore/explorer.js";
-import { SlicedSearch, prepareSearch } from "../core/explore/exploring.js";
-import { DeltaFiles } from "../core/explore/kept_files.js";
-import { Snapshots } from "../core/explore/read_places.js";
-import { PlaceQueries, PlaceValues } from "../core/explore/place_questions.js";
+import { SlicedSearch, prepareSearch } from "../core/explore/sliced_search.js";
+import { DeltaFiles } from "../core/explore/delta_files.js";
+import { PlaceReader } from "../core/explore/place_reader.js";
+import { PlaceQueries, PlaceValues } from "../core/explore/place_queries.js";
 import { hasExpectedResult, joinReports, formatTap, formatReportTests } from "../core/explore/report.js";
 import { Search } from "../core/explore/search.js";
 import { createSubject } from "../core/explore/subject.js";
 import { chooseStep, downInputsAfter, initialDownInputs, areAllowed, createRandom, nextAges, initialAges } from "../core/explore/walks.js";
-import { Watcher } from "../core/explore/watching.js";
+import { Watcher } from "../core/explore/walk_watcher.js";
 import { Engine } from "../core/engine/engine.js";
 import { pageModule } from "./page_session.js";
 
@@ -92,11 +92,11 @@ async function explore(text, seconds = 20, confirm = () => true, seed = 1) {
   const run = new CampaignRun(subject, campaign, seed, confirm, PATIENCE);
   const asked = campaign.properties.filter(({ line }) => line > 0).length;
   const end = performance.now() + 1000 * seconds;
-  while (performance.now() < end && run.found.slice(0, asked).includes(null)) await run.runFor(20);
+  while (performance.now() < end && run.counterexamples.slice(0, asked).includes(null)) await run.runFor(20);
   return run;
 }
 
-const testOf = async (text, seconds) => (await explore(text, seconds)).found[0].test;
+const testOf = async (text, seconds) => (await explore(text, seconds)).counterexamples[0].test;
 
 test("what is wrong with a text of properties is reported with what there is", () => {
   assert.deepEqual(faultsOf("press A E\n"), ["1: the board has no key E; it has: A B C D WALK"]);
@@ -145,9 +145,9 @@ test("each form of a property is found broken, or reached, with a test that says
 });
 
 test("a fourth call and a BBL without a call are seen, with no property of them", async () => {
-  const { found, campaign } = await explore("press C D\nwait 20 to 300\nreach @four");
+  const { counterexamples: found, campaign } = await explore("press C D\nwait 20 to 300\nreach @four");
   const run = new CampaignRun(subject, campaign, 1, () => true, PATIENCE);
-  const of = (form) => run.found[campaign.properties.findIndex((each) => each.form === form)];
+  const of = (form) => run.counterexamples[campaign.properties.findIndex((each) => each.form === form)];
   const end = performance.now() + 60000;
   while (performance.now() < end && !(of("calls") && of("returns"))) await run.runFor(20);
   assert.ok(found[0]);
@@ -196,8 +196,8 @@ test("a model says what the display has to show, and what is wrong with it is re
     return { shown: chains.map((keys) => (keys.includes("A") ? "1" : "0")), fault: "" };
   };
   const run = new CampaignRun(shown, campaign, 1, () => true, PATIENCE, says);
-  while (!run.found[0]) await run.runFor(20);
-  assert.equal(run.found[0].test, "test model ./says\n  pace 300 200\n  keys A B\n  expect display 1\n");
+  while (!run.counterexamples[0]) await run.runFor(20);
+  assert.equal(run.counterexamples[0].test, "test model ./says\n  pace 300 200\n  keys A B\n  expect display 1\n");
   assert.match(asked[0], /^[AB]( [AB])*$/);
   const wrong = new CampaignRun(shown, campaign, 1, () => true, PATIENCE, () => ({ shown: [], fault: "it died" }));
   await wrong.runFor(20);
@@ -233,7 +233,7 @@ test("the same seed makes the same walks", () => {
 
 test("a find that no test confirms is not counted, and its property is given up", async () => {
   const run = await explore("press A\nwait 20 to 300\nnever lamp on on", 5, () => false);
-  assert.equal(run.found[0], null);
+  assert.equal(run.counterexamples[0], null);
   assert.equal(run.unconfirmedTests.length, 3);
 });
 
@@ -299,19 +299,20 @@ test("a find is made short where keys are held for a short time, and waits are a
   const late = createSubject(engine, BOARD, LATE);
   const { campaign } = readCampaign("press A B\ntogether 1\nheld at most 1000\nwait 100 to 100000\nnever lamp on on\n", late);
   const run = new CampaignRun(late, campaign, 3, () => true, 4 * PATIENCE);
-  while (run.found[0] === null) await run.runFor(20);
-  assert.deepEqual(run.found[0].test.split("\n").slice(1, 6), ["  run 100", "  press A", "  run 100", "  release A", "  run 100000"]);
+  while (run.counterexamples[0] === null) await run.runFor(20);
+  assert.deepEqual(run.counterexamples[0].test.split("\n").slice(1, 6),
+    ["  run 100", "  press A", "  run 100", "  release A", "  run 100000"]);
 });
 
 test("what stands at places is what trace reports of them", () => {
   const names = ["lamps", "acc", "cy", "pc", "dcl", "r0", "r7", "r15", "ram.0.0x1F", "ram.5.64", "ram.5.200", "st.0.3.2", "st.5.4.1",
     "ram0.0", "ram5.1", "ram5.2", "ram3.0", "rom1", "chain0", "src", "ret"];
   const two = createSubject(engine, BOARD.replace("chips = 1 }]", "chips = 1 }, { bank = 5, chips = 2 }]"), PROGRAM);
-  const looks = new Snapshots(names, two.names.board);
+  const looks = new PlaceReader(names, two.names.board);
   const places = new PlaceQueries(looks.names);
   assert.deepEqual([...looks.names].sort(), [...names].sort());
   // Only trace reports what a chip or a bank lacks, and lines that are inputs.
-  assert.deepEqual(looks.rest.names, ["ram.5.200", "ram5.2", "ram3.0", "rom1", "chain0", "src", "ret"]);
+  assert.deepEqual(looks.remainingPlaces.names, ["ram.5.200", "ram5.2", "ram3.0", "rom1", "chain0", "src", "ret"]);
   const random = createRandom(3);
   const file = two.file.slice();
   for (let times = 0; times < 40; times++) {
@@ -446,8 +447,8 @@ test("the same seed makes the same find, however long it may take", async () => 
   const finds = [];
   for (const slice of [1, 500]) {
     const exploring = new SlicedSearch(engine, texts, searchSetup, { seed: 3, seconds: 5 }, all);
-    while (!exploring.run.found[0]) await exploring.runFor(slice);
-    finds.push(exploring.run.found[0]);
+    while (!exploring.run.counterexamples[0]) await exploring.runFor(slice);
+    finds.push(exploring.run.counterexamples[0]);
   }
   assert.deepEqual(finds[0], finds[1]);
 });

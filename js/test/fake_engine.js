@@ -1,7 +1,7 @@
 // A stand-in for the module: a session of one byte, the count of its commands. Lines: `run N` answers `ok C ran N end`, or stops early if
 // the count reaches `stopAt`; `trap` fails; any other command is `ok C`. After `memory` calls it answers 90.
 
-import { BenchRefusal, BenchTrap } from "../core/bench/faults.js";
+import { BenchRefusal, BenchTrap } from "../core/bench/bench_errors.js";
 import { readInputs } from "../core/bench/inputs.js";
 import { hex } from "../core/bench/numbers.js";
 

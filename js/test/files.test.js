@@ -4,7 +4,7 @@ import { NO_BYTE, parseRomBytes } from "../core/bench/rom_bytes.js";
 import { readBytes, readHex, writeHex } from "../core/bench/rom_image.js";
 import { readOpenedFile } from "../core/session/opened_file.js";
 import { RomFiles } from "../core/session/rom_files.js";
-import { createByteTexts } from "../core/text/assembling.js";
+import { createByteTexts } from "../core/text/asm_texts.js";
 
 const bytes = (/** @type {string} */ text) => new TextEncoder().encode(text);
 const opened = (/** @type {string} */ name, /** @type {string} */ text) => readOpenedFile(name, bytes(text));

@@ -65,8 +65,8 @@ async function found(text, program, seconds) {
   assert.deepEqual(faults, []);
   const run = new CampaignRun(subject, campaign, 1, () => true, 5e6);
   const end = performance.now() + 1000 * seconds;
-  while (performance.now() < end && run.found[0] === null) await run.runFor(20);
-  return run.found[0];
+  while (performance.now() < end && run.counterexamples[0] === null) await run.runFor(20);
+  return run.counterexamples[0];
 }
 
 /** Resolves to whether a test fails on a program. */

@@ -1,12 +1,14 @@
 // How often and how lately characters of RAM change, on the module of the page itself.
 import assert from "node:assert/strict";
 import { test } from "node:test";
-import { CancelledError } from "../core/bench/faults.js";
+import { CancelledError } from "../core/bench/bench_errors.js";
 import { pinKey } from "../core/board/key_place.js";
-import { PassingHeat, heatLevels, describeHeat, describeChanges, describeHeatStatus, describeSeenChanges } from "../core/machine/warmth.js";
+import {
+  PassingHeat, heatLevels, describeHeat, describeChanges, describeHeatStatus, describeSeenChanges,
+} from "../core/machine/heat_levels.js";
 import { namedSrcBytes, nibbleNames } from "../core/machine/ram_names.js";
 import { SourceMap } from "../core/machine/source_map.js";
-import { parseWatch } from "../core/debug/watched.js";
+import { parseWatch } from "../core/debug/watch_expressions.js";
 import { begin } from "./page_session.js";
 
 const BOARD = `[[rom]]

@@ -3,7 +3,7 @@ import assert from "node:assert/strict";
 import { test } from "node:test";
 import { readBoard } from "../core/bench/answers.js";
 import { keyScanSource, routineInsertion } from "../core/drawing/scan_routine.js";
-import { sentText } from "../core/text/text_fault.js";
+import { sentText } from "../core/text/sendable_text.js";
 import { Engine } from "../core/engine/engine.js";
 import { examplesOfPage, pageModule } from "./page_session.js";
 

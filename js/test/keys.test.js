@@ -78,7 +78,7 @@ test("a press stays down and then up for its time, over several plans", () => {
   queue.press(matrixKey(0, 2));
   const first = queue.plan(5000);
   assert.deepEqual(first.map(({ line }) => line), ["press 0 1", `run ${KEY_DOWN_CYCLES}`, "release 0 1", "run 1000"]);
-  queue.done(first, (at) => [0, KEY_DOWN_CYCLES, 0, 1000][at]);
+  queue.markExecuted(first, (at) => [0, KEY_DOWN_CYCLES, 0, 1000][at]);
   assert.deepEqual(lines(queue, 1500), [`run ${KEY_UP_CYCLES - 1000}`, "press 0 2", "run 500"]);
 });
 
@@ -87,7 +87,7 @@ test("a run that stops early leaves the rest of the time to wait", () => {
   queue.press(matrixKey(0, 1));
   queue.release(matrixKey(0, 1));
   const steps = queue.plan(3000);
-  queue.done(steps, () => 10);
+  queue.markExecuted(steps, () => 10);
   assert.deepEqual(lines(queue, 4000), [`run ${KEY_DOWN_CYCLES - 10}`, "release 0 1", "run 10"]);
 });
 

@@ -3,7 +3,7 @@
 import assert from "node:assert/strict";
 import test from "node:test";
 import { ListingReader } from "../core/machine/listing_reader.js";
-import { isInsideLine, visibleLines } from "../core/machine/listing_stretch.js";
+import { isInsideLine, visibleLines } from "../core/machine/listing_range.js";
 
 /** A small generator of numbers that are the same at each run. */
 function seeded(seed) {

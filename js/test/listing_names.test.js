@@ -1,6 +1,6 @@
 import assert from "node:assert/strict";
 import { test } from "node:test";
-import { parseGoal } from "../core/machine/go_to.js";
+import { parseGoal } from "../core/machine/go_to_target.js";
 import { addLineNames, labelsWidth } from "../core/machine/listing_names.js";
 import { SourceMap } from "../core/machine/source_map.js";
 

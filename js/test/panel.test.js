@@ -13,7 +13,7 @@ import { largeDigitRows } from "../core/panel/large_digits.js";
 import { Panel } from "../core/panel/terminal_panel.js";
 import { Screen, fitsPanel, middleRows } from "../core/panel/screen.js";
 import { splitKeys } from "../core/panel/terminal_keys.js";
-import { sentText } from "../core/text/text_fault.js";
+import { sentText } from "../core/text/sendable_text.js";
 import { PanelTerminal } from "../node/panel_terminal.mjs";
 import { pageModule } from "./page_session.js";
 
@@ -52,7 +52,7 @@ async function begun({ board, program }, { lines = "", isPaused = false, hasSour
   const typed = async (keys) => {
     for (const key of splitKeys(keys)) {
       await panel.type(key, now);
-      await panel.seen.take(middleRows(SIZE));
+      await panel.snapshot.take(middleRows(SIZE));
     }
   };
   /** Time passes, frame by frame. */
@@ -61,7 +61,7 @@ async function begun({ board, program }, { lines = "", isPaused = false, hasSour
       now += 100;
       await panel.keepTime(now);
     }
-    await panel.seen.take(middleRows(SIZE));
+    await panel.snapshot.take(middleRows(SIZE));
   };
   const rows = (size = SIZE) => screen.rows(size).map(({ pieces }) => pieces.map(({ text }) => text).join(""));
   return { panel, screen, ask, typed, pass, rows, text: (size = SIZE) => rows(size).map((row) => row.trimEnd()).join("\n") };
@@ -85,7 +85,7 @@ test("large digits", () => {
 
 test("rows of lamps: a die, a matrix, a grid, and others with names", () => {
   const shown = (text, count, isLit) => buildLampRows(new Face(text), count)
-    .map((row) => row.map((cell) => formatCell(cell, cell.seen && cell.seen.isLit(isLit) ? 3 : 0)).join("").trimEnd());
+    .map((row) => row.map((cell) => formatCell(cell, cell.reader && cell.reader.isLit(isLit) ? 3 : 0)).join("").trimEnd());
   assert.deepEqual(shown("# die 0: 7 lamps\n", 7, "*..*..*"), ["*       .", ".   *   .", ".       *", ""]);
   assert.deepEqual(shown("# matrix 0: 2 rows of 2 scanned by 2\n", 4, ".**."), [". *", ". .", ""]);
   assert.deepEqual(shown("# lamp 0: red go_on _ far\n# grid 0: red 2\n# grid 1: _ go_on\n", 4, "*..*"),
@@ -100,7 +100,7 @@ test("a calculator: what is typed has its time, and the display is large", async
   assert.match(text(), /^ Desk calculator: s\.mcs {3}\d+ commands {3}running\n {7}###.* display 42\n# {3}# {5}#/);
   assert.match(text(), / 7 {5}8 {5}9 /);
   await panel.end();
-  assert.deepEqual([panel.isEnded, panel.seen.keysDown.count], [true, 0]);
+  assert.deepEqual([panel.isEnded, panel.snapshot.keysDown.count], [true, 0]);
 });
 
 test("what was typed last is done before the panel ends", async () => {
@@ -109,8 +109,8 @@ test("what was typed last is done before the panel ends", async () => {
   await panel.end();
   assert.equal(await keysDown(ask), "-");
   await ask("run 20000\n");
-  await panel.seen.take(0);
-  assert.equal(panel.seen.display, "42");
+  await panel.snapshot.take(0);
+  assert.equal(panel.snapshot.display, "42");
 });
 
 test("time runs as fast as in the chip, and what a slow host misses is left out", async () => {
@@ -123,7 +123,7 @@ test("time runs as fast as in the chip, and what a slow host misses is left out"
 
 test("a session at a breakpoint is paused; a step is one instruction; breakpoints come and go", async () => {
   const { typed, text, panel } = await begun(COUNTER, { lines: "poke r3 15\npoke r2 3\nbreak 2\nrun 100\n" });
-  await panel.seen.take(middleRows(SIZE));
+  await panel.snapshot.take(middleRows(SIZE));
   assert.match(text(), /paused at a breakpoint\n/);
   assert.match(text(), />\*002 72 00 ISZ R2, 0x000/);
   await typed("\r");
@@ -228,12 +228,12 @@ test("rows fit the terminal, and no text of others controls it", async () => {
 test("a terminal that is restored gets no more pictures: a signal can come while one is made", () => {
   const written = [];
   const output = { ...SIZE, write: (text) => written.push(text) };
-  const terminal = Object.assign(Object.create(PanelTerminal.prototype), { output, paint: null, shown: [], isOn: true });
+  const terminal = Object.assign(Object.create(PanelTerminal.prototype), { output, paint: null, drawnRows: [], isOn: true });
   const rows = [{ pieces: [{ text: "a row", colour: "", level: 0 }], isInverse: false }];
   terminal.draw(rows);
   assert.deepEqual(written, ["\x1b[2J\x1b[1;1Ha row"]);
   terminal.isOn = false;
-  terminal.shown = [];
+  terminal.drawnRows = [];
   terminal.draw(rows);
   terminal.drawTooSmall();
   assert.equal(written.length, 1);

@@ -4,7 +4,7 @@ import assert from "node:assert/strict";
 import test from "node:test";
 import { PendingKeys } from "../core/board/pending_keys.js";
 import { matrixKey } from "../core/board/key_place.js";
-import { KeyPresser } from "../page/board/pressing.js";
+import { KeyPresser } from "../page/board/key_presser.js";
 import { begin } from "./page_session.js";
 
 const KEY = { key: matrixKey(0, 0), isSwitch: false };
@@ -29,7 +29,7 @@ async function typing() {
   });
   const arrive = () => {
     for (const [word, arrived] of onTheWay) {
-      asked.waiting = structuredClone(calls[word](KEY.key));
+      asked.waitingChanges = structuredClone(calls[word](KEY.key));
       arrived();
     }
     onTheWay = [];
@@ -39,7 +39,7 @@ async function typing() {
     arrive();
     const frame = structuredClone(calls.advance(cycles));
     isDown = / keys [^ ]*\b0\.0\b/.test(frame.snapshot.join("\n"));
-    asked.waiting = frame.waiting;
+    asked.waitingChanges = frame.waiting;
     return isDown;
   };
   return { pressing, words, arrive, look };

@@ -2,15 +2,15 @@
 import assert from "node:assert/strict";
 import { readFileSync } from "node:fs";
 import { test } from "node:test";
-import { editDistance, findSimilarWords } from "../core/text/alike.js";
-import { counted } from "../core/bench/numbers.js";
-import { programTexts, describeAssembled } from "../core/text/assembling.js";
+import { editDistance, findSimilarWords } from "../core/text/similar_words.js";
+import { formatQuantity } from "../core/bench/numbers.js";
+import { programTexts, describeAssembled } from "../core/text/asm_texts.js";
 import { findDefinedNames, splitStatement, tokenizeLine, wordAt } from "../core/text/assembly.js";
 import { completeProgram } from "../core/text/completion.js";
 import { readInstructions } from "../core/help/manual.js";
-import { findProgramFaults, isNoProgram } from "../core/text/program_faults.js";
+import { findProgramFaults, isNoProgram } from "../core/text/program_errors.js";
 import { explainProgramLine } from "../core/text/program_words.js";
-import { LONGEST_TEXT, findLineFaults, sentText } from "../core/text/text_fault.js";
+import { LONGEST_TEXT, findLineFaults, sentText } from "../core/text/sendable_text.js";
 import { helpForProgram } from "../core/text/text_help.js";
 
 // The table of the manual, as page/build reads it.
@@ -180,7 +180,9 @@ test("a program comes into ROM alone, by one text where it has room", () => {
 test("what assembling alone leaves, in words", () => {
   assert.equal(describeAssembled({ size: 3, left: [0x41, 0x42] }, "012"),
     "3 bytes assembled. 2 bytes from before stay in ROM, from 0x041. The counter stays at 012; nothing was reset.");
-  assert.deepEqual([counted(1, "byte"), counted(0, "byte"), counted(1543, "cycle"), counted(2, "property is", "properties are")],
+  assert.deepEqual(
+    [formatQuantity(1, "byte"), formatQuantity(0, "byte"), formatQuantity(1543, "cycle"),
+      formatQuantity(2, "property is", "properties are")],
     ["1 byte", "0 bytes", "1,543 cycles", "2 properties are"]);
 });
 

@@ -6,7 +6,7 @@ import { DebugSession } from "../core/debug/debug_session.js";
 import { COMMANDS, findCommand, commandHelp } from "../core/prompt/prompt_commands.js";
 import { Prompt } from "../core/prompt/debugger_prompt.js";
 import { View, viewSize } from "../core/prompt/view.js";
-import { parseCountArgument, parseCycles, findInstruction } from "../core/prompt/words_of_line.js";
+import { parseCountArgument, parseCycles, findInstruction } from "../core/prompt/argument_parsers.js";
 import { Engine } from "../core/engine/engine.js";
 import { readPageData } from "../node/page_parts.mjs";
 import { pageModule } from "./page_session.js";

@@ -7,8 +7,8 @@ import { Engine } from "../core/engine/engine.js";
 import { Prover } from "../core/prove/prover.js";
 import { beginProving, createJudgedLine } from "../core/prove/bounded_proof.js";
 import { boundsUpTo } from "../core/prove/question.js";
-import { findPropertyLine, isStillValid } from "../core/prove/still_valid.js";
-import { markOf, markOfTab, wordsOfEnd, wordsOfVerdict, wordsSoFar } from "../words/proved.js";
+import { findPropertyLine, isStillValid } from "../core/prove/verdict_validity.js";
+import { markOf, markOfTab, wordsOfEnd, wordsOfVerdict, wordsSoFar } from "../words/prove_results.js";
 import { pageModule } from "./page_session.js";
 
 // The lamp is on while TEST is 0; R1 counts how often that was read.
@@ -212,7 +212,7 @@ function fakeWorker(engine) {
     return true;
   });
   calls.load = async () => {
-    calls.bench.loaded = engine;
+    calls.bench.loadedModule = engine;
     return engine.size;
   };
   worker.terminate = () => {
@@ -255,7 +255,7 @@ test("cancelling ends the worker at once; a worker that is silent is not dead", 
   assert.deepEqual(ended, { faults: [], isStopped: true });
   const { bench } = prover;
   bench.worker = fakeWorker(engine);
-  bench.waiting.set(1, { done: () => {}, fail: () => {}, progress: () => {} });
+  bench.pendingRequests.set(1, { done: () => {}, fail: () => {}, progress: () => {} });
   for (let look = 0; look < 50; look++) bench.watch();
   assert.notEqual(bench.worker, null);
 });

@@ -8,12 +8,12 @@ import { readCampaign } from "../core/explore/campaign.js";
 import { createSubject } from "../core/explore/subject.js";
 import { createRandom } from "../core/explore/walks.js";
 import { replayCounterexample } from "../core/prove/counterexample.js";
-import { listComparisons } from "../core/prove/decided.js";
+import { listComparisons } from "../core/prove/condition_comparisons.js";
 import { allMistakes, cyclesToMistake } from "../core/prove/mistakes.js";
 import { MAX_TIME, MAX_PRESSES, createQuestion, mistakeQuestion, neverQuestion, questionText, readAnswer } from "../core/prove/question.js";
 import { exitStatus, tapHead, formatJudgedTap } from "../core/prove/verdicts.js";
 import { runTests } from "../core/testing/test_suite.js";
-import { NullRecorder } from "../core/testing/account.js";
+import { NullRecorder } from "../core/testing/recorders.js";
 import { pageModule } from "./page_session.js";
 
 const engine = new Engine(new globalThis.WebAssembly.Module(pageModule));

@@ -4,7 +4,7 @@ import assert from "node:assert/strict";
 import { test } from "node:test";
 import { Engine } from "../core/engine/engine.js";
 import { readCampaign } from "../core/explore/campaign.js";
-import { InitialProof } from "../core/explore/proof_first.js";
+import { InitialProof } from "../core/explore/initial_proof.js";
 import { createSubject } from "../core/explore/subject.js";
 import { beginProving } from "../core/prove/bounded_proof.js";
 import { createQuestion, omittedGuards } from "../core/prove/question.js";

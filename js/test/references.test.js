@@ -1,7 +1,7 @@
 import assert from "node:assert/strict";
 import { test } from "node:test";
 import { findDefinition, findRenamingError, nameAt, findReferences } from "../core/text/references.js";
-import { toggleComments } from "../core/text/text_fault.js";
+import { toggleComments } from "../core/text/sendable_text.js";
 
 const LINES = ["count = 5", "loop:\tFIM P0, loop ; loop", "\tJUN loop", "\tLDM count", "\tLDM 5 ; count"];
 const isInstruction = (/** @type {string} */ word) => ["JUN", "LDM", "FIM"].includes(word);

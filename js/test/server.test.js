@@ -4,10 +4,10 @@ import { test } from "node:test";
 import { readFileSync } from "node:fs";
 import { quickFixes, toDiagnostics } from "../core/server/diagnostics.js";
 import { MAX_MESSAGE, MessageReader, StreamError, frameMessage } from "../core/server/framing.js";
-import { findBoard, isBoard, isProgram } from "../core/server/kinds.js";
+import { findBoard, isBoard, isProgram } from "../core/server/text_kinds.js";
 import { OpenText } from "../core/server/open_text.js";
 import { encodeTokens } from "../core/server/token_codes.js";
-import { bytesOf, served } from "./served.js";
+import { bytesOf, served } from "./server_client.js";
 
 const BOARD = readFileSync(new URL("../../examples/lock/board.toml", import.meta.url), "utf8");
 

@@ -2,7 +2,7 @@
 import assert from "node:assert/strict";
 import { test } from "node:test";
 import { readFileSync } from "node:fs";
-import { served } from "./served.js";
+import { served } from "./server_client.js";
 
 const BOARD = readFileSync(new URL("../../examples/lock/board.toml", import.meta.url), "utf8");
 const FILES = { "file:///h/board.toml": BOARD, "file:///h/x.asm": "start: JUN start\n" };

@@ -3,7 +3,7 @@ import assert from "node:assert/strict";
 import { test } from "node:test";
 import { readFileSync } from "node:fs";
 import { frameMessage } from "../core/server/framing.js";
-import { served } from "./served.js";
+import { served } from "./server_client.js";
 
 const LOCK = new URL("../../examples/lock/", import.meta.url);
 const read = (name) => readFileSync(new URL(name, LOCK), "utf8");

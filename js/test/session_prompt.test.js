@@ -2,10 +2,10 @@
 import assert from "node:assert/strict";
 import { test } from "node:test";
 import { SessionPrompt } from "../core/prompt/bench_prompt.js";
-import { folded, wrapMessage } from "../core/text/folded.js";
+import { wrapText, wrapMessage } from "../core/text/line_wrapping.js";
 import { Engine } from "../core/engine/engine.js";
 import { readPageData } from "../node/page_parts.mjs";
-import { describeRefusal } from "../node/refused_texts.mjs";
+import { describeRefusal } from "../node/rejected_texts.mjs";
 import { findTextErrors } from "../node/text_errors.mjs";
 import { pageModule } from "./page_session.js";
 
@@ -81,9 +81,9 @@ test("lines, typed texts, and what is wrong with them", async () => {
 test("a text that is dropped, and the end of input within one", async () => {
   const { prompt, ask } = prompted();
   await ask("asm", " NOP");
-  assert.equal(prompt.rest, "asm\n NOP\n");
+  assert.equal(prompt.unfinishedText, "asm\n NOP\n");
   assert.equal(prompt.drop(), "the text of asm is dropped");
-  assert.deepEqual([prompt.drop(), prompt.rest, prompt.label], ["", "", "mcs4> "]);
+  assert.deepEqual([prompt.drop(), prompt.unfinishedText, prompt.label], ["", "", "mcs4> "]);
   assert.deepEqual(await ask("quit"), []);
   assert.equal(prompt.isEnded, true);
 });
@@ -152,8 +152,8 @@ test("completion of commands, places, keys, and files", async () => {
 });
 
 test("folding at words", () => {
-  assert.equal(folded(" one  two three ", 8), "one two\nthree");
-  assert.deepEqual([folded("one two", 7), folded("one two", 6)], ["one two", "one\ntwo"]);
-  assert.equal(folded("a verylongword b", 6, "- ", "  "), "- a\n  verylongword\n  b");
+  assert.equal(wrapText(" one  two three ", 8), "one two\nthree");
+  assert.deepEqual([wrapText("one two", 7), wrapText("one two", 6)], ["one two", "one\ntwo"]);
+  assert.equal(wrapText("a verylongword b", 6, "- ", "  "), "- a\n  verylongword\n  b");
   assert.equal(wrapMessage("line 3: one two three\n    one two three four", 12), "line 3: one\n  two three\n    one two three four");
 });

@@ -3,7 +3,7 @@ import assert from "node:assert/strict";
 import { test } from "node:test";
 import { formatAddress, readAddress } from "../page/session/address.js";
 import { Trash, formatNames } from "../page/session/trash.js";
-import { OpenSession, newRecord } from "../page/session/kept_session.js";
+import { OpenSession, newRecord } from "../page/session/open_session.js";
 import { Persistence } from "../page/session/persistence.js";
 import { MemoryStore } from "../page/session/store.js";
 import { TextsController, formatLineCount } from "../page/session/texts_controller.js";

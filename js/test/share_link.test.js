@@ -3,7 +3,7 @@ import { readFileSync } from "node:fs";
 import { test } from "node:test";
 import { deflateRawSync } from "node:zlib";
 import { MAX_LINK_LENGTH, LinkError, MAX_SAFE_LINK_LENGTH, toLink, readLink } from "../page/session/share_link.js";
-import { STORED_LIMIT } from "../core/text/text_fault.js";
+import { STORED_LIMIT } from "../core/text/sendable_text.js";
 
 const file = (name) => readFileSync(new URL(`../../examples/${name}`, import.meta.url), "utf8");
 const calculator = {

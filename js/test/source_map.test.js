@@ -27,7 +27,7 @@ test("names have their values, and the labels are distinguished", () => {
   const map = new SourceMap(ANSWERS, TEXT);
   assert.deepEqual([...map.names.values()], [{ name: "time", value: 12, isLabel: false }, { name: "go", value: 0, isLabel: true },
     { name: "last", value: 5, isLabel: true }]);
-  assert.deepEqual(["time", "go", "gone"].map((name) => map.valueOf(name)), [12, 0, undefined]);
+  assert.deepEqual(["time", "go", "gone"].map((name) => map.findValue(name)), [12, 0, undefined]);
 });
 
 test("an address is named by its label, or by the nearest one below it", () => {

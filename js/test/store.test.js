@@ -1,7 +1,7 @@
 // Saving, over a fake of the browser's store that answers when the test says so.
 import assert from "node:assert/strict";
 import { test } from "node:test";
-import { OpenSession, newRecord } from "../page/session/kept_session.js";
+import { OpenSession, newRecord } from "../page/session/open_session.js";
 import { MemoryStore, StoreError, Store, describeStoreError } from "../page/session/store.js";
 
 /** The part of IndexedDB that the store uses: one transaction after the other, in tasks of their own. */

@@ -6,7 +6,7 @@ import { matrixKey } from "../core/board/key_place.js";
 import { parsePlace } from "../core/conditions/places.js";
 import { Face } from "../core/board/face.js";
 import { parseStory } from "../core/help/story.js";
-import { runAct } from "../core/help/story_acts.js";
+import { runAction } from "../core/help/story_actions.js";
 import { requestedStory } from "../page/session/address.js";
 
 const EXAMPLES = new URL("../../examples/", import.meta.url);
@@ -64,23 +64,23 @@ test("an act calls the page, and says why it cannot", async () => {
   for (const [name, argument = ""] of [
     ["run"], ["stop"], ["back"], ["forward"], ["go to", "turn"], ["run to", "turn"], ["back to", "r11"], ["press", "7"],
     ["show", "waves"], ["show", "memory"],
-  ]) assert.equal(await runAct({ name, argument }, calls), "");
+  ]) assert.equal(await runAction({ name, argument }, calls), "");
   assert.deepEqual(done, [
     ["run"], ["pause"], ["goBack", { kind: "stop" }], ["goForward"], ["goTo", 2], ["goOn", { kind: "here", address: 2 }],
     ["goBack", { kind: "change", place: "r11" }], ["press", key], ["showText", "waves"], ["showPanel", "memory"],
   ]);
   done.length = 0;
-  assert.match(await runAct({ name: "run to", argument: "nowhere" }, calls), /no label nowhere/);
-  assert.match(await runAct({ name: "press", argument: "8" }, calls), /no key 8/);
-  assert.match(await runAct({ name: "release", argument: "8" }, calls), /no key 8/);
+  assert.match(await runAction({ name: "run to", argument: "nowhere" }, calls), /no label nowhere/);
+  assert.match(await runAction({ name: "press", argument: "8" }, calls), /no key 8/);
+  assert.match(await runAction({ name: "release", argument: "8" }, calls), /no key 8/);
   // A key that is up is not released; one that stays down is not pressed again, and is released.
-  await runAct({ name: "release", argument: "7" }, calls);
+  await runAction({ name: "release", argument: "7" }, calls);
   isDown = true;
-  await runAct({ name: "press", argument: "7" }, calls);
+  await runAction({ name: "press", argument: "7" }, calls);
   assert.deepEqual(done, []);
-  await runAct({ name: "release", argument: "7" }, calls);
+  await runAction({ name: "release", argument: "7" }, calls);
   isRunning = true;
-  await runAct({ name: "press", argument: "7" }, calls);
+  await runAction({ name: "press", argument: "7" }, calls);
   assert.deepEqual(done, [["press", key], ["press", key]]);
 });
 

@@ -1,6 +1,6 @@
 import assert from "node:assert/strict";
 import { test } from "node:test";
-import { markOfOutcomes, wordsOfCounts, wordsOfFaults, wordsOfOutcomes, wordsOfTime } from "../words/results.js";
+import { markOfOutcomes, wordsOfCounts, wordsOfFaults, wordsOfOutcomes, wordsOfTime } from "../words/test_results.js";
 import { formatCount, describeCount } from "../page/text/count_marks.js";
 import { completeProperty, createFirstProperties, helpForProperty, propertyForms } from "../core/text/property_words.js";
 import { completeTest, helpForTest, testForms } from "../core/text/test_words.js";

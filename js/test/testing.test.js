@@ -2,7 +2,7 @@
 import assert from "node:assert/strict";
 import { readFileSync } from "node:fs";
 import { before, test } from "node:test";
-import { CancelledError } from "../core/bench/faults.js";
+import { CancelledError } from "../core/bench/bench_errors.js";
 import { formatCoverageSummary } from "../core/testing/coverage.js";
 import { formatTenths } from "../core/bench/numbers.js";
 import { sampleTest } from "../core/testing/sample_test.js";

@@ -1,9 +1,9 @@
 import assert from "node:assert/strict";
 import { test } from "node:test";
-import { BenchRefusal, BenchTrap, CancelledError, WorkerDiedError, packFault, unpackFault } from "../core/bench/faults.js";
+import { BenchRefusal, BenchTrap, CancelledError, WorkerDiedError, packError, unpackError } from "../core/bench/bench_errors.js";
 import { hex, parseNumber, indices } from "../core/bench/numbers.js";
 import { RunLog, formatRuns } from "../core/bench/run_log.js";
-import { ErrorMessages } from "../core/bench/words.js";
+import { ErrorMessages } from "../core/bench/error_messages.js";
 
 test("numbers", () => {
   assert.deepEqual(["12", "0x1E", "0XFF", "1E", "", "-1", "1.5"].map(parseNumber), [12, 30, 255, NaN, NaN, NaN, NaN]);
@@ -12,7 +12,7 @@ test("numbers", () => {
 });
 
 test("faults keep their kind from the worker to the page", () => {
-  const there = (fault) => unpackFault(JSON.parse(JSON.stringify(packFault(fault))));
+  const there = (fault) => unpackError(JSON.parse(JSON.stringify(packError(fault))));
   assert.equal(there(new BenchRefusal(90)).number, 90);
   assert.ok(there(new BenchTrap("unreachable")) instanceof BenchTrap);
   assert.ok(there(new CancelledError()) instanceof CancelledError);

@@ -3,7 +3,7 @@ import { test } from "node:test";
 import { Rate } from "../core/time/rate.js";
 import { CYCLES_PER_SECOND, CYCLE_US, EYE_CYCLES, FRAME_CYCLES, FRAME_MS, cyclesFromMilliseconds } from "../core/time/mcs4_time.js";
 import { MAX_AHEAD, MAX_DUE, RealTime } from "../core/time/real_time.js";
-import { formatDuration } from "../core/bench/words.js";
+import { formatDuration } from "../core/bench/error_messages.js";
 import { PLACES_ARE } from "../words/conditions.js";
 import { cannotSearchFor } from "../words/time.js";
 
@@ -20,33 +20,33 @@ test("a second of frames is 92,593 cycles, whatever their length", () => {
     const time = new RealTime(0, 0);
     let sum = 0;
     let now = 0;
-    for (; now < 10000; now += frame) sum += time.due(now);
+    for (; now < 10000; now += frame) sum += time.takeDueCycles(now);
     assert.ok(Math.abs(sum - ((now - frame) / 1000) * CYCLES_PER_SECOND) < 1, `${frame}: ${sum}`);
   }
 });
 
 test("a slow frame owes little, and clocks that go back owe nothing", () => {
   const time = new RealTime(0, 0);
-  assert.equal(time.due(900), MAX_DUE);
-  assert.equal(time.due(900), 0);
-  assert.equal(time.due(890), 0);
-  assert.equal(time.due(910), 925);
+  assert.equal(time.takeDueCycles(900), MAX_DUE);
+  assert.equal(time.takeDueCycles(900), 0);
+  assert.equal(time.takeDueCycles(890), 0);
+  assert.equal(time.takeDueCycles(910), 925);
 });
 
 test("after an hour in the background nothing is owed, and the gap is reported", () => {
   const time = new RealTime(0, 0);
   time.hide();
   assert.deepEqual(time.skipGap(3600000, 3600000), { gap: 3600000, wasHidden: true });
-  assert.equal(time.due(3600000), 0);
+  assert.equal(time.takeDueCycles(3600000), 0);
   assert.equal(time.skipGap(3600010, 3600010), null);
-  assert.equal(time.due(3600010), 925);
+  assert.equal(time.takeDueCycles(3600010), 925);
 });
 
 test("a page that was held up or asleep stood still, though the clock of the frames may not have gone on", () => {
   const time = new RealTime(0, 0);
   assert.equal(time.skipGap(999, 999), null);
   assert.deepEqual(time.skipGap(1000, 8000), { gap: 7001, wasHidden: false });
-  assert.equal(time.due(1000), 0);
+  assert.equal(time.takeDueCycles(1000), 0);
 });
 
 /** Returns the cycles of a second of frames, and of keys at some times, each with the cycles that it runs early. */
@@ -57,7 +57,7 @@ function cyclesOf(frame, keys) {
   events.push({ now: 1000.5, ahead: 0 });
   let sum = 0;
   for (const { now, ahead } of events.sort((one, other) => one.now - other.now)) {
-    const due = time.due(now, ahead);
+    const due = time.takeDueCycles(now, ahead);
     assert.ok(due >= 0, `${due} at ${now}`);
     sum += due;
     assert.ok(sum <= ((now + MAX_AHEAD) / 1000) * CYCLES_PER_SECOND, `ahead of its time at ${now}`);
@@ -77,24 +77,24 @@ test("a second has as many cycles with keys as without, and no moment is more th
 
 test("a key is served at once, and frames then wait until it is paid back", () => {
   const time = new RealTime(0, 0);
-  assert.equal(time.due(10), 925);
-  assert.equal(time.due(15, MAX_AHEAD), 464 + 1543);
-  assert.equal(time.due(20), 0);
-  assert.equal(time.due(25), 0);
-  assert.equal(time.due(31.6), 0);
-  assert.equal(time.due(40), Math.floor(40 * CYCLES_PER_SECOND / 1000) - 925 - 464 - 1543);
+  assert.equal(time.takeDueCycles(10), 925);
+  assert.equal(time.takeDueCycles(15, MAX_AHEAD), 464 + 1543);
+  assert.equal(time.takeDueCycles(20), 0);
+  assert.equal(time.takeDueCycles(25), 0);
+  assert.equal(time.takeDueCycles(31.6), 0);
+  assert.equal(time.takeDueCycles(40), Math.floor(40 * CYCLES_PER_SECOND / 1000) - 925 - 464 - 1543);
 });
 
 test("what was lent is forgotten where time stands still", () => {
   const time = new RealTime(0, 0);
-  assert.equal(time.due(0, MAX_AHEAD), 1543);
+  assert.equal(time.takeDueCycles(0, MAX_AHEAD), 1543);
   time.hide();
   time.skipGap(1000, 1000);
   assert.equal(time.reached, 1000);
-  assert.equal(time.due(1010), 925);
-  assert.equal(time.due(1010, MAX_AHEAD), 1544);
+  assert.equal(time.takeDueCycles(1010), 925);
+  assert.equal(time.takeDueCycles(1010, MAX_AHEAD), 1544);
   time.restart(1011, 1011);
-  assert.equal(time.due(1021), 925);
+  assert.equal(time.takeDueCycles(1021), 925);
 });
 
 test("the rate is reported every half second", () => {

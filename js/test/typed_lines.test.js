@@ -1,7 +1,7 @@
 // Lines that were typed: their runs end at breakpoints with conditions. On the module of the page itself.
 import assert from "node:assert/strict";
 import { test } from "node:test";
-import { CancelledError } from "../core/bench/faults.js";
+import { CancelledError } from "../core/bench/bench_errors.js";
 import { begin } from "./page_session.js";
 
 const BOARD = "[[rom]]\nchip = 0\nport = \"0000\"\n";

@@ -6,11 +6,11 @@ import { Face } from "../core/board/face.js";
 import { DebugSession } from "../core/debug/debug_session.js";
 import { LineChanges } from "../core/debug/line_changes.js";
 import { MachineState } from "../core/debug/machine_state.js";
-import { textOf, valuesAt } from "../core/debug/value_words.js";
-import { readPlaceValue } from "../core/debug/standing_places.js";
-import { collectWatchNames, parseWatches, parseWatch } from "../core/debug/watched.js";
+import { joinPieces, valuesAt } from "../core/debug/word_values.js";
+import { readPlaceValue } from "../core/debug/snapshot_values.js";
+import { collectWatchNames, parseWatches, parseWatch } from "../core/debug/watch_expressions.js";
 import { Engine } from "../core/engine/engine.js";
-import { Answers, rowValues } from "../core/engine/tracing.js";
+import { ForecastAnswers, rowValues } from "../core/engine/forecast_answers.js";
 import { createRandom } from "../core/explore/walks.js";
 import { pageModule } from "./page_session.js";
 
@@ -32,7 +32,7 @@ before(async () => {
 /** Its session after the program's first four instructions, and the pokes. */
 async function open(lines = POKES) {
   const opened = new DebugSession(engine, { board: BOARD, program: PROGRAM });
-  assert.deepEqual(opened.refused, []);
+  assert.deepEqual(opened.rejectedTexts, []);
   const { session } = opened.debugger;
   for (let step = 0; step < 4; step++) await opened.into();
   await session.serve(lines, async () => true);
@@ -61,12 +61,12 @@ function piecesOf(line, word, { session, map }) {
 test("a register, a pair, and what SRC would select by it", async () => {
   const opened = await open();
   assert.deepEqual(piecesOf("  LD R4", "R4", opened), ["R4 = ", { place: "r4", name: "R4", value: "6" }]);
-  assert.equal(textOf(piecesOf("  INC r5 ; R4", "r5", opened)), "R5 = 0");
-  assert.equal(textOf(piecesOf("  FIN P2", "P2", opened)), "P2 = 60: R4 6, R5 0");
-  assert.equal(textOf(piecesOf("  SRC P2", "P2", opened)),
+  assert.equal(joinPieces(piecesOf("  INC r5 ; R4", "r5", opened)), "R5 = 0");
+  assert.equal(joinPieces(piecesOf("  FIN P2", "P2", opened)), "P2 = 60: R4 6, R5 0");
+  assert.equal(joinPieces(piecesOf("  SRC P2", "P2", opened)),
     "P2 = 60: R4 6, R5 0; selects bank 0, chip 1, register 2, character 0, which the board lacks");
   const source = "P0 = 12: R0 1, R1 2; selects ROM 1; bank 0, chip 0, register 1, character 2 = 7";
-  for (const word of ["SRC", "P0"]) assert.equal(textOf(piecesOf("x: SRC P0", word, opened)), source);
+  for (const word of ["SRC", "P0"]) assert.equal(joinPieces(piecesOf("x: SRC P0", word, opened)), source);
   assert.deepEqual(piecesOf("x: SRC P0", "P0", opened).filter((piece) => typeof piece !== "string").map(({ place }) => place),
     ["r0", "r1", "ram.0.0x12"]);
   assert.deepEqual(piecesOf("  INC r5 ; R4", "R4", opened), []);
@@ -75,24 +75,24 @@ test("a register, a pair, and what SRC would select by it", async () => {
 test("what an instruction reads or writes by SRC", async () => {
   const opened = await open();
   const here = "bank 0, chip 0, register 1";
-  assert.equal(textOf(piecesOf("  WRM", "WRM", opened)), `${here}, character 2 = 7; acc 5, cy 1`);
-  assert.equal(textOf(piecesOf("  rd2", "rd2", opened)), `${here}, status character 2 = 9; acc 5, cy 1`);
-  assert.equal(textOf(piecesOf("  WMP", "WMP", opened)), "bank 0, chip 0: its port puts out 0; acc 5, cy 1");
-  assert.match(textOf(piecesOf("  RDR", "RDR", opened)), /^ROM 1: puts out \d, RDR reads [\dA-F]; acc 5, cy 1$/);
-  assert.equal(textOf(piecesOf("  ADD R4", "ADD", opened)), "acc 5, cy 1");
+  assert.equal(joinPieces(piecesOf("  WRM", "WRM", opened)), `${here}, character 2 = 7; acc 5, cy 1`);
+  assert.equal(joinPieces(piecesOf("  rd2", "rd2", opened)), `${here}, status character 2 = 9; acc 5, cy 1`);
+  assert.equal(joinPieces(piecesOf("  WMP", "WMP", opened)), "bank 0, chip 0: its port puts out 0; acc 5, cy 1");
+  assert.match(joinPieces(piecesOf("  RDR", "RDR", opened)), /^ROM 1: puts out \d, RDR reads [\dA-F]; acc 5, cy 1$/);
+  assert.equal(joinPieces(piecesOf("  ADD R4", "ADD", opened)), "acc 5, cy 1");
   assert.deepEqual(piecesOf("  JUN end", "JUN", opened), []);
   const other = await open("poke dcl 2\npoke ram.2.0x00 3\n");
-  assert.equal(textOf(piecesOf("  RDM", "RDM", other)), "bank 2, chip 0, register 0, character 0 = 3; acc 0, cy 0");
+  assert.equal(joinPieces(piecesOf("  RDM", "RDM", other)), "bank 2, chip 0, register 0, character 0 = 3; acc 0, cy 0");
   const none = await open("poke dcl 1\n");
-  assert.equal(textOf(piecesOf("  RDM", "RDM", none)), "bank 1, where the board has no RAM; acc 0, cy 0");
+  assert.equal(joinPieces(piecesOf("  RDM", "RDM", none)), "bank 1, where the board has no RAM; acc 0, cy 0");
 });
 
 test("numbers and names", async () => {
   const opened = await open();
-  assert.equal(textOf(piecesOf("  LDM 6", "6", opened)), "6 = 0x6, 0110");
-  assert.equal(textOf(piecesOf("  FIM P0, k", "k", opened)),
+  assert.equal(joinPieces(piecesOf("  LDM 6", "6", opened)), "6 = 0x6, 0110");
+  assert.equal(joinPieces(piecesOf("  FIM P0, k", "k", opened)),
     "k 18, 0001 0010; by SRC it selects ROM 1; bank 0, chip 0, register 1, character 2 = 7");
-  assert.equal(textOf(piecesOf("  JUN end", "end", opened)), "end 5, and comes next");
+  assert.equal(joinPieces(piecesOf("  JUN end", "end", opened)), "end 5, and comes next");
   assert.deepEqual(piecesOf("  JUN other", "other", opened), []);
 });
 
@@ -157,7 +157,7 @@ keys = { chain = 0, first = 0, rows = 2, columns = ["rom1.0", "rom1.2"] }
     const machineState = standingOf(session, [0, 5]);
     for (let from = 0; from < places.length; from += 16) {
       const some = places.slice(from, from + 16);
-      const values = rowValues(new Answers(session.ask(`trace 1 ${some.join(" ")}\n`)).takeTrace().row);
+      const values = rowValues(new ForecastAnswers(session.ask(`trace 1 ${some.join(" ")}\n`)).takeTrace().row);
       const answers = some.map((place) => `${place} ${readPlaceValue(place, machineState, board)}`);
       assert.deepEqual(answers, some.map((place, at) => `${place} ${values[at]}`));
     }
@@ -178,7 +178,7 @@ test("watched expressions have names of the user's own, and what cannot be read 
     ["count > 5 and digit = 7", "count > 5 and digit = 7", "true"], ["count + digit", "count + digit", "13 (0xD)"],
     ["total + 1", "total + 1", "14 (0xE)"], ["0b101", "0b101", "5"], ["acc - P2", "acc - P2", "-91"], ["test = 1", "test = 1", "true"]]) {
     const { watched, fault } = parseWatch(text, names);
-    assert.deepEqual([fault, watched?.name, textOf(watched?.pieces(machineState, names) || [])], ["", name, wanted], text);
+    assert.deepEqual([fault, watched?.name, joinPieces(watched?.pieces(machineState, names) || [])], ["", name, wanted], text);
     assert.equal(parseWatch(watched.text, names).watched.name, name);
   }
   assert.deepEqual(parseWatch("a = P2").watched.pieces(machineState, names).map(({ place }) => place), ["r4", "r5"]);
@@ -196,7 +196,7 @@ test("watched expressions have names of the user's own, and what cannot be read 
   }
   // Expressions with names are judged where there are some.
   assert.equal(parseWatch("r16").fault, "");
-  assert.equal(textOf(parseWatch("r16").watched.pieces(machineState, names)), "r16: no such place; the registers are r0 to r15");
+  assert.equal(joinPieces(parseWatch("r16").watched.pieces(machineState, names)), "r16: no such place; the registers are r0 to r15");
   assert.match(parseWatch("1a = R5").fault, /^A name has letters/);
   assert.match(parseWatch(`a = ${"x".repeat(200)}`).fault, /^It has more than 200/);
   const { all, fault } = parseWatches(["a = R1", "r5 +", 5, null, "R2"]);

@@ -1,7 +1,7 @@
 // The arrangement of rows of waves, their measurements, and their picture as a file.
 import assert from "node:assert/strict";
 import { test } from "node:test";
-import { measureAt, describeMeasurement } from "../core/waves/measuring.js";
+import { measureAt, describeMeasurement } from "../core/waves/measurement.js";
 import { WaveRows } from "../core/waves/wave_rows.js";
 import { WaveWindow } from "../core/waves/wave_window.js";
 import { Waves } from "../core/waves/wave_recording.js";
@@ -63,7 +63,7 @@ test("names and colours are kept by the names of lines", () => {
   rows.change("b", { title: "clock" });
   rows.change("b", { colour: "red" });
   rows.fold("x");
-  const kept = JSON.parse(JSON.stringify(rows.kept));
+  const kept = JSON.parse(JSON.stringify(rows.storedRows));
   assert.deepEqual(kept, { order: [], looks: { b: { title: "clock", colour: "red" } }, folded: ["x"] });
   assert.deepEqual(new WaveRows(kept).arrange(LINES, [1]), [
     { line: 1, name: "b", title: "clock", colour: "red", group: "", isFolded: false }]);

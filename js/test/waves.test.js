@@ -5,9 +5,9 @@ import { readBoard } from "../core/bench/answers.js";
 import { vcdParts } from "../core/waves/vcd.js";
 import { listRecordableLines, searchLines, chosenValueNames } from "../core/waves/wave_catalog.js";
 import { createBoardLines, createValueLine } from "../core/waves/wave_lines.js";
-import { Answers } from "../core/engine/tracing.js";
-import { WaveBuilder } from "../core/engine/wave_taking.js";
-import { countUpTo } from "../core/waves/growing.js";
+import { ForecastAnswers } from "../core/engine/forecast_answers.js";
+import { WaveBuilder } from "../core/engine/wave_builder.js";
+import { countUpTo } from "../core/waves/number_queue.js";
 import { Waves } from "../core/waves/wave_recording.js";
 
 const BOARD = readBoard([
@@ -132,13 +132,13 @@ function answersOf({ groups }, levels, instructions = []) {
 /** A recording that begins with a state. */
 function begin(state = STATE, values = []) {
   const taking = new WaveBuilder(linesWith(false, values));
-  taking.begin(new Answers([state, ...answersOf(taking, LEVELS)]));
+  taking.begin(new ForecastAnswers([state, ...answersOf(taking, LEVELS)]));
   return taking;
 }
 
 /** A run, and the state after it. */
 function run(taking, levels, instructions, answer, changes) {
-  taking.takeRun(new Answers([...answersOf(taking, levels, instructions), answer]));
+  taking.takeRun(new ForecastAnswers([...answersOf(taking, levels, instructions), answer]));
   taking.takeState(stateWith(changes));
   return taking;
 }
@@ -177,7 +177,7 @@ test("a recording ends at its last cycle, inside an instruction too", () => {
 });
 
 test("a bench that refuses is reported", () => {
-  assert.throws(() => begin().takeRun(new Answers(["no 90"])), /no 90/);
+  assert.throws(() => begin().takeRun(new ForecastAnswers(["no 90"])), /no 90/);
   assert.throws(() => run(begin(), LEVELS, [], "no 46", {}), /no 46/);
 });
 

@@ -98,7 +98,7 @@ for (const [trigger, recorded, wanted] of TRIGGERS) {
       did(shown);
     }
     assert.equal(live.over, "trigger");
-    const { waves, triggered } = live;
+    const { waves, triggerMoment: triggered } = live;
     assert.deepEqual(recorded(waves, triggered), wanted);
     assert.equal(waves.cycles, triggered + 1000);
     assert.equal(waves.from, Math.max(0, triggered - 2000));
@@ -116,7 +116,7 @@ test("time stops where the cycles behind a trigger are recorded, at an instructi
   }
   did(frame);
   assert.equal(frame.stop.why, "recorded");
-  assert.deepEqual([live.over, live.waves.cycles], ["trigger", live.triggered + 10]);
+  assert.deepEqual([live.over, live.waves.cycles], ["trigger", live.triggerMoment + 10]);
   assert.match(calls.ask("regs\n")[0], / owed 0 /);
   const after = calls.advance(1543);
   assert.deepEqual([after.stop, after.cycles, after.waves], [null, 1543, null]);
@@ -128,8 +128,8 @@ test("a key is an edge, too", async () => {
   did(calls.advance(1543));
   did(calls.advance(1543, matrixKey(2, 0)));
   did(calls.advance(4000));
-  assert.equal(live.waves.valueAt(numberOf(live.waves, "key.1"), live.triggered), "1");
-  assert.deepEqual([live.triggered, live.over], [1543, "trigger"]);
+  assert.equal(live.waves.valueAt(numberOf(live.waves, "key.1"), live.triggerMoment), "1");
+  assert.deepEqual([live.triggerMoment, live.over], [1543, "trigger"]);
 });
 
 test("what ends a recording, in words", async () => {

@@ -59,7 +59,7 @@ test("a cursor stays within the recording, and is brought into view", () => {
   view.move(4000);
   view.active = 1;
   view.move(-3);
-  assert.deepEqual([view.cursors, view.between], [[1000, 0], 1000]);
+  assert.deepEqual([view.cursors, view.cursorDistance], [[1000, 0], 1000]);
 });
 
 test("a click means an edge that is near, else the cycle that is there", () => {

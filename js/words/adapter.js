@@ -91,7 +91,7 @@ export const sessionInUse = (name, holder) => `${name} is in use by ${holder || 
 export const fileNotWritten = (answer) => `the session's file was not written: the program answered ${answer}`;
 export const OTHER_STATE = "the session's file reached another state than the session in memory";
 
-// --- adapter/launching.js ---
+// --- adapter/session_launch.js ---
 export const LAUNCH_NEEDS =
   "launch needs \"project\", a folder with mcs4.toml, or \"program\", a program's text, or \"session\", a session file";
 /** @type {(words: string) => string} */
@@ -123,7 +123,7 @@ export const MACHINE_RUNS_ALREADY = "the machine is running already: pause it fi
 /** @type {(count: number) => string} */
 export const notesBefore = (count) => `(${count} notes before these)`;
 
-// --- adapter/launched_test.js ---
+// --- adapter/test_launch.js ---
 export const TEST_NEEDS_TESTS = "a test needs `tests`, the name of its text";
 /** @type {(name: string, file: string) => string} */
 export const noSuchTest = (name, file) => `${file} has no test ${name}`;
@@ -172,7 +172,7 @@ export const notFoundHere = (name) => `there is no ${name} here`;
 /** @type {(name: string) => string} */
 export const nothingSets = (name) => `${name} cannot be set: only the machine changes it`;
 
-// --- adapter/set_place.js ---
+// --- adapter/place_assignment.js ---
 /** @type {(text: string) => string} */
 export const noNumber = (text) => `${text} is neither a number (10, 0x0A, 0b1010) nor a name`;
 export const NOTHING = "nothing";
@@ -182,7 +182,7 @@ export const holds = (place, most) => `${place} holds 0 to ${most}`;
 /** @type {(place: string, answer: string) => string} */
 export const cannotBeSet = (place, answer) => `${place} cannot be set: the bench answered ${answer}`;
 
-// --- adapter/shown_board.js ---
+// --- adapter/remote_front_panel.js ---
 export const KEY_PLACE = "a key's place is its row and column, such as 0 2, or test and a level";
 
 // --- adapter/expression_values.js ---

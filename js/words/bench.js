@@ -1,6 +1,6 @@
 // Messages about errors of the bench: wrong answers, failed calls, ROM images. (The messages of refusals are in tools/lib/refusals.txt.)
 
-// --- bench/answered_script.js ---
+// --- bench/script_answers.js ---
 export const FIRST_IS_SESSION = "the first line of the answers must be `session N`";
 /** @type {(at: number, answer: string, line: number, input: string) => string} */
 export const noAnswer = (at, answer, line, input) => (
@@ -11,17 +11,17 @@ export const wrongCommandCount = (words, commands) => `${words}: ${commands} com
 export const afterLastAnswer = (at, answer) => (
   `line ${at} of the answers, \`${answer}\`, comes after the answer to the last line of the script`);
 
-// --- bench/begun_script.js ---
+// --- bench/script_progress.js ---
 /** @type {(commands: number, most: number) => string} */
 export const acceptedMore = (commands, most) => `it has accepted ${commands} commands, but the whole script makes ${most}`;
 /** @type {(commands: number) => string} */
 export const answersDiffer = (commands) => `after ${commands} commands some answers differ`;
 
-// --- bench/faults.js ---
+// --- bench/bench_errors.js ---
 export const IT_WAS_CANCELLED = "it was cancelled";
 export const WORKER_STOPPED = "the bench's worker has stopped";
 
-// --- bench/names_in_lines.js ---
+// --- bench/name_substitution.js ---
 export const NO_SUCH_NAME = "the program has no such name";
 export const NAMES_UNKNOWN = "names are known only while the source is the same as ROM";
 
@@ -65,7 +65,7 @@ export const bnpfForm = (word) => `a word of BNPF is B, eight of P and N, and F,
 /** @type {(word: string) => string} */
 export const bnpfWithoutEnd = (word) => `a word without its end, \`F\`: ${word}`;
 
-// --- bench/words.js ---
+// --- bench/error_messages.js ---
 export const UNKNOWN_REFUSAL = "no refusal has this number; the manual lists them";
 /** @type {(fault: string) => string} */
 export const moduleStopped = (fault) => `the module stopped inside a call (${fault}) and was started again`;

@@ -117,7 +117,7 @@ export const NOT_WIRED = "not wired";
 /** @type {(line: string) => string} */
 export const at = (line) => `at ${line}`;
 
-// --- board/shown_answers.js ---
+// --- board/lamp_answers.js ---
 /** @type {(board: string) => string} */
 export const hasNoDisplay = (board) => `${board} has no display: a comment \`# display 0: 4 digits\` makes one`;
 /** @type {(line: number, answer: string) => string} */

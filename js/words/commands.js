@@ -753,7 +753,7 @@ export const answersRefusal = (line, text) => `line ${line} of the answers is a 
 /** @type {(address: string) => string} */
 export const noAnswerShows = (address) => `no answer shows the byte at ${address}; mcs4 rom ask makes the questions`;
 
-// --- board_texts.mjs, keys ---
+// --- board_file.mjs, keys ---
 /** @type {(board: string, key: string) => string} */
 export const noKeyOnBoard = (board, key) => `${board} has no key ${key}`;
 /** @type {(board: string) => string} */
@@ -761,7 +761,7 @@ export const keysWithoutNames = (board) => `${board} has no comments \`# row R: 
 /** @type {(answer: string, words: string) => string} */
 export const benchRejected = (answer, words) => `the bench answered: ${answer}: ${words}`;
 
-// --- program_on_file.mjs ---
+// --- session_process.mjs ---
 /** @type {(words: string) => string} */
 export const programEnded = (words) => `the session has ended: ${words || "no answer"}`;
 /** @type {(session: string, words: string) => string} */
@@ -824,7 +824,7 @@ export const logIsShorter = (session, records, commands, count) => (records === 
 /** @type {(session: string, wanted: number, opened: string) => string} */
 export const wouldDiffer = (session, wanted, opened) => `${session} would not be session ${wanted} but ${opened}; nothing was changed`;
 
-// --- temporary.mjs ---
+// --- temporary_folders.mjs ---
 /** @type {(place: string) => string} */
 export const noFolderIn = (place) => `cannot make a folder in ${place}; TMPDIR names another place for temporary files`;
 

@@ -4,7 +4,7 @@
 export const NAMED_PLACES = "acc, cy, dcl, r0 to r15, ram.B.S, st.B.H.K, rom1.2, ram0.0.3, chain0.5, a whole port such as rom1 or ram0.0, "
   + "lamp 3 or lamps";
 
-// --- conditions/forms.js ---
+// --- conditions/keyword_conditions.js ---
 /** @type {(name: string, there: string) => string} */
 export const noLamp = (name, there) => (
   `the board has no lamp ${name}; ${there ? `it has: ${there}` : "its text names no lamps (`# lamp 0: NAME ..`)"}`);
@@ -126,13 +126,13 @@ export const noConstant = (text) => `${text} is neither a number nor a name of t
 /** @type {(text: string) => string} */
 export const noNames = (text) => `${text} is not a number; names are known only while the source is the same as ROM`;
 
-// --- conditions/setting.js ---
+// --- conditions/set_command.js ---
 export const SET_FORM = "write `set PLACE = VALUE`, as in: set r4 = 7, set test 0, set ram.0.0x12 = 7";
 /** @type {(place: string) => string} */
 export const cannotBeSet = (place) => (
   `${place} cannot be set; places to set are acc, cy, pc, dcl, test, r0 to r15, p0 to p7, ram.B.S, st.B.H.K and rom.A`);
 
-// --- conditions/meaning.js ---
+// --- conditions/compiler.js ---
 /** @type {(text: string, value: number) => string} */
 export const valueIs = (text, value) => `${text} (${value})`;
 /** @type {(text: string) => string} */

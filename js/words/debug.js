@@ -1,6 +1,6 @@
 // Texts about debugging: breakpoints, watches, common mistakes, and values.
 
-// --- debug/breakpoint_keeper.js ---
+// --- debug/breakpoint_manager.js ---
 /** @type {(most: number) => string} */
 export const tooManyEnabled = (most) => (
   `${most} breakpoints are on, the most that the bench has. This one is off: disable another one first.`);
@@ -33,7 +33,7 @@ export const lineEnded = (why, line) => `${why} The line ${line} ended there.`;
 /** @type {(more: number) => string} */
 export const andMore = (more) => ` and ${more} more`;
 
-// --- debug/selected.js ---
+// --- debug/src_selection.js ---
 /** @type {(name: string, isWrite: boolean, chip: number) => string} */
 export const usesRom = (name, isWrite, chip) => `${name} ${isWrite ? "writes to" : "reads"} ROM ${chip}`;
 /** @type {(what: string, where: string) => string} */
@@ -83,7 +83,7 @@ export const returnWithoutCall = (address) => `a BBL without a call: it goes to 
 /** @type {(address: string) => string} */
 export const returnAddressLost = (address) => `4th nested JMS: return address ${address} was overwritten`;
 
-// --- debug/value_words.js ---
+// --- debug/word_values.js ---
 /** @type {(bank: number, character: string) => string} */
 export const inBank = (bank, character) => `bank ${bank}, ${character}`;
 /** @type {(what: string) => string} */
@@ -106,7 +106,7 @@ export const bySource = (value, binary) => `${value}, ${binary}; by SRC it selec
 /** @type {(words: string) => string} */
 export const isNext = (words) => `${words}, and comes next`;
 
-// --- debug/watched.js ---
+// --- debug/watch_expressions.js ---
 /** @type {(out: string, read: string) => string} */
 export const outAndIn = (out, read) => `out ${out}, in ${read}`;
 /** @type {(most: number) => string} */

@@ -1,6 +1,6 @@
 // Texts of the Wiring tab: the shelf, the fields, the effects of actions, and the reasons why an action is not possible.
 
-// --- drawing/acts.js ---
+// --- drawing/drawing_actions.js ---
 export const TEST_IN_USE = "TEST has its button or switch: delete that one first.";
 /** @type {(what: string) => string} */
 export const boardHasNo = (what) => `The board has no ${what}.`;
@@ -55,7 +55,7 @@ export const withAlso = (parts) => `, with ${parts}`;
 /** @type {(names: string[]) => string} */
 export const listOf = (names) => names.join(", ").replace(/, ([^,]*)$/, " and $1");
 
-// --- drawing/adding.js ---
+// --- drawing/part_addition.js ---
 /** @type {(most: number) => string} */
 export const maxRoms = (most) => `A board has at most ${most} ROMs.`;
 /** @type {(banks: number, chips: number) => string} */
@@ -98,7 +98,7 @@ export const ofChain = (kind, number) => `the ${kind} of chain ${number}`;
 /** @type {(target: string) => string} */
 export const ofKeys = (target) => `${target} of the keys`;
 
-// --- drawing/deleting.js ---
+// --- drawing/part_deletion.js ---
 export const PROCESSOR_STAYS = "Each board has its processor.";
 export const CHAIN_NEEDS_LINES = "A chain needs a clock and data: wire it to another line, or delete the chain.";
 export const LINE_STAYS = "A line is deleted only with its chip.";
@@ -128,7 +128,7 @@ export const NOTHING_TO_REDO = "There is nothing to redo.";
 // --- drawing/drawing_view.js ---
 /**
  * The parts on the shelf: each part's label and description.
- * @type {Record<import("../core/drawing/acts.js").ShelfPart, [string, string]>}
+ * @type {Record<import("../core/drawing/drawing_actions.js").ShelfPart, [string, string]>}
  */
 export const SHELF = {
   rom: ["ROM", "a 4001: 256 bytes of program, and a port of four output lines"],
@@ -148,7 +148,7 @@ export const NOT_WIRED = "Not applied yet.";
 export const SHOW_IN_BOARD = "Show in text";
 export const INSERT_SCAN = "Insert code that scans these keys";
 
-// --- drawing/fields.js ---
+// --- drawing/selection_form.js ---
 /** @type {(label: string) => string} */
 export const lineOf = (label) => `${label} at`;
 export const WHAT_IS_THERE = "what is there";

@@ -1,6 +1,6 @@
 // Texts about properties and about the search for key sequences that break them.
 
-// --- explore/beginning.js ---
+// --- explore/start_state.js ---
 /** @type {(state: string) => string} */
 export const noTests = (state) => `there are no tests, so none saves the state ${state}`;
 /** @type {(line: number, words: string) => string} */
@@ -75,10 +75,10 @@ export const lineOfSource = (line) => `Line ${line} of the source`;
 export const NO_STEPS = "No steps were run.";
 export const NEVER_RUN = "Never run: lines";
 
-// --- explore/exploring.js ---
+// --- explore/sliced_search.js ---
 export const NAMES = { board: "Board", program: "Source", properties: "Properties" };
 
-// --- explore/find_test.js ---
+// --- explore/counterexample_test.js ---
 export const FOURTH_CALL = "the fourth call leads there, and the oldest return address is lost";
 export const RETURN_WITHOUT_CALL = "a BBL leads there, and no call is open";
 export const MISTAKE_CONFIRMED = "the instruction there makes the mistake";

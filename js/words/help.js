@@ -18,7 +18,7 @@ export const CONDITIONS_OF_JCN = "The sixteen conditions of JCN";
 /** The titles of the sections in docs/MANUAL.md whose table rows begin with a session line. */
 export const SECTIONS_OF_LINES = ["Commands", "Queries"];
 
-// --- help/story_acts.js ---
+// --- help/story_actions.js ---
 /** @type {(label: string) => string} */
 export const noLabel = (label) => `Nothing was done: the source is not the same as ROM, or it has no label ${label}.`;
 /** @type {(legend: string) => string} */

@@ -28,7 +28,7 @@ export const REMOVES_IT = "removes it";
 /** @type {(count: string) => string} */
 export const moreNotes = (count) => `${count} more`;
 
-// --- machine/breakpoint_row.js ---
+// --- machine/breakpoint_form.js ---
 export const BREAKPOINT_FIELDS = "Breakpoint";
 export const CONDITION = "Condition";
 /** @type {(fault: string) => string} */
@@ -56,7 +56,7 @@ export const NOT_HEXADECIMAL = "Type hexadecimal digits: 0 to 9, A to F.";
 /** @type {(name: string) => string} */
 export const inHexadecimal = (name) => `${name}, in hexadecimal digits`;
 
-// --- machine/go_to.js ---
+// --- machine/go_to_target.js ---
 /** @type {(word: string) => string} */
 export const beyondLast = (word) => `${word} is not an address: the last one is FFF, or 4095.`;
 export const ADDRESS_FORMS = "write an address as the listing does (01E), as 0x01E or in decimal (30)";
@@ -67,7 +67,7 @@ export const noNameOrAddress = (word, forms) => `${word} is neither a name of th
 /** @type {(word: string, forms: string) => string} */
 export const noAddress = (word, forms) => `${word} is not an address: ${forms}. Names are known only while the source is the same as ROM.`;
 
-// --- machine/warmth.js ---
+// --- machine/heat_levels.js ---
 /** @type {(line: string) => string} */
 export const theLine = (line) => `the line ${line}`;
 /** @type {(who: string) => string} */
@@ -130,7 +130,7 @@ export const statusTitle = (register, character) => `${register}, status charact
 /** @type {(bank: number, chip: number) => string} */
 export const portTitle = (bank, chip) => `bank ${bank}, chip ${chip}: what its output port holds`;
 
-// --- machine/returns.js ---
+// --- machine/return_addresses.js ---
 export const STALE_RETURN = "stale";
 export const NO_CALL_WAITS = "No call is waiting for a BBL with this address.";
 /** @type {(line: number) => string} */
@@ -156,7 +156,7 @@ export const noRomAt = (address, line) => `The board has no ROM at ${address}, w
 /** @type {(address: string, line: number) => string} */
 export const differsAt = (address, line) => `Source and ROM differ from line ${line} (${address}). Assemble to update.`;
 
-// --- machine/source_places.js ---
+// --- machine/source_locations.js ---
 /** @type {(address: string) => string} */
 export const notInSource = (address) => `${address}, which the source does not fill`;
 /** @type {(address: string, line: number, code: string) => string} */
@@ -165,12 +165,12 @@ export const inSource = (address, line, code) => `${address}, line ${line}: ${co
 // --- machine/stack_view.js ---
 export const COUNTER_AND_RETURNS = "Counter and return addresses";
 
-// --- machine/usual_view.js ---
+// --- machine/mistakes_view.js ---
 /** @type {(fault: string) => string} */
 export const stopsBefore = (fault) => `pauses before ${fault}`;
 export const STOP_AT_THIS = " Break on this";
 
-// --- machine/watched_view.js ---
+// --- machine/watch_view.js ---
 /** @type {(most: number) => string} */
 export const maxWatched = (most) => `At most ${most}.`;
 /** @type {(name: string) => string} */

@@ -9,14 +9,14 @@ export const textLines = (line, count) => `${line} .. (${count} lines)`;
 /** @type {(fault: string) => string} */
 export const notKept = (fault) => `not kept: ${fault}`;
 
-// --- lines/serving.js ---
+// --- lines/line_server.js ---
 export const SENDING_LINES = "Sending the lines.";
 export const LINES_TOO_LONG = "Not all lines were done: at most 16,777,216 bytes are read at once.";
 export const RESET_RUNNING = "Running. The board was reset.";
 /** @type {(counter: string) => string} */
 export const wasReset = (counter) => `The board was reset; it is at ${counter}.`;
 
-// --- ui/ask_view.js ---
+// --- ui/confirm_dialog.js ---
 export const YES = "Yes";
 export const NO = "No";
 
@@ -33,7 +33,7 @@ export const ofNotice = (word, words) => `${word}: ${words}`;
 export const NOTICES = "Notices";
 export const CLOSE = "Close";
 
-// --- ui/work_view.js ---
+// --- ui/progress_view.js ---
 export const CANCELLING = "Cancelling.";
 
 // --- compose_board.js ---

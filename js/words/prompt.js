@@ -70,7 +70,7 @@ export const notClear = (word, names) => `${word} is ambiguous: ${names}`;
 /** @type {(names: string) => string} */
 export const otherNames = (names) => ` Or: ${names}.`;
 
-// --- prompt/keys_of_prompt.js ---
+// --- prompt/prompt_keys.js ---
 export const NO_KEYS = "the board has no keys";
 export const NONE_DOWN = "none is down";
 /** @type {(keys: string) => string} */
@@ -80,7 +80,7 @@ export const keyForm = (command) => `write ${command} KEY; info keys shows their
 /** @type {(word: string, names: string) => string} */
 export const noKey = (word, names) => `the board has no key ${word}; it has: ${names}`;
 
-// --- prompt/look_commands.js ---
+// --- prompt/inspect_commands.js ---
 export const NO_LAMPS = "the board has no lamps";
 export const PRINT_FORM = "write print WHAT, as in print r4";
 export const VIEW_FORM = "write view, view on or view off";
@@ -106,7 +106,7 @@ export const NO_LOCALS = "a 4004 has no local variables; info registers shows th
 export const lineIs = (line, first, name, last) => (
   `${line > 0 ? `Line ${line}` : "No line of the source"} is at 0x${first}${name && ` (${name})`}${last && ` and 0x${last}`}.`);
 
-// --- prompt/looks.js ---
+// --- prompt/state_text.js ---
 export const NO_RAM = "the board has no RAM";
 export const THE_CALL = ", the call";
 export const NO_NAMES = "the source has no names";
@@ -125,7 +125,7 @@ export const NOTHING_STOPS = "nothing would stop it: set a breakpoint, or run fo
 /** @type {(words: string, left: string) => string} */
 export const notPressed = (words, left) => `${words} Not pressed: ${left}.`;
 
-// --- prompt/moves.js ---
+// --- prompt/prompt_moves.js ---
 /** @type {(where: string) => string} */
 export const backInSubroutine = (where) => `Back in the subroutine, at ${where}: the remembered past begins in it.`;
 /** @type {(where: string) => string} */
@@ -141,7 +141,7 @@ export const placeForm = (command) => `write ${command} PLACE, as in ${command} 
 /** @type {(text: string, places: string) => string} */
 export const noPlace = (text, places) => `${text} is not a place; places are ${places}`;
 
-// --- prompt/words_of_line.js ---
+// --- prompt/argument_parsers.js ---
 export const FORMS_IN_PROGRAM = "a line of the source such as 12, a label such as show or show + 2, an address such as 0x00F";
 /** @type {(line: string) => string} */
 export const noInstructionIn = (line) => `neither line ${line} of the source nor a line after it has an instruction`;

@@ -1,6 +1,6 @@
 // Texts that users read about proofs: that properties hold for all inputs, and why something is not decided.
 
-// --- prove/decided.js ---
+// --- prove/condition_comparisons.js ---
 export const LOOKS_AT_TOO_MUCH = "its condition uses too many places at once";
 /** @type {(place: string) => string} */
 export const looksAtInput = (place) => `its condition uses ${place}, an input`;
@@ -33,7 +33,7 @@ export const MISTAKES = {
   wrr: "no WRR to a port without outputs",
 };
 
-// --- prove/judging.js ---
+// --- prove/property_judge.js ---
 /** @type {(steps: string) => string} */
 export const excluded = (steps) => `so far, only inputs that the text excludes break it (${steps})`;
 export const NOT_CONFIRMED = "the bench does not confirm the counterexample that was found";
@@ -66,7 +66,7 @@ export const reachedBy = (steps) => `reached, ${steps}`;
 /** @type {(steps: string, cycles: string, isGoal: boolean) => string} */
 export const foundBy = (steps, cycles, isGoal) => `${isGoal ? "reached" : "broken"} by ${steps}, ${cycles} cycles`;
 
-// --- node/proving.mjs ---
+// --- node/proof_search.mjs ---
 /** @type {(most: string) => string} */
 export const moreStates = (most) => `more than ${most} states; --most allows more`;
 export const NO_MEMORY = "memory is full";
@@ -101,7 +101,7 @@ export const BEFORE_GOAL = "a new session, paused before the step that reaches i
 export const ADD_TO_TESTS = "Add to tests";
 export const AT_END = "at the end of Tests";
 
-// --- words/proved.js ---
+// --- words/prove_results.js ---
 /** The verdict on a property, in one or two words. */
 export const MARKS = { proved: "proved", never: "never reached", fails: "can fail", reached: "reached", open: "not decided" };
 /** @type {(states: string, leftOut: string) => string} */

@@ -1,6 +1,6 @@
 // The language server's texts, which users see in their editor, and error messages about `mcs4.toml`.
 
-// --- server/beside_language.js ---
+// --- server/dependent_language.js ---
 /** @type {(file: string) => string} */
 export const neighbourMissing = (file) => `there is no ${file} here, so this text is not checked; mcs4.toml can name a board and a program`;
 /** @type {(file: string, line: number) => string} */
@@ -57,7 +57,7 @@ export const hintOfInstruction = (address, cycles) => `0x${address}, ${cycles} c
 /** @type {(address: string, bytes: number) => string} */
 export const hintOfData = (address, bytes) => `0x${address}, ${bytes} byte${bytes === 1 ? "" : "s"}`;
 
-// --- server/kinds.js ---
+// --- server/text_kinds.js ---
 /** @type {(key: string, path: string) => string} */
 export const noFile = (key, path) => `${key}: there is no file ${path}`;
 

@@ -44,7 +44,7 @@ export const NO_PROJECT_FILE = "there is no such file; it names the files of a p
 /** @type {(path: string) => string} */
 export const noFile = (path) => `there is no file ${path}`;
 
-// --- session/kept_list.js ---
+// --- session/session_list.js ---
 export const DELETE_CHOSEN = "Delete the selected ones";
 /** @type {(count: number) => string} */
 export const deleteSome = (count) => `Delete ${count} selected`;
@@ -66,7 +66,7 @@ export const restoreNamed = (name) => `restore ${name}`;
 /** @type {(cycles: string) => string} */
 export const withCycles = (cycles) => `, ${cycles} cycles`;
 
-// --- session/kept_past.js ---
+// --- session/stored_history.js ---
 export const NO_PAST = "it is not a recorded past";
 
 // --- session/offered_lines.js ---
@@ -189,7 +189,7 @@ export const CANNOT_DECOMPRESS = "this browser cannot read compressed texts (it 
   + "103, Firefox 113 or Safari 16.4 or later, or a project file instead of the link";
 export const NEWER_PAGE = "it was made by a newer page than this one";
 
-// --- session/sharing.js ---
+// --- session/link_sharing.js ---
 export const ALWAYS_HELD = ["the name", "the board", "the source"];
 export const THE_TESTS = "the tests";
 export const THE_PROPERTIES = "the properties";

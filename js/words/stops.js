@@ -4,7 +4,7 @@ import { hex } from "../core/bench/numbers.js";
 import { formatCycles } from "../core/time/cycles.js";
 
 /**
- * @typedef {import("../core/engine/going_back.js").BackGoal} BackGoal
+ * @typedef {import("../core/engine/past_search.js").BackGoal} BackGoal
  * @typedef {import("../core/bench/protocol.js").TravelResult} TravelResult
  * @typedef {import("../core/debug/debugger.js").Stop} Stop
  * @typedef {import("../core/debug/goals.js").Goal} Goal

@@ -20,7 +20,7 @@ export const oneDirectionOnly = (lines, areMany) => `only one way: ${areMany ? "
 /** @type {(row: string) => string} */
 export const isNext = (row) => `${row}comes next`;
 
-// --- testing/last_passed.js ---
+// --- testing/last_label.js ---
 /** @type {(cycles: number) => string} */
 export const cyclesAgo = (cycles) => `${cycles} cycle${cycles === 1 ? "" : "s"} ago`;
 /** @type {(label: string, ago: string) => string} */

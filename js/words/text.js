@@ -1,12 +1,12 @@
 // Texts of the editors: errors in programs and boards, completion, help on words, names, and search.
 
-// --- text/alike.js ---
+// --- text/similar_words.js ---
 export const OR = " or ";
 /** @type {(words: string[], end?: string) => string} suggestions for a mistyped word, which follow the message that rejects the word */
 export const didYouMean = (words, end = "") => (
   words.length > 0 ? `; did you mean ${words.join(OR)}?${end && ` ${end}`}` : end && `; ${end}`);
 
-// --- text/assembling.js ---
+// --- text/asm_texts.js ---
 /** @type {(bytes: string, isOne: boolean, first: string) => string} */
 export const stays = (bytes, isOne, first) => `${bytes} from before ${isOne ? "stays" : "stay"} in ROM, from ${first}.`;
 /** @type {(bytes: string, stay: string, counter: string) => string} */
@@ -157,7 +157,7 @@ export const lineOfText = (last) => `Line, 1 to ${last}`;
 /** @type {(last: string) => string} */
 export const lineIs = (last) => `The line must be a number from 1 to ${last}.`;
 
-// --- text/program_faults.js ---
+// --- text/program_errors.js ---
 /** @type {(chip: number, address: string) => string} */
 export const noRomForLine = (chip, address) => (
   `this line is at ${address}, and the board has no ROM ${chip}: wire a [[rom]] with chip = ${chip}`);
@@ -291,7 +291,7 @@ export const CONDITIONS = "Conditions";
 // --- text/text_editor.js ---
 export const TAB_INDENTS = "Tab indents. Escape and then Tab leaves the text.";
 
-// --- text/text_fault.js ---
+// --- text/sendable_text.js ---
 /** @type {(character: string) => string} */
 export const otherQuote = (character) => `${character} is not the ASCII quotation mark "`;
 export const OTHER_BLANK = "a non-breaking space (U+00A0); write a plain space";

@@ -41,7 +41,7 @@ export const ENTER_CHANGE = "Nothing was done: enter a place such as r5, lamp 3 
 export const cannotSearchFor = (fault) => `Nothing was done: ${fault.replace(PLACES_ARE, SUCH_PLACES)}.`;
 const SUCH_PLACES = "enter something such as r5, lamp 3 or rom0.2";
 
-// --- time/running.js ---
+// --- time/run_controller.js ---
 /** @type {(rate: string) => string} */
 export const cyclesASecond = (rate) => `${rate} cycles a second`;
 /** @type {(name: string, errors: number) => string} the status text for a session name and the number of breakpoints with errors */

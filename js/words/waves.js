@@ -66,7 +66,7 @@ export const COLOURS = { "": "Usual colour", "red": "Red", "amber": "Amber", "gr
 /** @type {(name: string) => string} */
 export const groupIs = (name) => `group ${name}, `;
 
-// --- waves/measuring.js ---
+// --- waves/measurement.js ---
 /** @type {(value: string, isWhole: boolean, time: string) => string} */
 export const hasValueFor = (value, isWhole, time) => `${value} for ${isWhole ? "" : "at least "}${time}`;
 /** @type {(text: string, time: string, frequency: string) => string} */

@@ -21,7 +21,7 @@ status 2" "node $words"
     cp -R tools/lib tools/join_commands.mjs "$tree/tools"
     node "$tree/tools/join_commands.mjs" "$tree/shipped/commands" listing keys
     joined() {
-        node --input-type=module -e "import { joinedCommand } from '$tree/js/node/joined.cjs'; console.log(joinedCommand('$1') ? 'joined' : 'modules')"
+        node --input-type=module -e "import { joinedCommand } from '$tree/js/node/joined_loader.cjs'; console.log(joinedCommand('$1') ? 'joined' : 'modules')"
     }
     verdict "$(joined listing) $(joined keys) $(joined test) $(joined ../keys)" "joined joined modules modules" "which commands are joined"
     for words in "listing $lock/lock.asm" "listing -h" "listing --none" "keys $lock/board.toml 1" "keys $lock/board.toml x" "listing none"; do
@@ -59,9 +59,9 @@ status 2" "node $words"
         verdict "$(outcome "$tree/mcs4" listing $lock/lock.asm); $(head -c 69 "$code")" "$(outcome ./mcs4 listing $lock/lock.asm); $(head -c 69 "$folder/code")" \
             "compiled code that is $damage"
     done
-    echo "// damaged" >> "$tree/js/core/text/escaped.js"
+    echo "// damaged" >> "$tree/js/core/text/control_escapes.js"
     verdict "$(joined listing)" modules "a joined file that is remembered, of other sources"
-    cp -p js/core/text/escaped.js "$tree/js/core/text"
+    cp -p js/core/text/control_escapes.js "$tree/js/core/text"
     verdict "$(joined listing)" joined "a joined file that is remembered, of the same sources again"
     # The main module is not joined: its arguments show which one was started.
     sed 's/Prints this help/Shows this help/' js/words/commands.js > "$tree/js/words/commands.js"

@@ -1,7 +1,7 @@
 // A connection in the debug adapter protocol (DAP): receives requests, and sends responses and events. The connection serves requests in
 // their order, `initialize` first. Only `cancel` is served at once.
 
-import { CancelledError } from "../bench/faults.js";
+import { CancelledError } from "../bench/bench_errors.js";
 import { getField } from "../server/framing.js";
 import { MessageStream } from "../server/message_stream.js";
 import { AdapterError, REQUEST_CANCELLED, fail, needNumber, optionalText, errorMessage } from "./dap_protocol.js";

@@ -301,20 +301,22 @@ export class ClientBreakpoints {
    */
   applyFilters() {
     const { session, filters } = this;
-    const { usual } = session.debugger;
-    usual.stops = new Set();
-    usual.conditions = new Map();
+    const { commonMistakes } = session.debugger;
+    commonMistakes.stops = new Set();
+    commonMistakes.conditions = new Map();
     const answers = filters.map(({ kind, condition: text }) => {
       if (!Object.prototype.hasOwnProperty.call(KINDS, kind)) return { verified: false, message: say.noFilter(kind) };
       const mistake = /** @type {MistakeKind} */ (kind);
       const isAlways = text.trim() === "";
       const { condition, fault, column } = isAlways ? { condition: null, fault: "", column: -1 } : compileCondition(text, session.names);
-      usual.stops.add(mistake);
-      if (condition) usual.conditions.set(mistake, condition);
+      commonMistakes.stops.add(mistake);
+      if (condition) commonMistakes.conditions.set(mistake, condition);
       return fault ? { verified: false, message: stopsEachTime(inColumn(fault, column)) } : { verified: true };
     });
     // The debugger checks every instruction only in pieces of at most MAX_CYCLES_PER_CALL cycles.
-    if (session.largestPiece >= MAX_CYCLES_PER_CALL) session.largestPiece = usual.stops.size > 0 ? MAX_CYCLES_PER_CALL : LARGEST_PIECE;
+    if (session.largestPiece >= MAX_CYCLES_PER_CALL) {
+      session.largestPiece = commonMistakes.stops.size > 0 ? MAX_CYCLES_PER_CALL : LARGEST_PIECE;
+    }
     return answers;
   }
 

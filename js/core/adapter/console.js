@@ -4,12 +4,12 @@
 import { ANSWER_FORMS, isQuery } from "../bench/answer_table.js";
 import { readRun, parseRefusal } from "../bench/answers.js";
 import { readInputs } from "../bench/inputs.js";
-import { replaceNames } from "../bench/names_in_lines.js";
+import { replaceNames } from "../bench/name_substitution.js";
 import { LAST_ADDRESS, parseNumber } from "../bench/numbers.js";
-import { parseGoal } from "../debug/becoming.js";
+import { parseGoal } from "../debug/condition_search.js";
 import { listNamedKeys } from "../testing/test_text.js";
 import { AdapterError, fail, errorMessage } from "./dap_protocol.js";
-import { compileSetLine } from "./set_place.js";
+import { compileSetLine } from "./place_assignment.js";
 import { evaluateExpression } from "./expression_values.js";
 import * as say from "../../words/adapter.js";
 import { noKey } from "../../words/testing.js";
@@ -17,7 +17,7 @@ import { noKey } from "../../words/testing.js";
 /**
  * @typedef {import("./debugged_machine.js").Machine} Machine
  * @typedef {import("./expression_values.js").ExpressionContext} ExpressionContext
- * @typedef {import("../bench/words.js").ErrorMessages} ErrorMessages
+ * @typedef {import("../bench/error_messages.js").ErrorMessages} ErrorMessages
  *
  * The result of a line: the text to show, whether the machine changed, and a move that begins after the text is shown (null for none).
  * @typedef {{ words: string, changes: boolean, move: (() => void) | null }} LineResult
@@ -155,7 +155,7 @@ export class Console {
       const goal = this.readGoal(target);
       return move(() => this.machine.go(goal));
     }
-    const address = addressOf(target, this.context);
+    const address = findAddress(target, this.context);
     return move(() => this.machine.go({ kind: "here", address }));
   }
 
@@ -203,7 +203,7 @@ export class Console {
     const isRejected = answers.every((answer) => parseRefusal(answer));
     if (isRejected && answers.length > 0) throw new AdapterError(words.join("\n"));
     this.machine.reportTally(tally, tally.noted);
-    if (answers.some((answer) => readRun(answer))) this.machine.reportShown();
+    if (answers.some((answer) => readRun(answer))) this.machine.reportFrontPanelText();
     return { words: [...words, ...(stopWords ? [stopWords] : [])].join("\n"), changes: true, move: null };
   }
 }
@@ -214,10 +214,10 @@ export class Console {
  * @param {ExpressionContext} context
  * @returns {number}
  */
-export function addressOf(text, { session }) {
+export function findAddress(text, { session }) {
   const word = text.trim().replace(/^@/, "");
   const number = /^[0-9A-Fa-f]{3}$/.test(word) && Number.isNaN(parseNumber(word)) ? parseInt(word, 16) : parseNumber(word);
-  const address = Number.isNaN(number) ? session.map.valueOf(word) : number;
+  const address = Number.isNaN(number) ? session.map.findValue(word) : number;
   if (address === undefined) return fail(say.noAddress(word));
   return address <= LAST_ADDRESS ? address : fail(say.ADDRESS_RANGE);
 }

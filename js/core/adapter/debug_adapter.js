@@ -1,7 +1,7 @@
 // The debug adapter: an editor launches a program on a board, or opens a session file. The editor then sets breakpoints, runs forward and
 // back, and shows the machine state. The page uses the same debugger (debug/debug_session.js).
 //
-//     const adapter = new DebugAdapter(new AdapterConnection(write), engine, data, host);     launching.js describes the host
+//     const adapter = new DebugAdapter(new AdapterConnection(write), engine, data, host);     session_launch.js describes the host
 //     connection.take(bytes);                                                                for all bytes of the client
 //     await adapter.leave();                                                                 after the end of the connection
 
@@ -11,12 +11,12 @@ import { KINDS } from "../../words/debug.js";
 import { stoppedAt } from "../../words/stops.js";
 import { readInstructions } from "../help/manual.js";
 import { getField } from "../server/framing.js";
-import { ErrorMessages } from "../bench/words.js";
+import { ErrorMessages } from "../bench/error_messages.js";
 import { ResponseWithFollowUp } from "./adapter_connection.js";
 import { QueryHandlers } from "./query_handlers.js";
 import { ClientBreakpoints, describeDataBreakpoint } from "./client_breakpoints.js";
-import { Console, addressOf } from "./console.js";
-import { attach, describeDifference, launch } from "./launching.js";
+import { Console, findAddress } from "./console.js";
+import { attach, describeDifference, launch } from "./session_launch.js";
 import { Machine } from "./debugged_machine.js";
 import { formatReference } from "./memory.js";
 import { Moves, THREAD } from "./move_requests.js";
@@ -24,18 +24,18 @@ import { requestedBase } from "./number_format.js";
 import { Progress } from "./progress.js";
 import { NOT_STOPPED, fail, optionalList, needNumber, needText, optionalText } from "./dap_protocol.js";
 import { Scopes } from "./scopes.js";
-import { ShownBoard, changeKey } from "./shown_board.js";
+import { RemoteFrontPanel, changeKey } from "./remote_front_panel.js";
 import * as say from "../../words/adapter.js";
 
 /**
  * @typedef {import("./adapter_connection.js").RequestHandler} RequestHandler
  * @typedef {import("./adapter_connection.js").AdapterConnection} AdapterConnection
- * @typedef {import("./launching.js").Host} Host
- * @typedef {import("./launching.js").LaunchResult} LaunchResult
+ * @typedef {import("./session_launch.js").Host} Host
+ * @typedef {import("./session_launch.js").LaunchResult} LaunchResult
  * @typedef {import("./debugged_machine.js").MoveEnd} MoveEnd
  *
  * The parts of a debug session, which exists from launch or attach until the end of debugging.
- * @typedef {{ launched: LaunchResult, machine: Machine, breakpoints: ClientBreakpoints, console: Console,
+ * @typedef {{ launchResult: LaunchResult, machine: Machine, breakpoints: ClientBreakpoints, console: Console,
  *   queryHandlers: QueryHandlers }} OpenSession
  */
 
@@ -102,7 +102,7 @@ export class DebugAdapter {
     this.leavePromise = null;
     /** @type {MoveEnd | null} the end of the last move */
     this.lastStop = null;
-    /** @type {ShownBoard | null} null until the client asks for the board */
+    /** @type {RemoteFrontPanel | null} null until the client asks for the board */
     this.shownBoard = null;
     connection.requests = { ...this.lifecycleRequests(), ...this.breakpointRequests(), ...this.moves.handlers(), ...this.queryRequests() };
     connection.stopWork = (id) => this.progress.stop(id);
@@ -134,10 +134,10 @@ export class DebugAdapter {
       launch: (args) => this.launch(args, launch),
       attach: (args) => this.launch(args, attach),
       configurationDone: () => {
-        const { launched } = this.current;
+        const { launchResult } = this.current;
         if (this.isConfigured) fail(say.CONFIGURED_ONCE);
         this.isConfigured = true;
-        const begin = () => (launched.stopsOnEntry ? this.stopped(this.pauseEnd("entry")) : this.current.machine.go(null));
+        const begin = () => (launchResult.stopsOnEntry ? this.stopped(this.pauseEnd("entry")) : this.current.machine.go(null));
         return new ResponseWithFollowUp(undefined, begin);
       },
       restart: (args) => this.restart(args),
@@ -163,34 +163,35 @@ export class DebugAdapter {
     return new ResponseWithFollowUp(undefined, () => this.connection.sendEvent("initialized"));
   }
 
-  /** @param {LaunchResult} launched */
-  async begin(launched) {
-    const { session } = launched;
+  /** @param {LaunchResult} launchResult */
+  async begin(launchResult) {
+    const { session } = launchResult;
     /** @type {Machine} */
-    const machine = new Machine(session, launched.writer, {
+    const machine = new Machine(session, launchResult.writer, {
       stopped: (moveEnd) => this.stopped(moveEnd),
       output: (words, category) => this.output(words, category),
       pause: this.host.pause,
       stateChanged: () => this.sendBoard(),
       work: (title) => this.progress.begin(title, () => machine.pause()),
-    }, launched.isRealTime);
+    }, launchResult.isRealTime);
     const breakpoints = new ClientBreakpoints(session);
     await breakpoints.applyBreakpoints();
     const face = new Face(session.boardText);
-    const expressionContext = { session, face, instructions: this.instructions, shown: () => machine.shown.now() };
+    const frontPanelText = () => machine.frontPanelText.currentText();
+    const expressionContext = { session, face, instructions: this.instructions, frontPanelText };
     const debugConsole = new Console(machine, expressionContext, this.words, {
-      breaksChanged: () => breakpoints.noteOwnBreakpoints(), romChanged: () => this.reportRom(launched),
+      breaksChanged: () => breakpoints.noteOwnBreakpoints(), romChanged: () => this.reportRom(launchResult),
     });
-    const queryHandlers = new QueryHandlers(launched, new Scopes(session, face), expressionContext, this);
-    this.open = { launched, machine, breakpoints, console: debugConsole, queryHandlers };
-    if (this.shownBoard) this.shownBoard = new ShownBoard(machine);
+    const queryHandlers = new QueryHandlers(launchResult, new Scopes(session, face), expressionContext, this);
+    this.open = { launchResult, machine, breakpoints, console: debugConsole, queryHandlers };
+    if (this.shownBoard) this.shownBoard = new RemoteFrontPanel(machine);
     this.sendBoard();
-    if (launched.note) this.output(`${launched.note}\n`, "console");
+    if (launchResult.note) this.output(`${launchResult.note}\n`, "console");
   }
 
   /**
    * Warns the user if the bytes in ROM differ from the source.
-   * @param {LaunchResult} launched
+   * @param {LaunchResult} launchResult
    */
   reportRom({ session }) {
     const words = describeDifference(session);
@@ -203,15 +204,15 @@ export class DebugAdapter {
    * @param {any} args
    */
   async restart(args) {
-    const { machine, launched, breakpoints } = this.current;
+    const { machine, launchResult, breakpoints } = this.current;
     await this.halt();
-    if (launched.writer) {
-      await launched.session.debugger.session.serve("reset\n", async () => true);
+    if (launchResult.writer) {
+      await launchResult.session.debugger.session.serve("reset\n", async () => true);
       await machine.saveAndReport();
     } else {
       const newArgs = getField(args, "arguments");
-      const act = launched.isAttached ? attach : launch;
-      await this.begin(await act(this.engine, newArgs === undefined ? launched.args : newArgs, this.host, this.words));
+      const act = launchResult.isAttached ? attach : launch;
+      await this.begin(await act(this.engine, newArgs === undefined ? launchResult.args : newArgs, this.host, this.words));
       for (const movedBreakpoint of await this.current.breakpoints.takeOverBreakpoints(breakpoints)) this.sendBreakpoint(movedBreakpoint);
     }
     return new ResponseWithFollowUp(undefined, () => this.stopped(this.pauseEnd("entry")));
@@ -236,7 +237,7 @@ export class DebugAdapter {
     if (!open) return "";
     await this.halt();
     this.open = null;
-    const { writer, session } = open.launched;
+    const { writer, session } = open.launchResult;
     if (!writer) return "";
     const words = await open.breakpoints.leave();
     try {
@@ -274,11 +275,11 @@ export class DebugAdapter {
   /** @param {any} args */
   setBreakpoints(args) {
     const source = getField(args, "source");
-    const { queryHandlers, launched } = this.current;
-    if (queryHandlers.isProgram(source) && launched.isDebugged) {
+    const { queryHandlers, launchResult } = this.current;
+    if (queryHandlers.isProgram(source) && launchResult.isDebugged) {
       return this.changeBreakpoints((breakpoints) => breakpoints.setLines(args, (line) => line + 1 - this.firstLine));
     }
-    const message = launched.isDebugged ? say.notInProgram(queryHandlers.programName)
+    const message = launchResult.isDebugged ? say.notInProgram(queryHandlers.programName)
       : say.NO_DEBUG;
     return { breakpoints: optionalList(args, "breakpoints").map((item) => ({ verified: false, line: needNumber(item, "line"), message })) };
   }
@@ -303,18 +304,18 @@ export class DebugAdapter {
 
   /** @param {any} args */
   dataBreakpointInfo(args) {
-    const { queryHandlers, launched } = this.current;
+    const { queryHandlers, launchResult } = this.current;
     const name = needText(args, "name");
     const reference = needNumber(args, "variablesReference", 0);
     const found = reference > 0 ? queryHandlers.findWatchPlace(reference, name) : name;
-    const data = describeDataBreakpoint(found, launched.session);
+    const data = describeDataBreakpoint(found, launchResult.session);
     if (!data) return { dataId: null, description: say.notWatched(name) };
     return { ...data, accessTypes: ["write"] };
   }
 
   /** @param {any} args */
   breakpointLocations(args) {
-    const { session } = this.current.launched;
+    const { session } = this.current.launchResult;
     if (!this.current.queryHandlers.isProgram(getField(args, "source"))) return { breakpoints: [] };
     const from = needNumber(args, "line");
     const to = Math.min(needNumber(args, "endLine", from), from + 65536);
@@ -358,7 +359,7 @@ export class DebugAdapter {
       pressKey: (args) => this.moveKey("press", args),
       releaseKey: (args) => this.moveKey("release", args),
       watchBoard: () => {
-        this.shownBoard = new ShownBoard(this.current.machine);
+        this.shownBoard = new RemoteFrontPanel(this.current.machine);
         return this.shownBoard.take();
       },
       changeKey: (args) => this.changeKey(args),
@@ -369,7 +370,7 @@ export class DebugAdapter {
   /** @param {string} reference */
   resolveReference(reference) {
     const { console: debugConsole } = this.current;
-    return addressOf(reference, debugConsole.context);
+    return findAddress(reference, debugConsole.context);
   }
 
   /**
@@ -464,7 +465,7 @@ export class DebugAdapter {
    * @returns {MoveEnd}
    */
   pauseEnd(reason) {
-    return { reason, words: stoppedAt(this.current.launched.session.counterText), id: 0 };
+    return { reason, words: stoppedAt(this.current.launchResult.session.counterText), id: 0 };
   }
 
   /** @param {MoveEnd} moveEnd */

@@ -1,10 +1,10 @@
 // Runs the debugged session. The machine makes one move at a time, such as a step or a run, and divides the move into pieces. Other work
 // waits for the end of a piece. The machine reports each stop and saves the session there.
 
-import { CancelledError } from "../bench/faults.js";
+import { CancelledError } from "../bench/bench_errors.js";
 import { formatCycles } from "../time/cycles.js";
 import { CYCLE_MS, FRAME_CYCLES } from "../time/mcs4_time.js";
-import { ShownText } from "./shown.js";
+import { FrontPanelText } from "./front_panel_text.js";
 import { fail, errorMessage } from "./dap_protocol.js";
 import * as say from "../../words/adapter.js";
 import { stoppedAt } from "../../words/stops.js";
@@ -14,7 +14,7 @@ import { stoppedAt } from "../../words/stops.js";
  * @typedef {import("../debug/debug_session.js").DescribedStop} DescribedStop
  * @typedef {import("../debug/debugger.js").Tally} Tally
  * @typedef {import("../debug/goals.js").Goal} Goal
- * @typedef {import("../engine/going_back.js").BackGoal} BackGoal
+ * @typedef {import("../engine/past_search.js").BackGoal} BackGoal
  * @typedef {import("./session_writer.js").SessionWriter} SessionWriter
  * @typedef {ReturnType<import("./progress.js").Progress["begin"]>} Work
  *
@@ -60,7 +60,7 @@ export class Machine {
     this.session = session;
     this.writer = writer;
     this.calls = calls;
-    this.shown = new ShownText(session);
+    this.frontPanelText = new FrontPanelText(session);
     this.isMoving = false;
     this.mustPause = false;
     /** Returns whether other work can use the session between two pieces of the current move. */
@@ -170,7 +170,7 @@ export class Machine {
 
   /** Reports the lamps and displays, and saves the session. */
   async saveAndReport() {
-    this.reportShown();
+    this.reportFrontPanelText();
     if (this.writer) await this.save(this.writer);
   }
 
@@ -194,7 +194,7 @@ export class Machine {
   async finishPiece(tally, done = 0) {
     if (tally) this.reportTally(tally, tally.noted);
     if (this.work) this.work.reportIfDue(() => formatCycles(done));
-    if (performance.now() - this.lastReportTime >= REPORT_INTERVAL && this.acceptsWork()) this.reportShown();
+    if (performance.now() - this.lastReportTime >= REPORT_INTERVAL && this.acceptsWork()) this.reportFrontPanelText();
     if (this.isRealTime && tally) await this.waitForRealTime(done);
     await this.calls.pause();
     if (this.acceptsWork()) await this.runWaitingWork();
@@ -242,9 +242,9 @@ export class Machine {
 
   // --- reports ---
 
-  reportShown() {
+  reportFrontPanelText() {
     this.lastReportTime = performance.now();
-    const words = this.shown.take();
+    const words = this.frontPanelText.take();
     if (words) this.calls.output(`${words}\n`, "stdout");
     this.calls.stateChanged();
   }

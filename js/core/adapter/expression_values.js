@@ -4,7 +4,7 @@ import { hex } from "../bench/numbers.js";
 import { compileExpression } from "../conditions/condition_language.js";
 import { parsePlace } from "../conditions/places.js";
 import { MachineState } from "../debug/machine_state.js";
-import { textOf, valuesAt } from "../debug/value_words.js";
+import { joinPieces, valuesAt } from "../debug/word_values.js";
 import { convertToBase, formatInBase } from "./number_format.js";
 import { AdapterError } from "./dap_protocol.js";
 import * as say from "../../words/adapter.js";
@@ -16,8 +16,8 @@ import { inColumn } from "../../words/conditions.js";
  * @typedef {import("../help/manual.js").Instruction} Instruction
  * @typedef {import("./number_format.js").Base} Base
  *
- * The evaluation context. `shown` returns the text of the lamps and displays.
- * @typedef {{ session: DebugSession, face: Face, instructions: Map<string, Instruction>, shown: () => string }} ExpressionContext
+ * The evaluation context. `frontPanelText` returns the text of the lamps and displays.
+ * @typedef {{ session: DebugSession, face: Face, instructions: Map<string, Instruction>, frontPanelText: () => string }} ExpressionContext
  */
 
 /** Matches the places whose values are hexadecimal digits. */
@@ -87,7 +87,7 @@ export function evaluateExpression(text, context, base = "usual") {
   const { session } = context;
   const trimmed = text.trim();
   if (trimmed === "") throw new AdapterError(say.NOTHING_TO_EVALUATE);
-  if (trimmed === "display" || trimmed === "lamps") return context.shown();
+  if (trimmed === "display" || trimmed === "lamps") return context.frontPanelText();
   const value = registerValue(trimmed, session, base) || convertToBase(nameValue(trimmed, session), base)
     || placeValue(trimmed, context, base);
   if (value) return value;
@@ -105,12 +105,12 @@ export function evaluateExpression(text, context, base = "usual") {
 export function expressionHover(text, context) {
   const { session, instructions } = context;
   const trimmed = text.trim();
-  /** @type {(name: string) => import("../debug/value_words.js").NamedValue | undefined} */
+  /** @type {(name: string) => import("../debug/word_values.js").NamedValue | undefined} */
   const nameOf = (name) => {
     const found = session.map.names.get(name);
     return found && { ...found, words: session.map.meaningOf(name) };
   };
   const describeInstruction = (/** @type {string} */ word) => (instructions.get(word) || { does: "" }).does;
   const pieces = valuesAt(trimmed, 0, new MachineState(session.debugger.session.takeSnapshot()), { nameOf, describeInstruction });
-  return pieces.length > 0 ? textOf(pieces) : describeInstruction(trimmed.toUpperCase()) || evaluateExpression(trimmed, context);
+  return pieces.length > 0 ? joinPieces(pieces) : describeInstruction(trimmed.toUpperCase()) || evaluateExpression(trimmed, context);
 }

@@ -1,7 +1,7 @@
 // Reads the stack frames of the debug adapter protocol: a frame for the next instruction, and a frame for each call that has not returned.
 
 import { hex } from "../bench/numbers.js";
-import { findLiveReturns, callAddress } from "../machine/returns.js";
+import { findLiveReturns, callAddress } from "../machine/return_addresses.js";
 
 /**
  * @typedef {import("../debug/debug_session.js").DebugSession} DebugSession

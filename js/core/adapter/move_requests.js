@@ -66,7 +66,7 @@ export class Moves {
   stepIn(args) {
     const target = needNumber(args, "targetId", -1);
     if (target < 0) return this.moveResponse(args, (machine) => machine.stepInto());
-    const { session } = this.adapter.current.launched;
+    const { session } = this.adapter.current.launchResult;
     if (!(target <= LAST_ADDRESS) || !isCall(session.debugger.session.codes[target])) fail(say.NO_TARGET);
     return this.moveResponse(args, (machine) => machine.stepIntoCall(target));
   }
@@ -74,7 +74,7 @@ export class Moves {
   /** @param {any} args */
   stepOut(args) {
     const moveResponse = this.moveResponse(args, (machine) => machine.go({ kind: "out" }));
-    if (readStackFrames(this.adapter.current.launched.session).length === 1) throw new AdapterError(NO_CALL_WAITS, true);
+    if (readStackFrames(this.adapter.current.launchResult.session).length === 1) throw new AdapterError(NO_CALL_WAITS, true);
     return moveResponse;
   }
 
@@ -99,7 +99,7 @@ export class Moves {
 
   /** @param {any} args */
   gotoTargets(args) {
-    const { current: { launched: { session }, queryHandlers }, firstLine } = this.adapter;
+    const { current: { launchResult: { session }, queryHandlers }, firstLine } = this.adapter;
     if (!queryHandlers.isProgram(getField(args, "source"))) return { targets: [] };
     const found = instructionForLine(needNumber(args, "line") + 1 - firstLine, session.map);
     if (found.address < 0) return { targets: [] };
@@ -112,10 +112,10 @@ export class Moves {
   async goto(args) {
     this.checkPaused();
     this.checkThread(args);
-    const { machine, launched } = this.adapter.current;
+    const { machine, launchResult } = this.adapter.current;
     const address = needNumber(args, "targetId");
     if (!(address >= 0 && address <= LAST_ADDRESS)) fail(say.NO_TARGET);
-    await launched.session.debugger.session.serve(`poke pc ${address}\n`, async () => true);
+    await launchResult.session.debugger.session.serve(`poke pc ${address}\n`, async () => true);
     await machine.saveAndReport();
     return new ResponseWithFollowUp(undefined, () => this.adapter.stopped(this.adapter.pauseEnd("goto")));
   }

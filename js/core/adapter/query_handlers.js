@@ -12,13 +12,13 @@ import { isCall, neverContinues, jumpTarget, instructionWords } from "../engine/
 import { getField } from "../server/framing.js";
 import { listNamedKeys } from "../testing/test_text.js";
 import { fail, needNumber, needText } from "./dap_protocol.js";
-import { findSettablePlace, setPlace } from "./set_place.js";
+import { findSettablePlace, setPlace } from "./place_assignment.js";
 import { expressionHover, evaluateExpression } from "./expression_values.js";
 import * as say from "../../words/adapter.js";
 import { wordsOfLine } from "../../words/stops.js";
 
 /**
- * @typedef {import("./launching.js").LaunchResult} LaunchResult
+ * @typedef {import("./session_launch.js").LaunchResult} LaunchResult
  * @typedef {import("./scopes.js").Scopes} Scopes
  * @typedef {import("./expression_values.js").ExpressionContext} ExpressionContext
  */
@@ -31,18 +31,18 @@ const MAX_COMPLETIONS = 500;
 /** Matches a console line that ends with an incomplete key name, and captures that name. */
 const UNFINISHED_KEY = /(?:^\s*(?:press|release|keys)\s(?:.*\s)?|\bkey\s+)(\S*)$/;
 /** The maximum number of instructions that `stepInTargets` scans for calls. */
-const MAX_SCANNED = 256;
+const MAX_SCANNED_INSTRUCTIONS = 256;
 
 export class QueryHandlers {
   /**
-   * @param {LaunchResult} launched
+   * @param {LaunchResult} launchResult
    * @param {Scopes} scopes
    * @param {ExpressionContext} expressionContext
    * @param {{ firstLine: number, firstColumn: number }} numbering the client's number of the first line and of the first column: 0 or 1
    */
-  constructor(launched, scopes, expressionContext, { firstLine, firstColumn }) {
-    this.launched = launched;
-    this.session = launched.session;
+  constructor(launchResult, scopes, expressionContext, { firstLine, firstColumn }) {
+    this.launchResult = launchResult;
+    this.session = launchResult.session;
     this.scopes = scopes;
     this.expressionContext = expressionContext;
     this.firstLine = firstLine;
@@ -52,18 +52,18 @@ export class QueryHandlers {
   // --- the source ---
 
   get programName() {
-    return this.launched.program || say.ROM_CONTENTS;
+    return this.launchResult.program || say.ROM_CONTENTS;
   }
 
   get source() {
-    const { program } = this.launched;
+    const { program } = this.launchResult;
     if (program === "") return { name: "ROM", sourceReference: ROM_SOURCE, origin: say.DISASSEMBLED_FROM_ROM };
     return { name: program.replace(/^.*[\\/]/, ""), path: program };
   }
 
   /** @param {any} source */
   isProgram(source) {
-    const { program, nameOf } = this.launched;
+    const { program, nameOf } = this.launchResult;
     if (program === "") return getField(source, "sourceReference") === ROM_SOURCE;
     const path = getField(source, "path");
     return typeof path === "string" && path !== "" && nameOf(path) === program;
@@ -276,7 +276,7 @@ function formatFrameName(name, isHex) {
  */
 function findCalls({ debugger: { session: { codes } }, map }, from) {
   const calls = [];
-  for (let address = from, count = 0; address <= LAST_ADDRESS && count < MAX_SCANNED; count++) {
+  for (let address = from, count = 0; address <= LAST_ADDRESS && count < MAX_SCANNED_INSTRUCTIONS; count++) {
     const code = codes[address];
     if (isCall(code)) calls.push({ address, target: jumpTarget(codes, address) });
     if (neverContinues(code) || (address !== from && map.lineOf(address) === 0)) break;

@@ -7,7 +7,7 @@ import { PressedKeys, formatKey } from "../board/key_place.js";
 import { MachineState, describeCharacter } from "../debug/machine_state.js";
 import { memoryNumberForPlace, formatReference, bankReference } from "./memory.js";
 import { convertToBase, formatInBase } from "./number_format.js";
-import { setPlace } from "./set_place.js";
+import { setPlace } from "./place_assignment.js";
 import * as say from "../../words/adapter.js";
 import { sourceOfBank } from "../../words/debug.js";
 
@@ -17,7 +17,7 @@ import { sourceOfBank } from "../../words/debug.js";
  *
  * A variable:
  * - `evaluateName`: an expression with the same value;
- * - `place`: the place that set_place.js sets, "" if it cannot be set;
+ * - `place`: the place that place_assignment.js sets, "" if it cannot be set;
  * - `variablesReference`: the reference of its child variables, 0 for none; `count`: the number of children;
  * - `memory`: its memory reference;
  * - `isDecimal`: true if its value is a decimal number;

@@ -1,7 +1,7 @@
 // Connects the page to the bench: sends requests to the worker and receives the replies. Terminates and replaces a worker that stops
 // answering.
 
-import { WorkerDiedError, unpackFault } from "./faults.js";
+import { WorkerDiedError, unpackError } from "./bench_errors.js";
 
 /**
  * @typedef {import("../engine/bench_calls.js").Requests} Requests
@@ -49,7 +49,7 @@ export class Bench {
     /** @type {Listener} */
     this.listener = { frame: () => {}, failed: () => {}, died: () => {} };
     /** @type {Map<number, PendingRequest>} */
-    this.waiting = new Map();
+    this.pendingRequests = new Map();
     /** @type {WorkerLike | null} */
     this.worker = null;
     this.number = 0;
@@ -96,7 +96,7 @@ export class Bench {
         fail(new WorkerDiedError());
         return;
       }
-      this.waiting.set(number, { done, fail, progress });
+      this.pendingRequests.set(number, { done, fail, progress });
       const spareBuffers = this.spare.splice(0);
       this.send({ kind: "request", number, call: name, words: parameters, spare: spareBuffers }, spareBuffers);
     });
@@ -104,7 +104,7 @@ export class Bench {
 
   /** The number of the oldest request without a reply. */
   get oldestRequest() {
-    return this.waiting.keys().next().value;
+    return this.pendingRequests.keys().next().value;
   }
 
   /**
@@ -119,9 +119,9 @@ export class Bench {
   take(message) {
     this.silentPings = 0;
     if (message.kind === "frame") this.listener.frame(message.frame);
-    if (message.kind === "failed") this.listener.failed(unpackFault(message.fault));
+    if (message.kind === "failed") this.listener.failed(unpackError(message.fault));
     if (message.kind !== "reply" && message.kind !== "early" && message.kind !== "progress") return;
-    const waiting = this.waiting.get(message.number);
+    const waiting = this.pendingRequests.get(message.number);
     if (!waiting) return;
     if (message.kind === "progress") {
       waiting.progress(message.done, message.total);
@@ -129,8 +129,8 @@ export class Bench {
     }
     // An early result is ignored while older requests still wait for their replies. Its request then waits for the regular reply.
     if (message.kind === "early" && message.number !== this.oldestRequest) return;
-    this.waiting.delete(message.number);
-    if (message.kind === "reply" && message.fault) waiting.fail(unpackFault(message.fault));
+    this.pendingRequests.delete(message.number);
+    if (message.kind === "reply" && message.fault) waiting.fail(unpackError(message.fault));
     else waiting.done(message.result);
   }
 
@@ -149,16 +149,16 @@ export class Bench {
    * @param {number} number
    */
   cancel(number) {
-    if (!this.waiting.has(number)) return;
+    if (!this.pendingRequests.has(number)) return;
     this.send({ kind: "cancel", number });
     setTimeout(() => {
-      if (this.waiting.has(number)) this.die();
+      if (this.pendingRequests.has(number)) this.die();
     }, 2 * PING_INTERVAL);
   }
 
   /** Pings the worker if it has unanswered requests. The limit is a number of pings, not a time, because the computer can sleep. */
   watch() {
-    if (this.isPatient || (this.waiting.size === 0 && !this.isRunning)) {
+    if (this.isPatient || (this.pendingRequests.size === 0 && !this.isRunning)) {
       this.silentPings = 0;
       return;
     }
@@ -181,8 +181,8 @@ export class Bench {
     this.worker = null;
     this.isRunning = false;
     this.silentPings = 0;
-    const pending = [...this.waiting.values()];
-    this.waiting.clear();
+    const pending = [...this.pendingRequests.values()];
+    this.pendingRequests.clear();
     for (const { fail } of pending) fail(new WorkerDiedError());
   }
 }

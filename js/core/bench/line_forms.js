@@ -3,7 +3,7 @@
 import { ANSWER_FORMS } from "./answer_table.js";
 import { INVALID_CHARACTER, LINE_TOO_LONG, MAX_LINE_LENGTH, MAX_PLACES, NOT_ASCII } from "./inputs.js";
 import { indices } from "./numbers.js";
-import { findSimilarWords } from "../text/alike.js";
+import { findSimilarWords } from "../text/similar_words.js";
 import * as say from "../../words/lines.js";
 
 /**

@@ -47,7 +47,7 @@ export function formatTenths(value) {
  * @param {string} singular the noun in singular
  * @param {string} [plural] the noun in plural
  */
-export function counted(count, singular, plural = `${singular}s`) {
+export function formatQuantity(count, singular, plural = `${singular}s`) {
   return `${count.toLocaleString("en")} ${count === 1 ? singular : plural}`;
 }
 

@@ -4,7 +4,7 @@ import { readBoardText } from "../text/board_reader.js";
 
 /**
  * @typedef {import("../text/board_reader.js").Entry} Entry
- * @typedef {import("../text/text_fault.js").Lines} Lines
+ * @typedef {import("../text/sendable_text.js").Lines} Lines
  */
 
 /**

@@ -3,7 +3,7 @@
 /**
  * @typedef {import("../engine/worker_session.js").LinesResult} LinesResult
  * @typedef {import("../engine/examples.js").Example} Example
- * @typedef {import("./faults.js").PackedFault} PackedFault
+ * @typedef {import("./bench_errors.js").PackedFault} PackedFault
  * @typedef {import("./run_log.js").RunEntry} RunEntry
  *
  * A session state for the page. `snapshot`: the answers of the snapshot queries. `file`: the bytes of the session file (transferred).
@@ -12,19 +12,19 @@
  * recording is off. `printed`: the printer data, null if unchanged. `waiting`: key changes that are queued for later.
  * @typedef {{ snapshot: string[], file: ArrayBuffer, board: string[] | null, total: number, reset: number, future: number,
  *   past: import("../engine/timeline.js").News, waves: import("../engine/live_recorder.js").LivePart | null,
- *   printed: import("../engine/printing.js").PrintoutData | null, waiting: import("../engine/key_queue.js").Change[] }} PageState
+ *   printed: import("../engine/printer_codes.js").PrintoutData | null, waiting: import("../engine/key_queue.js").Change[] }} PageState
  *
  * The result of a period of running time. `ran`: the lines that ran. `end`: the answer that ended the run early, or "". `stop`: the reason
  * why time stopped, or null. `tally`: breakpoint hits and log messages. `litShares`, `heard`, `warmed`: lamp brightness, sound and RAM
  * changes; each is null if the page does not show it.
  * @typedef {{ ran: RunEntry[], cycles: number, end: string, changesKeys: boolean, stop: Stop | null, tally: Tally,
- *   litShares: import("../engine/brightness_meter.js").LitShares | null, heard: import("../engine/sounding.js").BuzzerLevels | null,
- *   warmed: import("../engine/heating.js").ChipHeat | null } & PageState} Frame
+ *   litShares: import("../engine/brightness_meter.js").LitShares | null, heard: import("../engine/buzzer_meter.js").BuzzerLevels | null,
+ *   warmed: import("../engine/heat_meter.js").ChipHeat | null } & PageState} Frame
  * @typedef {import("../debug/debugger.js").Stop} Stop
  * @typedef {import("../debug/debugger.js").Tally} Tally
  *
  * @typedef {LinesResult & PageState} LinesReply
- * @typedef {Omit<import("../engine/going_back.js").BackSearchResult, "moment" | "present">} SearchReport
+ * @typedef {Omit<import("../engine/past_search.js").BackSearchResult, "moment" | "present">} SearchReport
  * @typedef {LinesReply & { typed: import("../debug/debugger.js").TypedResult }} TypedReply the result of lines that the user typed
  * @typedef {LinesReply & SearchReport & { isDone: boolean, cycles: number }} TravelResult the point in time that a move back or forward
  *   reached, and the cycles to it

@@ -161,7 +161,7 @@ export class Brightness {
     const groups = fittingGroups(face, count);
     this.displays = groups.filter(({ kind }) => kind === "display");
     /** @type {number[][]} the duty cycles of the lamps in other multiplexed groups, row by row */
-    this.scanned = groups.filter((group) => isScanned(group) && group.kind !== "display")
+    this.scannedGroups = groups.filter((group) => isScanned(group) && group.kind !== "display")
       .map(({ rows, columns }) => new Array(rows * columns).fill(0));
     /** @type {PerceivedDigit[][]} */
     this.digits = [];
@@ -180,7 +180,7 @@ export class Brightness {
     this.isOn = this.lamps.map((_, at) => isLit(marks, at));
     this.lamps = this.isOn.map(Number);
     this.digits = this.displays.map(({ rows }) => Array.from({ length: rows }, () => new PerceivedDigit()));
-    this.scanned = this.scanned.map((lamps) => lamps.map(() => 0));
+    this.scannedGroups = this.scannedGroups.map((lamps) => lamps.map(() => 0));
     this.stillness = this.lamps.map(() => new Stillness());
     this.displayStillness = this.displays.map(() => new Stillness());
   }
@@ -203,7 +203,7 @@ export class Brightness {
       if (isStill && isLitNow) this.lamps[at] = 1;
       this.isOn[at] = isStill ? isLitNow : this.lamps[at] >= MIN_ON_DUTY;
     });
-    this.scanned.forEach((parts, at) => this.fade(parts, litShares.scanned[at], cycles, remainingShare));
+    this.scannedGroups.forEach((parts, at) => this.fade(parts, litShares.scanned[at], cycles, remainingShare));
     litShares.displays.forEach((display, at) => {
       this.displayStillness[at].add(display.moved, cycles, time);
       this.addDisplay(at, display, cycles, remainingShare);

@@ -14,7 +14,7 @@ import { isSameKey } from "./key_place.js";
 export class PendingKeys {
   constructor() {
     /** @type {Change[]} the worker's queue in its last report */
-    this.waiting = [];
+    this.waitingChanges = [];
     /** @type {RequestedChange[]} the changes in transit to the worker */
     this.sent = [];
   }
@@ -37,7 +37,7 @@ export class PendingKeys {
    */
   willBeDown(key, isDown) {
     /** @type {RequestedChange[]} */
-    const all = [...this.waiting, ...this.sent];
+    const all = [...this.waitingChanges, ...this.sent];
     const last = all.filter((each) => isSameKey(each.key, key)).pop();
     return last && last.word !== "forget" ? last.word === "press" : isDown;
   }

@@ -1,6 +1,6 @@
 // Converts the levels of the buzzer's signal line to sound samples, one per cycle.
 
-/** @typedef {import("../engine/sounding.js").BuzzerLevels} BuzzerLevels */
+/** @typedef {import("../engine/buzzer_meter.js").BuzzerLevels} BuzzerLevels */
 
 /**
  * Returns one sample per cycle: 1 for a high level, -1 for a low level.

@@ -13,7 +13,7 @@
 // - compileTestCondition: a condition in a test line, which can also use cycles, the printout and perceived lamps.
 
 import { MAX_PLACES } from "../bench/inputs.js";
-import { compileNode } from "./meaning.js";
+import { compileNode } from "./compiler.js";
 import { isCondition, parseExpression, parseCondition } from "./parser.js";
 import { ConditionError, fail } from "./scanner.js";
 import { Dependencies, STATE_PLACES, compileValue } from "./values.js";
@@ -106,7 +106,7 @@ function negateText(node, text) {
  * @param {string} conditionText
  * @param {Names} names
  * @param {Dependencies} dependencies collects the places that the condition depends on
- * @returns {Pick<Condition, "text" | "negation"> & import("./meaning.js").Meaning}
+ * @returns {Pick<Condition, "text" | "negation"> & import("./compiler.js").Meaning}
  */
 function compileText(conditionText, names, dependencies) {
   const node = parseCondition(conditionText, lampNameTest(names));

@@ -3,10 +3,10 @@
 
 import { MAX_PLACES } from "../bench/inputs.js";
 import { stateValue } from "../bench/state_line.js";
-import { rowValues } from "../engine/tracing.js";
+import { rowValues } from "../engine/forecast_answers.js";
 import { STATE_PLACES } from "./values.js";
 
-/** @typedef {import("../engine/tracing.js").Answers} Answers */
+/** @typedef {import("../engine/forecast_answers.js").ForecastAnswers} ForecastAnswers */
 
 /** The queries for a list of places. */
 export class Probes {
@@ -23,7 +23,7 @@ export class Probes {
 
   /**
    * Returns the values of the places, in order.
-   * @param {Answers} answers the answers to the queries
+   * @param {ForecastAnswers} answers the answers to the queries
    * @returns {string[]}
    */
   take(answers) {

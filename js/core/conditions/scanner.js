@@ -53,7 +53,7 @@ export class Scanner {
     this.text = text;
     this.index = 0;
     /** @type {Token | null} the next token, if `peek` has already scanned it */
-    this.peeked = null;
+    this.peekedToken = null;
   }
 
   /**
@@ -70,14 +70,14 @@ export class Scanner {
 
   /** Returns the next token without consuming it. */
   peek() {
-    if (!this.peeked) this.peeked = this.scan();
-    return this.peeked;
+    if (!this.peekedToken) this.peekedToken = this.scan();
+    return this.peekedToken;
   }
 
   /** Consumes the next token and returns it. */
   next() {
     const token = this.peek();
-    this.peeked = null;
+    this.peekedToken = null;
     return token;
   }
 
@@ -124,8 +124,8 @@ export class Scanner {
 
   /** Returns to the start of the token that `peek` has scanned. */
   unpeek() {
-    if (this.peeked) this.index = this.peeked.column;
-    this.peeked = null;
+    if (this.peekedToken) this.index = this.peekedToken.column;
+    this.peekedToken = null;
   }
 
   /**
@@ -133,7 +133,7 @@ export class Scanner {
    * @returns {number}
    */
   get position() {
-    return this.peeked ? this.peeked.column : this.index;
+    return this.peekedToken ? this.peekedToken.column : this.index;
   }
 
   /**
@@ -142,6 +142,6 @@ export class Scanner {
    */
   goTo(position) {
     this.index = position;
-    this.peeked = null;
+    this.peekedToken = null;
   }
 }

@@ -1,8 +1,8 @@
 // Compiles the values in a condition: numbers, places, sums, program names, watch names and front-panel names. A compiled value is computed
 // from the bench's answers about its places.
 
-import { listKeyInputs, createTestInput } from "../explore/explored_inputs.js";
-import { findSimilarWords } from "../text/alike.js";
+import { listKeyInputs, createTestInput } from "../explore/search_inputs.js";
+import { findSimilarWords } from "../text/similar_words.js";
 import { isCondition, parseExpression } from "./parser.js";
 import { placeByAlias, parsePlace } from "./places.js";
 import { ConditionError, fail } from "./scanner.js";

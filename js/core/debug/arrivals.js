@@ -3,8 +3,8 @@
 // that the conditions use.
 
 import { Probes } from "../conditions/probes.js";
-import { Answers } from "../engine/tracing.js";
-import { plannedCycles } from "./ahead.js";
+import { ForecastAnswers } from "../engine/forecast_answers.js";
+import { plannedCycles } from "./goal_search.js";
 
 /**
  * @typedef {import("../engine/engine_host.js").EngineHost} Engine
@@ -115,7 +115,7 @@ export class Arrivals {
       const cyclesLeft = cycles - cyclesRun;
       const runs = Math.min(cyclesLeft, MAX_RUNS, Math.max(1, Math.round(2 * this.density * cyclesLeft)));
       const pair = `run ${Math.floor(cyclesLeft / runs)}\n${this.probes.lines}`;
-      const answers = new Answers(engine.serve(file, before + pair.repeat(runs), file).answers);
+      const answers = new ForecastAnswers(engine.serve(file, before + pair.repeat(runs), file).answers);
       answers.skip(skippedCount);
       [before, skippedCount] = ["", 0];
       while (!answers.isEmpty) {

@@ -275,7 +275,7 @@ export class BreakpointList {
   }
 
   /** @returns {SavedBreakpoint[]} */
-  get kept() {
+  get savedBreakpoints() {
     return this.all.map(({ line, address, isOn, condition, from, note }) => ({ line, address, isOn, condition, from, note }));
   }
 }

@@ -6,7 +6,7 @@
 // - an instruction at an address outside the program text;
 // - an instruction that uses an SRC that the program sent for another instruction.
 //
-// Before each run, this module asks the bench what the run will do. This module does not simulate instructions. selected.js determines
+// Before each run, this module asks the bench what the run will do. This module does not simulate instructions. src_selection.js determines
 // which instructions use the chip and register that SRC selects.
 //
 //     const mistakes = new CommonMistakes(session);
@@ -17,17 +17,17 @@
 import { readBoard } from "../bench/answers.js";
 import { hex } from "../bench/numbers.js";
 import { Probes } from "../conditions/probes.js";
-import { findLiveReturns, callAddress } from "../machine/returns.js";
+import { findLiveReturns, callAddress } from "../machine/return_addresses.js";
 import { isCall, isReturn, romCodes } from "../engine/rom_codes.js";
-import { Answers, rowValues } from "../engine/tracing.js";
-import { plannedCycles, truncateLines } from "./ahead.js";
-import { SrcSelection, usesSelection } from "./selected.js";
+import { ForecastAnswers, rowValues } from "../engine/forecast_answers.js";
+import { plannedCycles, truncateLines } from "./goal_search.js";
+import { SrcSelection, usesSelection } from "./src_selection.js";
 import * as say from "../../words/debug.js";
 
 /**
  * @typedef {import("../machine/source_map.js").SourceMap} SourceMap
  * @typedef {import("../engine/key_queue.js").PlannedLine} PlannedLine
- * @typedef {import("../engine/tracing.js").Trace} Trace
+ * @typedef {import("../engine/forecast_answers.js").Trace} Trace
  * @typedef {import("../engine/worker_session.js").WorkerSession} WorkerSession
  * @typedef {"calls" | "return" | "lines" | "chip" | "bytes" | "source"} Kind
  *
@@ -78,14 +78,14 @@ export class CommonMistakes {
     /** The address of a mistake that is not reported again, because it stopped time and time continues there; -1 for none. */
     this.skippedAddress = -1;
     /** The number of cycles until only samples are checked. */
-    this.left = CHECKED_CYCLES;
+    this.remainingCycles = CHECKED_CYCLES;
     this.callCount = 0;
   }
 
   /** Prepares for running time: allows each kind of mistake to be reported again. */
   begin() {
     this.reportedKinds.clear();
-    this.left = CHECKED_CYCLES;
+    this.remainingCycles = CHECKED_CYCLES;
     this.skippedAddress = this.stopAddress;
     this.stopAddress = -1;
   }
@@ -125,7 +125,8 @@ export class CommonMistakes {
     if (!condition) return true;
     const linesBefore = truncateLines(planned, cycles);
     const probes = new Probes(condition.places);
-    const answers = new Answers(this.session.engine.ask(file, linesBefore.map(({ line }) => `${line}\n`).join("") + probes.lines).answers);
+    const lines = linesBefore.map(({ line }) => `${line}\n`).join("") + probes.lines;
+    const answers = new ForecastAnswers(this.session.engine.ask(file, lines).answers);
     answers.skip(linesBefore.length);
     return condition.holds(probes.take(answers));
   }
@@ -137,12 +138,12 @@ export class CommonMistakes {
    */
   cyclesToCheck(planned) {
     const cycles = planned.reduce((sum, each) => sum + plannedCycles(each), 0);
-    if (planned.some(({ change }) => change !== null)) this.left = CHECKED_CYCLES;
+    if (planned.some(({ change }) => change !== null)) this.remainingCycles = CHECKED_CYCLES;
     this.callCount += 1;
     const isAll = this.stops.size > 0 && cycles <= MAX_CYCLES_PER_CALL;
     const sample = this.callCount % SAMPLE_INTERVAL === 0 ? SAMPLE_CYCLES : 0;
-    const maxCycles = isAll ? cycles : Math.min(cycles, MAX_CYCLES_PER_CALL, Math.max(this.left, sample));
-    this.left = Math.max(0, this.left - maxCycles);
+    const maxCycles = isAll ? cycles : Math.min(cycles, MAX_CYCLES_PER_CALL, Math.max(this.remainingCycles, sample));
+    this.remainingCycles = Math.max(0, this.remainingCycles - maxCycles);
     return maxCycles;
   }
 
@@ -166,7 +167,7 @@ export class CommonMistakes {
       const cycles = plannedCycles(each);
       return each.change ? `${each.line}\n` : `trace ${cycles} src dcl ret\ntrace ${cycles}\n${each.line}\n`;
     });
-    const answers = new Answers(engine.ask(file, `state\n${lines.join("")}`).answers);
+    const answers = new ForecastAnswers(engine.ask(file, `state\n${lines.join("")}`).answers);
     selection.begin(answers.take());
     /** @type {CommonMistake[]} */
     const faults = [];

@@ -6,10 +6,10 @@ import { readBoard } from "../bench/answers.js";
 import { MAX_PLACES } from "../bench/inputs.js";
 import { compileTracedCondition } from "../conditions/condition_language.js";
 import { parsePlace } from "../conditions/places.js";
-import { LastChangeFinder } from "../engine/going_back.js";
+import { LastChangeFinder } from "../engine/past_search.js";
 import { instructionCycles } from "../engine/rom_codes.js";
-import { Answers, parseTraceLine, rowValues } from "../engine/tracing.js";
-import { plannedCycles, truncateLines } from "./ahead.js";
+import { ForecastAnswers, parseTraceLine, rowValues } from "../engine/forecast_answers.js";
+import { plannedCycles, truncateLines } from "./goal_search.js";
 import { boardLacks, inColumn, tooManyPlaces } from "../../words/conditions.js";
 import { changedFrom, CHANGES_ALWAYS } from "../../words/debug.js";
 
@@ -97,7 +97,7 @@ export class DataWatches {
     let done = 0;
     for (const { line, change, cycles } of planned.flatMap(splitLine)) {
       const query = change ? "" : `trace ${cycles} ${this.places.join(" ")}\n`;
-      const answers = new Answers(engine.serve(copy, `${query}${line}\n`, copy).answers);
+      const answers = new ForecastAnswers(engine.serve(copy, `${query}${line}\n`, copy).answers);
       if (change) continue;
       const trace = answers.takeTrace();
       const run = answers.takeRun();

@@ -16,8 +16,8 @@
 import { readBoard, readRegisters, readRun, parseRefusal } from "../bench/answers.js";
 import { Face } from "../board/face.js";
 import { SourceMap } from "../machine/source_map.js";
-import { sentText } from "../text/text_fault.js";
-import { PieceSize } from "../engine/pieces.js";
+import { sentText } from "../text/sendable_text.js";
+import { PieceSize } from "../engine/piece_size.js";
 import { readProgram } from "../engine/program_check.js";
 import { WorkerSession } from "../engine/worker_session.js";
 import { BreakpointList } from "./breakpoints.js";
@@ -28,7 +28,7 @@ import * as say from "../../words/debug.js";
 /**
  * @typedef {import("../bench/answers.js").Refusal} Refusal
  * @typedef {import("../engine/engine_host.js").EngineHost} Engine
- * @typedef {import("../engine/going_back.js").BackGoal} BackGoal
+ * @typedef {import("../engine/past_search.js").BackGoal} BackGoal
  * @typedef {import("./debugger.js").ShouldContinue} ShouldContinue
  * @typedef {import("./debugger.js").Stop} Stop
  * @typedef {import("./debugger.js").Tally} Tally
@@ -56,7 +56,7 @@ export class DebugSession {
   constructor(engine, { file, board = "", program = "" }) {
     const bytes = file ? file.slice() : engine.begin();
     /** @type {{ word: "wire" | "asm", refusal: Refusal }[]} the refusals of the texts that the bench rejected */
-    this.refused = [];
+    this.rejectedTexts = [];
     this.boardText = board;
     this.program = program;
     /** The maximum length of a piece of a run, in cycles. */
@@ -82,7 +82,7 @@ export class DebugSession {
   sendText(engine, file, word, text) {
     if (text === "") return;
     const refusal = parseRefusal(engine.serve(file, `${word}\n${text}.\n`, file).answers[0]);
-    if (refusal) this.refused.push({ word, refusal });
+    if (refusal) this.rejectedTexts.push({ word, refusal });
   }
 
   get file() {

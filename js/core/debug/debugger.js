@@ -17,14 +17,14 @@ import { readBoard, readRun } from "../bench/answers.js";
 import { hex } from "../bench/numbers.js";
 import { parsePlace } from "../conditions/places.js";
 import { Probes } from "../conditions/probes.js";
-import { EMPTY_REPORT, findBackTarget } from "../engine/going_back.js";
+import { EMPTY_REPORT, findBackTarget } from "../engine/past_search.js";
 import { runLines } from "../engine/key_queue.js";
-import { SEARCH_PIECE_CYCLES } from "../engine/pieces.js";
-import { Answers } from "../engine/tracing.js";
+import { SEARCH_PIECE_CYCLES } from "../engine/piece_size.js";
+import { ForecastAnswers } from "../engine/forecast_answers.js";
 import { CYCLES_PER_SECOND } from "../time/mcs4_time.js";
-import { cyclesToGoal, searchGoal, truncateLines } from "./ahead.js";
+import { cyclesToGoal, searchGoal, truncateLines } from "./goal_search.js";
 import { Arrivals, MAX_NOTES, emptyEvents } from "./arrivals.js";
-import { compileSearchCondition } from "./becoming.js";
+import { compileSearchCondition } from "./condition_search.js";
 import { DataWatches, SoftStops, compileWatches } from "./data_watches.js";
 import { parseCounter, createWatcher } from "./goals.js";
 import { findLastArrival, findLastCall } from "./last_arrival.js";
@@ -43,8 +43,8 @@ import { CommonMistakes } from "./common_mistakes.js";
  * @typedef {import("./goals.js").Watcher} Watcher
  * @typedef {import("./soft_breakpoints.js").LocatedBreakpoint} LocatedBreakpoint
  * @typedef {import("./common_mistakes.js").CommonMistake} CommonMistake
- * @typedef {import("../engine/going_back.js").BackSearchResult} BackSearchResult
- * @typedef {import("../engine/going_back.js").BackGoal} BackGoal
+ * @typedef {import("../engine/past_search.js").BackSearchResult} BackSearchResult
+ * @typedef {import("../engine/past_search.js").BackGoal} BackGoal
  * @typedef {import("../engine/timeline.js").Present} Present
  * @typedef {import("../engine/worker_session.js").Frame} Frame
  * @typedef {import("../engine/worker_session.js").LinesResult} LinesResult
@@ -114,7 +114,7 @@ export class Debugger {
     this.session = session;
     this.watches = new DataWatches([]);
     this.arrivals = this.softStops([]);
-    this.usual = new CommonMistakes(session);
+    this.commonMistakes = new CommonMistakes(session);
     /** @type {import("../engine/key_queue.js").PlannedLine[] | null} lines that have run but are not yet checked for mistakes */
     this.uncheckedLines = null;
     /** @type {CommonMistake[]} mistakes that were found after their lines had run, and are not yet reported */
@@ -198,7 +198,7 @@ export class Debugger {
     this.watcher = null;
     this.startTotal = this.session.count.total;
     this.lateMistakes = [];
-    this.usual.begin();
+    this.commonMistakes.begin();
   }
 
   /**
@@ -215,8 +215,8 @@ export class Debugger {
     if (toGoal >= 0) planned = truncateLines(planned, toGoal);
     const events = this.arrivals.searchLines(engine, file, planned);
     if (events.cycles >= 0) planned = truncateLines(planned, events.cycles);
-    const isLate = isHurried && this.usual.stops.size === 0 && session.recording === null;
-    const usual = isLate ? { faults: [], stop: -1 } : this.usual.searchLines(planned);
+    const isLate = isHurried && this.commonMistakes.stops.size === 0 && session.recording === null;
+    const usual = isLate ? { faults: [], stop: -1 } : this.commonMistakes.searchLines(planned);
     if (usual.stop >= 0) planned = truncateLines(planned, usual.stop);
     const countBefore = session.count.total;
     const frame = session.advanceBy(planned);
@@ -235,7 +235,7 @@ export class Debugger {
   checkLastLines() {
     const { uncheckedLines } = this;
     this.uncheckedLines = null;
-    if (uncheckedLines) this.lateMistakes.push(...this.usual.searchLines(uncheckedLines, this.session.next).faults);
+    if (uncheckedLines) this.lateMistakes.push(...this.commonMistakes.searchLines(uncheckedLines, this.session.next).faults);
   }
 
   /** Removes and returns the mistakes that `checkLastLines` found. */
@@ -391,7 +391,7 @@ export class Debugger {
     try {
       const { lines: served, runs, ...stop } = await planTypedLines(session.engine, session.file, arrivals, lines, shouldContinue);
       const result = await session.serve(served, shouldContinue);
-      this.usual.forget();
+      this.commonMistakes.forget();
       const tallies = runs.map(({ events, done }) => this.createTally(events, null, countBefore + done));
       return { result, typed: { ...stop, cycles: session.count.total - countBefore, tally: tallies.reduce(joinTallies, NO_TALLY) } };
     } catch (fault) {
@@ -494,7 +494,7 @@ export class Debugger {
     const wires = session.replaceState(present);
     const lines = this.breakLines();
     if (lines) session.changeBreaks(lines);
-    this.usual.forget();
+    this.commonMistakes.forget();
     this.startTotal = session.count.total;
     return { isDone: true, wires, cycles: Math.abs(session.count.total - countBefore) };
   }
@@ -526,6 +526,6 @@ export class Debugger {
   readPlaces(places) {
     if (places.length === 0) return [];
     const probes = new Probes(places);
-    return probes.take(new Answers(this.session.ask(probes.lines)));
+    return probes.take(new ForecastAnswers(this.session.ask(probes.lines)));
   }
 }

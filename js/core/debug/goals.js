@@ -3,17 +3,17 @@
 
 import { readBoard, readCounter, readRegisters } from "../bench/answers.js";
 import { parsePlace } from "../conditions/places.js";
-import { callAddress } from "../machine/returns.js";
+import { callAddress } from "../machine/return_addresses.js";
 import { MAX_RUN_CYCLES } from "../engine/key_queue.js";
 import { isCall, isReturn, romCodes } from "../engine/rom_codes.js";
-import { parseTraceLine } from "../engine/tracing.js";
-import { becomesTrue } from "./becoming.js";
+import { parseTraceLine } from "../engine/forecast_answers.js";
+import { becomesTrue } from "./condition_search.js";
 
 /**
  * @typedef {import("../engine/engine_host.js").EngineHost} Engine
- * @typedef {import("../engine/tracing.js").Answers} Answers
- * @typedef {import("../engine/tracing.js").TracedInstruction} TracedInstruction
- * @typedef {import("./becoming.js").SearchCondition} SearchCondition
+ * @typedef {import("../engine/forecast_answers.js").ForecastAnswers} ForecastAnswers
+ * @typedef {import("../engine/forecast_answers.js").TracedInstruction} TracedInstruction
+ * @typedef {import("./condition_search.js").SearchCondition} SearchCondition
  *
  * The goal of a move. `over`: the end of the next instruction, or of the subroutine that this instruction calls. `out`: the return from the
  * current subroutine. `here`: an address. `count`: a number of instructions. `change`: a change of a place. `when`: a condition becomes
@@ -29,7 +29,7 @@ import { becomesTrue } from "./becoming.js";
  * run in cycles. `before`: returns the queries before a run. `after`: the queries after a run. `take`: reads the answers to the queries and
  * to the run, and returns the result. `returns`: true if a return from a subroutine reaches the goal.
  * @typedef {{ first: string, most: () => number, before: (cycles: number) => string, after: string,
- *   take: (answers: Answers) => SearchResult, returns: boolean }} Watcher
+ *   take: (answers: ForecastAnswers) => SearchResult, returns: boolean }} Watcher
  */
 
 /** The maximum length of a piece of a search, in cycles. */

@@ -3,17 +3,17 @@
 // counts.
 
 import { readItems, watchedPlaces } from "../bench/answers.js";
-import { searchResult, makeChangeFinder, searchPast } from "../engine/going_back.js";
+import { searchResult, makeChangeFinder, searchPast } from "../engine/past_search.js";
 import { Arrivals } from "./arrivals.js";
 import { parseCounter } from "./goals.js";
 
 /**
  * @typedef {import("../engine/engine_host.js").EngineHost} Engine
- * @typedef {import("../engine/going_back.js").BackSearchResult} BackSearchResult
- * @typedef {import("../engine/going_back.js").Finder} Finder
+ * @typedef {import("../engine/past_search.js").BackSearchResult} BackSearchResult
+ * @typedef {import("../engine/past_search.js").Finder} Finder
  * @typedef {import("../engine/timeline.js").ShouldContinue} ShouldContinue
  * @typedef {import("../engine/timeline.js").Present} Present
- * @typedef {import("../engine/units.js").Unit} Unit
+ * @typedef {import("../engine/replay_units.js").Unit} Unit
  * @typedef {import("../engine/worker_session.js").WorkerSession} WorkerSession
  * @typedef {import("./arrivals.js").SoftBreakpoint} SoftBreakpoint
  */

@@ -2,7 +2,7 @@
 // first. If a run reaches a soft breakpoint, the plan shortens the run to the cycles up to that breakpoint.
 
 import { readRun } from "../bench/answers.js";
-import { CancelledError } from "../bench/faults.js";
+import { CancelledError } from "../bench/bench_errors.js";
 import { findInputEnd, readInputs } from "../bench/inputs.js";
 import { parseNumber } from "../bench/numbers.js";
 import { MAX_RUN_CYCLES } from "../engine/key_queue.js";

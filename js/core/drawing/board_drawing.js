@@ -3,27 +3,27 @@
 
 import { readBoard, parseRefusal } from "../bench/answers.js";
 import { boardLines } from "../bench/board_form.js";
-import { counted } from "../bench/numbers.js";
+import { formatQuantity } from "../bench/numbers.js";
 import { Face } from "../board/face.js";
-import { sentText } from "../text/text_fault.js";
-import { SHELF_PARTS, applyAction, reasonNotToAdd, matchesBench } from "./acts.js";
+import { sentText } from "../text/sendable_text.js";
+import { SHELF_PARTS, applyAction, reasonNotToAdd, matchesBench } from "./drawing_actions.js";
 import { targetName, possibleSources, possibleTargets, inputLines, boardWithBuzzer } from "./board_lines.js";
-import { selectionForm } from "./fields.js";
+import { selectionForm } from "./selection_form.js";
 import { MovedParts } from "./moved_parts.js";
 import * as say from "../../words/drawing.js";
 
 /**
  * @typedef {import("./board_lines.js").Board} Board
- * @typedef {import("./acts.js").DrawingAction} DrawingAction
- * @typedef {import("./acts.js").ShelfPart} ShelfPart
+ * @typedef {import("./drawing_actions.js").DrawingAction} DrawingAction
+ * @typedef {import("./drawing_actions.js").ShelfPart} ShelfPart
  * @typedef {import("./text_edits.js").TextEdit} TextEdit
  *
  * The state for the view. `board` and `face`: the board that the text describes, and its front panel. `isWired`: true if the session has
  * the same board. `fault`: the message if the board cannot be drawn, or "". `shelf`: the parts on the shelf; each has a message if it
  * cannot be added now, or "". `chosen` and `fields`: the selection and its fields. `begun`: the start pin of an unfinished wire, or "".
  * `ends`: the possible end pins of the wire. `lastMessage`: the last message.
- * @typedef {{ board: Board, face: Face, isWired: boolean, fault: string, shelf: Map<ShelfPart, string>, chosen: string,
- *   fields: import("./fields.js").SelectionForm, begun: string, ends: Set<string>, lastMessage: string }} DrawingState
+ * @typedef {{ board: Board, face: Face, isWired: boolean, fault: string, shelf: Map<ShelfPart, string>, selected: string,
+ *   fields: import("./selection_form.js").SelectionForm, wireStart: string, ends: Set<string>, lastMessage: string }} DrawingState
  */
 
 /**
@@ -57,8 +57,8 @@ export class Drawing {
     this.shelf = new Map();
     /** The last text read; null before the first reading. */
     this.text = /** @type {string | null} */ (null);
-    this.chosen = "";
-    this.begun = "";
+    this.selected = "";
+    this.wireStart = "";
     this.lastMessage = "";
     /** The positions of dragged parts. */
     this.movedParts = new MovedParts();
@@ -77,8 +77,8 @@ export class Drawing {
   /** Clears the text, the selection and the message when another session is shown. */
   forget() {
     this.text = null;
-    this.chosen = "";
-    this.begun = "";
+    this.selected = "";
+    this.wireStart = "";
     this.lastMessage = "";
   }
 
@@ -121,9 +121,9 @@ export class Drawing {
     this.face = new Face(text);
     this.board = boardWithBuzzer(readBoard(answers), this.face);
     this.fault = fault;
-    this.begun = "";
+    this.wireStart = "";
     if (fault === "") this.shelf = new Map(SHELF_PARTS.map((part) => [part, reasonNotToAdd(text, part)]));
-    if (!this.isOnBoard(this.chosen)) this.chosen = "";
+    if (!this.isOnBoard(this.selected)) this.selected = "";
   }
 
   /**
@@ -156,18 +156,18 @@ export class Drawing {
 
   /** The pins at which the unfinished wire can end. */
   get ends() {
-    const { board, begun } = this;
-    if (begun === "" || this.fault) return new Set(/** @type {string[]} */ ([]));
-    const currentLine = inputLines(board).get(begun);
-    if (currentLine === undefined) return new Set(possibleTargets(board, begun));
-    return new Set(possibleSources(board, begun).filter((line) => line !== currentLine));
+    const { board, wireStart } = this;
+    if (wireStart === "" || this.fault) return new Set(/** @type {string[]} */ ([]));
+    const currentLine = inputLines(board).get(wireStart);
+    if (currentLine === undefined) return new Set(possibleTargets(board, wireStart));
+    return new Set(possibleSources(board, wireStart).filter((line) => line !== currentLine));
   }
 
   /** Passes the current state to the view. */
   reportChange() {
-    const { board, face, fault, shelf, chosen, begun, ends, lastMessage } = this;
+    const { board, face, fault, shelf, selected, wireStart, ends, lastMessage } = this;
     const isWired = this.answers.join("\n") === this.wiredAnswers;
-    this.show({ board, face, isWired, fault, shelf, chosen, fields: selectionForm(board, face, chosen), begun, ends, lastMessage });
+    this.show({ board, face, isWired, fault, shelf, selected, fields: selectionForm(board, face, selected), wireStart, ends, lastMessage });
   }
 
   /**
@@ -184,14 +184,14 @@ export class Drawing {
    * pin is selected, and a wire begins at the pin.
    * @param {string} name
    */
-  pressed(name) {
+  handleClick(name) {
     if (this.ends.has(name)) return this.endWire(name);
-    const isSamePin = this.begun === name;
-    this.chosen = name;
-    this.begun = isSamePin ? "" : name;
-    if (this.ends.size === 0) this.begun = "";
+    const isSamePin = this.wireStart === name;
+    this.selected = name;
+    this.wireStart = isSamePin ? "" : name;
+    if (this.ends.size === 0) this.wireStart = "";
     const count = this.ends.size;
-    this.say(this.begun ? say.wireBegins(pinName(name), counted(count, "pin")) : "");
+    this.say(this.wireStart ? say.wireBegins(pinName(name), formatQuantity(count, "pin")) : "");
     return Promise.resolve();
   }
 
@@ -200,16 +200,16 @@ export class Drawing {
    * @param {string} name the name of the pin
    */
   endWire(name) {
-    const { begun, board } = this;
-    const [line, target] = inputLines(board).has(begun) ? [name, begun] : [begun, name];
+    const { wireStart, board } = this;
+    const [line, target] = inputLines(board).has(wireStart) ? [name, wireStart] : [wireStart, name];
     return this.act({ kind: "wire", line, target });
   }
 
   /** Drops the unfinished wire. Without an unfinished wire, clears the selection. */
   cancelWire() {
-    const message = this.begun ? say.NO_WIRE : "";
-    if (!this.begun) this.chosen = "";
-    this.begun = "";
+    const message = this.wireStart ? say.NO_WIRE : "";
+    if (!this.wireStart) this.selected = "";
+    this.wireStart = "";
     this.say(message);
   }
 
@@ -238,7 +238,7 @@ export class Drawing {
     this.calls.edit(result.edits);
     this.movedParts.note(text, result.text, result.deletedChains);
     this.take(result.text, answers, "");
-    this.chosen = this.isOnBoard(result.part) ? result.part : "";
+    this.selected = this.isOnBoard(result.part) ? result.part : "";
     return this.say(result.words);
   }
 

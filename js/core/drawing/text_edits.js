@@ -11,7 +11,7 @@
  * @param {string} text
  * @param {TextEdit[]} edits
  */
-export function edited(text, edits) {
+export function applyEdits(text, edits) {
   return edits.reduce((currentText, { from, to, insert }) => currentText.slice(0, from) + insert + currentText.slice(to), text);
 }
 
@@ -28,7 +28,7 @@ export function inverseEdits(text, edits) {
   for (const edit of edits) {
     const { from, to, insert } = edit;
     inverse.unshift({ from, to: from + insert.length, insert: currentText.slice(from, to) });
-    currentText = edited(currentText, [edit]);
+    currentText = applyEdits(currentText, [edit]);
   }
   return inverse;
 }

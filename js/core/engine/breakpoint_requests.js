@@ -2,7 +2,7 @@
 
 import { readBoard } from "../bench/answers.js";
 import { Face } from "../board/face.js";
-import { collectWatchNames } from "../debug/watched.js";
+import { collectWatchNames } from "../debug/watch_expressions.js";
 import { SourceMap } from "../machine/source_map.js";
 
 /**
@@ -39,6 +39,6 @@ export class BreakpointRequests {
    */
   stopAtFaults(kinds) {
     this.bench.stopKinds = kinds;
-    if (this.bench.currentDebugger) this.bench.currentDebugger.usual.stops = new Set(kinds);
+    if (this.bench.currentDebugger) this.bench.currentDebugger.commonMistakes.stops = new Set(kinds);
   }
 }

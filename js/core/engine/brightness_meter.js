@@ -3,7 +3,7 @@
 
 import { digitPatterns, UNLIT_PATTERN, isLit } from "../board/digit_patterns.js";
 import { fittingGroups, isScanned } from "../board/face_board.js";
-import { Answers, parseTraceLine } from "./tracing.js";
+import { ForecastAnswers, parseTraceLine } from "./forecast_answers.js";
 
 /**
  * @typedef {import("../board/face.js").Face} Face
@@ -177,7 +177,7 @@ export class BrightnessMeter {
     this.number = number;
     const groups = fittingGroups(face, count);
     this.displays = groups.filter(({ kind }) => kind === "display").map((group) => new PatternTimes(group));
-    this.scanned = groups.filter((group) => isScanned(group) && group.kind !== "display").map((group) => new ScannedLampTimes(group));
+    this.scannedLamps = groups.filter((group) => isScanned(group) && group.kind !== "display").map((group) => new ScannedLampTimes(group));
     this.cycles = 0;
     /** The current lamp marks; "" before the first report. */
     this.marks = "";
@@ -216,7 +216,7 @@ export class BrightnessMeter {
     }
     const litShares = {
       face, cycles, marks, lamps: litCycles.slice(), moved: changeTimes.map((each) => each.take(cycles)),
-      displays: this.displays.map((each) => each.take(cycles)), scanned: this.scanned.map((each) => each.take(marks, cycles)),
+      displays: this.displays.map((each) => each.take(cycles)), scanned: this.scannedLamps.map((each) => each.take(marks, cycles)),
     };
     litCycles.fill(0);
     this.cycles = 0;
@@ -225,7 +225,7 @@ export class BrightnessMeter {
 
   /** @param {string[]} answers the lines of the answer to one query; an instruction takes effect after its first cycle */
   add(answers) {
-    const { row, lines, cycles } = new Answers(answers).takeTrace();
+    const { row, lines, cycles } = new ForecastAnswers(answers).takeTrace();
     const startCycles = this.cycles;
     this.change(row.slice(1), startCycles);
     for (const line of lines) {
@@ -255,6 +255,6 @@ export class BrightnessMeter {
       changeTimes[at].add(cycles);
     }
     for (const display of this.displays) display.change(marks, marksBefore, cycles);
-    for (const group of this.scanned) group.addUpTo(marksBefore, cycles);
+    for (const group of this.scannedLamps) group.addUpTo(marksBefore, cycles);
   }
 }

@@ -1,6 +1,6 @@
 // Loads texts into an empty session. Returns the resulting board, and the texts that the bench rejects.
 
-import { findLineFaults, sentText } from "../text/text_fault.js";
+import { findLineFaults, sentText } from "../text/sendable_text.js";
 import { wordsOfLine } from "../../words/stops.js";
 
 /**

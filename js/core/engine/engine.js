@@ -1,7 +1,7 @@
 // Calls the proved WebAssembly module. A call receives lines and the bytes of a session file; it returns answers and the new bytes of the
 // file. The module does not store a session between calls.
 
-import { BenchRefusal, BenchTrap, OUT_OF_MEMORY } from "../bench/faults.js";
+import { BenchRefusal, BenchTrap, OUT_OF_MEMORY } from "../bench/bench_errors.js";
 
 /**
  * The result of served lines: the shell's status, the first answer `session N`, and the other answers.

@@ -1,6 +1,6 @@
 // Defines the examples: texts that a new session can load.
 
-import { sentText } from "../text/text_fault.js";
+import { sentText } from "../text/sendable_text.js";
 
 /**
  * An example. `lines` are lines that the page offers to the user for sending; without such lines, time runs at once. `tests` and

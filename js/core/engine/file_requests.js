@@ -1,9 +1,9 @@
 // Requests about the module, and about files and texts outside the open session.
 
-import { readErrors, readWiring } from "../bench/text_judgement.js";
+import { readErrors, readWiring } from "../bench/text_check_answers.js";
 import { Engine } from "./engine.js";
 import { exampleLines } from "./examples.js";
-import { recoverTexts } from "./texts_of_file.js";
+import { recoverTexts } from "./text_recovery.js";
 import { dryRun } from "./dry_run.js";
 
 /**
@@ -24,8 +24,8 @@ export class FileRequests {
    */
   async load(module, examples) {
     this.bench.examples = examples;
-    this.bench.loaded = await Engine.load(module);
-    return this.bench.loaded.size;
+    this.bench.loadedModule = await Engine.load(module);
+    return this.bench.loadedModule.size;
   }
 
   /**

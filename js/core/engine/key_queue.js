@@ -96,7 +96,7 @@ export class KeyQueue {
    * @param {PlannedLine[]} plannedLines
    * @param {(at: number) => number} cyclesOf returns the number of cycles that the line at an index ran
    */
-  done(plannedLines, cyclesOf) {
+  markExecuted(plannedLines, cyclesOf) {
     plannedLines.forEach(({ change }, at) => {
       if (change) {
         this.changes = this.changes.filter((each) => each !== change);

@@ -4,16 +4,16 @@
 import { readBoard, readRun } from "../bench/answers.js";
 import { ADDRESS_COUNT } from "../bench/rom_bytes.js";
 import { createBoardLines } from "../waves/wave_lines.js";
-import { linesWithQueries, splitAnswers, replayLine } from "./asking.js";
-import { Answers, parseTraceLine, rowValues } from "./tracing.js";
+import { linesWithQueries, splitAnswers, replayLine } from "./forecast_queries.js";
+import { ForecastAnswers, parseTraceLine, rowValues } from "./forecast_answers.js";
 import { listingLinesAt } from "./wave_recorder.js";
-import { WaveBuilder } from "./wave_taking.js";
-import { RECORDING_PIECE_CYCLES, RECORDING_PIECE_UNITS } from "./pieces.js";
+import { WaveBuilder } from "./wave_builder.js";
+import { RECORDING_PIECE_CYCLES, RECORDING_PIECE_UNITS } from "./piece_size.js";
 
 /**
- * @typedef {import("./accepted.js").AcceptedCommand} AcceptedCommand
+ * @typedef {import("./accepted_commands.js").AcceptedCommand} AcceptedCommand
  * @typedef {import("./engine_host.js").EngineHost} Engine
- * @typedef {import("./asking.js").SentLine} SentLine
+ * @typedef {import("./forecast_queries.js").SentLine} SentLine
  * @typedef {import("./wave_recorder.js").Recording} Recording
  * @typedef {import("./wave_recorder.js").RecordedPart} RecordedPart
  * @typedef {import("./wave_recorder.js").Texts} Texts
@@ -24,7 +24,7 @@ import { RECORDING_PIECE_CYCLES, RECORDING_PIECE_UNITS } from "./pieces.js";
  *
  * A part of a recording. `triggered`: the moment of the trigger, -1 before the trigger. `over`: the reason why the recording ended, ""
  * while it continues: "hand", "trigger", "board", "program", "back", "lines", "long".
- * @typedef {RecordedPart & { triggered: number, over: string }} LivePart
+ * @typedef {RecordedPart & { triggerMoment: number, over: string }} LivePart
  */
 
 /** The maximum length of a recording in cycles. A moment is stored in 32 bits. */
@@ -41,12 +41,12 @@ export class LiveRecorder {
     this.texts = texts;
     this.lines = createBoardLines(readBoard(engine.ask(file, "board\n").answers), texts.board, texts.program !== null, texts.values);
     this.builder = new WaveBuilder(this.lines);
-    this.builder.begin(new Answers(engine.ask(file, `state\n${this.builder.queries(1)}`).answers));
+    this.builder.begin(new ForecastAnswers(engine.ask(file, `state\n${this.builder.queries(1)}`).answers));
     /** @type {Trigger | null} */
     this.trigger = null;
     /** @type {LiveSetup} */
     this.options = { behind: 0, stopsTime: false };
-    this.triggered = -1;
+    this.triggerMoment = -1;
     this.over = "";
     this.wasTrue = true;
     /** True if time must stop because the recording is complete. */
@@ -72,7 +72,7 @@ export class LiveRecorder {
 
   /** The moment at which the recording ends; Infinity before the trigger. */
   get end() {
-    return this.triggered < 0 ? Infinity : this.triggered + this.options.behind;
+    return this.triggerMoment < 0 ? Infinity : this.triggerMoment + this.options.behind;
   }
 
   /**
@@ -93,7 +93,7 @@ export class LiveRecorder {
     const part = this.builder.take();
     const newAddresses = [...new Set(part.counters)].filter((address) => this.listedAddresses[address] === 0);
     for (const address of newAddresses) this.listedAddresses[address] = 1;
-    return { ...part, listing: listingLinesAt(this.engine, file, newAddresses), triggered: this.triggered, over: this.over };
+    return { ...part, listing: listingLinesAt(this.engine, file, newAddresses), triggerMoment: this.triggerMoment, over: this.over };
   }
 
   /** @param {string} reason the reason, as in `over` */
@@ -131,7 +131,7 @@ export class LiveRecorder {
     const instructionCount = builder.moments.count;
     const counts = trigger ? trigger.members.map((member) => builder.tracks[member].moments.count) : [];
     plannedLines.forEach(({ change }, at) => {
-      const lineAnswers = new Answers(tracedAnswers[at]);
+      const lineAnswers = new ForecastAnswers(tracedAnswers[at]);
       if (change) {
         builder.takeState(lineAnswers.take());
         return;
@@ -149,7 +149,7 @@ export class LiveRecorder {
 
   /**
    * Triggers at the first moment at which the condition becomes true in a run.
-   * @param {Answers} answers
+   * @param {ForecastAnswers} answers
    * @param {number} from the moment before the run
    */
   takeCondition(answers, from) {
@@ -168,7 +168,7 @@ export class LiveRecorder {
    */
   checkCondition(values, moment) {
     const isTrue = this.trigger !== null && this.trigger.holds(values);
-    if (isTrue && !this.wasTrue && this.triggered < 0) this.triggered = moment;
+    if (isTrue && !this.wasTrue && this.triggerMoment < 0) this.triggerMoment = moment;
     this.wasTrue = isTrue;
   }
 
@@ -178,14 +178,14 @@ export class LiveRecorder {
    * @param {number[]} counts the number of earlier changes of each line
    */
   takeEdges({ members, edge }, counts) {
-    if (this.triggered >= 0) return;
+    if (this.triggerMoment >= 0) return;
     const level = { rises: 1, falls: 0, changes: -1 }[edge || "changes"];
     const edgeMoments = members.flatMap((member, index) => {
       const track = this.builder.tracks[member];
       const moments = [...track.moments.all.subarray(counts[index])];
       return moments.find((_, at) => level < 0 || track.valueAfter(counts[index] + at + 1) === level) ?? [];
     });
-    if (edgeMoments.length > 0) this.triggered = Math.min(...edgeMoments);
+    if (edgeMoments.length > 0) this.triggerMoment = Math.min(...edgeMoments);
   }
 
   /**
@@ -194,10 +194,10 @@ export class LiveRecorder {
    * @param {number} earlierCount the number of earlier instructions
    */
   takeArrival(address, earlierCount) {
-    if (this.triggered >= 0) return;
+    if (this.triggerMoment >= 0) return;
     const [moments, counters] = [this.builder.moments.all, this.builder.counters.all];
     const found = moments.findIndex((moment, at) => at >= earlierCount && moment > 0 && counters[at] === address);
-    if (found >= 0) this.triggered = moments[found];
+    if (found >= 0) this.triggerMoment = moments[found];
   }
 
   /**
@@ -209,7 +209,7 @@ export class LiveRecorder {
   endIfComplete(startMoment, earlierCount) {
     const { builder, end, options } = this;
     if (builder.elapsed >= MAX_MOMENT) this.stop("long");
-    if (this.triggered >= 0) this.tracedPlaces = "";
+    if (this.triggerMoment >= 0) this.tracedPlaces = "";
     if (builder.elapsed < end) return -1;
     this.stop("trigger");
     if (!options.stopsTime) return -1;

@@ -3,9 +3,9 @@
 import { readBoard } from "../bench/answers.js";
 import { Face } from "../board/face.js";
 import { NO_TALLY, joinTallies } from "../debug/debugger.js";
-import { collectWatchNames } from "../debug/watched.js";
+import { collectWatchNames } from "../debug/watch_expressions.js";
 import { SourceMap } from "../machine/source_map.js";
-import { sentText } from "../text/text_fault.js";
+import { sentText } from "../text/sendable_text.js";
 import { recordedProgram } from "../waves/wave_program.js";
 import { FullSpeed } from "./full_speed.js";
 import { findDifference, readProgram } from "./program_check.js";
@@ -37,7 +37,7 @@ export class OpenBench {
     this.spareBuffers = [];
     this.fullSpeed = new FullSpeed();
     /** @type {Engine | null} */
-    this.loaded = null;
+    this.loadedModule = null;
     /** @type {Debugger | null} the debugger of the open session */
     this.currentDebugger = null;
     /** @type {Example[]} */
@@ -49,8 +49,8 @@ export class OpenBench {
   }
 
   get engine() {
-    if (!this.loaded) throw new Error("the module is not loaded");
-    return this.loaded;
+    if (!this.loadedModule) throw new Error("the module is not loaded");
+    return this.loadedModule;
   }
 
   get debugger() {
@@ -68,7 +68,7 @@ export class OpenBench {
    * @param {boolean} showsBoard
    * @returns {PageState}
    */
-  shown(snapshot, showsBoard) {
+  snapshotReport(snapshot, showsBoard) {
     const { file, statusQueries, count, timeline, printing, queue } = this.session;
     const buffer = this.spareBuffers.pop() || new ArrayBuffer(file.length);
     new Uint8Array(buffer).set(file);
@@ -95,7 +95,7 @@ export class OpenBench {
    * @returns {Promise<LinesReply>}
    */
   serve(lines) {
-    return this.served(() => this.session.serve(lines, (done) => this.shouldContinue(done, lines.length)));
+    return this.executeAndReport(() => this.session.serve(lines, (done) => this.shouldContinue(done, lines.length)));
   }
 
   /**
@@ -103,13 +103,13 @@ export class OpenBench {
    * @param {() => Promise<import("./worker_session.js").ResultAndSnapshot>} serve
    * @returns {Promise<LinesReply>}
    */
-  async served(serve) {
+  async executeAndReport(serve) {
     const { reset } = this.session.count;
     const { snapshot, ...result } = await serve();
-    this.debugger.usual.forget();
+    this.debugger.commonMistakes.forget();
     // A reset clears the return addresses.
     if (this.session.count.reset !== reset) this.debugger.begin();
-    return { ...result, ...this.shown(snapshot, result.wires) };
+    return { ...result, ...this.snapshotReport(snapshot, result.wires) };
   }
 
   /**
@@ -117,7 +117,8 @@ export class OpenBench {
    * @returns {LinesReply}
    */
   nothingServed() {
-    return { entries: [], first: "", status: 0, touchesRom: false, wires: false, ...this.shown(this.session.takeSnapshot(), false) };
+    const report = this.snapshotReport(this.session.takeSnapshot(), false);
+    return { entries: [], first: "", status: 0, touchesRom: false, wires: false, ...report };
   }
 
   /**
@@ -131,7 +132,7 @@ export class OpenBench {
     const { file, statusQueries } = this.session;
     const difference = findDifference(this.engine, file, statusQueries.board, this.program);
     const isInRom = refusal === null && difference === null && map.length > 0;
-    this.debugger.usual.map = isInRom ? new SourceMap(map, text) : null;
+    this.debugger.commonMistakes.map = isInRom ? new SourceMap(map, text) : null;
     return { map, refusal, difference };
   }
 
@@ -139,7 +140,7 @@ export class OpenBench {
    * Returns the names that conditions can use.
    * @param {{ board: string, program: string, watched?: string[] }} texts
    */
-  namesOf({ board, program, watched }) {
+  collectNames({ board, program, watched }) {
     const sent = sentText(program, ";");
     const { map } = this.checkProgram(sent);
     return { face: new Face(board), board: readBoard(this.session.statusQueries.board), map: new SourceMap(map, sent),
@@ -161,7 +162,7 @@ export class OpenBench {
   takeUnreported() {
     const { tally, ...result } = this.fullSpeed.take();
     const lateTally = { ...NO_TALLY, usual: this.debugger.takeLateMistakes() };
-    return { ...result, tally: joinTallies(lateTally, tally), ...this.shown(this.session.takeSnapshot(), false) };
+    return { ...result, tally: joinTallies(lateTally, tally), ...this.snapshotReport(this.session.takeSnapshot(), false) };
   }
 
   /** Does the work of the debugger that was postponed until after the report to the page. */
@@ -178,6 +179,6 @@ export class OpenBench {
     this.fullSpeed.batch(this.debugger);
     if (!this.fullSpeed.isReportDue(this.spareBuffers.length > 0)) return null;
     const { snapshot, ...result } = this.fullSpeed.take();
-    return { ...result, ...this.session.measureAhead(), ...this.shown(snapshot, false) };
+    return { ...result, ...this.session.measureAhead(), ...this.snapshotReport(snapshot, false) };
   }
 }

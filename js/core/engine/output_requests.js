@@ -2,10 +2,10 @@
 
 import { readBoard } from "../bench/answers.js";
 import { Face } from "../board/face.js";
-import { HeatMeter } from "./heating.js";
-import { PrinterCodes } from "./printing.js";
+import { HeatMeter } from "./heat_meter.js";
+import { PrinterCodes } from "./printer_codes.js";
 import { BrightnessMeter } from "./brightness_meter.js";
-import { BuzzerMeter } from "./sounding.js";
+import { BuzzerMeter } from "./buzzer_meter.js";
 
 /**
  * @typedef {import("./open_bench.js").OpenBench} OpenBench

@@ -1,11 +1,11 @@
 // Finds the changes of values in some units of the past. A copy of the session replays the units, and the bench forecasts the changes.
 
-import { Answers, parseTraceLine } from "./tracing.js";
+import { ForecastAnswers, parseTraceLine } from "./forecast_answers.js";
 
 /**
  * @typedef {import("./engine_host.js").EngineHost} Engine
- * @typedef {import("./tracing.js").Trace} Trace
- * @typedef {import("./units.js").Unit} Unit
+ * @typedef {import("./forecast_answers.js").Trace} Trace
+ * @typedef {import("./replay_units.js").Unit} Unit
  *
  * A change in a group of values: the rows before and after the change, the unit, and the cycles of the unit before the change. `address` is
  * the address of the instruction that made the change; it is -1 if the command `line` made it.
@@ -24,7 +24,7 @@ function traceUnits(engine, file, units, groups) {
   /** @type {(cycles: number) => string} */
   const ask = (cycles) => groups.map((places) => `trace ${cycles} ${places.join(" ")}\n`).join("");
   const lines = units.map(({ line, cycles }) => `${ask(Math.max(1, cycles))}${line}\n`).join("");
-  const answers = new Answers(engine.serve(file, lines + ask(1), file).answers);
+  const answers = new ForecastAnswers(engine.serve(file, lines + ask(1), file).answers);
   return [...units, null].map((unit) => {
     const traces = groups.map(() => answers.takeTrace());
     if (unit) answers.take();

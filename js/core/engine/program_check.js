@@ -4,7 +4,7 @@ import { readBoard, readMap, parseRefusal } from "../bench/answers.js";
 import { matchAnswers, readInputs } from "../bench/inputs.js";
 import { indices } from "../bench/numbers.js";
 import { ADDRESS_COUNT, NO_BYTE, PAGE_NUMBERS, PAGE_BYTES, parseRomBytes, listQueries } from "../bench/rom_bytes.js";
-import { LONGEST_TEXT, TEXT_TOO_LONG } from "../text/text_fault.js";
+import { LONGEST_TEXT, TEXT_TOO_LONG } from "../text/sendable_text.js";
 
 /**
  * @typedef {import("../bench/answers.js").Refusal} Refusal
@@ -66,7 +66,7 @@ function filledAddresses(map) {
  * @param {Engine} engine
  * @param {Uint8Array} file
  * @param {Program} program
- * @returns {import("../text/assembling.js").Leftovers}
+ * @returns {import("../text/asm_texts.js").Leftovers}
  */
 export function findLeftovers(engine, file, program) {
   const bytes = parseRomBytes(engine.ask(file, listQueries(PAGE_NUMBERS)).answers);

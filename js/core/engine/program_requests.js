@@ -1,7 +1,7 @@
 // Requests about the program in ROM and its source.
 
 import { findLeftovers, readProgram } from "./program_check.js";
-import { disassembleRom } from "./texts_of_file.js";
+import { disassembleRom } from "./text_recovery.js";
 
 /**
  * @typedef {import("./open_bench.js").OpenBench} OpenBench

@@ -10,13 +10,13 @@ export class ProofRequests {
   /** @param {OpenBench} bench */
   constructor(bench) {
     this.bench = bench;
-    /** @type {import("../prove/judging.js").PropertyJudge | null} the judgement in progress */
+    /** @type {import("../prove/property_judge.js").PropertyJudge | null} the judgement in progress */
     this.proving = null;
   }
 
   /**
    * Starts to prove properties. Returns the errors in the texts, and the number of properties to judge.
-   * @param {import("../explore/exploring.js").ExploredTexts} texts
+   * @param {import("../explore/sliced_search.js").ExploredTexts} texts
    * @param {number} maxStates the maximum number of states per prover question
    */
   prove(texts, maxStates) {

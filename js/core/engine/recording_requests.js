@@ -42,7 +42,7 @@ export class RecordingRequests {
   recordLive(texts, options) {
     const { engine, session } = this.bench;
     const recorder = new LiveRecorder(engine, session.file, this.bench.recordingTexts(texts));
-    const names = this.bench.namesOf(texts);
+    const names = this.bench.collectNames(texts);
     const { trigger, fault } = readTrigger(options.trigger, recorder.lines, names);
     if (fault) return { recorded: null, fault };
     recorder.waitFor(trigger, options);

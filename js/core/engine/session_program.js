@@ -3,13 +3,13 @@
 
 import { hex } from "../bench/numbers.js";
 import { SourceMap } from "../machine/source_map.js";
-import { findTextErrors } from "../testing/prepared.js";
-import { sentText } from "../text/text_fault.js";
+import { findTextErrors } from "../testing/test_preparation.js";
+import { sentText } from "../text/sendable_text.js";
 import { readProgram } from "./program_check.js";
 
 /**
  * @typedef {import("./engine_host.js").EngineHost} EngineHost
- * @typedef {import("../testing/prepared.js").TextFault} TextFault
+ * @typedef {import("../testing/test_preparation.js").TextFault} TextFault
  *
  * The first difference between ROM and the program: the address, the byte in ROM, the source line, and the byte that the line produces.
  * @typedef {{ address: string, is: string, line: number, makes: string }} OtherByte

@@ -1,9 +1,9 @@
 // Requests that open a session, serve lines and answer queries.
 
-import { BenchRefusal } from "../bench/faults.js";
+import { BenchRefusal } from "../bench/bench_errors.js";
 import { NO_TALLY, Debugger } from "../debug/debugger.js";
-import { CycleCount } from "./accepted.js";
-import { PrinterCodes } from "./printing.js";
+import { CycleCount } from "./accepted_commands.js";
+import { PrinterCodes } from "./printer_codes.js";
 import { WorkerSession } from "./worker_session.js";
 
 /**
@@ -23,16 +23,16 @@ export class SessionRequests {
    * @param {Uint8Array} file
    * @param {number} [totalCycles] the cycle count
    * @param {number} [resetCycles] the cycle count at the last reset
-   * @param {import("./printing.js").PrintoutData | null} [printout]
+   * @param {import("./printer_codes.js").PrintoutData | null} [printout]
    */
   open(file, totalCycles = 0, resetCycles = 0, printout = null) {
     const session = new WorkerSession(this.bench.engine, file, new CycleCount(totalCycles, resetCycles));
     session.printing = printout && new PrinterCodes(printout);
     const snapshot = session.takeSnapshot();
     this.bench.currentDebugger = new Debugger(session);
-    this.bench.currentDebugger.usual.stops = new Set(this.bench.stopKinds);
+    this.bench.currentDebugger.commonMistakes.stops = new Set(this.bench.stopKinds);
     this.bench.fullSpeed.stop();
-    return this.bench.shown(snapshot, true);
+    return this.bench.snapshotReport(snapshot, true);
   }
 
   /**
@@ -66,7 +66,7 @@ export class SessionRequests {
    */
   async serveTyped(lines) {
     const typedResult = { id: 0, why: "", change: "", cut: "", cycles: 0, tally: NO_TALLY };
-    const result = await this.bench.served(async () => {
+    const result = await this.bench.executeAndReport(async () => {
       const served = await this.bench.debugger.serveTyped(lines, (done) => this.bench.shouldContinue(done, lines.length));
       Object.assign(typedResult, served.typed);
       return served.result;

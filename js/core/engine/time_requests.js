@@ -21,7 +21,7 @@ export class TimeRequests {
   advance(cycles, key = null) {
     if (key) this.press(key);
     const { snapshot, ...result } = this.bench.debugger.advance(cycles, key !== null);
-    return { ...result, ...this.bench.shown(snapshot, false) };
+    return { ...result, ...this.bench.snapshotReport(snapshot, false) };
   }
 
   /**

@@ -1,14 +1,14 @@
 // Stores the past of a session, for moves back in time: the session file at some moments, and the accepted commands after each of these
 // moments. To compute a past state, a copy of such a file runs the commands again. When the past becomes too long, segments without stops
-// are removed first. The past is stored in the memory of this worker. The page receives the additions (session/kept_past.js), and restores
-// the past after a reload.
+// are removed first. The past is stored in the memory of this worker. The page receives the additions (session/stored_history.js), and
+// restores the past after a reload.
 
-import { CancelledError } from "../bench/faults.js";
+import { CancelledError } from "../bench/bench_errors.js";
 import { stripSeq } from "../bench/state_line.js";
-import { CycleCount } from "./accepted.js";
+import { CycleCount } from "./accepted_commands.js";
 
 /**
- * @typedef {import("./accepted.js").AcceptedCommand} AcceptedCommand
+ * @typedef {import("./accepted_commands.js").AcceptedCommand} AcceptedCommand
  * @typedef {import("./engine_host.js").EngineHost} Engine
  *
  * A command. `isStop` is true if time was paused before the command.

@@ -2,13 +2,13 @@
 
 import { readBoard } from "../bench/answers.js";
 import { nearDistance } from "../debug/debugger.js";
-import { measureHeat } from "./heat.js";
+import { measureHeat } from "./heat_map.js";
 
 /**
  * @typedef {import("./open_bench.js").OpenBench} OpenBench
  * @typedef {import("../bench/protocol.js").GoalReply} GoalReply
  * @typedef {import("../debug/debugger.js").BackResult} BackResult
- * @typedef {import("./going_back.js").BackGoal} BackGoal
+ * @typedef {import("./past_search.js").BackGoal} BackGoal
  * @typedef {import("../bench/protocol.js").TravelResult} TravelResult
  * @typedef {import("../debug/goals.js").Goal} Goal
  */
@@ -24,7 +24,7 @@ export class TravelRequests {
    * @param {{ board: string, program: string, watched?: string[] }} texts
    */
   takeNames(texts) {
-    this.bench.debugger.names = this.bench.namesOf(texts);
+    this.bench.debugger.names = this.bench.collectNames(texts);
   }
 
   /**
@@ -38,7 +38,7 @@ export class TravelRequests {
     const { found, result, tally } = await this.bench.debugger.goOn(goal, maxCycles, (done) => this.bench.shouldContinue(done, maxCycles));
     if (!result) return { ...this.bench.nothingServed(), found, tally };
     const { snapshot, ...served } = result;
-    return { ...served, ...this.bench.shown(snapshot, false), found, tally };
+    return { ...served, ...this.bench.snapshotReport(snapshot, false), found, tally };
   }
 
   /** Drops the goal because the user starts or pauses time. */
@@ -99,5 +99,5 @@ function travelResult(bench, word, outcome) {
   const { session } = bench;
   const { isDone, wires } = outcome;
   const entries = isDone ? [{ line: `(${word})`, textLines: 0, answers: [bench.engine.ask(session.file, "").opened] }] : [];
-  return { entries, first: "", status: 0, touchesRom: isDone, ...outcome, ...bench.shown(session.takeSnapshot(), wires) };
+  return { entries, first: "", status: 0, touchesRom: isDone, ...outcome, ...bench.snapshotReport(session.takeSnapshot(), wires) };
 }

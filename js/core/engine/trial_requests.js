@@ -1,6 +1,6 @@
 // Requests that run tests and search for counterexamples, in separate sessions.
 
-import { SlicedSearch, parseSearchTexts, prepareSearch } from "../explore/exploring.js";
+import { SlicedSearch, parseSearchTexts, prepareSearch } from "../explore/sliced_search.js";
 import { sampleTest } from "../testing/sample_test.js";
 import { parseTestedTexts, runTests } from "../testing/test_suite.js";
 
@@ -26,7 +26,7 @@ export class TrialRequests {
 
   /**
    * Returns a sample test for a board and its program.
-   * @param {import("../testing/prepared.js").Texts} texts
+   * @param {import("../testing/test_preparation.js").Texts} texts
    */
   sampleTest(texts) {
     return sampleTest(this.bench.engine, texts);
@@ -42,7 +42,7 @@ export class TrialRequests {
 
   /**
    * Returns the errors in a properties text, or in its board and program.
-   * @param {import("../explore/exploring.js").ExploredTexts} texts
+   * @param {import("../explore/sliced_search.js").ExploredTexts} texts
    */
   propertyFaults(texts) {
     return parseSearchTexts(this.bench.engine, texts).faults;
@@ -50,8 +50,8 @@ export class TrialRequests {
 
   /**
    * Starts a search for counterexamples. Resolves to the errors in the texts.
-   * @param {import("../explore/exploring.js").ExploredTexts} texts
-   * @param {import("../explore/exploring.js").RunOptions} options
+   * @param {import("../explore/sliced_search.js").ExploredTexts} texts
+   * @param {import("../explore/sliced_search.js").RunOptions} options
    */
   async explore(texts, options) {
     const { searchSetup, faults } = await prepareSearch(this.bench.engine, texts);

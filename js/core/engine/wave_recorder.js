@@ -2,21 +2,21 @@
 // and asks the bench for a forecast before each run.
 
 import { readBoard } from "../bench/answers.js";
-import { CancelledError } from "../bench/faults.js";
+import { CancelledError } from "../bench/bench_errors.js";
 import { joinLines } from "../bench/inputs.js";
 import { createBoardLines } from "../waves/wave_lines.js";
 import { MAX_RUN_CYCLES } from "./key_queue.js";
-import { FIRST_PIECE_CYCLES, PieceSize, RECORDING_PIECE_CYCLES, RECORDING_PIECE_UNITS } from "./pieces.js";
-import { Answers } from "./tracing.js";
-import { splitIntoPieces, unitsBetween } from "./units.js";
-import { WaveBuilder } from "./wave_taking.js";
-import { copyWithoutStops } from "./without_stops.js";
+import { FIRST_PIECE_CYCLES, PieceSize, RECORDING_PIECE_CYCLES, RECORDING_PIECE_UNITS } from "./piece_size.js";
+import { ForecastAnswers } from "./forecast_answers.js";
+import { splitIntoPieces, unitsBetween } from "./replay_units.js";
+import { WaveBuilder } from "./wave_builder.js";
+import { copyWithoutStops } from "./free_running_copy.js";
 
 /**
  * @typedef {import("./engine_host.js").EngineHost} Engine
  * @typedef {import("./timeline.js").Moment} Moment
  * @typedef {import("./timeline.js").Timeline} Timeline
- * @typedef {import("./units.js").Unit} Unit
+ * @typedef {import("./replay_units.js").Unit} Unit
  * @typedef {import("../waves/wave_lines.js").WaveLine} WaveLine
  *
  * The program in ROM: its text, the source lines by address (0 for none), and its labels in ascending address order.
@@ -30,7 +30,7 @@ import { copyWithoutStops } from "./without_stops.js";
  * - `moments`, `counters`: the start of each instruction and the end, and the program counters at these moments;
  * - `isOwed`: true if the first of these moments is the second cycle of an instruction;
  * - `listing`: the listing lines at new program counters.
- * @typedef {import("./wave_taking.js").WavePart & { listing: [number, string][] }} RecordedPart
+ * @typedef {import("./wave_builder.js").WavePart & { listing: [number, string][] }} RecordedPart
  *
  * A complete recording with its signal lines. `program` is null if the text is not the program in ROM.
  * @typedef {RecordedPart & { lines: WaveLine[], program: RecordedProgram | null }} Recording
@@ -55,7 +55,7 @@ class WaveRecorder {
     this.program = texts.program;
     const board = readBoard(engine.ask(file, "board\n").answers);
     this.builder = new WaveBuilder(createBoardLines(board, texts.board, texts.program !== null, texts.values));
-    this.builder.begin(new Answers(engine.ask(file, `state\n${this.builder.queries(1)}`).answers));
+    this.builder.begin(new ForecastAnswers(engine.ask(file, `state\n${this.builder.queries(1)}`).answers));
   }
 
   /**
@@ -65,7 +65,7 @@ class WaveRecorder {
   record(units) {
     const { engine, file, builder } = this;
     const lines = units.map(({ line, cycles }) => (cycles > 0 ? `${builder.queries(cycles)}${line}\n` : `${line}\nstate\n`)).join("");
-    const answers = new Answers(engine.serve(file, lines, file).answers);
+    const answers = new ForecastAnswers(engine.serve(file, lines, file).answers);
     for (const { cycles } of units) {
       if (cycles > 0) {
         builder.takeRun(answers);

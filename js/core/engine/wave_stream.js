@@ -2,8 +2,8 @@
 // long recording.
 
 import { Waves } from "../waves/wave_recording.js";
-import { Answers } from "./tracing.js";
-import { WaveBuilder } from "./wave_taking.js";
+import { ForecastAnswers } from "./forecast_answers.js";
+import { WaveBuilder } from "./wave_builder.js";
 
 /**
  * @typedef {import("./engine_host.js").EngineHost} EngineHost
@@ -46,12 +46,12 @@ export function neededLines(lines, chosenLines) {
  */
 export async function* recordPieces(engine, state, { lines, program, cycles }, yieldToMessages) {
   const builder = new WaveBuilder(lines, lines.some(dependsOnCounter));
-  builder.begin(new Answers(engine.ask(state, `state\n${builder.queries(1)}`).answers));
+  builder.begin(new ForecastAnswers(engine.ask(state, `state\n${builder.queries(1)}`).answers));
   const waves = new Waves({ ...builder.take(), lines, listing: [], program });
   yield waves;
   while (builder.elapsed < cycles && !builder.isStuck) {
     const next = Math.min(PIECE_CYCLES, cycles - builder.elapsed);
-    const answers = new Answers(engine.serve(state, `${builder.queries(next)}run ${next}\nstate\n`, state).answers);
+    const answers = new ForecastAnswers(engine.serve(state, `${builder.queries(next)}run ${next}\nstate\n`, state).answers);
     builder.takeRun(answers);
     builder.takeState(answers.take());
     waves.beginAt(waves.cycles);

@@ -1,34 +1,34 @@
 // The session in the worker: the bytes of its file, the queued key changes, and the calls that use them. A call either succeeds completely,
 // or throws and changes nothing.
 
-import { CycleCount, findAcceptedCommands } from "./accepted.js";
-import { linesWithQueries, splitAnswers } from "./asking.js";
-import { plannedCycles, truncateLines } from "../debug/ahead.js";
+import { CycleCount, findAcceptedCommands } from "./accepted_commands.js";
+import { linesWithQueries, splitAnswers } from "./forecast_queries.js";
+import { plannedCycles, truncateLines } from "../debug/goal_search.js";
 import { isStop, readBoard, readItems, readRun, parseRefusal } from "../bench/answers.js";
-import { CancelledError } from "../bench/faults.js";
+import { CancelledError } from "../bench/bench_errors.js";
 import { findInputEnd, joinLines, matchAnswers, readInputs } from "../bench/inputs.js";
 import { KeyQueue } from "./key_queue.js";
 import { buildSnapshot, snapshotQueries } from "../bench/snapshot.js";
-import { PieceSize } from "./pieces.js";
+import { PieceSize } from "./piece_size.js";
 import { romCodes } from "./rom_codes.js";
 import { EYE_CYCLES } from "../time/mcs4_time.js";
 import { MAX_MEASURED_CYCLES } from "./brightness_meter.js";
 import { SEGMENT_ENTRIES, Timeline } from "./timeline.js";
 
 /**
- * @typedef {import("./accepted.js").AcceptedCommand} AcceptedCommand
+ * @typedef {import("./accepted_commands.js").AcceptedCommand} AcceptedCommand
  * @typedef {import("./engine_host.js").EngineHost} Engine
  * @typedef {import("./engine.js").ServedAnswers} ServedAnswers
  * @typedef {import("../bench/inputs.js").Input} Input
  * @typedef {import("./key_queue.js").PlannedLine} PlannedLine
  * @typedef {import("./live_recorder.js").LiveRecorder} LiveRecorder
- * @typedef {import("./heating.js").HeatMeter} HeatMeter
- * @typedef {import("./heating.js").ChipHeat} ChipHeat
- * @typedef {import("./printing.js").PrinterCodes} PrinterCodes
+ * @typedef {import("./heat_meter.js").HeatMeter} HeatMeter
+ * @typedef {import("./heat_meter.js").ChipHeat} ChipHeat
+ * @typedef {import("./printer_codes.js").PrinterCodes} PrinterCodes
  * @typedef {import("./brightness_meter.js").BrightnessMeter} BrightnessMeter
  * @typedef {import("./brightness_meter.js").LitShares} LitShares
- * @typedef {import("./sounding.js").BuzzerLevels} BuzzerLevels
- * @typedef {import("./sounding.js").BuzzerMeter} BuzzerMeter
+ * @typedef {import("./buzzer_meter.js").BuzzerLevels} BuzzerLevels
+ * @typedef {import("./buzzer_meter.js").BuzzerMeter} BuzzerMeter
  * @typedef {import("../bench/run_log.js").RunEntry} RunEntry
  *
  * An input, the number of lines in its text, and its answer lines.
@@ -144,7 +144,7 @@ export class WorkerSession {
     const runs = answers.map(readRun);
     /** @type {(at: number) => number} */
     const cyclesOf = (at) => (runs[at] || { cycles: 0 }).cycles;
-    this.queue.done(servedLines, cyclesOf);
+    this.queue.markExecuted(servedLines, cyclesOf);
     const accepted = servedLines.map(({ line }, at) => ({ line, cycles: cyclesOf(at), resets: false }));
     this.record(accepted.filter((_, at) => parseRefusal(answers[at]) === null));
     const ranEntries = servedLines.map(({ line, change }, at) => (
@@ -253,11 +253,11 @@ export class WorkerSession {
   tryPlanned(plannedLines) {
     const { recording, printing } = this;
     const { brightnessMeter, buzzerMeter, heatMeter } = this.metersFor(plannedLines);
-    /** @type {import("./asking.js").QuerySource[]} */
+    /** @type {import("./forecast_queries.js").QuerySource[]} */
     const querySources = [printing, brightnessMeter, buzzerMeter, heatMeter, recording].flatMap((querySource) => querySource || []);
     const lines = linesWithQueries(plannedLines, querySources) + this.statusQueries.lines;
     const { answers, sourceAnswers } = splitAnswers(plannedLines, querySources, this.engine.serve(this.file, lines, this.next).answers);
-    /** @type {(querySource: import("./asking.js").QuerySource) => string[][]} */
+    /** @type {(querySource: import("./forecast_queries.js").QuerySource) => string[][]} */
     const answersTo = (querySource) => sourceAnswers[querySources.indexOf(querySource)];
     const readMeters = () => {
       if (printing) printing.take(answersTo(printing), this.count.total);
@@ -321,12 +321,12 @@ export class WorkerSession {
     this.timeline.stop();
     this.count = report.count;
     this.printing = printing;
-    if (report.accepted.length > 0) this.timeline.record([...this.unrecordedCommands.splice(0), ...report.accepted], this);
+    if (report.acceptedCommands.length > 0) this.timeline.record([...this.unrecordedCommands.splice(0), ...report.acceptedCommands], this);
     this.timeline.stop();
     // The waiting key changes belong to the old board.
     if (report.wires) this.queue.clear();
     if (report.wires) this.forgetMeters();
-    if (fileBefore) this.follow(fileBefore, report.accepted);
+    if (fileBefore) this.follow(fileBefore, report.acceptedCommands);
     return { ...report.result(), snapshot };
   }
 }
@@ -364,7 +364,7 @@ class LinesReport {
   constructor(count) {
     this.count = count;
     /** @type {AcceptedCommand[]} the accepted commands; incomplete if there are too many to replay */
-    this.accepted = [];
+    this.acceptedCommands = [];
     /** @type {ServedInput[]} */
     this.entries = [];
     this.first = "";
@@ -383,7 +383,7 @@ class LinesReport {
     const answerLists = matchAnswers(inputs, answers);
     const acceptedCommands = findAcceptedCommands(inputs, answerLists);
     this.count.add(acceptedCommands);
-    if (this.accepted.length <= SEGMENT_ENTRIES) this.accepted = this.accepted.concat(acceptedCommands);
+    if (this.acceptedCommands.length <= SEGMENT_ENTRIES) this.acceptedCommands = this.acceptedCommands.concat(acceptedCommands);
     if (this.first === "" && answers.length > 0) this.first = answers[0];
     this.status = status;
     this.touchesRom = this.touchesRom || inputs.some((input) => ROM_COMMANDS[input.kind]);

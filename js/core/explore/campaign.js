@@ -2,13 +2,13 @@
 // breaks it").
 
 import { MAX_RUN_CYCLES } from "../engine/key_queue.js";
-import { hasScannedDisplay } from "../engine/seen_text.js";
+import { hasScannedDisplay } from "../engine/perceived_text.js";
 import { compileTracedCondition } from "../conditions/condition_language.js";
 import { parseDuration, parseWholeDuration } from "../conditions/durations.js";
 import { parsePlace } from "../conditions/places.js";
 import { ConditionError, fail } from "../conditions/scanner.js";
 import { TOOL_KEY_DOWN_CYCLES, TOOL_KEY_UP_CYCLES, cyclesFromMilliseconds } from "../time/mcs4_time.js";
-import { listKeyInputs, listInputNames, createTestInput } from "./explored_inputs.js";
+import { listKeyInputs, listInputNames, createTestInput } from "./search_inputs.js";
 import {
   GUARDABLE_FORMS, afterPressProperty, alwaysProperty, atProperty, everyProperty, guardedProperty, modelProperty, neverForProperty,
   neverProperty, oncePerPressProperty, onlyAfterProperty, reachAddressProperty, reachProperty, standardProperties, withinProperty,
@@ -18,7 +18,7 @@ import * as say from "../../words/explore.js";
 import { noKey } from "../../words/testing.js";
 
 /**
- * @typedef {import("./explored_inputs.js").Input} Input
+ * @typedef {import("./search_inputs.js").Input} Input
  * @typedef {import("./properties.js").Guard} Guard
  * @typedef {import("./properties.js").Property} Property
  * @typedef {import("./subject.js").Subject} Subject

@@ -1,11 +1,11 @@
 // Runs a campaign: the search, the minimising and confirmation of counterexamples, and the report.
 
 import { omittedGuards } from "../prove/question.js";
-import { formatTest, formatViolationLines } from "./find_test.js";
+import { formatTest, formatViolationLines } from "./counterexample_test.js";
 import { Model } from "./model.js";
-import { InitialProof } from "./proof_first.js";
+import { InitialProof } from "./initial_proof.js";
 import { Search } from "./search.js";
-import { Minimiser } from "./shortening.js";
+import { Minimiser } from "./minimiser.js";
 import { createRandom } from "./walks.js";
 
 /**
@@ -77,7 +77,7 @@ export class CampaignRun {
     this.model = modelCommand && this.modelIndex >= 0
       ? new Model(subject, campaign, this.search.start, modelCommand, createRandom(seed)) : null;
     /** @type {(Counterexample | null)[]} */
-    this.found = campaign.properties.map(() => null);
+    this.counterexamples = campaign.properties.map(() => null);
     this.unconfirmedCounts = campaign.properties.map(() => 0);
     /** @type {string[]} the tests without the expected result */
     this.unconfirmedTests = [];
@@ -90,7 +90,8 @@ export class CampaignRun {
 
   /** True if the search still compares displays with the texts of the model. */
   get isModelOpen() {
-    return this.model !== null && this.found[this.modelIndex] === null && this.unconfirmedCounts[this.modelIndex] < MAX_UNCONFIRMED;
+    return this.model !== null && this.counterexamples[this.modelIndex] === null
+      && this.unconfirmedCounts[this.modelIndex] < MAX_UNCONFIRMED;
   }
 
   /** The error message of the model command, or "". */
@@ -168,7 +169,7 @@ export class CampaignRun {
    * @param {Counterexample} counterexample
    */
   recordCounterexample(property, counterexample) {
-    this.found[property] = counterexample;
+    this.counterexamples[property] = counterexample;
     this.search.closeProperty(property);
   }
 
@@ -196,7 +197,7 @@ export class CampaignRun {
         text: property.text, line: property.line, isGoal: property.isGoal, isSkipped: property.form === "model" && this.model === null,
         applied: search.appliedProperties.has(at) || property.isGoal,
         chains: this.model && at === this.modelIndex ? this.model.sequenceCount : 0,
-        states: proof.states[at], leftOut: omittedGuards(property), found: this.found[at],
+        states: proof.states[at], leftOut: omittedGuards(property), found: this.counterexamples[at],
       })),
     };
   }

@@ -1,13 +1,13 @@
 // Runs the search for counterexamples in a separate worker.
 
-import { TaskWorker } from "../bench/own_worker.js";
+import { TaskWorker } from "../bench/task_worker.js";
 
 /**
  * @typedef {import("../bench/bench_client.js").Bench} Bench
- * @typedef {import("../bench/own_worker.js").TaskResult} TaskResult
- * @typedef {import("./exploring.js").RunOptions} RunOptions
- * @typedef {import("./exploring.js").ExploredTexts} ExploredTexts
- * @typedef {import("./exploring.js").Progress} Progress
+ * @typedef {import("../bench/task_worker.js").TaskResult} TaskResult
+ * @typedef {import("./sliced_search.js").RunOptions} RunOptions
+ * @typedef {import("./sliced_search.js").ExploredTexts} ExploredTexts
+ * @typedef {import("./sliced_search.js").Progress} Progress
  */
 
 /** The interval between progress reports, in milliseconds. */

@@ -11,7 +11,7 @@ import { runLines } from "../engine/key_queue.js";
  * @typedef {import("./campaign.js").Campaign} Campaign
  * @typedef {import("./subject.js").Subject} Subject
  * @typedef {import("./walks.js").Random} Random
- * @typedef {import("./watching.js").WalkStart} WalkStart
+ * @typedef {import("./walk_watcher.js").WalkStart} WalkStart
  *
  * The output of the command: the expected text after each key sequence, or an error message.
  * @typedef {{ shown: string[], fault: string }} ModelOutput

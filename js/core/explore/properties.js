@@ -6,7 +6,7 @@ import * as say from "../../words/explore.js";
 
 /**
  * @typedef {import("../conditions/condition_language.js").Condition} Condition
- * @typedef {import("./explored_inputs.js").Input} Input
+ * @typedef {import("./search_inputs.js").Input} Input
  *
  * The kinds of events:
  * - `values`: the places of the property's conditions have new values;

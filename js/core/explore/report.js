@@ -1,6 +1,6 @@
 // The result of a search and its TAP output. Joins the reports of searches with other seeds, processes or machines.
 
-import { counted } from "../bench/numbers.js";
+import { formatQuantity } from "../bench/numbers.js";
 import { TAP_HEAD, tapDescription, yamlString } from "../testing/tap.js";
 import { Coverage } from "./search_coverage.js";
 import { andMore } from "../../words/debug.js";
@@ -32,7 +32,7 @@ export const formatNumber = (number) => Math.round(number).toLocaleString("en");
  * Formats a step count: `1 step`, `1,204 steps`.
  * @param {number} count
  */
-export const formatSteps = (count) => counted(count, "step");
+export const formatSteps = (count) => formatQuantity(count, "step");
 
 /**
  * Returns the shorter of two counterexamples, by steps and then by time.
@@ -87,7 +87,7 @@ export function hasExpectedResult({ isGoal, isSkipped, found }) {
  */
 export function formatRemark({ isGoal, applied, states, leftOut, chains, found }, report) {
   if (found) return `${isGoal ? "reached" : "broken"}, ${formatSteps(found.steps)}`;
-  if (states > 0) return (isGoal ? neverReached : proved)(counted(states, "state"), leftOut);
+  if (states > 0) return (isGoal ? neverReached : proved)(formatQuantity(states, "state"), leftOut);
   if (chains > 0) return say.chainsOfKeys(formatNumber(chains));
   return applied ? say.stepsAndStates(formatNumber(report.steps), formatNumber(report.states)) : say.NEVER_LOOKED_AT;
 }

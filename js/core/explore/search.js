@@ -2,15 +2,15 @@
 // its code is counted. A walk is watched instruction by instruction if it executes code for the first time, if a property needs more data,
 // or if a property seems violated. A sample of the other walks is also watched.
 
-import { countWalk, isCountingSufficient } from "./counting.js";
+import { countWalk, isCountingSufficient } from "./walk_counter.js";
 import { Coverage } from "./search_coverage.js";
-import { DeltaFiles } from "./kept_files.js";
-import { Snapshots } from "./read_places.js";
-import { Conditions, PlaceValues, listConditions } from "./place_questions.js";
+import { DeltaFiles } from "./delta_files.js";
+import { PlaceReader } from "./place_reader.js";
+import { Conditions, PlaceValues, listConditions } from "./place_queries.js";
 import { listAddresses } from "./properties.js";
 import { chooseStep, downInputsAfter, initialDownInputs, changeLine, walkLines, createRandom } from "./walks.js";
 import { nextAges, initialAges, randomBelow } from "./walks.js";
-import { Watcher } from "./watching.js";
+import { Watcher } from "./walk_watcher.js";
 import { MAX_ENABLED } from "../debug/breakpoints.js";
 import { MAX_RUN_CYCLES, runLines } from "../engine/key_queue.js";
 
@@ -19,7 +19,7 @@ import { MAX_RUN_CYCLES, runLines } from "../engine/key_queue.js";
  * @typedef {import("./properties.js").Property} Property
  * @typedef {import("./subject.js").Subject} Subject
  * @typedef {import("./walks.js").WalkStep} WalkStep
- * @typedef {import("./kept_files.js").FileDelta} FileDelta
+ * @typedef {import("./delta_files.js").FileDelta} FileDelta
  *
  * A stored state: the steps from its parent, and how often the search resumed here.
  * `ages` are the cycles since the last change of each input.
@@ -58,7 +58,7 @@ export class Search {
     this.coverage = new Coverage();
     this.watcher = new Watcher(subject, campaign, this.coverage);
     const conditionPlaces = campaign.properties.flatMap(listConditions).flatMap((condition) => (condition ? condition.places : []));
-    this.places = new Snapshots([...campaign.notes, ...conditionPlaces], subject.names.board);
+    this.places = new PlaceReader([...campaign.notes, ...conditionPlaces], subject.names.board);
     this.notes = this.places.indexes(campaign.notes);
     this.conditions = campaign.properties.map((property) => new Conditions(property, this.places));
     /** @type {number[]} the properties that are not violated so far */
@@ -85,7 +85,7 @@ export class Search {
     return this.seenKeys.size;
   }
 
-  /** @returns {import("./watching.js").WalkStart} the start state, at which the check of the properties begins */
+  /** @returns {import("./walk_watcher.js").WalkStart} the start state, at which the check of the properties begins */
   createStart() {
     const { subject, campaign: { begin, properties } } = this;
     const file = subject.file.slice();
@@ -155,7 +155,7 @@ export class Search {
   /**
    * Repeats a walk up to its last new state, to determine the memories. Only counts the walk if this is sufficient. Otherwise, or if the
    * walk executes code for the first time, watches the walk.
-   * @param {import("./watching.js").WalkStart} start
+   * @param {import("./walk_watcher.js").WalkStart} start
    * @param {WalkStep[]} steps
    * @param {number[]} newSteps the steps that show something new; the steps that execute code for the first time are added
    * @param {Snapshot[]} snapshots
@@ -307,7 +307,7 @@ export class Search {
    * @param {State} state
    * @param {Uint8Array} file
    * @param {WalkStep[]} steps
-   * @param {import("./watching.js").StepState[]} after
+   * @param {import("./walk_watcher.js").StepState[]} after
    * @param {number[]} newSteps
    */
   storeStates(state, file, steps, after, newSteps) {
@@ -383,7 +383,7 @@ class ApparentState {
    * Returns whether a property can be violated in a step.
    * @param {WalkStep} step
    * @param {Snapshot} snapshot
-   * @param {import("../engine/tracing.js").InstructionCount[]} instructionCounts the instruction counts of the wait
+   * @param {import("../engine/forecast_answers.js").InstructionCount[]} instructionCounts the instruction counts of the wait
    */
   isBroken(step, { holds, areOpen }, instructionCounts) {
     const { campaign: { properties, inputs }, conditionProperties, memories } = this;

@@ -4,7 +4,7 @@ import { readBoard, parseRefusal } from "../bench/answers.js";
 import { matchAnswers, readInputs } from "../bench/inputs.js";
 import { Face } from "../board/face.js";
 import { SourceMap } from "../machine/source_map.js";
-import { sentText } from "../text/text_fault.js";
+import { sentText } from "../text/sendable_text.js";
 import { isBranch, romCodes } from "../engine/rom_codes.js";
 import * as say from "../../words/explore.js";
 

@@ -13,7 +13,7 @@
  *
  * The action of a link. `argument` is "" for an action without an argument.
  * @typedef {"run" | "stop" | "back" | "forward" | "go to" | "run to" | "back to" | "press" | "release" | "show"} ActName
- * @typedef {{ name: ActName, argument: string }} Act
+ * @typedef {{ name: ActName, argument: string }} StoryAction
  */
 
 /** The views that the action `show` accepts: texts in the order of their tabs, and panels. */
@@ -26,9 +26,9 @@ const LINK_PATTERN = /\[([^\]]+)\]\(([^()]+)\)/g;
 /**
  * Parses the action of a link. Returns null if the action is invalid.
  * @param {string} words
- * @returns {Act | null}
+ * @returns {StoryAction | null}
  */
-function parseAct(words) {
+function parseAction(words) {
   const found = ACT_PATTERN.exec(words);
   if (!found) return null;
   const [, simpleName, name, argument = ""] = found;
@@ -47,7 +47,7 @@ function splitParagraph(text) {
   let end = 0;
   for (const found of text.matchAll(LINK_PATTERN)) {
     const [whole, words, action] = found;
-    const act = parseAct(action);
+    const act = parseAction(action);
     parts.push(text.slice(end, found.index), act ? { words, act } : words);
     end = (found.index || 0) + whole.length;
   }

@@ -12,7 +12,7 @@ import * as say from "../../words/help.js";
  * @typedef {{ lamps: string, patterns: number, keysDown: number, end: string }} TourState
  *
  * A piece of a paragraph: a text, or a link with an action. Only stories have links.
- * @typedef {string | { words: string, act: import("./story.js").Act }} ParagraphPiece
+ * @typedef {string | { words: string, act: import("./story.js").StoryAction }} ParagraphPiece
  *
  * The control that a step highlights: the assemble button, a key of the board, the margin of the source, or a RAM character.
  * @typedef {"send" | "key" | "margin" | "ram"} Target

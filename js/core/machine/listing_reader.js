@@ -2,11 +2,11 @@
 
 import { readListing } from "../bench/answers.js";
 import { joinLines, matchAnswers, readInputs } from "../bench/inputs.js";
-import { listingStarts, hasLineAt, linesNeeded } from "./listing_stretch.js";
+import { listingStarts, hasLineAt, linesNeeded } from "./listing_range.js";
 
 /**
  * @typedef {import("../bench/answers.js").ListingLine} ListingLine
- * @typedef {import("./listing_stretch.js").Goal} Goal
+ * @typedef {import("./listing_range.js").Goal} Goal
  */
 
 export class ListingReader {

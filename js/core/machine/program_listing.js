@@ -38,7 +38,7 @@ function textBeforeLine(line, address, map) {
   const code = line.replace(/;.*/, "").replace(/[ \t]/g, "");
   if (LABEL_LINE.test(code)) return hex(address, 3);
   const [, name = ""] = NAME_DEFINITION.exec(code) || [];
-  return name === "" ? "" : `  = ${hex(map.valueOf(name) || 0, 3)}`;
+  return name === "" ? "" : `  = ${hex(map.findValue(name) || 0, 3)}`;
 }
 
 /**

@@ -5,7 +5,7 @@ import { PAIR, splitStatement } from "../text/assembly.js";
 
 /**
  * @typedef {import("../bench/answers.js").Board} Board
- * @typedef {import("../debug/watched.js").WatchExpression} WatchExpression
+ * @typedef {import("../debug/watch_expressions.js").WatchExpression} WatchExpression
  * @typedef {import("./source_map.js").SourceMap} SourceMap
  */
 

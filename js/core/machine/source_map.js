@@ -154,7 +154,7 @@ export class SourceMap {
    * @param {string} name
    * @returns {number | undefined}
    */
-  valueOf(name) {
+  findValue(name) {
     const found = this.names.get(name);
     return found && found.value;
   }
@@ -165,9 +165,9 @@ export class SourceMap {
    * @returns {number | undefined}
    */
   valueInAnyCase(word) {
-    const exact = this.valueOf(word);
+    const exact = this.findValue(word);
     if (exact !== undefined) return exact;
     const matches = [...this.names.keys()].filter((name) => name.toLowerCase() === word.toLowerCase());
-    return matches.length === 1 ? this.valueOf(matches[0]) : undefined;
+    return matches.length === 1 ? this.findValue(matches[0]) : undefined;
   }
 }

@@ -3,11 +3,11 @@
 
 import { LineChanges } from "../debug/line_changes.js";
 import { MachineState } from "../debug/machine_state.js";
-import { valuesAt } from "../debug/value_words.js";
+import { valuesAt } from "../debug/word_values.js";
 
 /**
- * @typedef {import("../debug/value_words.js").Program} Program
- * @typedef {import("../debug/value_words.js").Piece} Piece
+ * @typedef {import("../debug/word_values.js").Program} Program
+ * @typedef {import("../debug/word_values.js").Piece} Piece
  */
 
 /**

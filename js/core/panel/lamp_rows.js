@@ -1,16 +1,16 @@
 // Lays out the lamps of a board as rows of characters: first the lamps of groups and of the grid, then the other named lamps.
 
 import { fittingGroups, isScanned, lampNames, looseLamps } from "../board/face_board.js";
-import { lampAt, scannedLampAt } from "../board/seen_lamps.js";
+import { lampAt, scannedLampAt } from "../board/lamp_state.js";
 import { indices } from "../bench/numbers.js";
 
 /**
  * @typedef {import("../board/face.js").Face} Face
  * @typedef {import("../board/face.js").Group} Group
- * @typedef {import("../board/seen_lamps.js").LampReader} LampReader
+ * @typedef {import("../board/lamp_state.js").LampReader} LampReader
  *
  * A cell in a row: its lamp (`seen`, null for a gap), its width in characters, the name of the lamp ("" for none) and its colour.
- * @typedef {{ seen: LampReader | null, width: number, name: string, colour: string }} LampCell
+ * @typedef {{ reader: LampReader | null, width: number, name: string, colour: string }} LampCell
  */
 
 /** The minimum number of columns in a group that is drawn without gaps between its lamps. */
@@ -60,7 +60,7 @@ class LampRows {
    */
   makeCell(seenLamp, lamp, width, name) {
     const colour = this.face.colours.get(lamp);
-    return { seen: seenLamp, width, name, colour: colour ? colour.text : DEFAULT_COLOUR };
+    return { reader: seenLamp, width, name, colour: colour ? colour.text : DEFAULT_COLOUR };
   }
 
   /**
@@ -119,7 +119,7 @@ class LampRows {
  * @returns {LampCell}
  */
 function gapCell(width) {
-  return { seen: null, width, name: "", colour: "" };
+  return { reader: null, width, name: "", colour: "" };
 }
 
 /**
@@ -136,8 +136,8 @@ export function buildLampRows(face, count) {
  * @param {LampCell} cell
  * @param {number} level the brightness level
  */
-export function formatCell({ seen, width, name }, level) {
-  if (!seen) return " ".repeat(width);
+export function formatCell({ reader, width, name }, level) {
+  if (!reader) return " ".repeat(width);
   const text = name === "" ? (level > 0 ? LEVEL_CHARACTERS[level] : ".") : `(${LEVEL_CHARACTERS[level]}) ${name}`;
   return text.padEnd(width);
 }

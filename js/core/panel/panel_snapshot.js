@@ -8,16 +8,16 @@ import { parseItems, parseState, parseRegisters, stateValue } from "../bench/sta
 import { FULL_LEVEL, brightnessLevel } from "../board/brightness.js";
 import { PressedKeys } from "../board/key_place.js";
 import { joinDisplayText } from "../board/display_text.js";
-import { LAMPS_FORECAST_QUERY, PerceivedText, forecastBrightness } from "../engine/seen_text.js";
+import { LAMPS_FORECAST_QUERY, PerceivedText, forecastBrightness } from "../engine/perceived_text.js";
 import { ListingReader } from "../machine/listing_reader.js";
-import { visibleLines } from "../machine/listing_stretch.js";
+import { visibleLines } from "../machine/listing_range.js";
 
 /**
  * @typedef {import("../bench/answers.js").ListingLine} ListingLine
  * @typedef {import("../bench/answers.js").Ram} Ram
  * @typedef {import("../bench/answers.js").Registers} Registers
  * @typedef {import("../board/brightness.js").Brightness} Brightness
- * @typedef {import("../board/seen_lamps.js").LampReader} LampReader
+ * @typedef {import("../board/lamp_state.js").LampReader} LampReader
  * @typedef {import("./terminal_panel.js").Panel} Panel
  */
 

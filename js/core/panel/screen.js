@@ -4,9 +4,9 @@
 // the rows to the terminal.
 
 import { hex, indices } from "../bench/numbers.js";
-import { printoutLines } from "../board/strip.js";
-import { escaped } from "../text/escaped.js";
-import { expandTabs } from "../text/without_tabs.js";
+import { printoutLines } from "../board/printout_lines.js";
+import { escapeControls } from "../text/control_escapes.js";
+import { expandTabs } from "../text/tab_expansion.js";
 import { LARGE_ROWS, largeDigitRows } from "./large_digits.js";
 import { buildLampRows, formatCell } from "./lamp_rows.js";
 import { CHIP_ROWS } from "./panel_snapshot.js";
@@ -77,8 +77,8 @@ export class Screen {
   constructor(panel) {
     this.panel = panel;
     const { face, board } = panel.subject;
-    this.title = escaped(face.title);
-    this.name = escaped(panel.subject.name);
+    this.title = escapeControls(face.title);
+    this.name = escapeControls(panel.subject.name);
     this.test = face.test;
     this.lampRows = buildLampRows(face, board.lamps.length);
     this.labels = panel.keys.map(keyLabel);
@@ -92,7 +92,7 @@ export class Screen {
    */
   rows(size) {
     const { panel } = this;
-    const hasMore = panel.seen.chips.length > panel.seen.shownChips(middleRows(size)).length;
+    const hasMore = panel.snapshot.chips.length > panel.snapshot.shownChips(middleRows(size)).length;
     const [titleRow, ...otherTopRows] = this.topRows();
     const helpRow = say.keyLine(this.test ? testName(this.test) : say.TEST_PIN, hasMore);
     const front = this.frontRows(middleRows(size));
@@ -104,7 +104,7 @@ export class Screen {
       { pieces: [plainPiece(titleRow)], isInverse: true },
       ...otherTopRows.map((text) => ({ pieces: [plainPiece(text)], isInverse: false })),
       ...middle.map((pieces) => ({ pieces, isInverse: false })),
-      { pieces: [plainPiece(escaped(panel.message))], isInverse: false },
+      { pieces: [plainPiece(escapeControls(panel.message))], isInverse: false },
       { pieces: [plainPiece(helpRow)], isInverse: true },
     ].map((row) => ({ ...row, pieces: fitToWidth(row.pieces, size.columns) }));
   }
@@ -114,27 +114,27 @@ export class Screen {
   topRows() {
     const { panel, title, name } = this;
     const state = panel.isPaused ? say.paused(panel.pauseReason) : say.RUNNING;
-    return [say.headLine(title, name, panel.seen.commands, state), ...this.displayRows(), ...this.registerRows(), this.sourceText()];
+    return [say.headLine(title, name, panel.snapshot.commands, state), ...this.displayRows(), ...this.registerRows(), this.sourceText()];
   }
 
   displayRows() {
-    const { seen } = this.panel;
-    if (!seen.hasDisplay) return Array(LARGE_ROWS).fill("");
-    const { display } = seen;
+    const { snapshot } = this.panel;
+    if (!snapshot.hasDisplay) return Array(LARGE_ROWS).fill("");
+    const { display } = snapshot;
     const [number] = display.split(" ");
     const [first, ...others] = largeDigitRows(number.slice(0, MAX_LARGE_CHARACTERS));
-    return [`${first.padEnd(LARGE_WIDTH)} ${say.display(escaped(display))}`, ...others];
+    return [`${first.padEnd(LARGE_WIDTH)} ${say.display(escapeControls(display))}`, ...others];
   }
 
   registerRows() {
-    const { seen, subject: { source } } = this.panel;
-    if (!seen.registers) return ["", "", ""];
-    const { accumulator, carry, counter, owed, bank, test, registers, returns } = seen.registers;
+    const { snapshot, subject: { source } } = this.panel;
+    if (!snapshot.registers) return ["", "", ""];
+    const { accumulator, carry, counter, owed, bank, test, registers, returns } = snapshot.registers;
     const pairs = indices(registers.length / 2).map((at) => `P${at} ${registers[2 * at]}${registers[2 * at + 1]}`).join("  ");
     const returnAddress = parseInt(returns[0], 16);
     const isNamed = source !== null && returnAddress > 0 && source.map.lineOf(returnAddress) > 0;
     return [
-      say.lamps(seen.marks || "-"),
+      say.lamps(snapshot.marks || "-"),
       `acc ${accumulator}  cy ${carry}  pc ${counter}  owed ${owed}  dcl ${bank}  test ${test}  ret ${returns.join(" ")}`,
       `${pairs}  ${isNamed ? say.returnTo(this.addressName(returnAddress)) : ""}`,
     ];
@@ -151,11 +151,11 @@ export class Screen {
 
   /** Returns the source line at the program counter. */
   sourceText() {
-    const { subject: { source }, seen: { counter } } = this.panel;
+    const { subject: { source }, snapshot: { counter } } = this.panel;
     if (!source) return "";
     const line = source.map.lineOf(counter);
     if (line === 0) return notInSource(hex(counter, 3));
-    return say.sourceHere(this.addressName(counter), line + source.before, escaped(expandTabs(source.lines[line - 1]).trimStart()));
+    return say.sourceHere(this.addressName(counter), line + source.before, escapeControls(expandTabs(source.lines[line - 1]).trimStart()));
   }
 
   // --- RAM, front panel and listing ---
@@ -165,15 +165,15 @@ export class Screen {
    * @param {number} row
    */
   ramText(row) {
-    const { seen } = this.panel;
-    const chip = seen.chips[this.panel.firstChip + Math.floor(row / CHIP_ROWS)];
+    const { snapshot } = this.panel;
+    const chip = snapshot.chips[this.panel.firstChip + Math.floor(row / CHIP_ROWS)];
     const rowInChip = row % CHIP_ROWS;
     if (!chip) return "";
     if (rowInChip === CHIP_ROWS - 1) {
-      const out = seen.ram.ports.get(chip.name);
+      const out = snapshot.ram.ports.get(chip.name);
       return out === undefined ? "" : say.portOf(chip.name, out);
     }
-    const register = seen.ram.registers.get(`${chip.name}.${rowInChip}`);
+    const register = snapshot.ram.registers.get(`${chip.name}.${rowInChip}`);
     return register ? `${chip.name}.${rowInChip} ${register.characters} ${register.status}` : "";
   }
 
@@ -183,14 +183,14 @@ export class Screen {
    * @param {number} row
    */
   listingText(row) {
-    const { seen, subject: { source } } = this.panel;
-    const listed = seen.listing[row];
+    const { snapshot, subject: { source } } = this.panel;
+    const listed = snapshot.listing[row];
     if (!listed) return "";
     const { address, line } = listed;
     const digits = hex(address, 3);
-    const marks = `${address === seen.counter ? ">" : " "}${seen.breakpoints.includes(digits) ? "*" : " "}`;
+    const marks = `${address === snapshot.counter ? ">" : " "}${snapshot.breakpoints.includes(digits) ? "*" : " "}`;
     if (!source || !source.map.beginsInstruction(address)) return marks + line;
-    return `${marks}${digits} ${escaped(stripComment(source.lines[source.map.lineOf(address) - 1]))}`;
+    return `${marks}${digits} ${escapeControls(stripComment(source.lines[source.map.lineOf(address) - 1]))}`;
   }
 
   /**
@@ -200,8 +200,8 @@ export class Screen {
   frontRows(count) {
     const keys = this.keyRows();
     const lamps = this.lampRows.map((cells) => cells.map((cell) => {
-      const level = cell.seen ? this.panel.seen.lampLevel(cell.seen) : 0;
-      return { text: escaped(formatCell(cell, level)), colour: level > 0 ? cell.colour : "", level };
+      const level = cell.reader ? this.panel.snapshot.lampLevel(cell.reader) : 0;
+      return { text: escapeControls(formatCell(cell, level)), colour: level > 0 ? cell.colour : "", level };
     }));
     const rows = [...keys, ...(keys.length > 0 ? [[]] : []), ...lamps];
     const printout = this.printoutRows(count - rows.length);
@@ -212,15 +212,15 @@ export class Screen {
 
   /** @returns {Piece[][]} */
   keyRows() {
-    const { panel: { subject: { board }, keys, seen }, test } = this;
+    const { panel: { subject: { board }, keys, snapshot }, test } = this;
     const rows = indices(board.rows).map((row) => [plainPiece(indices(board.columns).map((column) => {
       const at = row * board.columns + column;
       const label = this.labels[at];
-      return (seen.isDown(keys[at].key) ? `[${label || "_"}]` : ` ${label} `).padEnd(this.keyWidth);
+      return (snapshot.isDown(keys[at].key) ? `[${label || "_"}]` : ` ${label} `).padEnd(this.keyWidth);
     }).join(""))]);
     if (!test) return rows;
-    const label = escaped(say.testKey(testName(test)));
-    return [...rows, [plainPiece(Number(seen.test) === test.level ? `[${label}]` : ` ${label} `)]];
+    const label = escapeControls(say.testKey(testName(test)));
+    return [...rows, [plainPiece(Number(snapshot.test) === test.level ? `[${label}]` : ` ${label} `)]];
   }
 
   /**
@@ -228,9 +228,9 @@ export class Screen {
    * @param {number} freeRows
    */
   printoutRows(freeRows) {
-    const { printing, printed, subject: { face } } = this.panel;
+    const { printing, printout, subject: { face } } = this.panel;
     if (!printing || !face.printer) return [];
-    const lines = printoutLines(printed, face.printer.words).map(escaped);
+    const lines = printoutLines(printout, face.printer.words).map(escapeControls);
     const count = Math.max(MIN_PRINTOUT_ROWS, freeRows);
     const head = count > MIN_PRINTOUT_ROWS ? [say.PRINTOUT_TITLE] : [];
     const last = lines.slice(-(count - head.length));
@@ -250,7 +250,7 @@ function testName({ name }) {
  */
 function keyLabel({ legend, letter, isNamed }) {
   if (!isNamed) return letter;
-  return escaped(legend === letter || letter === "" ? legend : `${legend}:${letter}`);
+  return escapeControls(legend === letter || letter === "" ? legend : `${legend}:${letter}`);
 }
 
 /**

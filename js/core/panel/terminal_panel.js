@@ -7,10 +7,10 @@ import { hex } from "../bench/numbers.js";
 import { findBoardKey, boardKeys } from "../board/board_keys.js";
 import { findPrinter } from "../board/face_board.js";
 import { isSameKey, keyLine } from "../board/key_place.js";
-import { plannedCycles } from "../debug/ahead.js";
-import { linesWithQueries, splitAnswers } from "../engine/asking.js";
+import { plannedCycles } from "../debug/goal_search.js";
+import { linesWithQueries, splitAnswers } from "../engine/forecast_queries.js";
 import { KeyQueue, MAX_RUN_CYCLES } from "../engine/key_queue.js";
-import { PrinterCodes } from "../engine/printing.js";
+import { PrinterCodes } from "../engine/printer_codes.js";
 import { RealTime } from "../time/real_time.js";
 import { REASONS } from "../../words/stops.js";
 import { PanelSnapshot } from "./panel_snapshot.js";
@@ -68,13 +68,13 @@ export class Panel {
     this.printing = printer && new PrinterCodes({ ...printer, codes: [] });
     /** The number of cycles that this panel has run. */
     this.cycles = 0;
-    this.seen = new PanelSnapshot(this);
+    this.snapshot = new PanelSnapshot(this);
   }
 
   /** Takes the first snapshot. Pauses time if the session is at a breakpoint. */
   async begin() {
-    await this.seen.take(0);
-    if (this.seen.isAtBreakpoint) this.pause(REASONS.break);
+    await this.snapshot.take(0);
+    if (this.snapshot.isAtBreakpoint) this.pause(REASONS.break);
   }
 
   // --- lines ---
@@ -118,7 +118,7 @@ export class Panel {
    * @param {number} now
    */
   async keepTime(now) {
-    if (!this.isPaused) await this.advance(this.time.due(now));
+    if (!this.isPaused) await this.advance(this.time.takeDueCycles(now));
   }
 
   /**
@@ -138,7 +138,7 @@ export class Panel {
     let cyclesRun = 0;
     if (planned.change) await this.change(planned.change);
     else cyclesRun = await this.run(planned);
-    this.queue.done([planned], () => cyclesRun);
+    this.queue.markExecuted([planned], () => cyclesRun);
     return cyclesRun;
   }
 
@@ -180,7 +180,7 @@ export class Panel {
   }
 
   /** The codes that the printer has received. */
-  get printed() {
+  get printout() {
     if (!this.printing) return [];
     return this.printing.codes.slice(0, this.printing.countAt(this.cycles)).map(([, code]) => code);
   }
@@ -206,7 +206,7 @@ export class Panel {
    * @param {number} count the number of chips; negative values scroll back
    */
   scrollRam(count) {
-    const last = this.seen.chips.length - 1;
+    const last = this.snapshot.chips.length - 1;
     this.firstChip = Math.max(0, Math.min(last, this.firstChip + count));
   }
 
@@ -230,13 +230,13 @@ export class Panel {
    */
   async toggle(key) {
     this.queue.forget(key);
-    await this.change({ key, word: this.seen.isDown(key) ? "release" : "press" });
+    await this.change({ key, word: this.snapshot.isDown(key) ? "release" : "press" });
   }
 
   /** Sets or deletes a breakpoint at the program counter. */
   async toggleBreakpoint() {
-    const { counter } = this.seen;
-    await this.sendCommand(`${this.seen.isAtBreakpoint ? "unbreak" : "break"} 0x${hex(counter, 3)}`);
+    const { counter } = this.snapshot;
+    await this.sendCommand(`${this.snapshot.isAtBreakpoint ? "unbreak" : "break"} 0x${hex(counter, 3)}`);
   }
 
   /** Ends the panel. If time runs, first completes the queued key presses. Releases the keys that the panel has pressed. */
@@ -261,7 +261,7 @@ const KEY_ACTIONS = {
   "\r": step,
   "\n": step,
   "\t": (panel) => panel.toggleBreakpoint(),
-  "\u0014": (panel) => panel.sendCommand(`test ${panel.seen.test === "0" ? 1 : 0}`),
+  "\u0014": (panel) => panel.sendCommand(`test ${panel.snapshot.test === "0" ? 1 : 0}`),
   "\u0012": (panel) => panel.sendCommand("reset"),
   "\u0003": end,
   "\u0004": end,

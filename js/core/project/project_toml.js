@@ -7,7 +7,7 @@ import * as say from "../../words/server.js";
 /**
  * @typedef {import("../text/board_reader.js").Key} Key
  * @typedef {import("../text/board_reader.js").Value} Value
- * @typedef {import("../text/text_fault.js").Fault} Fault
+ * @typedef {import("../text/sendable_text.js").Fault} Fault
  *
  * A path in a project file, with its key, line and columns. Lines count from 1, columns from 0.
  * @typedef {{ path: string, key: string, line: number, from: number, to: number }} NamedFile

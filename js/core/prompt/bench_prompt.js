@@ -8,9 +8,9 @@ import { readBoard, parseRefusal } from "../bench/answers.js";
 import { findLineError } from "../bench/line_forms.js";
 import { opensText, stripReturn } from "../bench/inputs.js";
 import { matchLines, readLineForms, cellText, sectionRows } from "../help/manual.js";
-import { findLineFaults, sentText } from "../text/text_fault.js";
+import { findLineFaults, sentText } from "../text/sendable_text.js";
 import { FILE_WORDS, completeLine } from "./line_completion.js";
-import { Sources } from "./sources.js";
+import { SourceCommand } from "./source_command.js";
 import { LINES_BY_GROUPS, noLine } from "../../words/lines.js";
 import { NO_KEYS, noRamAt } from "../../words/prompt.js";
 import * as say from "../../words/session_prompt.js";
@@ -65,7 +65,7 @@ export class SessionPrompt {
     this.isEnded = false;
     /** @type {OpenedText | null} */
     this.openText = null;
-    this.sources = new Sources(this, calls);
+    this.sources = new SourceCommand(this, calls);
   }
 
   /** The prompt text before a line. */
@@ -86,7 +86,7 @@ export class SessionPrompt {
   }
 
   /** The unfinished text, which is served at the end of the input; "" if there is none. */
-  get rest() {
+  get unfinishedText() {
     return this.openText ? [this.openText.word, ...this.openText.lines].map((line) => `${line}\n`).join("") : "";
   }
 

@@ -1,8 +1,8 @@
 // The prompt commands for breakpoints and watches.
 
 import { watchedPlaces } from "../bench/answers.js";
-import { addressText, breakpointLines } from "./looks.js";
-import { findInstruction, rejectCommand } from "./words_of_line.js";
+import { addressText, breakpointLines } from "./state_text.js";
+import { findInstruction, rejectCommand } from "./argument_parsers.js";
 import * as say from "../../words/prompt.js";
 
 /**

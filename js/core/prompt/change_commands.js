@@ -1,7 +1,7 @@
 // The prompt commands that change the session while time is paused: keys, values and the program.
 
-import { compileSetLine } from "../adapter/set_place.js";
-import { rejectCommand } from "./words_of_line.js";
+import { compileSetLine } from "../adapter/place_assignment.js";
+import { rejectCommand } from "./argument_parsers.js";
 import * as say from "../../words/prompt.js";
 
 /**

@@ -1,7 +1,8 @@
 // The prompt of the debugger: each line is a command. Uses the same debugger as the page (js/core/debug), on a session in memory, and saves
 // the session to its file at each stop. Callbacks print output and errors.
 //
-//     const prompt = new Prompt(launched, readPageData, { print, complain, pause, source, isInteractive });   (see adapter/launching.js)
+//     const prompt = new Prompt(launchResult, readPageData, { print, complain, pause, source, isInteractive });
+//                                                                                        (see adapter/session_launch.js)
 //     await prompt.begin(); await prompt.take("break show"); prompt.isEnded; prompt.complete("br")
 
 import { KEYWORDS } from "../conditions/parser.js";
@@ -11,23 +12,23 @@ import { Face } from "../board/face.js";
 import { readInstructions } from "../help/manual.js";
 import { Console } from "../adapter/console.js";
 import { Machine } from "../adapter/debugged_machine.js";
-import { ErrorMessages } from "../bench/words.js";
+import { ErrorMessages } from "../bench/error_messages.js";
 import { BreakpointCommands } from "./breakpoint_commands.js";
 import { ChangeCommands } from "./change_commands.js";
 import { COMMANDS, findCommand } from "./prompt_commands.js";
-import { PromptKeys } from "./keys_of_prompt.js";
-import { INFO_WORDS, InspectCommands } from "./look_commands.js";
-import { nextInstruction } from "./looks.js";
+import { PromptKeys } from "./prompt_keys.js";
+import { INFO_WORDS, InspectCommands } from "./inspect_commands.js";
+import { nextInstruction } from "./state_text.js";
 import { MoveCommands } from "./move_commands.js";
-import { Sources } from "./sources.js";
+import { SourceCommand } from "./source_command.js";
 import { StopCommands } from "./stop_commands.js";
-import { rejectCommand } from "./words_of_line.js";
+import { rejectCommand } from "./argument_parsers.js";
 import { boardHasNo } from "../../words/adapter.js";
 import * as say from "../../words/prompt.js";
 import { stoppedAt } from "../../words/stops.js";
 
 /**
- * @typedef {import("../adapter/launching.js").LaunchResult} LaunchResult
+ * @typedef {import("../adapter/session_launch.js").LaunchResult} LaunchResult
  *
  * A command handler, which receives the text after the command name.
  * @typedef {(argumentText: string) => void | Promise<void>} CommandHandler
@@ -71,14 +72,14 @@ class ReportedError extends Error {}
 
 export class Prompt {
   /**
-   * @param {LaunchResult} launched
+   * @param {LaunchResult} launchResult
    * @param {{ refusals: Record<string, string>, manual: import("../help/manual.js").ManualSection[] }} data the refusal texts and the
    *   manual
    * @param {PromptCalls} calls
    */
-  constructor(launched, { refusals, manual }, calls) {
-    this.launched = launched;
-    this.session = launched.session;
+  constructor(launchResult, { refusals, manual }, calls) {
+    this.launchResult = launchResult;
+    this.session = launchResult.session;
     this.calls = calls;
     this.isEnded = false;
     /** The command line that an empty line repeats. */
@@ -94,12 +95,13 @@ export class Prompt {
     this.machine = this.makeMachine();
     this.face = new Face(this.session.boardText);
     this.expressionContext = {
-      session: this.session, face: this.face, instructions: readInstructions(manual), shown: () => this.machine.shown.now(),
+      session: this.session, face: this.face, instructions: readInstructions(manual),
+      frontPanelText: () => this.machine.frontPanelText.currentText(),
     };
     this.breakpoints = new BreakpointCommands(this);
     this.inspectCommands = new InspectCommands(this);
     this.stops = new StopCommands(this);
-    this.sources = new Sources(this, calls);
+    this.sources = new SourceCommand(this, calls);
     const consoleCalls = { breaksChanged: () => this.breakpoints.syncWithBench(), romChanged: () => {} };
     this.console = new Console(this.machine, this.expressionContext, new ErrorMessages(refusals), consoleCalls);
     this.keys = new PromptKeys(this.session, this.face);
@@ -114,7 +116,7 @@ export class Prompt {
   }
 
   makeMachine() {
-    return new Machine(this.session, this.launched.writer, {
+    return new Machine(this.session, this.launchResult.writer, {
       stopped: (lastStop) => {
         this.lastStop = lastStop;
       },

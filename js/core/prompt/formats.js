@@ -3,7 +3,7 @@
 import { compileExpression } from "../conditions/condition_language.js";
 import { evaluateExpression } from "../adapter/expression_values.js";
 import { hex } from "../bench/numbers.js";
-import { rejectCommand } from "./words_of_line.js";
+import { rejectCommand } from "./argument_parsers.js";
 import { inColumn } from "../../words/conditions.js";
 import * as say from "../../words/prompt.js";
 

@@ -1,9 +1,9 @@
 // The prompt commands that move time forward or back. Each command waits for the end of its move and reports the stop.
 
-import { parseGoal } from "../debug/becoming.js";
-import { openCallCount } from "./looks.js";
-import { pressKey, stepBackOver } from "./moves.js";
-import { parseCountArgument, parseCycles, findInstruction, parseConditionText, rejectCommand } from "./words_of_line.js";
+import { parseGoal } from "../debug/condition_search.js";
+import { openCallCount } from "./state_text.js";
+import { pressKey, stepBackOver } from "./prompt_moves.js";
+import { parseCountArgument, parseCycles, findInstruction, parseConditionText, rejectCommand } from "./argument_parsers.js";
 import * as say from "../../words/prompt.js";
 import { NO_CALL_WAITS, stoppedAt } from "../../words/stops.js";
 
@@ -11,7 +11,7 @@ import { NO_CALL_WAITS, stoppedAt } from "../../words/stops.js";
  * @typedef {import("./debugger_prompt.js").CommandHandler} CommandHandler
  * @typedef {import("./debugger_prompt.js").Prompt} Prompt
  * @typedef {import("../debug/goals.js").Goal} Goal
- * @typedef {import("../engine/going_back.js").BackGoal} BackGoal
+ * @typedef {import("../engine/past_search.js").BackGoal} BackGoal
  */
 
 /** The maximum count of `step` and `next`. */

@@ -3,7 +3,7 @@
 
 import { hex } from "../bench/numbers.js";
 import { LAST_BREAKPOINT } from "./breakpoint_commands.js";
-import { rejectCommand } from "./words_of_line.js";
+import { rejectCommand } from "./argument_parsers.js";
 import * as say from "../../words/prompt.js";
 
 /**

@@ -1,14 +1,14 @@
 // Creates the view above the debugger's prompt, as terminal lines: the source near the next instruction, registers, lamps and displays.
-// js/node/view_on_terminal.mjs positions the lines.
+// js/node/terminal_view.mjs positions the lines.
 //
 //     const view = new View(prompt);
 //     view.lines(viewSize(24, 80), { head, here, other });      viewSize returns null if the terminal is too small
 
 import { indices } from "../bench/numbers.js";
 import { MachineState } from "../debug/machine_state.js";
-import { escaped } from "../text/escaped.js";
+import { escapeControls } from "../text/control_escapes.js";
 import { formatCycles } from "../time/cycles.js";
-import { codeLines, countSourceLines, pressedKeys, sourceLine } from "./looks.js";
+import { codeLines, countSourceLines, pressedKeys, sourceLine } from "./state_text.js";
 import * as say from "../../words/prompt.js";
 
 /**
@@ -51,7 +51,7 @@ export function viewSize(rows, columns) {
  * @param {number} length
  */
 function cutText(text, length) {
-  const shown = [...escaped(text).replace(/[\t\n]/g, " ")];
+  const shown = [...escapeControls(text).replace(/[\t\n]/g, " ")];
   return shown.length > length ? `${shown.slice(0, length - 2).join("")}..` : shown.join("");
 }
 
@@ -102,8 +102,8 @@ export class View {
 
   /** @param {number} columns */
   headLine(columns) {
-    const { session, launched } = this.prompt;
-    const name = launched.program.split("/").pop() || "ROM";
+    const { session, launchResult } = this.prompt;
+    const name = launchResult.program.split("/").pop() || "ROM";
     return cutText(`${name}  ${session.counterText}  ${formatCycles(session.debugger.session.count.total)}`, columns).padEnd(columns);
   }
 
@@ -156,7 +156,7 @@ export class View {
   boardLines(columns) {
     const { machine, session, inspectCommands } = this.prompt;
     const keys = pressedKeys(session).join(" ");
-    const shown = machine.shown.now();
+    const shown = machine.frontPanelText.currentText();
     const displays = inspectCommands.displays.slice(0, MAX_DISPLAYS)
       .map((expression) => `${expression} = ${inspectCommands.evaluateOrExplain(expression)}`);
     return [shown, keys && say.down(keys), ...displays].filter(Boolean).map((line) => cutText(line, columns));

@@ -4,10 +4,10 @@
 //     const { proving, faults } = beginProving(engine, texts, 1000000, { seen: async (states) => {}, yieldToMessages: async () => {} });
 //     for (let judged = await proving.next(); judged; judged = await proving.next()) ..
 
-import { parseSearchTexts } from "../explore/exploring.js";
+import { parseSearchTexts } from "../explore/sliced_search.js";
 import { formatNumber } from "../explore/report.js";
-import { isConfirmed } from "../testing/confirming.js";
-import { PropertyJudge } from "./judging.js";
+import { isConfirmed } from "../testing/confirmation.js";
+import { PropertyJudge } from "./property_judge.js";
 import { MAX_SETS, boundsUpTo, questionText, readAnswer } from "./question.js";
 import * as say from "../../words/prove.js";
 
@@ -15,9 +15,9 @@ import * as say from "../../words/prove.js";
  * @typedef {import("./question.js").Answer} Answer
  * @typedef {import("./question.js").Question} Question
  * @typedef {import("../engine/engine.js").Engine} Engine
- * @typedef {import("../explore/exploring.js").ExploredTexts} ExploredTexts
- * @typedef {import("../explore/exploring.js").SearchSetup} SearchSetup
- * @typedef {import("../testing/prepared.js").TextFault} TextFault
+ * @typedef {import("../explore/sliced_search.js").ExploredTexts} ExploredTexts
+ * @typedef {import("../explore/sliced_search.js").SearchSetup} SearchSetup
+ * @typedef {import("../testing/test_preparation.js").TextFault} TextFault
  * @typedef {import("./verdicts.js").JudgedProperty} JudgedProperty
  * @typedef {import("./verdicts.js").Verdict} Verdict
  *

@@ -3,17 +3,17 @@
 
 import { readCounter } from "../bench/answers.js";
 import { MAX_RUN_CYCLES } from "../engine/key_queue.js";
-import { formatViolationLines, formatTest } from "../explore/find_test.js";
+import { formatViolationLines, formatTest } from "../explore/counterexample_test.js";
 import { listAddresses } from "../explore/properties.js";
-import { Minimiser } from "../explore/shortening.js";
-import { Watcher } from "../explore/watching.js";
+import { Minimiser } from "../explore/minimiser.js";
+import { Watcher } from "../explore/walk_watcher.js";
 import { initialDownInputs, areAllowed, walkLines } from "../explore/walks.js";
 import { cyclesToMistake } from "./mistakes.js";
-import { listInputs, replayValues } from "./way.js";
+import { listInputs, replayValues } from "./input_replay.js";
 
 /**
  * @typedef {import("../explore/campaign.js").Campaign} Campaign
- * @typedef {import("../explore/explored_inputs.js").Input} Input
+ * @typedef {import("../explore/search_inputs.js").Input} Input
  * @typedef {import("../explore/search.js").Violation} Violation
  * @typedef {import("../explore/subject.js").Subject} Subject
  * @typedef {import("../explore/walks.js").WalkStep} WalkStep
@@ -118,7 +118,7 @@ class Replay {
   /**
    * Returns the start of a walk, with initial memories.
    * @param {Uint8Array} file
-   * @returns {import("../explore/watching.js").WalkStart}
+   * @returns {import("../explore/walk_watcher.js").WalkStart}
    */
   createStart(file) {
     return { file, time: 0, down: this.down, memories: [this.freeCampaign.properties[0].from(0, this.down.length)] };

@@ -1,11 +1,11 @@
 // Proves properties in a separate worker. The worker does not respond while it asks the prover a question, which can take long.
 
-import { TaskWorker } from "../bench/own_worker.js";
+import { TaskWorker } from "../bench/task_worker.js";
 
 /**
  * @typedef {import("../bench/bench_client.js").Bench} Bench
- * @typedef {import("../bench/own_worker.js").TaskResult} TaskResult
- * @typedef {import("../explore/exploring.js").ExploredTexts} ExploredTexts
+ * @typedef {import("../bench/task_worker.js").TaskResult} TaskResult
+ * @typedef {import("../explore/sliced_search.js").ExploredTexts} ExploredTexts
  * @typedef {import("./bounded_proof.js").JudgedLine} JudgedLine
  *
  * The progress: the verdicts so far, the number of all properties and mistakes, and the number of states that the current question has

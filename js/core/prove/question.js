@@ -3,13 +3,13 @@
 //
 // A list of conjunctions (`Comparisons[]`, cells.js) is a condition: it is true if all comparisons in at least one conjunction are true.
 
-import { UnsupportedQuestion, listComparisons } from "./decided.js";
+import { UnsupportedQuestion, listComparisons } from "./condition_comparisons.js";
 import { IMPOSSIBLE_COMPARISONS, counterComparisons } from "./cells.js";
 import { formatKey } from "../board/key_place.js";
 import { isJin, isReturn } from "../engine/rom_codes.js";
-import { listKeyInputs } from "../explore/explored_inputs.js";
+import { listKeyInputs } from "../explore/search_inputs.js";
 import { formatNumber } from "../explore/report.js";
-import { sentText } from "../text/text_fault.js";
+import { sentText } from "../text/sendable_text.js";
 import * as say from "../../words/prove.js";
 
 /**
@@ -237,16 +237,17 @@ const keyPressLines = (key) => ["up", "down"].map((level) => [level, formatKey(k
  * @param {Question} question
  * @param {QuestionLimits} limits
  */
-export function questionText({ board, program }, { nevers, mistakes, stopwatch, presses }, { most, memory = 0, sets = 0, pause = PAUSE }) {
+export function questionText({ board, program }, { nevers, mistakes, stopwatch, presses }, limits) {
+  const { most: maxStates, memory = 0, sets = 0, pause = PAUSE } = limits;
   const optionalLimits = Object.entries({ memory, sets }).filter(([, number]) => number > 0);
-  const limits = [["most", most], ...optionalLimits, ["pause", pause]].map((words) => words.join(" "));
+  const limitLines = [["most", maxStates], ...optionalLimits, ["pause", pause]].map((words) => words.join(" "));
   const texts = [`wire\n${sentText(board, "#")}.`, `asm\n${sentText(program, ";")}.`];
   const mistakeLines = mistakes.length > 0 ? ["never", ["mistake", ...mistakes].join(" ")] : [];
   const stopwatchLines = stopwatch
     ? [`within ${stopwatch.within}`, ...conditionLines("begin", stopwatch.begins), ...conditionLines("end", stopwatch.ends)] : [];
   const pressLines = presses ? [...conditionLines("open", presses.opens), ...presses.keys.flatMap(keyPressLines)] : [];
   const neverLines = conditionLines("never", nevers);
-  return `${[...limits, ...texts, ...neverLines, ...mistakeLines, ...stopwatchLines, ...pressLines, "prove"].join("\n")}\n`;
+  return `${[...limitLines, ...texts, ...neverLines, ...mistakeLines, ...stopwatchLines, ...pressLines, "prove"].join("\n")}\n`;
 }
 
 /** @type {[RegExp, NoAnswer][]} */

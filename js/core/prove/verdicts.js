@@ -1,6 +1,6 @@
 // The verdicts on properties, and their output in TAP version 13.
 
-import { counted } from "../bench/numbers.js";
+import { formatQuantity } from "../bench/numbers.js";
 import { formatNumber, formatSteps } from "../explore/report.js";
 import { TAP_HEAD, tapDescription, yamlString } from "../testing/tap.js";
 import * as say from "../../words/prove.js";
@@ -31,7 +31,7 @@ function hasExpectedResult({ property: { isGoal }, verdict }) {
  * @param {{ states: number, bySets: boolean }} verdict
  */
 export function formatStateCount({ states, bySets }) {
-  return bySets ? counted(states, say.SET, say.SETS) : counted(states, say.STATE);
+  return bySets ? formatQuantity(states, say.SET, say.SETS) : formatQuantity(states, say.STATE);
 }
 
 /** @type {(judged: JudgedProperty) => string} returns the remark after the property text */

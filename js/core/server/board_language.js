@@ -1,12 +1,12 @@
 // Handlers for an editor's requests about a board text. They use the same modules as the page's editor.
 
 import { Face } from "../board/face.js";
-import { TextErrorFinder, findFrontPanelErrors } from "../text/all_faults.js";
+import { TextErrorFinder, findFrontPanelErrors } from "../text/text_error_finder.js";
 import { wordAt } from "../text/assembly.js";
 import { readBoardText } from "../text/board_reader.js";
 import { completeBoard } from "../text/board_completion.js";
 import { PARTS } from "../text/folding.js";
-import { commentAt } from "../text/text_fault.js";
+import { commentAt } from "../text/sendable_text.js";
 import { helpForBoard } from "../text/text_help.js";
 import { tomlWords } from "../text/toml_words.js";
 import { BoardReferences } from "./board_references.js";

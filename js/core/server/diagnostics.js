@@ -1,12 +1,12 @@
 // Converts the errors in a text to diagnostics and quick fixes in the protocol's format.
 
-import { MAX_ERRORS } from "../bench/text_judgement.js";
-import { STORED_LIMIT, TEXT_TOO_LONG } from "../text/text_fault.js";
+import { MAX_ERRORS } from "../bench/text_check_answers.js";
+import { STORED_LIMIT, TEXT_TOO_LONG } from "../text/sendable_text.js";
 import { rangeInLine } from "./lsp_protocol.js";
 import * as say from "../../words/server.js";
 
 /**
- * @typedef {import("../text/text_fault.js").Fault} Fault
+ * @typedef {import("../text/sendable_text.js").Fault} Fault
  * @typedef {import("./lsp_protocol.js").Range} Range
  *
  * An error or a warning in any text. It is a warning if it has no number and `isError` is not true.

@@ -2,14 +2,14 @@
 // reports their errors after each edit.
 
 import { boardTables } from "../text/text_help.js";
-import { ErrorMessages } from "../bench/words.js";
+import { ErrorMessages } from "../bench/error_messages.js";
 import { BoardLanguage } from "./board_language.js";
 import { readClient } from "./capabilities.js";
 import { toDiagnostics, lengthError } from "./diagnostics.js";
 import { getField } from "./framing.js";
 import {
   NON_BOARD_FILES, findBoard, findDependencies, isBoard, isProgram, isProjectFile, isPropertyFile, isTestFile, findProject, projectInFolder,
-} from "./kinds.js";
+} from "./text_kinds.js";
 import { OpenText } from "./open_text.js";
 import { ProgramLanguage } from "./program_language.js";
 import { ProjectLanguage } from "./project_language.js";
@@ -30,7 +30,7 @@ import * as say from "../../words/server.js";
  * @typedef {import("./language.js").Language} Language
  *
  * The functions of the host: `readFile` returns the text of a file, `pause` yields to other tasks.
- * @typedef {{ readFile: import("./kinds.js").ReadText, pause: () => Promise<void> }} Host
+ * @typedef {{ readFile: import("./text_kinds.js").ReadText, pause: () => Promise<void> }} Host
  *
  * An open text with its errors and diagnostics. `checkedEdits` is the number of edits before the last completed check, -1 before the first
  * check. `check` resolves at the end of the current check.
@@ -117,7 +117,7 @@ export class LanguageServer {
   /**
    * Returns the texts that a test or property file depends on.
    * @param {string} uri
-   * @returns {import("./beside_language.js").DependencyTexts}
+   * @returns {import("./dependent_language.js").DependencyTexts}
    */
   findDependencies(uri) {
     const { folder, board, program, tests } = findDependencies(uri, (each, inside) => this.readText(each, inside));

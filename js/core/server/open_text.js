@@ -3,7 +3,7 @@
 /**
  * @typedef {import("./lsp_protocol.js").Position} Position
  * @typedef {import("./lsp_protocol.js").Range} Range
- * @typedef {import("../text/text_fault.js").Fault} Fault
+ * @typedef {import("../text/sendable_text.js").Fault} Fault
  */
 
 const LINE_END = /\r\n|\r|\n/;

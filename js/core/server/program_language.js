@@ -3,12 +3,12 @@
 import { hex } from "../bench/numbers.js";
 import { readConditions, readInstructions } from "../help/manual.js";
 import { SourceMap } from "../machine/source_map.js";
-import { TextErrorFinder } from "../text/all_faults.js";
+import { TextErrorFinder } from "../text/text_error_finder.js";
 import { DIRECTIVES, findDefinedNames, splitStatement, tokenizeLine, wordAt } from "../text/assembly.js";
 import { PARTS } from "../text/folding.js";
 import { findLineChanges, findLayoutError, formatProgramLines } from "../text/program_format.js";
 import { findDefinition, findRenamingError, nameAt, findReferences } from "../text/references.js";
-import { sentText } from "../text/text_fault.js";
+import { sentText } from "../text/sendable_text.js";
 import { createHints } from "./inlay_hints.js";
 import { ProgramCalls } from "./program_calls.js";
 import { programCompletion } from "./program_completion.js";
@@ -122,7 +122,7 @@ export class ProgramLanguage {
       instructions: this.instructions,
       conditions: this.conditions,
       meaningOf: (name) => (program ? program.map.meaningOf(name) : ""),
-      valueOf: (name) => (program ? program.map.valueOf(name) : undefined),
+      valueOf: (name) => (program ? program.map.findValue(name) : undefined),
       describeLine: (line) => (program ? this.describeLine(lines[line - 1], line, program) : ""),
     });
   }

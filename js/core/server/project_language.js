@@ -2,11 +2,11 @@
 
 import { listNamedFiles } from "../project/project_toml.js";
 import { PARTS } from "../text/folding.js";
-import { findProjectErrors, parentFolder, readProject, uriInFolder } from "./kinds.js";
+import { findProjectErrors, parentFolder, readProject, uriInFolder } from "./text_kinds.js";
 import { rangeInLine } from "./lsp_protocol.js";
 
 /**
- * @typedef {import("./kinds.js").ReadText} ReadText
+ * @typedef {import("./text_kinds.js").ReadText} ReadText
  * @typedef {import("./language.js").DocumentLink} DocumentLink
  * @typedef {import("./open_text.js").OpenText} OpenText
  */

@@ -5,8 +5,8 @@ import { createSubject } from "../explore/subject.js";
 import { COLOURS } from "../text/test_colours.js";
 import { PARTS } from "../text/folding.js";
 import { completeProperty, helpForProperty, propertyForms } from "../text/property_words.js";
-import { DependentLanguage, locateError } from "./beside_language.js";
-import { parentFolder, uriInFolder } from "./kinds.js";
+import { DependentLanguage, locateError } from "./dependent_language.js";
+import { parentFolder, uriInFolder } from "./text_kinds.js";
 import { rangeInLine } from "./lsp_protocol.js";
 import { colouredWords } from "./token_codes.js";
 
@@ -27,7 +27,7 @@ export class PropertyLanguage extends DependentLanguage {
   /**
    * @param {import("../engine/engine_host.js").EngineHost} engine
    * @param {import("../help/manual.js").ManualSection[]} manual
-   * @param {(uri: string) => import("./beside_language.js").DependencyTexts} findDependencies
+   * @param {(uri: string) => import("./dependent_language.js").DependencyTexts} findDependencies
    * @param {(uri: string, folder: string) => string | null} readText
    */
   constructor(engine, manual, findDependencies, readText) {

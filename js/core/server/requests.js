@@ -90,7 +90,7 @@ export class Requests {
   // --- requests about a text
 
   /**
-   * Calls the language of the requested text.
+   * Calls a function with the language (language.js) of the text that a request names.
    * @template Result
    * @param {any} params
    * @param {(language: Language, openText: OpenText) => Result} ask

@@ -4,7 +4,7 @@ import { readSources } from "../testing/test_text.js";
 import { COLOURS } from "../text/test_colours.js";
 import { PARTS } from "../text/folding.js";
 import { completeTest, helpForTest, testForms } from "../text/test_words.js";
-import { DependentLanguage, locateError } from "./beside_language.js";
+import { DependentLanguage, locateError } from "./dependent_language.js";
 import { rangeInLine } from "./lsp_protocol.js";
 import { colouredWords } from "./token_codes.js";
 import * as say from "../../words/server.js";
@@ -41,7 +41,7 @@ export class TestLanguage extends DependentLanguage {
   /**
    * @param {import("../engine/engine_host.js").EngineHost} engine
    * @param {import("../help/manual.js").ManualSection[]} manual
-   * @param {(uri: string) => import("./beside_language.js").DependencyTexts} findDependencies
+   * @param {(uri: string) => import("./dependent_language.js").DependencyTexts} findDependencies
    */
   constructor(engine, manual, findDependencies) {
     super(engine, findDependencies);

@@ -1,14 +1,14 @@
 // Runs a test on request of an editor. The tests that save its start states run first. Open texts are used as the editor shows them.
 
-import { CancelledError } from "../bench/faults.js";
+import { CancelledError } from "../bench/bench_errors.js";
 import { runTests } from "../testing/test_suite.js";
-import { locateError, decodeFileName } from "./beside_language.js";
+import { locateError, decodeFileName } from "./dependent_language.js";
 import { REQUEST_CANCELLED, ProtocolError } from "./lsp_protocol.js";
 import { IT_WAS_CANCELLED } from "../../words/bench.js";
 import * as say from "../../words/server.js";
 
 /**
- * @typedef {import("./beside_language.js").DependencyTexts} DependencyTexts
+ * @typedef {import("./dependent_language.js").DependencyTexts} DependencyTexts
  * @typedef {import("./diagnostics.js").ShownFault} ShownFault
  * @typedef {import("./open_text.js").OpenText} OpenText
  *
@@ -83,7 +83,7 @@ export class TestRuns {
   }
 
   /**
-   * @param {import("../testing/prepared.js").TextFault} fault
+   * @param {import("../testing/test_preparation.js").TextFault} fault
    * @param {DependencyTexts} dependencies
    */
   describeError({ text, file = "", line, number, words }, { board, program }) {

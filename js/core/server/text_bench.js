@@ -1,8 +1,8 @@
 // Queries the bench about the texts of boards and programs, in temporary sessions in memory.
 
 import { readBoard, parseRefusal } from "../bench/answers.js";
-import { readErrors, readWiring } from "../bench/text_judgement.js";
-import { sentText } from "../text/text_fault.js";
+import { readErrors, readWiring } from "../bench/text_check_answers.js";
+import { sentText } from "../text/sendable_text.js";
 import { ALL_ROMS, textRefusal, readProgram } from "../engine/program_check.js";
 
 /**
@@ -80,7 +80,7 @@ export class TextBench {
 
   /**
    * Returns the queries of this bench as callbacks for AllFaultsOfTexts.
-   * @returns {import("../text/all_faults.js").FaultQueries}
+   * @returns {import("../text/text_error_finder.js").FaultQueries}
    */
   queries() {
     return {

@@ -1,6 +1,6 @@
 // Workspace symbols: finds the names that match a query, in the open texts and their projects.
 
-import { decodeFileName } from "./beside_language.js";
+import { decodeFileName } from "./dependent_language.js";
 
 /**
  * @typedef {import("./language_server.js").LanguageServer} LanguageServer

@@ -5,7 +5,7 @@ import { readInputs } from "../bench/inputs.js";
 import { PROJECT_FILE } from "../project/project_toml.js";
 import { readSRecords } from "../bench/rom_formats.js";
 import { readBytes, readHex } from "../bench/rom_image.js";
-import { STORED_LIMIT } from "../text/text_fault.js";
+import { STORED_LIMIT } from "../text/sendable_text.js";
 import { isProject } from "./project_file.js";
 import * as say from "../../words/session.js";
 

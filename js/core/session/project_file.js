@@ -5,7 +5,7 @@ import { checksum } from "./checksum.js";
 import { shortName } from "./names.js";
 import { hex } from "../bench/numbers.js";
 import { parseBreakpoint, limitBreakpoints, formatBreakpoints } from "../debug/breakpoint_lines.js";
-import { STORED_LIMIT } from "../text/text_fault.js";
+import { STORED_LIMIT } from "../text/sendable_text.js";
 import * as say from "../../words/session.js";
 
 /**

@@ -1,10 +1,10 @@
 // Loads ROM images from files into ROM, and saves ROM contents to files.
 
 import { readBoard } from "../bench/answers.js";
-import { counted, hex } from "../bench/numbers.js";
+import { formatQuantity, hex } from "../bench/numbers.js";
 import { NO_BYTE, PAGE_NUMBERS, PAGE_BYTES, parseRomBytes, listQueries } from "../bench/rom_bytes.js";
 import { writeHex } from "../bench/rom_image.js";
-import { createByteTexts } from "../text/assembling.js";
+import { createByteTexts } from "../text/asm_texts.js";
 import * as say from "../../words/session.js";
 
 /**
@@ -47,7 +47,7 @@ export class RomFiles {
     const answer = await this.calls.act(createByteTexts(bytes).map((text) => `asm\n${text}.\n`).join(""));
     const firstAddress = bytes.findIndex((byte) => byte !== NO_BYTE);
     const count = bytes.filter((byte) => byte !== NO_BYTE).length;
-    return answer === null ? "" : say.bytesInRom(counted(count, "byte"), name, count === 1, hex(firstAddress, 3));
+    return answer === null ? "" : say.bytesInRom(formatQuantity(count, "byte"), name, count === 1, hex(firstAddress, 3));
   }
 
   /** Resolves to the bytes of all ROMs on the board. The answer to `list` can extend beyond a ROM; such bytes are removed. */

@@ -1,6 +1,6 @@
 // Summarises a board and a program: a title, and the numbers of chips, lamps and keys.
 
-import { counted } from "../bench/numbers.js";
+import { formatQuantity } from "../bench/numbers.js";
 import { Face } from "../board/face.js";
 import { parseFaceLine } from "../board/face_words.js";
 import * as say from "../../words/session.js";
@@ -41,5 +41,5 @@ export function describeBoard({ roms, banks, chains, lamps, rows, columns }) {
   const chips = banks.reduce((sum, bank) => sum + bank.chips, 0);
   const shifts = chains.reduce((sum, chain) => sum + chain.chips, 0);
   const counts = [roms.length, chips, shifts, lamps.length, rows * columns];
-  return counts.map((count, at) => count > 0 && counted(count, say.PARTS[at])).filter(Boolean).join(", ") || say.NO_CHIP;
+  return counts.map((count, at) => count > 0 && formatQuantity(count, say.PARTS[at])).filter(Boolean).join(", ") || say.NO_CHIP;
 }

@@ -6,7 +6,7 @@ import * as say from "../../words/testing.js";
 
 /**
  * @typedef {import("../machine/source_map.js").SourceMap} SourceMap
- * @typedef {import("./account.js").ExecutionRecorder} ExecutionRecorder
+ * @typedef {import("./recorders.js").ExecutionRecorder} ExecutionRecorder
  *
  * A line with an instruction: how often it ran, whether it is a conditional jump, and how often it jumped.
  * @typedef {{ line: number, count: number, isJump: boolean, taken: number }} LineCoverage

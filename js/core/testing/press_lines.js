@@ -1,6 +1,6 @@
 // Creates the lines that press board keys by name, one key after another.
 
-import { LAMPS_FORECAST_QUERY, hasScannedDisplay } from "../engine/seen_text.js";
+import { LAMPS_FORECAST_QUERY, hasScannedDisplay } from "../engine/perceived_text.js";
 import { TOOL_KEY_DOWN_CYCLES, TOOL_KEY_UP_CYCLES } from "../time/mcs4_time.js";
 import { listNamedKeys } from "./test_text.js";
 

@@ -1,12 +1,12 @@
 // Collects the printout of a test: the codes that the program sends to the printer during the test. If the test starts at a saved state,
 // the printout begins with the earlier codes.
 
-import { printoutLines } from "../board/strip.js";
-import { PrinterCodes } from "../engine/printing.js";
+import { printoutLines } from "../board/printout_lines.js";
+import { PrinterCodes } from "../engine/printer_codes.js";
 
 /**
  * @typedef {import("../board/face.js").Printer} Printer
- * @typedef {import("../engine/tracing.js").Answers} Answers
+ * @typedef {import("../engine/forecast_answers.js").ForecastAnswers} ForecastAnswers
  */
 
 export class Printout {
@@ -29,7 +29,7 @@ export class Printout {
 
   /**
    * Reads the answers to the queries before a run.
-   * @param {Answers} answers
+   * @param {ForecastAnswers} answers
    * @param {number} elapsed the cycles from the start of the test to the run
    */
   take(answers, elapsed) {

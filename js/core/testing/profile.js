@@ -2,9 +2,9 @@
 
 /**
  * @typedef {import("../machine/source_map.js").SourceMap} SourceMap
- * @typedef {import("./account.js").ExecutionRecorder} ExecutionRecorder
- * @typedef {import("./account.js").CallCounts} CallCounts
- * @typedef {import("./account.js").KeyTimes} KeyTimes
+ * @typedef {import("./recorders.js").ExecutionRecorder} ExecutionRecorder
+ * @typedef {import("./recorders.js").CallCounts} CallCounts
+ * @typedef {import("./recorders.js").KeyTimes} KeyTimes
  *
  * A row for a label: `own` is the number of cycles in the code between the label and the next label, `calls` are the calls of its routine.
  * The code before the first label has a row with the label "" and the address -1.

@@ -19,7 +19,7 @@ const cell = (value, width) => String(value).padStart(width);
 /** @param {number} cycles */
 const formatMilliseconds = (cycles) => say.inMilliseconds(formatTenths(cycles * CYCLE_MS));
 
-/** @type {(own: number, total: number) => string} returns cycles and their percentage */
+/** @type {(ownCycles: number, total: number) => string} returns cycles and their percentage */
 const formatShare = (own, total) => `${cell(own, 10)} ${cell(formatTenths((100 * own) / total), 6)}`;
 
 /**

@@ -1,20 +1,20 @@
 // Creates a sample test for a board without tests. The test presses the first key of the board, if there is one, and expects the result:
 // the display text, or a lamp that is on.
 
-import { convertLampAnswers } from "../board/shown_answers.js";
-import { LAMPS_FORECAST_QUERY, hasScannedDisplay } from "../engine/seen_text.js";
+import { convertLampAnswers } from "../board/lamp_answers.js";
+import { LAMPS_FORECAST_QUERY, hasScannedDisplay } from "../engine/perceived_text.js";
 import { cyclesFromMilliseconds } from "../time/mcs4_time.js";
 import * as say from "../../words/text.js";
-import { NullRecorder } from "./account.js";
-import { prepareTests } from "./prepared.js";
+import { NullRecorder } from "./recorders.js";
+import { prepareTests } from "./test_preparation.js";
 import { TestSession } from "./test_session.js";
 import { runTests } from "./test_suite.js";
 import { listNamedKeys } from "./test_text.js";
 
 /**
  * @typedef {import("../engine/engine_host.js").EngineHost} Engine
- * @typedef {import("./prepared.js").PreparedTests} PreparedTests
- * @typedef {import("./prepared.js").Texts} Texts
+ * @typedef {import("./test_preparation.js").PreparedTests} PreparedTests
+ * @typedef {import("./test_preparation.js").Texts} Texts
  */
 
 /** The time for which the key is down before the expectation, in milliseconds. */

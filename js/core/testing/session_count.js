@@ -2,8 +2,8 @@
 
 import { romCodes } from "../engine/rom_codes.js";
 import { sessionProgram } from "../engine/session_program.js";
-import { copyWithoutStops } from "../engine/without_stops.js";
-import { ExecutionRecorder } from "./account.js";
+import { copyWithoutStops } from "../engine/free_running_copy.js";
+import { ExecutionRecorder } from "./recorders.js";
 import { computeCoverage } from "./coverage.js";
 import { computeProfile } from "./profile.js";
 import { TestSession } from "./test_session.js";
@@ -13,7 +13,7 @@ import { TestSession } from "./test_session.js";
  * @typedef {import("../engine/engine_host.js").State} State
  * @typedef {import("../engine/session_program.js").OtherByte} OtherByte
  * @typedef {import("./coverage.js").Coverage} Coverage
- * @typedef {import("./prepared.js").TextFault} TextFault
+ * @typedef {import("./test_preparation.js").TextFault} TextFault
  * @typedef {import("./profile.js").Profile} Profile
  *
  * The counts, the number of cycles that ran, and the reason for the stop ("end" if nothing stopped the run).

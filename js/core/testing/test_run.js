@@ -1,24 +1,24 @@
 // Runs tests, each in a new session in memory. The page's worker and Node use this module.
 
-import { counted, hex } from "../bench/numbers.js";
+import { formatQuantity, hex } from "../bench/numbers.js";
 import { parseItems, stateValue } from "../bench/state_line.js";
 import { MAX_RUN_CYCLES } from "../engine/key_queue.js";
-import { Answers, parseTraceLine, rowValues } from "../engine/tracing.js";
+import { ForecastAnswers, parseTraceLine, rowValues } from "../engine/forecast_answers.js";
 import { instructionCycles } from "../engine/rom_codes.js";
 import { TOOL_KEY_DOWN_CYCLES, TOOL_KEY_UP_CYCLES } from "../time/mcs4_time.js";
 import { lastInstructions } from "./last_instructions.js";
-import { describeLastLabel } from "./last_passed.js";
+import { describeLastLabel } from "./last_label.js";
 import { Printout } from "./printout.js";
 import { TestSession } from "./test_session.js";
 import { listNamedKeys } from "./test_text.js";
 import * as say from "../../words/testing.js";
 
 /**
- * @typedef {import("./account.js").ExecutionRecorder} ExecutionRecorder
+ * @typedef {import("./recorders.js").ExecutionRecorder} ExecutionRecorder
  * @typedef {import("../conditions/condition_language.js").ExtraValues} ExtraValues
  * @typedef {import("../conditions/condition_language.js").Condition} Condition
  * @typedef {import("../engine/engine_host.js").EngineHost} Engine
- * @typedef {import("./prepared.js").PreparedTests} PreparedTests
+ * @typedef {import("./test_preparation.js").PreparedTests} PreparedTests
  * @typedef {import("./test_text.js").Action} Action
  * @typedef {import("./test_text.js").ChosenKey} ChosenKey
  * @typedef {import("./test_text.js").Key} Key
@@ -223,9 +223,9 @@ export class TestRun {
    * @returns {{ key: Key | undefined, words: string }}
    */
   chooseKey(session, { word, place, probe, keys }) {
-    const value = parseInt(rowValues(new Answers(session.ask(`trace 1 ${probe}\n`)).takeTrace().row)[0], 16);
+    const value = parseInt(rowValues(new ForecastAnswers(session.ask(`trace 1 ${probe}\n`)).takeTrace().row)[0], 16);
     const valueText = say.isAnd(place, value);
-    if (keys.length > 0) return { key: keys[value], words: say.hasKeys(valueText, word, counted(keys.length, "key")) };
+    if (keys.length > 0) return { key: keys[value], words: say.hasKeys(valueText, word, formatQuantity(keys.length, "key")) };
     const boardKeys = listNamedKeys(this.prepared.names.face);
     const digit = hex(value, 1);
     const key = boardKeys.get(String(value)) || boardKeys.get(digit);
@@ -340,7 +340,7 @@ export class TestRun {
    * @param {number} maxResult the largest possible result
    */
   cyclesToChange(session, condition, extraValues, piece, maxResult) {
-    const { lines } = new Answers(session.ask(`trace ${piece} ${condition.places.join(" ")}\n`)).takeTrace();
+    const { lines } = new ForecastAnswers(session.ask(`trace ${piece} ${condition.places.join(" ")}\n`)).takeTrace();
     for (const line of lines) {
       const { cycles, address, row } = parseTraceLine(line);
       if (!condition.holds(rowValues(row), extraValues)) continue;

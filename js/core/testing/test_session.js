@@ -1,15 +1,15 @@
 // A session under test, in memory. Stores an earlier state and the later actions, so that the last instructions can be listed. Records the
 // execution of each run.
 
-import { LAMPS_FORECAST_QUERY } from "../engine/seen_text.js";
+import { LAMPS_FORECAST_QUERY } from "../engine/perceived_text.js";
 import { readCounter, readRegisters } from "../bench/answers.js";
 import { stateValue } from "../bench/state_line.js";
 import { romCodes } from "../engine/rom_codes.js";
 import { MAX_RUN_CYCLES } from "../engine/key_queue.js";
-import { Answers, parseTraceLine, rowValues } from "../engine/tracing.js";
+import { ForecastAnswers, parseTraceLine, rowValues } from "../engine/forecast_answers.js";
 
 /**
- * @typedef {import("./account.js").ExecutionRecorder} ExecutionRecorder
+ * @typedef {import("./recorders.js").ExecutionRecorder} ExecutionRecorder
  * @typedef {import("../conditions/condition_language.js").ExtraValues} ExtraValues
  * @typedef {import("../conditions/condition_language.js").Condition} Condition
  * @typedef {import("../engine/engine_host.js").EngineHost} Engine
@@ -121,9 +121,9 @@ export class TestSession {
     const { recorder, engine, file, printout, previousFile } = this;
     const printoutQueries = printout ? printout.queries(cycles) : "";
     const lines = `${printoutQueries}${recorder.queries(cycles)}run ${cycles}\nregs\n`;
-    const answers = new Answers(engine.serve(file, lines, previousFile).answers);
+    const answers = new ForecastAnswers(engine.serve(file, lines, previousFile).answers);
     if (printout) printout.take(answers, this.elapsed);
-    recorder.take(answers, this.elapsed, () => new Answers(engine.ask(file, `trace ${cycles}\n`).answers));
+    recorder.take(answers, this.elapsed, () => new ForecastAnswers(engine.ask(file, `trace ${cycles}\n`).answers));
     const run = answers.takeRun();
     if (this.beginsInSecondCycle && run.cycles > 0) {
       this.beginsInSecondCycle = false;
@@ -158,7 +158,7 @@ export class TestSession {
     if (this.lastRunCycles === 0 || !this.recorder.keepsTimes) return;
     const before = this.lastRunCycles > 1 ? `run ${this.lastRunCycles - 1}\n` : "";
     const answers = this.engine.ask(this.previousFile, `${before}trace 1\n`).answers.slice(before === "" ? 0 : 1);
-    const [line] = new Answers(answers).takeTrace().lines;
+    const [line] = new ForecastAnswers(answers).takeTrace().lines;
     if (line) this.recorder.subtractLastCycle(parseTraceLine(line).address);
   }
 
@@ -171,7 +171,7 @@ export class TestSession {
     const seen = needs.includes("seen") ? this.ask(LAMPS_FORECAST_QUERY) : [];
     const asksKeys = needs.includes("keys");
     const trace = places.length > 0 ? `trace 1 ${places.join(" ")}\n` : "";
-    const answers = new Answers(this.ask(`${trace}regs\n${asksKeys ? "state\n" : ""}`));
+    const answers = new ForecastAnswers(this.ask(`${trace}regs\n${asksKeys ? "state\n" : ""}`));
     const values = places.length > 0 ? rowValues(answers.takeTrace().row) : [];
     const { owed, test } = readRegisters(answers.take());
     const keys = asksKeys ? stateValue(answers.take(), "keys") : "";

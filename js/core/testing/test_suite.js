@@ -3,10 +3,10 @@
 //
 //     const report = await runTests(engine, { boardText, programText, testText }, async (done, total) => true);
 
-import { CancelledError } from "../bench/faults.js";
-import { ExecutionRecorder } from "./account.js";
+import { CancelledError } from "../bench/bench_errors.js";
+import { ExecutionRecorder } from "./recorders.js";
 import { computeCoverage } from "./coverage.js";
-import { prepareTests } from "./prepared.js";
+import { prepareTests } from "./test_preparation.js";
 import { computeProfile } from "./profile.js";
 import { TestRun } from "./test_run.js";
 import { readSources } from "./test_text.js";
@@ -14,7 +14,7 @@ import { readSources } from "./test_text.js";
 /**
  * @typedef {import("../engine/engine_host.js").EngineHost} Engine
  * @typedef {import("./coverage.js").Coverage} Coverage
- * @typedef {import("./prepared.js").TextFault} TextFault
+ * @typedef {import("./test_preparation.js").TextFault} TextFault
  * @typedef {import("./profile.js").Profile} Profile
  * @typedef {import("./test_run.js").Outcome} Outcome
  * @typedef {import("./test_text.js").Action} Action

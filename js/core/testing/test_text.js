@@ -4,7 +4,7 @@
 import { parseDuration, parseWholeDuration } from "../conditions/durations.js";
 import { compileExpression, compileTestCondition } from "../conditions/condition_language.js";
 import { parsePlace } from "../conditions/places.js";
-import { readSetting } from "../conditions/setting.js";
+import { readSetting } from "../conditions/set_command.js";
 import { parseNumber } from "../bench/numbers.js";
 import { keyLine, pinKey } from "../board/key_place.js";
 import { inColumn } from "../../words/conditions.js";

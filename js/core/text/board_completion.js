@@ -5,7 +5,7 @@ import { indices } from "../bench/numbers.js";
 import { collectParts, readBoardText } from "./board_reader.js";
 import { filterCompletions, withoutDescription } from "./completion.js";
 import { tableAt } from "./text_help.js";
-import { commentAt } from "./text_fault.js";
+import { commentAt } from "./sendable_text.js";
 import * as say from "../../words/text.js";
 
 /**

@@ -2,18 +2,18 @@
 // position, and the manual describes the valid values of each key.
 
 import { PART_KEYS, LINE_NAMES, MAX_PARTS, MAX_COLUMNS, BITS_PER_CHIP, VALUE_RANGES, boardLines } from "../bench/board_form.js";
-import { findSimilarWords, formatSuggestion } from "./alike.js";
+import { findSimilarWords, formatSuggestion } from "./similar_words.js";
 import { collectParts, readBoardText } from "./board_reader.js";
-import { faultAt } from "./text_fault.js";
+import { faultAt } from "./sendable_text.js";
 import * as say from "../../words/text.js";
 
 /**
- * @typedef {import("../bench/text_judgement.js").BoardError} BoardError
+ * @typedef {import("../bench/text_check_answers.js").BoardError} BoardError
  * @typedef {import("./board_reader.js").BoardText} BoardText
  * @typedef {import("./board_reader.js").Entry} Entry
  * @typedef {import("./board_reader.js").Key} Key
  * @typedef {import("./board_reader.js").Value} Value
- * @typedef {import("./text_fault.js").Fault} Fault
+ * @typedef {import("./sendable_text.js").Fault} Fault
  *
  * The table and the key with the error; null if the text does not contain them.
  * @typedef {{ entry: Entry | null, key: Key | null }} WrongPart
@@ -49,7 +49,7 @@ class BoardErrorText {
     this.text = text;
     this.error = error;
     this.tables = tables;
-    this.wordsOf = wordsOf;
+    this.messageFor = wordsOf;
     this.parts = collectParts(text.entries);
     this.lines = new Map(boardLines(this.parts).map((line) => [line.name, line]));
   }
@@ -98,7 +98,7 @@ class BoardErrorText {
       const first = keys.find(({ name }) => second && name === second.name);
       if (second && first && first !== second) return faultAt(number, second, say.alreadyThere(second.name, first.line));
     }
-    return this.createLineFault(this.wordsOf(number));
+    return this.createLineFault(this.messageFor(number));
   }
 
   /**
@@ -127,7 +127,7 @@ class BoardErrorText {
     if (number === MISSING_KEY) return say.lacks(section, name);
     if (number === BAD_VALUE) return this.explainValues(value);
     if (number === TOO_MANY) return name === "" ? say.mostTables(MAX_PARTS[section], section) : say.mostColumns(MAX_COLUMNS);
-    if (!entry || !key || !value) return this.wordsOf(number);
+    if (!entry || !key || !value) return this.messageFor(number);
     if (number === DUPLICATE) return say.alreadyThere(`${name} ${value.inner}`, this.findFirstLine(entry, key));
     if (number === LACKS_LINE) return name === "rows" ? this.explainRows(entry) : this.explainMissingLine(String(value.inner));
     const { kind = "" } = this.lines.get(String(value.inner)) || {};
@@ -145,7 +145,7 @@ class BoardErrorText {
     const isLine = LINE_KEYS.includes(key) && typeof inner !== "object" && (key !== "columns" || value !== this.findWrongPart().key?.value);
     if (isLine) return say.noLineName(String(inner));
     if (typeof inner === "string" && `${section}.${key}` in VALUE_RANGES && /^\d+$/.test(inner)) return say.withoutQuotes(key, inner);
-    if (key) return values ? say.keyMustBe(key, values) : this.wordsOf(BAD_VALUE);
+    if (key) return values ? say.keyMustBe(key, values) : this.messageFor(BAD_VALUE);
     if (section !== "keys" && index === 0) return say.several(section);
     return section === "keys" ? say.ONE_MATRIX : say.mustBeTable(section);
   }

@@ -6,7 +6,7 @@ import { tomlWords } from "./toml_words.js";
 import * as say from "../../words/text.js";
 
 /**
- * @typedef {import("./text_fault.js").Fault} Fault
+ * @typedef {import("./sendable_text.js").Fault} Fault
  * @typedef {import("./toml_words.js").TomlWord} TomlWord
  * @typedef {string | number | boolean | Value[] | Entry} Inner
  *

@@ -2,7 +2,7 @@
 // lines with a valid form, so the assembled bytes stay the same.
 
 import { MAX_LINE_LENGTH } from "../bench/inputs.js";
-import { STORED_LIMIT, LONGEST_TEXT, sentText, trimBlanks } from "./text_fault.js";
+import { STORED_LIMIT, LONGEST_TEXT, sentText, trimBlanks } from "./sendable_text.js";
 import * as say from "../../words/text.js";
 
 /**

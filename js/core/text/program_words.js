@@ -1,6 +1,6 @@
 // Explains why the bench rejects a program line: finds the wrong word and describes the expected form.
 
-import { findSimilarWords, formatSuggestion } from "./alike.js";
+import { findSimilarWords, formatSuggestion } from "./similar_words.js";
 import { LAST_ADDRESS } from "../bench/numbers.js";
 import { DIRECTIVES, MAX_NAME_LENGTH, NAME, NUMBER, PAIR, REGISTER, splitStatement } from "./assembly.js";
 import * as say from "../../words/text.js";

@@ -1,6 +1,6 @@
 // Returns the help for words in programs and board texts, from the manual's tables.
 
-import { counted } from "../bench/numbers.js";
+import { formatQuantity } from "../bench/numbers.js";
 import { PAIR, REGISTER, findDefinedNames, splitStatement, wordAt } from "./assembly.js";
 import { cellText, sectionRows } from "../help/manual.js";
 import * as say from "../../words/text.js";
@@ -16,7 +16,7 @@ import * as say from "../../words/text.js";
  */
 export function describeInstruction(instruction) {
   const { form, words, cycles } = instruction;
-  const size = `${counted(Number(words), "word")}, ${counted(Number(cycles), "cycle")}`;
+  const size = `${formatQuantity(Number(words), "word")}, ${formatQuantity(Number(cycles), "cycle")}`;
   const does = describeEffect(instruction);
   return `${form}: ${size}. ${does[0].toUpperCase()}${does.slice(1)}.`;
 }

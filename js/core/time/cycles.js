@@ -1,7 +1,7 @@
 // Counts cycles for the user: since the last reset, since the last stop, and between two marks. Also converts cycles to the time of a real
 // 4004.
 
-import { counted } from "../bench/numbers.js";
+import { formatQuantity } from "../bench/numbers.js";
 import { CYCLE_US } from "./mcs4_time.js";
 import * as say from "../../words/time.js";
 
@@ -28,7 +28,7 @@ export function formatCycleTime(cycles) {
  * @param {number} cycles
  */
 export function formatCycles(cycles) {
-  return `${counted(cycles, "cycle")}, ${formatCycleTime(cycles)}`;
+  return `${formatQuantity(cycles, "cycle")}, ${formatCycleTime(cycles)}`;
 }
 
 export class Cycles {
@@ -80,7 +80,7 @@ export class Cycles {
   }
 
   /** @returns {StoredCycles} the counts to store */
-  get kept() {
+  get storedCounts() {
     const { total, reset, from, marks } = this;
     return { total, reset, from, marks };
   }

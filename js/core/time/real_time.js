@@ -67,13 +67,13 @@ export class RealTime {
   /**
    * Returns the number of due cycles and counts them as done.
    * @param {number} now
-   * @param {number} [ahead] the time to simulate early, in milliseconds
+   * @param {number} [earlyTime] the time to simulate early, in milliseconds
    */
-  due(now, ahead = 0) {
+  takeDueCycles(now, earlyTime = 0) {
     this.owed += (Math.max(0, now - this.lastFrame) / 1000) * this.perSecond;
     this.lastFrame = Math.max(now, this.lastFrame);
     if (this.owed > MAX_DUE) this.owed = MAX_DUE;
-    const due = Math.max(0, Math.floor(this.owed + (ahead / 1000) * this.perSecond));
+    const due = Math.max(0, Math.floor(this.owed + (earlyTime / 1000) * this.perSecond));
     this.owed -= due;
     return due;
   }

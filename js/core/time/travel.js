@@ -7,7 +7,7 @@ import * as say from "../../words/time.js";
  * @typedef {import("../engine/travel_requests.js").TravelRequests} TravelRequests
  * @typedef {import("../bench/bench_client.js").Caller<TravelRequests>} Bench
  * @typedef {import("../bench/bench_client.js").CallOptions} CallOptions
- * @typedef {import("../engine/going_back.js").BackGoal} BackGoal
+ * @typedef {import("../engine/past_search.js").BackGoal} BackGoal
  * @typedef {import("../bench/protocol.js").Stop} Stop
  * @typedef {import("../bench/protocol.js").Tally} Tally
  * @typedef {import("../bench/protocol.js").LinesReply} LinesReply

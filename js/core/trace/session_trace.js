@@ -2,7 +2,7 @@
 
 import { readBoard, readRun } from "../bench/answers.js";
 import { MAX_RUN_CYCLES } from "../engine/key_queue.js";
-import { copyWithoutStops } from "../engine/without_stops.js";
+import { copyWithoutStops } from "../engine/free_running_copy.js";
 import { InstructionTexts } from "./instruction_texts.js";
 import { TraceLines } from "./trace_lines.js";
 import * as say from "../../words/trace.js";

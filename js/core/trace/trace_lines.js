@@ -4,7 +4,7 @@
 import { MAX_PLACES } from "../bench/inputs.js";
 import { stateValue } from "../bench/state_line.js";
 import { instructionCycles } from "../engine/rom_codes.js";
-import { Answers, parseTraceLine, rowValues } from "../engine/tracing.js";
+import { ForecastAnswers, parseTraceLine, rowValues } from "../engine/forecast_answers.js";
 import { indices } from "../bench/numbers.js";
 import { tracePlaces } from "./trace_places.js";
 import * as say from "../../words/trace.js";
@@ -13,7 +13,7 @@ import * as say from "../../words/trace.js";
  * @typedef {import("../bench/answers.js").Board} Board
  * @typedef {import("../engine/engine_host.js").EngineHost} EngineHost
  * @typedef {import("../engine/engine_host.js").State} State
- * @typedef {import("../engine/tracing.js").Trace} Trace
+ * @typedef {import("../engine/forecast_answers.js").Trace} Trace
  * @typedef {import("./instruction_texts.js").InstructionTexts} InstructionTexts
  * @typedef {import("./trace_places.js").TracePlace} TracePlace
  *
@@ -90,14 +90,15 @@ export class TraceLines {
    */
   runLines(state, cycles, elapsed) {
     const { engine, texts, board } = this;
-    const executedAddresses = new Answers(engine.ask(state, `count ${cycles}\n`).answers).takeCounts().map(({ address }) => address);
+    const countAnswers = new ForecastAnswers(engine.ask(state, `count ${cycles}\n`).answers);
+    const executedAddresses = countAnswers.takeCounts().map(({ address }) => address);
     texts.readInstructions(engine, state, executedAddresses);
     const codes = new Set(executedAddresses.map((address) => texts.codes[address]));
     const places = tracePlaces(board, SHOWN_REGISTERS, (code) => codes.has(code));
     const groups = indices(Math.ceil(places.length / MAX_PLACES)).map((at) => places.slice(at * MAX_PLACES, (at + 1) * MAX_PLACES));
     const queries = [...groups.map((group) => group.map(({ name }) => name)), MAIN_PLACES];
     const questions = queries.map((names) => `trace ${cycles} ${names.join(" ")}\n`).join("");
-    const answers = new Answers(engine.ask(state, `regs\n${questions}`).answers);
+    const answers = new ForecastAnswers(engine.ask(state, `regs\n${questions}`).answers);
     const isSecondCyclePending = stateValue(answers.take(), "owed") === "1";
     const groupsWithRows = groups.map((group) => createGroup(group, answers.takeTrace()));
     return this.mergeAnswers(groupsWithRows, answers.takeTrace(), { elapsed, firstCycle: Number(isSecondCyclePending) });

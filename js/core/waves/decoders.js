@@ -2,7 +2,7 @@
 // each clock edge shifts in, and the bits of the register after a rest of some cycles. The decoder of the key matrix shows the driven rows
 // and the pressed keys.
 
-import { countUpTo } from "./growing.js";
+import { countUpTo } from "./number_queue.js";
 import * as say from "../../words/waves.js";
 
 /**

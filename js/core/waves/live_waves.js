@@ -23,7 +23,7 @@ export class LiveWaves {
     this.waves = new Waves(recorded);
     this.choice = choice;
     /** The moment of the trigger; -1 before the trigger. */
-    this.triggered = -1;
+    this.triggerMoment = -1;
     /** The reason for the end of the recording; "" while the recording continues. */
     this.over = "";
   }
@@ -40,11 +40,11 @@ export class LiveWaves {
     const { waves } = this;
     const { most, behind, trigger } = this.choice;
     waves.append(part);
-    this.triggered = part.triggered;
+    this.triggerMoment = part.triggerMoment;
     this.over = part.over;
-    if (this.over === "trigger") waves.endAt(this.triggered + behind);
+    if (this.over === "trigger") waves.endAt(this.triggerMoment + behind);
     if (trigger === "") waves.beginAt(waves.cycles - most);
-    else waves.beginAt((this.triggered < 0 ? waves.cycles : this.triggered) - (most - behind));
+    else waves.beginAt((this.triggerMoment < 0 ? waves.cycles : this.triggerMoment) - (most - behind));
   }
 
   /** Ends the recording without a last part. */
@@ -53,19 +53,19 @@ export class LiveWaves {
   }
 
   /** The length of the recording as text, which changes with each part. */
-  get kept() {
+  get lengthText() {
     const { waves } = this;
     return waves.cycles === 0 ? "" : formatCycles(waves.span);
   }
 
   /** The status of the recording as text, which changes rarely. */
   get words() {
-    const { waves, triggered, over } = this;
+    const { waves, triggerMoment, over } = this;
     const { trigger } = this.choice;
-    const triggerText = triggered < 0 ? "" : say.triggerWasAt(formatNumber(triggered));
-    if (over === "trigger") return say.recorded(this.kept, triggerText);
-    if (over !== "") return say.recordedUntil(this.kept || say.NOTHING, say.ENDS[over] || over, triggerText);
-    if (triggered >= 0) return say.recordsAfter(triggerText);
+    const triggerText = triggerMoment < 0 ? "" : say.triggerWasAt(formatNumber(triggerMoment));
+    if (over === "trigger") return say.recorded(this.lengthText, triggerText);
+    if (over !== "") return say.recordedUntil(this.lengthText || say.NOTHING, say.ENDS[over] || over, triggerText);
+    if (triggerMoment >= 0) return say.recordsAfter(triggerText);
     const statusText = waves.cycles === 0 ? say.RECORDS_SOON : say.RECORDS;
     return `${statusText}${trigger ? say.waitsFor(trigger) : ""}`;
   }

@@ -1,14 +1,14 @@
 // The values of a signal line in a recording: the first value, and each moment at which the value changed. The track of a single bit stores
 // no values because the bit alternates.
 
-import { NumberQueue, countUpTo } from "./growing.js";
+import { NumberQueue, countUpTo } from "./number_queue.js";
 
 /**
  * A track in a message. `values` are the values after each change; null for a single bit.
  * @typedef {{ first: number, moments: Uint32Array, values: Uint16Array | Float64Array | null }} TrackData
  */
 
-/** @typedef {import("./growing.js").Numbers} Numbers */
+/** @typedef {import("./number_queue.js").Numbers} Numbers */
 
 /**
  * Returns the track of a line that is always 0.

@@ -3,7 +3,7 @@
 
 import { ADDRESS_COUNT } from "../bench/rom_bytes.js";
 import { deriveShift, findLastRise, scanText, shiftText } from "./decoders.js";
-import { NumberQueue, countUpTo } from "./growing.js";
+import { NumberQueue, countUpTo } from "./number_queue.js";
 import { Track, emptyTrack } from "./track.js";
 import { valueText } from "./wave_words.js";
 
@@ -78,7 +78,7 @@ export class Waves {
     this.cycles = cycles;
     this.isStuck = isStuck;
     for (const [line, track] of this.derivedTracks) {
-      // The part can change the value at the moment at which it starts.
+      // The first moment of the new part can also be the moment of a change.
       track.endAt(previousEnd - 1);
       this.extendTrack(line, track, previousEnd - 1);
     }

@@ -4,8 +4,8 @@
 /**
  * @typedef {import("./wave_lines.js").WaveLine} WaveLine
  * @typedef {typeof ROW_COLOURS[number]} RowColour
- * @typedef {{ title?: string, colour?: RowColour | "", group?: string }} RowLook
- * @typedef {{ order: string[], looks: Record<string, RowLook>, folded: string[] }} StoredRows
+ * @typedef {{ title?: string, colour?: RowColour | "", group?: string }} RowAppearance
+ * @typedef {{ order: string[], looks: Record<string, RowAppearance>, folded: string[] }} StoredRows
  *
  * A row: a line with its index and name, or a group heading with index -1. `title` is the displayed text.
  * @typedef {{ line: number, name: string, title: string, colour: RowColour | "", group: string, isFolded: boolean }} WaveRow
@@ -24,30 +24,30 @@ export class WaveRows {
   }
 
   /** @returns {StoredRows} */
-  get kept() {
+  get storedRows() {
     return { order: this.order, looks: Object.fromEntries(this.looks), folded: [...this.folded] };
   }
 
   /**
    * @param {string} name
-   * @returns {RowLook}
+   * @returns {RowAppearance}
    */
-  getLook(name) {
+  getAppearance(name) {
     return this.looks.get(name) || {};
   }
 
   /** @param {string} name */
   groupOf(name) {
-    return this.getLook(name).group || "";
+    return this.getAppearance(name).group || "";
   }
 
   /**
    * Changes the title, colour or group of a row.
    * @param {string} name the name of the line
-   * @param {RowLook} look the changed properties
+   * @param {RowAppearance} look the changed properties
    */
   change(name, look) {
-    this.looks.set(name, { ...this.getLook(name), ...look });
+    this.looks.set(name, { ...this.getAppearance(name), ...look });
   }
 
   /**
@@ -80,7 +80,7 @@ export class WaveRows {
     const rows = [];
     let lastGroup = "";
     for (const name of this.sortNames([...numbers.keys()])) {
-      const { title = "", colour = "", group = "" } = this.getLook(name);
+      const { title = "", colour = "", group = "" } = this.getAppearance(name);
       const isFolded = this.folded.has(group);
       if (group !== "" && group !== lastGroup) rows.push({ line: -1, name: "", title: group, colour: "", group, isFolded });
       if (group === "" || !isFolded) rows.push({ line: numbers.get(name) || 0, name, title, colour, group, isFolded: false });

@@ -3,7 +3,7 @@
 
 import { parseNumber } from "../bench/numbers.js";
 import { isDecoder, readScan } from "./decoders.js";
-import { countUpTo } from "./growing.js";
+import { countUpTo } from "./number_queue.js";
 import { findLineByName } from "./trigger.js";
 import * as say from "../../words/waves.js";
 

@@ -52,7 +52,7 @@ export class WaveWindow {
   }
 
   /** The number of cycles between the cursors. */
-  get between() {
+  get cursorDistance() {
     return Math.abs(this.cursors[1] - this.cursors[0]);
   }
 

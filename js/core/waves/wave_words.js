@@ -1,6 +1,6 @@
 // Formats texts about recordings. Also parses the number of cycles to record.
 
-import { counted, parseCount } from "../bench/numbers.js";
+import { formatQuantity, parseCount } from "../bench/numbers.js";
 import { formatCycleTime, formatCycles } from "../time/cycles.js";
 import * as say from "../../words/waves.js";
 
@@ -38,7 +38,7 @@ export function formatNumber(number) {
  * @param {number} cycles
  */
 export function cyclesText(cycles) {
-  return counted(cycles, "cycle");
+  return formatQuantity(cycles, "cycle");
 }
 
 /**

@@ -4,7 +4,7 @@ import { once } from "node:events";
 import { closeSync, constants, fsyncSync, openSync, writeSync } from "node:fs";
 import * as say from "../../words/commands.js";
 import { parseCount, checkArguments } from "../arguments.mjs";
-import { GivenTexts } from "../given_texts.mjs";
+import { InputTexts } from "../input_texts.mjs";
 import { openSession, programPath, startEngine } from "../native_program.mjs";
 import { CommandError, print } from "../output.mjs";
 import { checkWritableFile } from "../user_files.mjs";
@@ -75,7 +75,7 @@ function truncateLog(session, offset) {
  */
 async function removeCommands(session, count) {
   const engine = await startEngine();
-  const texts = new GivenTexts();
+  const texts = new InputTexts();
   const state = await openSession(engine, texts, session);
   const bytes = engine.bytesOf(state);
   const commands = Number(engine.ask(state, "seq\n").opened.slice("session ".length));

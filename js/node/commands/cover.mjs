@@ -1,5 +1,5 @@
 // `mcs4 cover`: prints how often each line of a program ran.
-import { LineRecorder } from "../../core/testing/account.js";
+import { LineRecorder } from "../../core/testing/recorders.js";
 import { coverageText, lcovText } from "../../core/testing/coverage_text.js";
 import { NO_LCOV } from "../../words/commands.js";
 import { print } from "../output.mjs";

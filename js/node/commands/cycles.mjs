@@ -3,7 +3,7 @@ import { joinLines } from "../../core/bench/inputs.js";
 import { runTimes } from "../../core/time/run_times.js";
 import { FIRST_AND_LAST, notALine } from "../../words/commands.js";
 import { checkArguments } from "../arguments.mjs";
-import { GivenTexts } from "../given_texts.mjs";
+import { InputTexts } from "../input_texts.mjs";
 import { makeAddressDescriber, startEngine } from "../native_program.mjs";
 import { CommandError, UsageError, print } from "../output.mjs";
 
@@ -28,7 +28,7 @@ export async function run({ source }, positionals) {
   if (source !== undefined) checkArguments([source, ...positionals], ["PROGRAM", "SESSION"], Infinity);
   const [session, words] = source === undefined ? ["", positionals] : [positionals[0], positionals.slice(1)];
   const { first, last } = parseRange(words);
-  const texts = new GivenTexts();
+  const texts = new InputTexts();
   const answers = texts.answers("cycles");
   const describeAddress = source === undefined ? null : await makeAddressDescriber(texts, await startEngine(), source, session);
   const describeCounter = describeAddress && ((counter) => describeAddress(parseInt(counter, 16)));

@@ -2,19 +2,19 @@
 // WebAssembly module from the page.
 import { createInterface } from "node:readline";
 import { Prompt } from "../../core/prompt/debugger_prompt.js";
-import { launch } from "../../core/adapter/launching.js";
-import { ErrorMessages } from "../../core/bench/words.js";
-import { escaped } from "../../core/text/escaped.js";
+import { launch } from "../../core/adapter/session_launch.js";
+import { ErrorMessages } from "../../core/bench/error_messages.js";
+import { escapeControls } from "../../core/text/control_escapes.js";
 import { Engine } from "../../core/engine/engine.js";
 import { checkArguments, findProject } from "../arguments.mjs";
 import { host } from "../debug_host.mjs";
 import { fileNames, expandTilde } from "../file_names.mjs";
-import { MAX_TEXT_BYTES, readDecodedFile } from "../given_texts.mjs";
+import { MAX_TEXT_BYTES, readDecodedFile } from "../input_texts.mjs";
 import { CommandError, exitOnOutputError } from "../output.mjs";
 import { readPageData, readPageModule } from "../page_parts.mjs";
 import { TerminalPrompt } from "../terminal_prompt.mjs";
 import { checkOutputFile, statInput, writeUserFile } from "../user_files.mjs";
-import { ViewOnTerminal } from "../view_on_terminal.mjs";
+import { TerminalView } from "../terminal_view.mjs";
 import { SAVED_HEAD } from "../../words/prompt.js";
 import { NO_BREAKPOINTS_FILE, noSessionToDebug } from "../../words/commands.js";
 
@@ -39,7 +39,7 @@ async function runInteractive(prompt, terminalHolder) {
   const terminal = new TerminalPrompt(prompt, {
     output: process.stdout, onServed: () => view.draw(), onLeave: () => view.leave(), onReturn: () => view.redraw(),
   });
-  const view = new ViewOnTerminal(prompt, process.stdout, process.env, () => {
+  const view = new TerminalView(prompt, process.stdout, process.env, () => {
     if (!prompt.machine.isMoving) terminal.show();
   });
   terminalHolder.terminal = terminal;
@@ -63,10 +63,10 @@ async function debugFiles(names) {
   const position = { line: 0 };
   const terminalHolder = { terminal: null };
   const prompt = new Prompt(debugging, data, {
-    print: (words) => process.stdout.write(`${escaped(words)}\n`),
+    print: (words) => process.stdout.write(`${escapeControls(words)}\n`),
     complain: (words) => {
       if (isInteractive) terminalHolder.terminal.complain(words);
-      else process.stderr.write(`debug: line ${position.line}: ${escaped(words)}\n`);
+      else process.stderr.write(`debug: line ${position.line}: ${escapeControls(words)}\n`);
     },
     pause: host.pause,
     read: (name) => readDecodedFile(expandTilde(name), MAX_TEXT_BYTES).text,

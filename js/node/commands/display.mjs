@@ -1,9 +1,9 @@
 // `mcs4 display`: prints the text on a board's display, from the bench's answers about lamps.
 import { joinLines } from "../../core/bench/inputs.js";
-import { convertLampAnswers } from "../../core/board/shown_answers.js";
+import { convertLampAnswers } from "../../core/board/lamp_answers.js";
 import { checkArguments, findProject } from "../arguments.mjs";
-import { readBoardAndFace } from "../board_texts.mjs";
-import { GivenTexts } from "../given_texts.mjs";
+import { readBoardAndFace } from "../board_file.mjs";
+import { InputTexts } from "../input_texts.mjs";
 import { startEngine } from "../native_program.mjs";
 import { CommandError, print } from "../output.mjs";
 
@@ -13,7 +13,7 @@ export async function run({ folder }, positionals) {
   const words = project ? [project.board, ...positionals] : positionals;
   checkArguments(words, ["BOARD"], 1, true);
   const [name] = words;
-  const texts = new GivenTexts();
+  const texts = new InputTexts();
   const boardText = texts.text(name, "wire");
   // Read standard input before the engine starts, so that a signal ends the waiting process immediately.
   const answers = texts.answers("display");

@@ -1,18 +1,18 @@
 // `mcs4 explain`: prints the rejected lines of a script, with the reasons.
-import { matchScriptAnswers } from "../../core/bench/answered_script.js";
+import { matchScriptAnswers } from "../../core/bench/script_answers.js";
 import { joinLines } from "../../core/bench/inputs.js";
 import { otherAnswers } from "../../words/commands.js";
 import { checkArguments } from "../arguments.mjs";
-import { GivenTexts } from "../given_texts.mjs";
+import { InputTexts } from "../input_texts.mjs";
 import { makeAddressDescriber, startEngine } from "../native_program.mjs";
 import { CommandError, print } from "../output.mjs";
-import { RefusedLines } from "../refused_lines.mjs";
+import { RejectedLines } from "../rejected_lines.mjs";
 
 /** @type {import("./table.mjs").CommandModule["run"]} */
 export async function run({ source }, positionals) {
   if (source === undefined) checkArguments(positionals, ["SCRIPT"]);
   else checkArguments([source, ...positionals], ["PROGRAM", "SESSION", "SCRIPT"]);
-  const texts = new GivenTexts();
+  const texts = new InputTexts();
   const script = texts.script(positionals[positionals.length - 1]);
   const answers = texts.answers("explain");
   const engine = await startEngine();
@@ -20,7 +20,7 @@ export async function run({ source }, positionals) {
   const { inputs, words } = matchScriptAnswers(script, answers);
   if (words !== "") throw new CommandError(otherAnswers(words));
   const lines = script.split("\n").map((line) => line.replace(/\r$/, ""));
-  const report = new RefusedLines(engine, lines, describeAddress).reportLines(inputs, answers[0]);
+  const report = new RejectedLines(engine, lines, describeAddress).reportLines(inputs, answers[0]);
   print(joinLines(report));
   return report.length > 0 ? 1 : 0;
 }

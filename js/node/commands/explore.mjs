@@ -4,9 +4,9 @@ import { join } from "node:path";
 import { hasExpectedResult, formatTap, formatReportTests } from "../../core/explore/report.js";
 import { resolveFileNames, parseCount, checkArguments } from "../arguments.mjs";
 import { exploreAsJob, exploreTexts, jobSettings, mergeReports } from "../explore_processes.mjs";
-import { GivenTexts } from "../given_texts.mjs";
+import { InputTexts } from "../input_texts.mjs";
 import { UsageError, print } from "../output.mjs";
-import { temporaryFolder } from "../temporary.mjs";
+import { temporaryFolder } from "../temporary_folders.mjs";
 import { checkOutputFile, writeUserFile } from "../user_files.mjs";
 import { NO_FINDS, NO_REPORT, excludeEachOther } from "../../words/commands.js";
 
@@ -53,7 +53,7 @@ export async function run(values, positionals) {
  * @param {Omit<import("../explore_processes.mjs").Settings, "folder" | "texts">} limits
  */
 function searchTexts([board, program, properties], limits) {
-  const texts = new GivenTexts();
+  const texts = new InputTexts();
   const commandTexts = { board: texts.text(board, "wire"), program: texts.text(program, "asm") };
   const source = texts.source(properties);
   const folder = temporaryFolder("explore");

@@ -1,10 +1,10 @@
 // `mcs4 import`: converts a program from the syntax of Intel's assembler or of AS to the bench's syntax.
 import { importProgram } from "../../core/import/program_import.js";
 import { readProgram } from "../../core/engine/program_check.js";
-import { findTextErrors } from "../../core/testing/prepared.js";
-import { sentText } from "../../core/text/text_fault.js";
+import { findTextErrors } from "../../core/testing/test_preparation.js";
+import { sentText } from "../../core/text/sendable_text.js";
 import { checkArguments } from "../arguments.mjs";
-import { GivenTexts, MAX_TEXT_BYTES } from "../given_texts.mjs";
+import { InputTexts, MAX_TEXT_BYTES } from "../input_texts.mjs";
 import { rejectedTextsError, startEngine } from "../native_program.mjs";
 import { CommandError, printFile } from "../output.mjs";
 
@@ -22,7 +22,7 @@ async function checkOnBench(name, source, text) {
   const { refusal } = textFaults.length > 0 ? { refusal: null } : readProgram(engine, sentText(text, ";"));
   if (!refusal && textFaults.length === 0) return;
   // Use the message of the refusal, because a message about the line would describe the bench's syntax.
-  const { describeRefusal } = await import("../refused_texts.mjs");
+  const { describeRefusal } = await import("../rejected_texts.mjs");
   const faults = refusal ? [{ text: /** @type {const} */ ("program"), ...refusal, words: describeRefusal(refusal.number) }] : textFaults;
   throw await rejectedTextsError(engine, { program: { name, text: source, before: 0 } }, faults);
 }
@@ -32,7 +32,7 @@ export async function run(values, words) {
   checkArguments(words, ["PROGRAM"]);
   const [name] = words;
   // Latin 1 has one character per byte, so comments in any encoding keep their bytes.
-  const source = new GivenTexts().read(name, MAX_TEXT_BYTES).toString("latin1").replace(UTF8_MARK, "").replace(/\r\n?/g, "\n");
+  const source = new InputTexts().read(name, MAX_TEXT_BYTES).toString("latin1").replace(UTF8_MARK, "").replace(/\r\n?/g, "\n");
   const { text, faults } = importProgram(source);
   if (faults.length > 0) throw new CommandError(faults.map(({ line, words: why }) => `${name}:${line}: ${why}`).join("\n"));
   await checkOnBench(name, source, text);

@@ -4,8 +4,8 @@ import { joinLines } from "../../core/bench/inputs.js";
 import { DEFAULT_PACE } from "../../core/testing/press_lines.js";
 import { benchRejected } from "../../words/commands.js";
 import { parseCount, checkArguments, findProject } from "../arguments.mjs";
-import { readBoardAndFace, makeKeyLines } from "../board_texts.mjs";
-import { GivenTexts, MAX_TEXT_BYTES } from "../given_texts.mjs";
+import { readBoardAndFace, makeKeyLines } from "../board_file.mjs";
+import { InputTexts, MAX_TEXT_BYTES } from "../input_texts.mjs";
 import { programPath, startEngine } from "../native_program.mjs";
 import { CommandError, print, printFile } from "../output.mjs";
 
@@ -17,7 +17,7 @@ const MAX_CYCLES = 100000;
  * @param {string[]} lines
  */
 async function pressInSession(session, lines) {
-  const { openProgram } = await import("../program_on_file.mjs");
+  const { openProgram } = await import("../session_process.mjs");
   const program = await openProgram("open", session);
   let answer = "";
   try {
@@ -32,7 +32,7 @@ async function pressInSession(session, lines) {
   }
   const refusal = parseRefusal(answer);
   if (!refusal) return 0;
-  const { describeRefusal } = await import("../refused_texts.mjs");
+  const { describeRefusal } = await import("../rejected_texts.mjs");
   throw new CommandError(benchRejected(answer, describeRefusal(refusal.number)));
 }
 
@@ -46,7 +46,7 @@ export async function run({ folder, down, up, "until-stop": session }, positiona
   const words = project ? [project.board, ...positionals] : positionals;
   checkArguments(words, ["BOARD", "KEYS"], 2, true);
   const [boardName, keys] = words;
-  const texts = new GivenTexts();
+  const texts = new InputTexts();
   const boardText = texts.text(boardName, "wire");
   if (session !== undefined) {
     texts.read(session, MAX_TEXT_BYTES);

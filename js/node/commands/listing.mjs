@@ -3,7 +3,7 @@ import { joinLines } from "../../core/bench/inputs.js";
 import { programNames, programListing } from "../../core/machine/program_listing.js";
 import { excludeEachOther } from "../../words/commands.js";
 import { checkArguments, findProject } from "../arguments.mjs";
-import { GivenTexts } from "../given_texts.mjs";
+import { InputTexts } from "../input_texts.mjs";
 import { assembleProgram, startEngine } from "../native_program.mjs";
 import { UsageError, printFile } from "../output.mjs";
 
@@ -13,7 +13,7 @@ export async function run({ folder, names, labels }, positionals) {
   const project = await findProject(folder, positionals, 1);
   const words = project ? [project.program, ...positionals] : positionals;
   checkArguments(words, ["PROGRAM"], 1, true);
-  const program = new GivenTexts().text(words[0], "asm");
+  const program = new InputTexts().text(words[0], "asm");
   const { map, bytes } = await assembleProgram(await startEngine(), program);
   const lines = names || labels ? programNames(map, Boolean(labels)).map(({ name, value }) => `${name} ${value}`)
     : programListing(program.text, map, bytes);

@@ -1,8 +1,8 @@
 // `mcs4 names`: replaces a program's names in session lines with their addresses.
-import { replaceNames } from "../../core/bench/names_in_lines.js";
+import { replaceNames } from "../../core/bench/name_substitution.js";
 import { inLine } from "../../words/commands.js";
 import { checkArguments, findProject } from "../arguments.mjs";
-import { GivenTexts } from "../given_texts.mjs";
+import { InputTexts } from "../input_texts.mjs";
 import { assembleProgram, startEngine } from "../native_program.mjs";
 import { CommandError, printFile } from "../output.mjs";
 
@@ -11,7 +11,7 @@ export async function run({ folder }, positionals) {
   const project = await findProject(folder, positionals, 1);
   const words = project ? [project.program, ...positionals] : positionals;
   checkArguments(words, ["PROGRAM"], 1, true);
-  const texts = new GivenTexts();
+  const texts = new InputTexts();
   const { text, encoding } = texts.lines();
   const { map } = await assembleProgram(await startEngine(), texts.text(words[0], "asm"));
   const { lines, line, words: error } = replaceNames(text, map);

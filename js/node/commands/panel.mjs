@@ -2,7 +2,7 @@
 import { basename } from "node:path";
 import { parseRomCodes } from "../../core/engine/rom_codes.js";
 import { listQueries, PAGE_NUMBERS } from "../../core/bench/rom_bytes.js";
-import { differingLines } from "../../core/bench/begun_script.js";
+import { differingLines } from "../../core/bench/script_progress.js";
 import { missingParts } from "../../core/board/face_board.js";
 import { sortByLine } from "../../core/board/face.js";
 import { Panel } from "../../core/panel/terminal_panel.js";
@@ -10,17 +10,17 @@ import { Screen, fitsPanel, middleRows } from "../../core/panel/screen.js";
 import { otherBoard } from "../../words/commands.js";
 import { noteOfBoard } from "../../words/panel.js";
 import { checkArguments, findProject } from "../arguments.mjs";
-import { readBoardAndFace } from "../board_texts.mjs";
-import { GivenTexts, MAX_TEXT_BYTES } from "../given_texts.mjs";
+import { readBoardAndFace } from "../board_file.mjs";
+import { InputTexts, MAX_TEXT_BYTES } from "../input_texts.mjs";
 import { endEngine, endOnSignals, readCheckedMap, programPath, startEngine } from "../native_program.mjs";
 import { CommandError } from "../output.mjs";
 import { PanelTerminal } from "../panel_terminal.mjs";
-import { describeRefusal } from "../refused_texts.mjs";
-import { openProgram } from "../program_on_file.mjs";
+import { describeRefusal } from "../rejected_texts.mjs";
+import { openProgram } from "../session_process.mjs";
 
 /**
- * @typedef {import("../given_texts.mjs").GivenText} GivenText
- * @typedef {import("../program_on_file.mjs").SessionProgram} SessionProgram
+ * @typedef {import("../input_texts.mjs").GivenText} GivenText
+ * @typedef {import("../session_process.mjs").SessionProcess} SessionProcess
  */
 
 const FAILED_STATUS = 1;
@@ -44,7 +44,7 @@ async function resolveNames({ folder, source }, words) {
 
 /**
  * Serves lines. Returns the lines of their answers.
- * @param {SessionProgram} session
+ * @param {SessionProcess} session
  * @param {string} lines
  */
 async function readAnswers(session, lines) {
@@ -56,7 +56,7 @@ async function readAnswers(session, lines) {
 
 /**
  * Reads the board and the program. Throws an error if the board differs from the session's board, or the program from the contents of its ROM.
- * @param {SessionProgram} session
+ * @param {SessionProcess} session
  * @param {string} name the session's file name
  * @param {{ board: GivenText, program: GivenText | null }} texts
  */
@@ -90,7 +90,7 @@ function missingPartNote({ board, face }, linesBefore) {
  */
 async function drawFrame(terminal, panel, screen) {
   const { size } = terminal;
-  await panel.seen.take(fitsPanel(size) ? middleRows(size) : 0);
+  await panel.snapshot.take(fitsPanel(size) ? middleRows(size) : 0);
   if (fitsPanel(terminal.size) && terminal.size.rows === size.rows) terminal.draw(screen.rows(terminal.size));
   else if (!fitsPanel(terminal.size)) terminal.drawTooSmall();
 }
@@ -105,8 +105,8 @@ async function handleKeys(terminal, panel, nextFrameTime) {
   for (let isFrameDue = false; !isFrameDue && !panel.isEnded && !terminal.isGone;) {
     const key = terminal.keys.shift();
     if (key) await panel.type(key, performance.now());
-    else if (performance.now() < nextFrameTime && terminal.shown.length > 0) await terminal.wait(nextFrameTime - performance.now());
-    isFrameDue = key ? panel.isPaused : performance.now() >= nextFrameTime || terminal.shown.length === 0;
+    else if (performance.now() < nextFrameTime && terminal.drawnRows.length > 0) await terminal.wait(nextFrameTime - performance.now());
+    isFrameDue = key ? panel.isPaused : performance.now() >= nextFrameTime || terminal.drawnRows.length === 0;
   }
 }
 
@@ -117,7 +117,7 @@ async function handleKeys(terminal, panel, nextFrameTime) {
  */
 async function runPanel(terminal, panel) {
   const screen = new Screen(panel);
-  terminal.begin(() => panel.seen.forgetListing());
+  terminal.begin(() => panel.snapshot.forgetListing());
   await panel.begin();
   for (let nextFrameTime = performance.now(); !panel.isEnded && !terminal.isGone;) {
     await panel.keepTime(performance.now());
@@ -131,7 +131,7 @@ async function runPanel(terminal, panel) {
 /** @type {import("./table.mjs").CommandModule["run"]} */
 export async function run(values, words) {
   const names = await resolveNames(values, words);
-  const texts = new GivenTexts();
+  const texts = new InputTexts();
   const board = texts.text(names.board, "wire");
   const program = names.program === undefined ? null : texts.text(names.program, "asm");
   texts.read(names.session, MAX_TEXT_BYTES);

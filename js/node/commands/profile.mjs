@@ -1,5 +1,5 @@
 // `mcs4 profile`: prints how many machine cycles a program spends below each label.
-import { ExecutionRecorder } from "../../core/testing/account.js";
+import { ExecutionRecorder } from "../../core/testing/recorders.js";
 import { profileText } from "../../core/testing/profile_text.js";
 import { print } from "../output.mjs";
 import { testOrCount } from "../test_commands.mjs";

@@ -1,10 +1,10 @@
 // `mcs4 prove`: proves that properties are true for all inputs. The program mcs4-prove searches for counterexamples, and the bench confirms each one.
 import { exitStatus, tapHead, formatJudgedTap } from "../../core/prove/verdicts.js";
 import { resolveFileNames, parseCount, checkArguments } from "../arguments.mjs";
-import { GivenTexts } from "../given_texts.mjs";
+import { InputTexts } from "../input_texts.mjs";
 import { print } from "../output.mjs";
 import { ProgressLine } from "../progress_line.mjs";
-import { beginProving } from "../proving.mjs";
+import { beginProving } from "../proof_search.mjs";
 import { provingSoFar } from "../../words/prove.js";
 
 /** The maximum and the default of the number of states to search. */
@@ -19,7 +19,7 @@ export async function run({ folder, most: statesWord, memory: memoryWord }, posi
   const memory = memoryWord === undefined ? 0 : parseCount("MB", memoryWord, MAX_MEMORY);
   const names = await resolveFileNames(folder, positionals);
   checkArguments(names, ["BOARD", "PROGRAM", "PROPERTIES"], 3, true);
-  const texts = new GivenTexts();
+  const texts = new InputTexts();
   const [board, program] = [texts.text(names[0], "wire"), texts.text(names[1], "asm")];
   const properties = texts.source(names[2]);
   return proveAll(await beginProving({ board, program, properties }, { most: maxStates, memory }), properties.name);
@@ -27,7 +27,7 @@ export async function run({ folder, most: statesWord, memory: memoryWord }, posi
 
 /**
  * Judges all properties. Prints the result of each as soon as it is known. Returns the exit status.
- * @param {import("../../core/prove/judging.js").PropertyJudge} judging
+ * @param {import("../../core/prove/property_judge.js").PropertyJudge} judging
  * @param {string} file the name of the properties file
  */
 async function proveAll(judging, file) {

@@ -2,13 +2,13 @@
 import { spawn } from "node:child_process";
 import { once } from "node:events";
 import { parseRefusal } from "../../core/bench/answers.js";
-import { compareWithScript } from "../../core/bench/begun_script.js";
+import { compareWithScript } from "../../core/bench/script_progress.js";
 import { changedMeanwhile, notBegun, sessionRefused, sessionWasRefused } from "../../words/commands.js";
 import { checkArguments } from "../arguments.mjs";
-import { GivenTexts, MAX_TEXT_BYTES, MAX_SCRIPT } from "../given_texts.mjs";
+import { InputTexts, MAX_TEXT_BYTES, MAX_SCRIPT } from "../input_texts.mjs";
 import { yieldToMessages, openSession, programPath, startEngine } from "../native_program.mjs";
 import { CommandError, printBytes, printError } from "../output.mjs";
-import { describeRefusal } from "../refused_texts.mjs";
+import { describeRefusal } from "../rejected_texts.mjs";
 
 const OPENING_LINES = /^session \d+\n/;
 
@@ -67,7 +67,7 @@ function afterLines(bytes, lines) {
 export async function run(_, positionals) {
   checkArguments(positionals, ["SCRIPT", "SESSION"]);
   const [scriptName, session] = positionals;
-  const texts = new GivenTexts();
+  const texts = new InputTexts();
   const bytes = texts.read(scriptName, MAX_SCRIPT);
   const sessionBytes = texts.read(session, MAX_TEXT_BYTES);
   // If there is no native program, fail before anything else.

@@ -4,10 +4,10 @@ import { hex, parseNumber } from "../../core/bench/numbers.js";
 import { ADDRESS_COUNT, MAX_LISTING_LINES, NO_BYTE, parseRomBytes } from "../../core/bench/rom_bytes.js";
 import { detectFormat, readBnpf, readSRecords, writeBnpf } from "../../core/bench/rom_formats.js";
 import { NotARecord, NotAnImage, readBytes, readHex, writeHex } from "../../core/bench/rom_image.js";
-import { createByteTexts } from "../../core/text/assembling.js";
+import { createByteTexts } from "../../core/text/asm_texts.js";
 import * as say from "../../words/commands.js";
 import { checkArguments } from "../arguments.mjs";
-import { GivenTexts, MAX_ANSWERS, MAX_TEXT_BYTES, STANDARD_INPUT } from "../given_texts.mjs";
+import { InputTexts, MAX_ANSWERS, MAX_TEXT_BYTES, STANDARD_INPUT } from "../input_texts.mjs";
 import { CommandError, UsageError, print, printBytes } from "../output.mjs";
 import { readStream } from "../user_files.mjs";
 
@@ -51,7 +51,7 @@ function printLoadLines(givenFormat, words) {
   const [name, word = "0"] = words;
   const address = parseNumber(word);
   if (!(address < ADDRESS_COUNT)) throw new UsageError(say.ADDRESS_RANGE);
-  const file = new GivenTexts().read(name, MAX_TEXT_BYTES);
+  const file = new InputTexts().read(name, MAX_TEXT_BYTES);
   const form = givenFormat || detectFormat(name, file);
   if (!form) throw new CommandError(say.textNoImage(name));
   try {

@@ -1,19 +1,19 @@
 // `mcs4 script`: prints session lines that wire a board, load a program, press keys, and query the lamps.
 import { MAX_LINE_LENGTH, joinLines } from "../../core/bench/inputs.js";
 import { DEFAULT_PACE } from "../../core/testing/press_lines.js";
-import { prepareTests } from "../../core/testing/prepared.js";
-import { LONGEST_TEXT, alignedText, sentText } from "../../core/text/text_fault.js";
+import { prepareTests } from "../../core/testing/test_preparation.js";
+import { LONGEST_TEXT, alignedText, sentText } from "../../core/text/sendable_text.js";
 import { CYCLES_BEFORE_KEYS } from "../../core/time/mcs4_time.js";
 import { checkArguments, findProject } from "../arguments.mjs";
-import { makeKeyLines } from "../board_texts.mjs";
-import { GivenTexts } from "../given_texts.mjs";
+import { makeKeyLines } from "../board_file.mjs";
+import { InputTexts } from "../input_texts.mjs";
 import { rejectedTextsError, startEngine } from "../native_program.mjs";
 import { printFile } from "../output.mjs";
 
 /**
  * Returns a text with its comments, or without them if it would be too long for the bench.
  * @param {string} text
- * @param {import("../../core/text/text_fault.js").CommentMark} mark
+ * @param {import("../../core/text/sendable_text.js").CommentMark} mark
  */
 function textForBench(text, mark) {
   const fullText = alignedText(text, mark);
@@ -27,7 +27,7 @@ export async function run({ folder }, positionals) {
   const words = project ? [project.board, project.program, ...positionals] : positionals;
   checkArguments(words, ["BOARD", "PROGRAM", "KEYS?"], 3, true);
   const [boardName, programName, keys = ""] = words;
-  const texts = new GivenTexts();
+  const texts = new InputTexts();
   const board = texts.text(boardName, "wire");
   const program = texts.text(programName, "asm");
   const engine = await startEngine();

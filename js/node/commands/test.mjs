@@ -1,5 +1,5 @@
 // `mcs4 test`: runs tests of a program and prints the results as TAP.
-import { NullRecorder } from "../../core/testing/account.js";
+import { NullRecorder } from "../../core/testing/recorders.js";
 import { testTap } from "../../core/testing/tap.js";
 import { runTestCommand } from "../test_commands.mjs";
 

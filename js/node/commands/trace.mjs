@@ -3,7 +3,7 @@ import { romCodes } from "../../core/engine/rom_codes.js";
 import { SessionTrace } from "../../core/trace/session_trace.js";
 import { excludeEachOther } from "../../words/commands.js";
 import { parseCount, checkArguments, findProject } from "../arguments.mjs";
-import { GivenTexts } from "../given_texts.mjs";
+import { InputTexts } from "../input_texts.mjs";
 import { yieldToMessages, openSession, readCheckedMap, startEngine } from "../native_program.mjs";
 import { UsageError, print } from "../output.mjs";
 
@@ -28,7 +28,7 @@ export async function run(values, words) {
   const lastCount = values.last === undefined ? 0 : parseCount("N", values.last, MAX_LAST);
   const cycles = parseCount("CYCLES", word, lastCount > 0 ? MAX_CYCLES_WITH_LAST : MAX_CYCLES);
   const programName = await findProgramName(values);
-  const texts = new GivenTexts();
+  const texts = new InputTexts();
   const program = programName === undefined ? null : texts.text(programName, "asm");
   const engine = await startEngine();
   const state = await openSession(engine, texts, session);

@@ -3,22 +3,22 @@ import { readBoard } from "../../core/bench/answers.js";
 import { hasOutput } from "../../core/board/face_board.js";
 import { Face } from "../../core/board/face.js";
 import { romCodes } from "../../core/engine/rom_codes.js";
-import { copyWithoutStops } from "../../core/engine/without_stops.js";
+import { copyWithoutStops } from "../../core/engine/free_running_copy.js";
 import { neededLines, recordPieces } from "../../core/engine/wave_stream.js";
-import { findNameErrors, wireBoard } from "../../core/testing/prepared.js";
+import { findNameErrors, wireBoard } from "../../core/testing/test_preparation.js";
 import { UnknownLineError, chooseLines, listRequestableNames } from "../../core/waves/line_choice.js";
 import { VcdText } from "../../core/waves/vcd.js";
 import { createRecordedProgram } from "../../core/waves/wave_program.js";
 import { createWav } from "../../core/waves/wav.js";
 import * as say from "../../words/commands.js";
 import { parseCount, checkArguments, findProject } from "../arguments.mjs";
-import { GivenTexts } from "../given_texts.mjs";
+import { InputTexts } from "../input_texts.mjs";
 import { yieldToMessages, rejectedTextsError, openSession, readCheckedMap, startEngine } from "../native_program.mjs";
 import { CommandError, UsageError, print, printError } from "../output.mjs";
 import { checkOutputFile, writeUserFile } from "../user_files.mjs";
 
 /**
- * @typedef {import("../given_texts.mjs").GivenText} GivenText
+ * @typedef {import("../input_texts.mjs").GivenText} GivenText
  * @typedef {import("./table.mjs").Values} Values
  *
  * An opened session: its state without breakpoints and watches, its board, and the board's text. `program` is the program with its labels.
@@ -60,7 +60,7 @@ async function checkBoard(engine, boardFile, wantedAnswers) {
  * @returns {Promise<OpenedSession>}
  */
 async function openWiredSession(session, { board: boardName, program: programName }) {
-  const texts = new GivenTexts();
+  const texts = new InputTexts();
   const engine = await startEngine();
   const openedState = await openSession(engine, texts, session);
   const boardText = boardName === undefined ? null : texts.text(boardName, "wire");

@@ -4,7 +4,7 @@
 import { block, element } from "../ui/dom.js";
 import { perceivedBrightness } from "../../core/board/brightness.js";
 import { fittingGroups, isScanned, looseLamps } from "../../core/board/face_board.js";
-import { lampAt, scannedLampAt } from "../../core/board/seen_lamps.js";
+import { lampAt, scannedLampAt } from "../../core/board/lamp_state.js";
 import { indices } from "../../core/bench/numbers.js";
 import * as say from "../../words/board.js";
 
@@ -12,7 +12,7 @@ import * as say from "../../words/board.js";
  * @typedef {import("../../core/board/brightness.js").Brightness} Brightness
  * @typedef {import("../../core/board/face.js").Face} Face
  * @typedef {import("../../core/board/face.js").Group} Group
- * @typedef {import("../../core/board/seen_lamps.js").LampReader} LampReader
+ * @typedef {import("../../core/board/lamp_state.js").LampReader} LampReader
  */
 
 /** A drawn lamp. `show` updates the page only if the lamp's brightness has changed. */

@@ -2,11 +2,11 @@
 
 import { block, button, element, onClick } from "../ui/dom.js";
 import { findPrinter } from "../../core/board/face_board.js";
-import { printoutLines } from "../../core/board/strip.js";
+import { printoutLines } from "../../core/board/printout_lines.js";
 
 /**
  * @typedef {import("../../core/bench/answers.js").Board} Board
- * @typedef {import("../../core/engine/printing.js").PrintoutData} PrintoutData
+ * @typedef {import("../../core/engine/printer_codes.js").PrintoutData} PrintoutData
  * @typedef {import("../../core/board/face.js").Face} Face
  * @typedef {import("../../core/board/face.js").Printer} Printer
  */

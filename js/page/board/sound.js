@@ -6,7 +6,7 @@ import { SoundPieces } from "../../core/board/sound_samples.js";
 import * as say from "../../words/board.js";
 
 /**
- * @typedef {import("../../core/engine/sounding.js").BuzzerLevels} BuzzerLevels
+ * @typedef {import("../../core/engine/buzzer_meter.js").BuzzerLevels} BuzzerLevels
  */
 
 /**

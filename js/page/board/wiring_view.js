@@ -5,7 +5,7 @@ import { BITS_PER_CHIP } from "../../core/bench/board_form.js";
 import { Switch, block, element } from "../ui/dom.js";
 import { indices } from "../../core/bench/numbers.js";
 import { svgElement } from "../ui/svg.js";
-import { pathText, routeWire } from "../../core/board/routes.js";
+import { pathText, routeWire } from "../../core/board/wire_routes.js";
 import { TITLE_HEIGHT, drawBoard, isHigh, isHighAtRom } from "../../core/board/wiring.js";
 import * as say from "../../words/board.js";
 

@@ -30,7 +30,7 @@ import * as say from "../../words/page_commands.js";
  * @property {() => void} runOrStop Resumes or pauses time.
  * @property {() => void} step Executes one instruction.
  * @property {(goal: import("../../core/debug/goals.js").Goal) => void} goOn Runs until a goal is reached.
- * @property {(goal: import("../../core/engine/going_back.js").BackGoal) => void} goBack Goes back to a goal.
+ * @property {(goal: import("../../core/engine/past_search.js").BackGoal) => void} goBack Goes back to a goal.
  * @property {() => void} goForward Returns to the state before the last move back.
  * @property {() => boolean} canGoForward Returns true if a move back can be undone.
  * @property {() => void} runToCursor Runs to the line of the caret in the source.
@@ -48,7 +48,7 @@ import * as say from "../../words/page_commands.js";
  * @property {(isSource: boolean) => boolean} hasText Returns true if a text is in front. With `isSource`, returns whether the source is in
  *   front.
  * @property {(what: TextAct) => void} inText Performs an editing action in the text that is in front.
- * @property {(what?: import("../machine/breakpoint_row.js").BreakpointField) => void} breakpoint Toggles the breakpoint at the caret's
+ * @property {(what?: import("../machine/breakpoint_form.js").BreakpointField) => void} breakpoint Toggles the breakpoint at the caret's
  *   line. With a field, opens that field of the breakpoint.
  * @property {() => void} open Asks for a file to open.
  * @property {() => void} save Saves the project to a file.

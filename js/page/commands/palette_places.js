@@ -1,6 +1,6 @@
 // The destinations that the palette offers: texts, labels, addresses, source lines, projects and examples.
 
-import { parseGoal } from "../../core/machine/go_to.js";
+import { parseGoal } from "../../core/machine/go_to_target.js";
 import { hex } from "../../core/bench/numbers.js";
 import * as say from "../../words/page_commands.js";
 

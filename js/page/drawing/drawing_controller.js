@@ -1,6 +1,6 @@
 // Controls the picture in the Wiring tab. The picture is drawn from the board's text in the Board tab.
 
-import { wantsKey } from "../board/pressing.js";
+import { wantsKey } from "../board/key_presser.js";
 import { button, isDialogOpen, onClick } from "../ui/dom.js";
 import { TITLE_HEIGHT } from "../../core/board/wiring.js";
 import { Drawing } from "../../core/drawing/board_drawing.js";
@@ -10,7 +10,7 @@ import { PictureZoom } from "./picture_zoom.js";
 
 /**
  * @typedef {import("../board/wiring_view.js").WiringView} WiringView
- * @typedef {import("../session/kept_session.js").OpenSession} OpenSession
+ * @typedef {import("../session/open_session.js").OpenSession} OpenSession
  * @typedef {import("../../core/drawing/board_drawing.js").DrawingCalls} DrawingCalls
  * @typedef {import("../../core/drawing/board_drawing.js").DrawingState} DrawingState
  * @typedef {import("../../core/bench/answers.js").Board} Board
@@ -71,9 +71,9 @@ export class DrawingController {
   makeInput() {
     const { drawing } = this;
     return new PictureInput(this.picture, {
-      pressItem: (name) => this.reportFailure(drawing.pressed(name)),
+      pressItem: (name) => this.reportFailure(drawing.handleClick(name)),
       drawWire: (from, to) => {
-        drawing.begun = from;
+        drawing.wireStart = from;
         this.reportFailure(drawing.endWire(to));
       },
       movePart: (part, point) => this.movePart(part, point),
@@ -107,7 +107,7 @@ export class DrawingController {
   show(state) {
     this.view.show(state);
     if (this.drawing.movedParts.takeNews()) this.storePlaces();
-    this.input.setWire(state.begun, state.ends);
+    this.input.setWire(state.wireStart, state.ends);
   }
 
   /** Draws the board's text, if the picture is in front. */
@@ -139,7 +139,7 @@ export class DrawingController {
   /**
    * Adds a part from the shelf, with its title at a point of the sheet. If the part joins an existing part, as a lamp joins a row of lamps,
    * the point is not used.
-   * @param {import("../../core/drawing/acts.js").DrawingAction} action
+   * @param {import("../../core/drawing/drawing_actions.js").DrawingAction} action
    * @param {import("../../core/board/wiring.js").Point | null} point
    */
   async dropPart(action, point) {
@@ -147,14 +147,14 @@ export class DrawingController {
     const oldPartIds = new Set(picture.parts.keys());
     const text = this.calls.text();
     await drawing.act(action);
-    const { chosen } = drawing;
-    if (this.calls.text() === text || chosen === "") return;
-    const part = [...picture.parts.values()].find(({ id, pins }) => id === chosen || pins.some((pin) => pin.id === chosen));
+    const { selected } = drawing;
+    if (this.calls.text() === text || selected === "") return;
+    const part = [...picture.parts.values()].find(({ id, pins }) => id === selected || pins.some((pin) => pin.id === selected));
     if (part && point && !oldPartIds.has(part.id)) {
       this.movePart(part.id, { x: point.x - part.width / 2, y: point.y - TITLE_HEIGHT / 2 });
       this.storePlaces();
     }
-    picture.focus(chosen);
+    picture.focus(selected);
   }
 
   async applyBoard() {

@@ -7,10 +7,10 @@ import { ShelfDrag } from "./shelf_drag.js";
 import * as say from "../../words/drawing.js";
 
 /**
- * @typedef {import("../../core/drawing/acts.js").DrawingAction} DrawingAction
- * @typedef {import("../../core/drawing/acts.js").ShelfPart} ShelfPart
+ * @typedef {import("../../core/drawing/drawing_actions.js").DrawingAction} DrawingAction
+ * @typedef {import("../../core/drawing/drawing_actions.js").ShelfPart} ShelfPart
  * @typedef {import("../../core/drawing/board_drawing.js").DrawingState} DrawingState
- * @typedef {import("../../core/drawing/fields.js").Field} Field
+ * @typedef {import("../../core/drawing/selection_form.js").Field} Field
  * @typedef {import("../board/wiring_view.js").WiringView} WiringView
  * @typedef {import("../../core/board/wiring.js").Point} Point
  */
@@ -72,9 +72,9 @@ export class DrawingView {
       addDropped: (part, place) => {
         const name = this.picture.nameAt(elementAt(place));
         const line = LINE_PARTS.has(part) && !name.includes(" ") ? name : "";
-        this.calls.dropPart(this.makeAddAct(part, line), this.picture.toPicturePoint(place));
+        this.calls.dropPart(this.makeAddAction(part, line), this.picture.toPicturePoint(place));
       },
-      addAndFocus: (part) => this.calls.dropPart(this.makeAddAct(part), null),
+      addAndFocus: (part) => this.calls.dropPart(this.makeAddAction(part), null),
       showDropTarget: (isOver) => root.classList.toggle("drop-here", isOver),
     });
     for (const [part, [word, title]] of /** @type {[ShelfPart, [string, string]][]} */ (Object.entries(say.SHELF))) {
@@ -95,7 +95,7 @@ export class DrawingView {
   add(part) {
     const { lastState: state } = this;
     const line = state && state.fields.buttons.find(({ act: action }) => action.kind === "add" && action.part === part);
-    this.calls.performAction(line ? line.act : this.makeAddAct(part));
+    this.calls.performAction(line ? line.act : this.makeAddAction(part));
   }
 
   /**
@@ -103,7 +103,7 @@ export class DrawingView {
    * @param {string} [line] the line to which the part is wired; "" for the next free line
    * @returns {DrawingAction}
    */
-  makeAddAct(part, line = "") {
+  makeAddAction(part, line = "") {
     if (DIGIT_PARTS.has(part)) return { kind: "add", part, digits: Number(field("shelf-digits").value) };
     return { kind: "add", part, ...(line ? { line } : {}) };
   }
@@ -128,14 +128,14 @@ export class DrawingView {
   showPicture() {
     const { lastState: state, movedParts } = this;
     if (!state) return;
-    const { board, face, isWired, chosen, begun, ends } = state;
+    const { board, face, isWired, selected, wireStart, ends } = state;
     const count = board.lamps.length;
     const names = lampLabels(face, count);
     const appearance = { names, colours: lampColours(face, count), test: face.test, buzzer: findBuzzer(board, face) };
     const drawnInput = JSON.stringify([board, appearance, isWired, [...movedParts]]);
     if (drawnInput !== this.lastDrawn) this.picture.draw(board, appearance, { moved: movedParts, isWired });
     this.lastDrawn = drawnInput;
-    this.picture.showChoice(chosen, begun, ends);
+    this.picture.showChoice(selected, wireStart, ends);
   }
 
   /** @param {DrawingState} state */
@@ -174,7 +174,7 @@ export class DrawingView {
    * @param {string} title
    * @param {string} part
    * @param {Field[]} fields
-   * @param {import("../../core/drawing/fields.js").Button[]} buttons
+   * @param {import("../../core/drawing/selection_form.js").Button[]} buttons
    * @param {boolean} isDisabled
    */
   drawFields(title, part, fields, buttons, isDisabled) {

@@ -4,7 +4,7 @@
 import { element } from "../ui/dom.js";
 
 /**
- * @typedef {import("../../core/drawing/acts.js").ShelfPart} ShelfPart
+ * @typedef {import("../../core/drawing/drawing_actions.js").ShelfPart} ShelfPart
  * @typedef {{ clientX: number, clientY: number }} Place
  *
  * The part under the pressed pointer, with its button, the point where the pointer went down, and whether the part has been dragged since

@@ -1,22 +1,22 @@
 // The Properties tab: the properties with their errors, a button that searches for counterexamples in a separate worker, and the results.
 
-import { formatErrorCount } from "../../core/bench/words.js";
+import { formatErrorCount } from "../../core/bench/error_messages.js";
 import { Cell, button, field, onClick } from "../ui/dom.js";
 import { TextTab } from "../text/text_tab.js";
 import { completeProperty, createFirstProperties, helpForProperty, propertyForms } from "../../core/text/property_words.js";
-import { wordsOfFaults } from "../../words/results.js";
+import { wordsOfFaults } from "../../words/test_results.js";
 import { ExploreView } from "./explore_view.js";
 import { Proofs } from "../prove/proofs.js";
-import { markOfReport, wordsOfEnd, wordsSoFar } from "../../words/explored.js";
+import { markOfReport, wordsOfEnd, wordsSoFar } from "../../words/explore_results.js";
 import * as say from "../../words/explore.js";
 
 /**
- * @typedef {import("../../core/testing/prepared.js").TextFault} TextFault
- * @typedef {import("../../core/explore/exploring.js").RunOptions} RunOptions
- * @typedef {import("../../core/explore/exploring.js").ExploredTexts} ExploredTexts
- * @typedef {import("../../core/explore/exploring.js").Progress} Progress
+ * @typedef {import("../../core/testing/test_preparation.js").TextFault} TextFault
+ * @typedef {import("../../core/explore/sliced_search.js").RunOptions} RunOptions
+ * @typedef {import("../../core/explore/sliced_search.js").ExploredTexts} ExploredTexts
+ * @typedef {import("../../core/explore/sliced_search.js").Progress} Progress
  * @typedef {import("../../core/explore/report.js").Report} Report
- * @typedef {import("../../core/bench/own_worker.js").TaskResult} TaskResult
+ * @typedef {import("../../core/bench/task_worker.js").TaskResult} TaskResult
  * @typedef {import("../prove/proofs.js").ProofsCalls} ProofsCalls
  *
  * The results of a search: its texts, its report, and the session file of each counterexample, by property number.

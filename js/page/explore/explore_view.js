@@ -1,8 +1,8 @@
 // The results of a search for counterexamples: a row for each property, and the program's coverage.
 
-import { Cell, Switch, block, buttonOf, descendant, element } from "../ui/dom.js";
+import { Cell, Switch, block, makeButton, descendant, element } from "../ui/dom.js";
 import { andMore } from "../../words/debug.js";
-import { coverageOf, markOf, wordsOfFigures, wordsOfProperty } from "../../words/explored.js";
+import { coverageOf, markOf, wordsOfFigures, wordsOfProperty } from "../../words/explore_results.js";
 import * as say from "../../words/explore.js";
 import { wordsOfLine } from "../../words/stops.js";
 
@@ -35,7 +35,7 @@ class PropertyRow {
     this.calls = calls;
     const mark = element("b", {});
     const words = element("span", { className: "time" });
-    const name = line > 0 ? buttonOf(text, () => calls.goTo(line), { className: "name", title: wordsOfLine(line) })
+    const name = line > 0 ? makeButton(text, () => calls.goTo(line), { className: "name", title: wordsOfLine(line) })
       : element("span", {}, text);
     this.node = element("li", {}, element("p", {}, mark, " ", name, " ", words));
     this.mark = new Cell(mark);
@@ -61,8 +61,8 @@ class PropertyRow {
     this.node.append(
       element("details", {}, element("summary", {}, say.ITS_TEST), element("pre", { tabIndex: 0 }, property.found.test.trimEnd())),
       element("p", { className: "bar" },
-        buttonOf(say.OPEN_AS_SESSION, () => this.calls.openCounterexample(this.index), { title: say.AS_IT_IS_THERE }),
-        buttonOf(say.ADD_TO_TESTS, () => this.calls.addTest(this.index), { title: say.AT_END })));
+        makeButton(say.OPEN_AS_SESSION, () => this.calls.openCounterexample(this.index), { title: say.AS_IT_IS_THERE }),
+        makeButton(say.ADD_TO_TESTS, () => this.calls.addTest(this.index), { title: say.AT_END })));
   }
 }
 
@@ -134,7 +134,7 @@ export class ExploreView {
     this.shownNeverRun = key;
     const moreText = lines.length > MAX_LINES ? andMore(lines.length - MAX_LINES) : "";
     const buttons = lines.slice(0, MAX_LINES).flatMap((line) => [
-      " ", buttonOf(String(line), () => this.calls.goToSource(line), { className: "name", ariaLabel: say.lineOfSource(line) })]);
+      " ", makeButton(String(line), () => this.calls.goToSource(line), { className: "name", ariaLabel: say.lineOfSource(line) })]);
     this.neverRunBlock.replaceChildren(...(lines.length === 0 ? [] : [say.NEVER_RUN, ...buttons, moreText]));
   }
 }

@@ -5,7 +5,7 @@ import { HelpView } from "./help_view.js";
 import { LinesView } from "../lines/lines_view.js";
 import { readLineForms } from "../../core/help/manual.js";
 import { shortName } from "../../core/session/names.js";
-import { runAct } from "../../core/help/story_acts.js";
+import { runAction } from "../../core/help/story_actions.js";
 import { parseStory } from "../../core/help/story.js";
 import { isTourText } from "../../core/help/tour.js";
 import { TourView } from "./tour_view.js";
@@ -26,7 +26,7 @@ import * as say from "../../words/help.js";
  * @property {(program: string) => void} replaceSource Replaces the source with a program, as one edit.
  * @property {(target: import("../../core/help/tour.js").Target) => void} reveal Scrolls the target of a tour step into view.
  * @property {(program: string, words: string) => void} replace Replaces the source with a program, and shows a message that offers undo.
- * @property {import("../../core/help/story_acts.js").ActCalls} acts The callbacks for links in stories.
+ * @property {import("../../core/help/story_actions.js").ActCalls} acts The callbacks for links in stories.
  * @property {() => void} handleTourEnd Handles the end of the tour or of a story.
  * @property {(words: string) => void} showRefusal Shows the reason why a story cannot be shown.
  */
@@ -51,7 +51,7 @@ export class Guide {
       putProgram: (program) => this.putProgram(program),
       isProgramInSource: (program) => calls.program() === program,
       reveal: calls.reveal,
-      executeAction: (action) => runAct(action, calls.acts),
+      executeAction: (action) => runAction(action, calls.acts),
       handleTourEnd: calls.handleTourEnd,
     });
   }

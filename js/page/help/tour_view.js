@@ -17,7 +17,8 @@ import * as say from "../../words/help.js";
  * @typedef {object} TourCalls
  * @property {(example: Example) => Promise<boolean>} begin Begins a new session from an example. Resolves to true if it was created.
  * @property {(program: string) => void} putProgram Puts a program into the source.
- * @property {(action: import("../../core/help/story.js").Act) => Promise<string>} executeAction Executes the action of a story's link.
+ * @property {(action: import("../../core/help/story.js").StoryAction) => Promise<string>} executeAction
+ *   Executes the action of a story's link.
  *   Resolves to the reason why the action failed, or to "".
  * @property {(program: string) => boolean} isProgramInSource Returns true if the source is `program`.
  * @property {(target: Target) => void} reveal Scrolls the target of a step into view.

@@ -8,7 +8,7 @@ import * as say from "../../words/page.js";
 /**
  * @typedef {import("../../core/engine/worker_session.js").ServedInput} ServedInput
  * @typedef {import("../../core/bench/run_log.js").RunEntry} RunEntry
- * @typedef {import("../../core/bench/words.js").ErrorMessages} ErrorMessages
+ * @typedef {import("../../core/bench/error_messages.js").ErrorMessages} ErrorMessages
  */
 
 /** The maximum number of entries. Older entries are removed. */

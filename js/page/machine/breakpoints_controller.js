@@ -1,11 +1,11 @@
 // Controls the breakpoints of the current session: their list, their marks in the margin and in the disassembly, their panel, the form that
 // edits one of them, and the margin menu.
 
-import { BreakpointKeeper } from "../../core/debug/breakpoint_keeper.js";
+import { BreakpointManager } from "../../core/debug/breakpoint_manager.js";
 import { breakpointMarks } from "../../core/machine/breakpoint_marks.js";
 import { commandById } from "../commands/command_table.js";
 import { ContextMenu } from "../commands/menu_view.js";
-import { BreakpointForm } from "./breakpoint_row.js";
+import { BreakpointForm } from "./breakpoint_form.js";
 import { BreakpointsView } from "./breakpoints_view.js";
 import * as say from "../../words/machine.js";
 
@@ -15,13 +15,13 @@ import * as say from "../../words/machine.js";
  * @typedef {import("../../core/bench/protocol.js").LinesReply} LinesReply
  * @typedef {import("../../core/debug/debugger.js").Tally} Tally
  * @typedef {import("../../core/debug/soft_breakpoints.js").LocatedBreakpoint} LocatedBreakpoint
- * @typedef {import("../session/kept_session.js").OpenSession} OpenSession
+ * @typedef {import("../session/open_session.js").OpenSession} OpenSession
  * @typedef {import("../session/store.js").SessionRecord} SessionRecord
  * @typedef {import("../../core/machine/breakpoint_marks.js").BreakpointMark} BreakpointMark
  * @typedef {import("../../core/machine/source_map.js").SourceMap} SourceMap
  *
  * @typedef {import("../../core/debug/breakpoints.js").Breakpoint} Breakpoint
- * @typedef {import("./breakpoint_row.js").BreakpointField} BreakpointField
+ * @typedef {import("./breakpoint_form.js").BreakpointField} BreakpointField
  */
 
 /**
@@ -57,7 +57,7 @@ export class BreakpointsController {
   constructor(bench, calls) {
     this.bench = bench;
     this.calls = calls;
-    /** @type {BreakpointKeeper} */
+    /** @type {BreakpointManager} */
     this.keeper = this.makeKeeper();
     this.view = this.makeView();
     this.form = this.makeForm();
@@ -66,7 +66,7 @@ export class BreakpointsController {
 
   makeKeeper() {
     const { calls } = this;
-    return new BreakpointKeeper({
+    return new BreakpointManager({
       set: (placedBreakpoints) => this.set(placedBreakpoints),
       changed: () => this.show(),
       counted: () => this.view.showHits(this.keeper),
@@ -97,7 +97,7 @@ export class BreakpointsController {
     return new BreakpointForm({
       change: (id, changes) => this.keeper.change(id, changes),
       type: (id, changes) => this.keeper.type(id, changes),
-      waitForChanges: () => this.keeper.settled,
+      waitForChanges: () => this.keeper.allSent,
       placeForm: ({ id, line }, node) => {
         calls.showBelow(line, line > 0 ? node : null);
         const root = this.view.rowElement(id);
@@ -151,7 +151,7 @@ export class BreakpointsController {
   /** Returns the texts that define the names used in conditions. */
   texts() {
     const { board, program } = this.calls.texts();
-    return { board, program: this.keeper.map ? this.keeper.map.text : program, watched: this.keeper.watched };
+    return { board, program: this.keeper.map ? this.keeper.map.text : program, watched: this.keeper.watchTexts };
   }
 
   /**
@@ -168,7 +168,7 @@ export class BreakpointsController {
 
   show() {
     const session = this.calls.session();
-    const { list, faults, kept: storedBreakpoints } = this.keeper;
+    const { list, faults, savedBreakpoints: storedBreakpoints } = this.keeper;
     if (session) session.record.breakpoints = storedBreakpoints;
     const { lines, addresses } = breakpointMarks(list.all, faults);
     this.calls.showMarks(lines, addresses);
@@ -180,7 +180,7 @@ export class BreakpointsController {
   open(record) {
     this.form.close();
     this.view.forget();
-    this.keeper.watched = record.watched || [];
+    this.keeper.watchTexts = record.watched || [];
     this.keeper.open(record.id, record.breakpoints);
   }
 
@@ -208,7 +208,7 @@ export class BreakpointsController {
   async handleAssembly(isBegun) {
     if (isBegun) this.keeper.resetHits();
     await this.calls.checkSource();
-    await this.keeper.settled;
+    await this.keeper.allSent;
   }
 
   /** @param {Tally} tally the hit counts and log messages since the last frame */

@@ -2,8 +2,8 @@
 
 import { formatCycles } from "../../core/time/cycles.js";
 import { wordsOfAddress, wordsOfLine } from "../../words/stops.js";
-import { Cell, block, button, buttonOf, element, onClick } from "../ui/dom.js";
-import { counted, hex } from "../../core/bench/numbers.js";
+import { Cell, block, button, makeButton, element, onClick } from "../ui/dom.js";
+import { formatQuantity, hex } from "../../core/bench/numbers.js";
 import { MAX_NOTES } from "../../core/debug/arrivals.js";
 import { describeDetails, breakpointMark } from "../../core/machine/breakpoint_marks.js";
 import * as say from "../../words/machine.js";
@@ -13,8 +13,8 @@ import * as say from "../../words/machine.js";
  * @typedef {import("../../core/debug/breakpoints.js").SavedBreakpoint} SavedBreakpoint
  * @typedef {import("../../core/debug/debugger.js").Tally} Tally
  * @typedef {import("../../core/machine/source_map.js").SourceMap} SourceMap
- * @typedef {import("../../core/debug/breakpoint_keeper.js").BreakpointKeeper} BreakpointKeeper
- * @typedef {Pick<BreakpointKeeper, "list" | "faults" | "map">} Keeper
+ * @typedef {import("../../core/debug/breakpoint_manager.js").BreakpointManager} BreakpointManager
+ * @typedef {Pick<BreakpointManager, "list" | "faults" | "map">} Keeper
  * @typedef {{ root: HTMLLIElement, isOn: HTMLInputElement, mark: Cell, location: Cell, edit: HTMLButtonElement, hits: Cell, words: Cell,
  *   fault: Cell }} Row
  */
@@ -89,7 +89,7 @@ export class BreakpointsView {
     const location = formatLocation(breakpoint, map);
     row.location.set(location);
     row.edit.setAttribute("aria-label", say.editBreakpoint(location));
-    row.hits.set(hits > 0 ? counted(hits, "hit") : "");
+    row.hits.set(hits > 0 ? formatQuantity(hits, "hit") : "");
     row.words.set(describeDetails(breakpoint));
     row.fault.set(fault && say.stopsEachTime(fault));
   }
@@ -98,7 +98,7 @@ export class BreakpointsView {
   showHits({ list: { all } }) {
     for (const { id, hits } of all) {
       const row = this.rows.get(id);
-      if (row && hits > 0) row.hits.set(counted(hits, "hit"));
+      if (row && hits > 0) row.hits.set(formatQuantity(hits, "hit"));
     }
   }
 
@@ -116,8 +116,8 @@ export class BreakpointsView {
       const breakpoint = keeper.list.get(id);
       if (breakpoint) call(breakpoint);
     };
-    const edit = buttonOf(say.EDIT, withBreakpoint((breakpoint) => this.calls.edit(breakpoint)), { className: "edit" });
-    const remove = buttonOf("\u00D7", () => this.calls.remove(id), { "aria-label": say.REMOVE_BREAKPOINT, "title": say.REMOVES_IT });
+    const edit = makeButton(say.EDIT, withBreakpoint((breakpoint) => this.calls.edit(breakpoint)), { className: "edit" });
+    const remove = makeButton("\u00D7", () => this.calls.remove(id), { "aria-label": say.REMOVE_BREAKPOINT, "title": say.REMOVES_IT });
     const root = element("li", {}, element("div", { className: "bar" }, isOn, mark.node, location.node, hits.node, edit, remove),
       words.node, fault.node);
     isOn.addEventListener("change", () => this.calls.change(id, { isOn: isOn.checked }));

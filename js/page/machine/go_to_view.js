@@ -1,7 +1,7 @@
 // The field that shows an address in the disassembly, and the button that sets a breakpoint there.
 
 import { Cell, block, button, byId, element, field, onClick } from "../ui/dom.js";
-import { parseGoal } from "../../core/machine/go_to.js";
+import { parseGoal } from "../../core/machine/go_to_target.js";
 
 /**
  * @typedef {import("../../core/machine/source_map.js").SourceMap} SourceMap

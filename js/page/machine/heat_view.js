@@ -5,13 +5,13 @@ import { block, byId, field } from "../ui/dom.js";
 import { parseCount } from "../../core/bench/numbers.js";
 import {
   PassingHeat, heatLevels, describeHeat, describeChanges, describeHeatStatus, describeSeenChanges,
-} from "../../core/machine/warmth.js";
+} from "../../core/machine/heat_levels.js";
 import * as say from "../../words/machine.js";
 
 /**
- * @typedef {import("../../core/engine/heat.js").Heat} Heat
- * @typedef {import("../../core/engine/heating.js").ChipHeat} ChipHeat
- * @typedef {import("../../core/machine/warmth.js").HeatKind} HeatKind
+ * @typedef {import("../../core/engine/heat_map.js").Heat} Heat
+ * @typedef {import("../../core/engine/heat_meter.js").ChipHeat} ChipHeat
+ * @typedef {import("../../core/machine/heat_levels.js").HeatKind} HeatKind
  * @typedef {import("../../core/machine/source_map.js").SourceMap} SourceMap
  * @typedef {{ warmth: number, words: string }} CellHeat
  */
@@ -38,11 +38,11 @@ const DRAW_INTERVAL = 200;
 
 export class HeatView {
   /**
-   * @param {import("../ui/choices.js").Choices} choices
+   * @param {import("../ui/preferences.js").Preferences} preferences
    * @param {HeatCalls} calls
    */
-  constructor(choices, calls) {
-    this.choices = choices;
+  constructor(preferences, calls) {
+    this.preferences = preferences;
     this.calls = calls;
     this.kind = byId("heat", HTMLSelectElement);
     this.cycles = field("heat-cycles");
@@ -56,8 +56,8 @@ export class HeatView {
     this.passingHeat = new PassingHeat();
     /** The time of the last update while time was running, in milliseconds. */
     this.lastDrawTime = 0;
-    this.kind.value = choices.get("heat");
-    this.cycles.value = choices.get("heat-cycles") || this.cycles.value;
+    this.kind.value = preferences.get("heat");
+    this.cycles.value = preferences.get("heat-cycles") || this.cycles.value;
     this.kind.addEventListener("change", () => this.applyChoice());
     this.cycles.addEventListener("change", () => this.applyChoice());
     // Input cancels a count, so that the user's next action does not wait for it.
@@ -66,8 +66,8 @@ export class HeatView {
   }
 
   applyChoice() {
-    this.choices.set("heat", this.kind.value);
-    this.choices.set("heat-cycles", this.cycles.value);
+    this.preferences.set("heat", this.kind.value);
+    this.preferences.set("heat-cycles", this.cycles.value);
     this.showReach();
     this.clear();
     this.updateWatch();
@@ -170,7 +170,7 @@ export class HeatView {
 
   /**
    * @param {Heat} heat
-   * @param {(cell: import("../../core/engine/heat.js").HeatCell, map: SourceMap | null) => string} describeCell
+   * @param {(cell: import("../../core/engine/heat_map.js").HeatCell, map: SourceMap | null) => string} describeCell
    */
   showCells(heat, describeCell) {
     const map = this.calls.map();

@@ -5,13 +5,13 @@ import { addLineNames, labelsWidth } from "../../core/machine/listing_names.js";
 import { ListingReader } from "../../core/machine/listing_reader.js";
 import { ListingRows } from "./listing_rows.js";
 import { ListingScroll } from "./listing_scroll.js";
-import { isInsideLine, visibleLines } from "../../core/machine/listing_stretch.js";
+import { isInsideLine, visibleLines } from "../../core/machine/listing_range.js";
 import { LAST_ADDRESS } from "../../core/bench/numbers.js";
 
 /**
  * @typedef {import("../../core/bench/answers.js").ListingLine} ListingLine
  * @typedef {import("../../core/machine/listing_names.js").NamedLine} NamedLine
- * @typedef {import("../../core/machine/listing_stretch.js").Goal} Goal
+ * @typedef {import("../../core/machine/listing_range.js").Goal} Goal
  * @typedef {import("../../core/machine/source_map.js").SourceMap} SourceMap
  */
 

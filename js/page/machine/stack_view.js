@@ -3,13 +3,13 @@
 import { Cell, Switch, block, element, makeFirstTabStop, makeOneTabStop, onClick } from "../ui/dom.js";
 import { joinLines, matchAnswers, readInputs } from "../../core/bench/inputs.js";
 import { hex } from "../../core/bench/numbers.js";
-import { findLiveReturns, callAddress, describeCounter, describeReturn } from "../../core/machine/returns.js";
+import { findLiveReturns, callAddress, describeCounter, describeReturn } from "../../core/machine/return_addresses.js";
 import * as say from "../../words/machine.js";
 
 /**
  * @typedef {import("../../core/bench/answers.js").Registers} Registers
  * @typedef {import("./changes.js").Changes} Changes
- * @typedef {import("../../core/machine/returns.js").AddressNote} AddressNote
+ * @typedef {import("../../core/machine/return_addresses.js").AddressNote} AddressNote
  * @typedef {import("../../core/machine/source_map.js").SourceMap} SourceMap
  * @typedef {{ button: HTMLButtonElement, value: Cell, note: Cell, isLive: Switch }} Row
  */

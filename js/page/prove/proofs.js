@@ -2,17 +2,17 @@
 // its texts are unchanged.
 
 import { Cell, button, field, onClick } from "../ui/dom.js";
-import { findPropertyLine, isStillValid } from "../../core/prove/still_valid.js";
-import { isRight, markOfTab, wordsOfEnd } from "../../words/proved.js";
+import { findPropertyLine, isStillValid } from "../../core/prove/verdict_validity.js";
+import { isRight, markOfTab, wordsOfEnd } from "../../words/prove_results.js";
 import * as say from "../../words/prove.js";
 import { ProofsView } from "./proofs_view.js";
 
 /**
- * @typedef {import("../../core/explore/exploring.js").ExploredTexts} ExploredTexts
- * @typedef {import("../../core/bench/own_worker.js").TaskResult} TaskResult
+ * @typedef {import("../../core/explore/sliced_search.js").ExploredTexts} ExploredTexts
+ * @typedef {import("../../core/bench/task_worker.js").TaskResult} TaskResult
  * @typedef {import("../../core/prove/prover.js").Progress} Progress
  * @typedef {import("../../core/prove/bounded_proof.js").JudgedLine} JudgedLine
- * @typedef {import("../../core/testing/prepared.js").TextFault} TextFault
+ * @typedef {import("../../core/testing/test_preparation.js").TextFault} TextFault
  *
  * The proof of a session's properties: its texts, the maximum number of states for each question, and its progress.
  * @typedef {{ texts: ExploredTexts, maxStates: number, progress: Progress }} ProofResults

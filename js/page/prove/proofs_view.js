@@ -1,7 +1,7 @@
 // The results of proofs: a row with the verdict of each property, and the progress.
 
-import { Cell, Switch, block, buttonOf, descendant, element } from "../ui/dom.js";
-import { isRight, markOf, wordsOfVerdict, wordsSoFar } from "../../words/proved.js";
+import { Cell, Switch, block, makeButton, descendant, element } from "../ui/dom.js";
+import { isRight, markOf, wordsOfVerdict, wordsSoFar } from "../../words/prove_results.js";
 import * as say from "../../words/prove.js";
 import { wordsOfLine } from "../../words/stops.js";
 
@@ -30,7 +30,7 @@ class VerdictRow {
     const words = element("span", { className: "time" });
     // A common mistake has no line in the text, because all programs are checked for it.
     const name = line === 0 ? element("span", { className: "name" }, text)
-      : buttonOf(text, () => calls.goTo(judgedLine), { className: "name", title: wordsOfLine(line) });
+      : makeButton(text, () => calls.goTo(judgedLine), { className: "name", title: wordsOfLine(line) });
     this.node = element("li", {}, element("p", {}, mark, " ", name, " ", words));
     this.mark = new Cell(mark);
     this.words = new Cell(words);
@@ -47,12 +47,12 @@ class VerdictRow {
   counterexampleNodes(isGoal, counterexample, calls) {
     const { isTest, text } = counterexample;
     const [openWords, title] = isGoal ? [say.OPEN_WAY, say.BEFORE_GOAL] : [say.OPEN_FOUND, say.BEFORE_IT];
-    const add = isTest ? [buttonOf(say.ADD_TO_TESTS, () => calls.addTest(counterexample), { title: say.AT_END })] : [];
+    const add = isTest ? [makeButton(say.ADD_TO_TESTS, () => calls.addTest(counterexample), { title: say.AT_END })] : [];
     const name = isTest ? say.ITS_TEST : say.ITS_LINES;
     return [
       element("details", {}, element("summary", {}, name), element("pre", { tabIndex: 0 }, text.trimEnd())),
       element("p", { className: "bar" },
-        buttonOf(openWords, () => calls.openCounterexample(this.judgedLine, counterexample), { title }), ...add),
+        makeButton(openWords, () => calls.openCounterexample(this.judgedLine, counterexample), { title }), ...add),
     ];
   }
 

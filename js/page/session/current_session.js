@@ -4,7 +4,7 @@ import { field, block } from "../ui/dom.js";
 import { wordsOfInterrupted } from "../../words/stops.js";
 import { NO_CYCLES } from "../../core/time/cycles.js";
 import { formatAddress } from "./address.js";
-import { OpenSession } from "./kept_session.js";
+import { OpenSession } from "./open_session.js";
 import { shortName } from "../../core/session/names.js";
 import * as say from "../../words/session.js";
 
@@ -14,7 +14,7 @@ import * as say from "../../words/session.js";
  * @typedef {import("../../core/engine/session_requests.js").SessionRequests} SessionRequests
  * @typedef {import("../../core/bench/bench_client.js").Caller<FileRequests & SessionRequests>} Bench
  * @typedef {import("../../core/bench/run_log.js").RunEntry} RunEntry
- * @typedef {import("./kept_past.js").StoredHistory} StoredHistory
+ * @typedef {import("./stored_history.js").StoredHistory} StoredHistory
  * @typedef {import("../../core/bench/protocol.js").PageState} PageState
  * @typedef {import("./store.js").SessionRecord} SessionRecord
  * @typedef {import("./store.js").SessionStore} SessionStore

@@ -2,7 +2,8 @@
 
 import { download } from "./download.js";
 import { runsAtOnce } from "../../core/engine/examples.js";
-import { newRecord } from "./kept_session.js";
+import { newRecord } from "./open_session.js";
+import { LeftTexts } from "./left_texts.js";
 import { readFolderTexts } from "./folder_project.js";
 import { readOpenedFile } from "../../core/session/opened_file.js";
 import { MAX_PROJECT_BYTES, projectText, readProject, tooLongMessage } from "../../core/session/project_file.js";
@@ -13,13 +14,13 @@ import * as say from "../../words/session.js";
  * @typedef {import("../../core/engine/file_requests.js").FileRequests} FileRequests
  * @typedef {import("../../core/bench/bench_client.js").Caller<FileRequests> & { size: number }} Bench
  * @typedef {import("../../core/engine/examples.js").Example} Example
- * @typedef {import("./kept_session.js").OpenSession} OpenSession
+ * @typedef {import("./open_session.js").OpenSession} OpenSession
  * @typedef {import("../ui/notice.js").NoticeAction} NoticeAction
  * @typedef {import("./locks.js").Locks} Locks
  * @typedef {import("./locks.js").Release} Release
  * @typedef {import("./store.js").SessionRecord} SessionRecord
  * @typedef {import("./store.js").SessionStore} SessionStore
- * @typedef {import("../../core/bench/words.js").ErrorMessages} ErrorMessages
+ * @typedef {import("../../core/bench/error_messages.js").ErrorMessages} ErrorMessages
  */
 
 /**
@@ -30,7 +31,7 @@ import * as say from "../../words/session.js";
  * @property {(words: string, ...actions: NoticeAction[]) => void} refuse Shows a message about an action that was not executed, with
  *   buttons for alternatives.
  * @property {(id: string) => void} setSpeed Sets the speed that a project requests, by its id.
- * @property {(record: SessionRecord) => void} reportLeft Reports a session that the user has left for a new one, and offers to return to
+ * @property {(record: SessionRecord) => void} offerReturn Reports a session that the user has left for a new one, and offers to return to
  *   it.
  * @property {(name: string, texts: import("../../core/session/opened_file.js").FileTexts) => Promise<void>} loadTexts Loads the texts of a
  *   file into the editors.
@@ -54,6 +55,7 @@ export class SessionManager {
     this.locks = locks;
     this.words = words;
     this.calls = calls;
+    this.leftTexts = new LeftTexts();
   }
 
   /** Resolves to the saved sessions, the most recently changed first. */
@@ -70,6 +72,7 @@ export class SessionManager {
   async readRecord(id) {
     const record = await this.store.get(id);
     if (!record) throw new StoreError(say.NO_LONGER_KEPT);
+    this.leftTexts.restore(record);
     return record;
   }
 
@@ -109,7 +112,7 @@ export class SessionManager {
     try {
       const record = await makeRecord();
       await this.calls.useSession(record, (await this.locks.take(record.id)) || (() => {}), example);
-      if (previousSession && !previousSession.isUntouched) this.calls.reportLeft(previousSession.record);
+      if (previousSession && !previousSession.isUntouched) this.calls.offerReturn(previousSession.record);
       return true;
     } catch (fault) {
       return this.rejectAction(say.notMade(this.words.errorMessage(fault)));

@@ -3,7 +3,7 @@
 import { readAddress } from "./address.js";
 import { Trash, formatNames } from "./trash.js";
 import { shortName } from "../../core/session/names.js";
-import { Openings } from "./openings.js";
+import { OpeningGuard } from "./opening_guard.js";
 import { SessionManager } from "./session_manager.js";
 import { FIRST_PROGRAM } from "../../core/help/tour.js";
 import { OfferedLines } from "./offered_lines.js";
@@ -13,11 +13,11 @@ import * as say from "../../words/session.js";
 
 /**
  * @typedef {import("../../core/engine/examples.js").Example} Example
- * @typedef {import("./kept_session.js").OpenSession} OpenSession
+ * @typedef {import("./open_session.js").OpenSession} OpenSession
  * @typedef {import("./locks.js").Release} Release
  * @typedef {import("./store.js").SessionRecord} SessionRecord
  * @typedef {{ bench: import("../../core/bench/bench_client.js").Bench, store: import("./store.js").SessionStore,
- *   locks: import("./locks.js").Locks, words: import("../../core/bench/words.js").ErrorMessages,
+ *   locks: import("./locks.js").Locks, words: import("../../core/bench/error_messages.js").ErrorMessages,
  *   notice: import("../ui/notice.js").Notice, examples: Example[] }} SessionServices
  */
 
@@ -53,7 +53,7 @@ export class SessionsController {
     /** Called after another session has been opened. */
     this.onSessionOpened = () => {};
     this.persistence = new Persistence();
-    this.openings = new Openings();
+    this.openings = new OpeningGuard();
     this.openings.listen(window);
     this.lines = new OfferedLines(notice);
     /** @type {(words: string, ...actions: import("../ui/notice.js").NoticeAction[]) => void} */
@@ -61,7 +61,7 @@ export class SessionsController {
     this.manager = new SessionManager(bench, store, locks, words, {
       ...calls,
       refuse,
-      reportLeft: (record) => this.reportLeft(record),
+      offerReturn: (record) => this.offerReturn(record),
       useSession: async (record, release, example) => {
         await this.openings.runOpening(record.id, () => calls.useSession(record, release, example));
         notice.hide("left");
@@ -108,7 +108,7 @@ export class SessionsController {
    * accident.
    * @param {SessionRecord} record
    */
-  reportLeft({ id, name }) {
+  offerReturn({ id, name }) {
     this.notice.show(say.sessionLeft(name, this.store.isPersistent), "left", { word: say.BACK_TO_IT, act: () => this.open(id) });
   }
 
@@ -170,8 +170,8 @@ export class SessionsController {
     const address = readAddress(hash);
     const isStory = address.kind === "" && this.examples.some((example) => example.name === story && example.story);
     const { kind, value } = isStory ? { kind: "example", value: story } : address;
-    const isQuiet = kind === "" || kind === "link" || (kind === "session" && this.openings.hasUnendedOpening(value));
-    if (isQuiet || !(await this.openNamed(kind, value))) await this.openLast(isQuiet);
+    const isQuiet = kind === "" || kind === "link" || (kind === "session" && this.openings.hasUnfinishedOpening(value));
+    if (isQuiet || !(await this.openFromAddress(kind, value))) await this.openLast(isQuiet);
     if (kind === "link") await this.calls.openLink(value);
     if (kind === "") this.refuseAddress(hash);
   }
@@ -185,7 +185,7 @@ export class SessionsController {
    * @param {string} kind
    * @param {string} value
    */
-  async openNamed(kind, value) {
+  async openFromAddress(kind, value) {
     if (kind === "session") return this.open(value);
     return kind === "example" ? this.beginNamed(value) : false;
   }
@@ -193,8 +193,8 @@ export class SessionsController {
   /** @param {boolean} isQuiet true if sessions that are open in other tabs are skipped without a notice */
   async openLast(isQuiet) {
     const records = await this.manager.savedSessions();
-    const unendedRecords = records.filter(({ id }) => this.openings.hasUnendedOpening(id));
-    for (const record of unendedRecords) await this.reportUnended(record);
+    const unendedRecords = records.filter(({ id }) => this.openings.hasUnfinishedOpening(id));
+    for (const record of unendedRecords) await this.reportUnfinishedOpening(record);
     for (const record of records.filter((candidate) => !unendedRecords.includes(candidate))) {
       if (await this.open(record.id)) return;
       if (isQuiet) this.notice.hide("session");
@@ -207,7 +207,7 @@ export class SessionsController {
    * another tab holds the session's lock.
    * @param {SessionRecord} record
    */
-  async reportUnended(record) {
+  async reportUnfinishedOpening(record) {
     const release = await this.locks.take(record.id);
     if (!release) return;
     release();

@@ -3,7 +3,7 @@
 import { boardPicture } from "./gallery_view.js";
 import { block, button, byId, element, field, onClick } from "../ui/dom.js";
 import { folderFromFiles, droppedFolders, readFolder } from "./folder_files.js";
-import { SessionList } from "./kept_list.js";
+import { SessionList } from "./session_list.js";
 import { ORDER, TO_DO, exampleWords } from "../../words/example_notes.js";
 import * as say from "../../words/session.js";
 

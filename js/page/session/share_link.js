@@ -46,7 +46,7 @@ function encodeLetters(bytes) {
 }
 
 /** @param {string} letters */
-function decodeLetters(letters) {
+function decodeBase64(letters) {
   if (!/^[\w-]*$/.test(letters)) throw new LinkError(say.DAMAGED);
   try {
     return fromBase64(letters.replace(/-/g, "+").replace(/_/g, "/"));
@@ -119,7 +119,7 @@ export async function readLink(link) {
   const [, method, letters] = /^(\d+)\.(.*)$/.exec(link) || [];
   if (method === undefined) throw new LinkError(say.DAMAGED);
   if (method !== "0" && method !== "1") throw new LinkError(say.NEWER_PAGE);
-  const linkBytes = decodeLetters(letters);
+  const linkBytes = decodeBase64(letters);
   const text = new TextDecoder().decode(method === "1" ? await decompress(linkBytes) : linkBytes);
   const [checksumText] = text.split("\n", 1);
   const body = text.slice(checksumText.length + 1);

@@ -13,8 +13,8 @@ import * as say from "../../words/session.js";
  *   propertiesText?: string, runs: boolean, revision: number, changed: number, cycles?: import("../../core/time/cycles.js").StoredCycles,
  *   isTitled?: boolean, breakpoints?: import("../../core/debug/breakpoints.js").SavedBreakpoint[], watched?: string[],
  *   goal?: import("../../core/debug/goals.js").Goal, places?: [string, import("../../core/board/wiring.js").Point][],
- *   printed?: import("../../core/engine/printing.js").PrintoutData, rows?: import("../../core/waves/wave_rows.js").StoredRows,
- *   wired?: import("../../core/board/wired_text.js").WiredText[] }} SessionRecord
+ *   printed?: import("../../core/engine/printer_codes.js").PrintoutData, rows?: import("../../core/waves/wave_rows.js").StoredRows,
+ *   wired?: import("../../core/board/wired_board_text.js").WiredText[] }} SessionRecord
  *
  * @typedef {{ isPersistent: boolean, isAtomic: boolean, all: () => Promise<SessionRecord[]>, get: (id: string) => Promise<SessionRecord |
  * undefined>, put: (record: SessionRecord) => Promise<void>, remove: (id: string) => Promise<void> }} SessionStore `isAtomic`: `put`

@@ -1,11 +1,11 @@
 // Saves the current session's texts, replaces texts, and restores replaced texts.
 
-import { counted } from "../../core/bench/numbers.js";
+import { formatQuantity } from "../../core/bench/numbers.js";
 import * as say from "../../words/session.js";
 
 /**
- * @typedef {import("../ui/ask_view.js").ConfirmDialog} ConfirmDialog
- * @typedef {import("./kept_session.js").OpenSession} OpenSession
+ * @typedef {import("../ui/confirm_dialog.js").ConfirmDialog} ConfirmDialog
+ * @typedef {import("./open_session.js").OpenSession} OpenSession
  * @typedef {import("../ui/notice.js").Notice} Notice
  * @typedef {{ text: string, open: (session: string, text: string) => void, replaceText: (text: string) => void,
  *   undoOrRedo: (which: "undo" | "redo") => boolean }} TextEditor
@@ -43,7 +43,7 @@ const EDIT_TIME = 600;
  */
 export function formatLineCount(text) {
   const count = text === "" ? 0 : text.replace(/\n$/, "").split("\n").length;
-  return counted(count, "line");
+  return formatQuantity(count, "line");
 }
 
 export class TextsController {

@@ -1,5 +1,6 @@
 // The deleted sessions, which can be restored until the page is closed.
 
+import { LeftTexts } from "./left_texts.js";
 import { describeStoreError } from "./store.js";
 import * as say from "../../words/session.js";
 
@@ -24,6 +25,7 @@ export class Trash {
     this.store = store;
     this.locks = locks;
     this.refuse = refuse;
+    this.leftTexts = new LeftTexts();
     /** @type {SessionRecord[]} the sessions deleted since the page was opened, most recent first */
     this.deleted = [];
   }
@@ -50,6 +52,7 @@ export class Trash {
       // Include changes that another tab has made since the session was listed.
       const newestRecord = await this.store.get(record.id);
       if (newestRecord) Object.assign(record, newestRecord);
+      this.leftTexts.restore(record);
       await this.store.remove(record.id);
       return true;
     } catch (fault) {

@@ -1,7 +1,7 @@
 // The dialog of the first visit. Each of its six cards starts something: the tour, an example or a drawing.
 
 import { boardPicture } from "./gallery_view.js";
-import { buttonOf, element } from "../ui/dom.js";
+import { makeButton, element } from "../ui/dom.js";
 import { icon } from "../ui/icons.js";
 import { TOUR_BOARD } from "../../words/help.js";
 import * as say from "../../words/example_notes.js";
@@ -32,7 +32,7 @@ export class WelcomeView {
     this.cards = Object.entries(say.CARDS).map(([name, card]) => this.card(name, card, findExample(card.example)));
     const title = element("h2", { id: "welcome-title" }, say.WELCOME);
     this.dialog = element("dialog", { "id": "welcome", "aria-labelledby": "welcome-title" },
-      element("div", { className: "bar" }, title, buttonOf(say.CLOSE, () => this.dialog.close())),
+      element("div", { className: "bar" }, title, makeButton(say.CLOSE, () => this.dialog.close())),
       element("ul", {}, ...this.cards.map((card) => element("li", {}, card))), element("p", { className: "hint" }, say.WELCOME_HINT));
     this.dialog.addEventListener("close", () => calls.storeSeen());
     document.body.append(this.dialog);

@@ -1,17 +1,17 @@
 // The Tests tab: the tests with their errors, a button that runs them in the worker, and the results.
 
-import { CancelledError } from "../../core/bench/faults.js";
-import { formatErrorCount } from "../../core/bench/words.js";
+import { CancelledError } from "../../core/bench/bench_errors.js";
+import { formatErrorCount } from "../../core/bench/error_messages.js";
 import { button, onClick } from "../ui/dom.js";
 import { TextTab } from "../text/text_tab.js";
 import { completeTest, helpForTest, testForms } from "../../core/text/test_words.js";
-import { markOfOutcomes, wordsOfFaults, wordsOfOutcomes } from "../../words/results.js";
+import { markOfOutcomes, wordsOfFaults, wordsOfOutcomes } from "../../words/test_results.js";
 import { TestsView } from "./tests_view.js";
 import * as say from "../../words/testing.js";
 
 /**
- * @typedef {import("../../core/testing/prepared.js").TextFault} TextFault
- * @typedef {import("../../core/testing/prepared.js").Texts} Texts
+ * @typedef {import("../../core/testing/test_preparation.js").TextFault} TextFault
+ * @typedef {import("../../core/testing/test_preparation.js").Texts} Texts
  * @typedef {import("../../core/testing/test_suite.js").Report} Report
  * @typedef {import("../../core/testing/test_suite.js").TestedTexts} TestedTexts
  * @typedef {import("../../core/testing/test_run.js").Outcome} Outcome

@@ -1,9 +1,9 @@
 // The results of tests: a row for each test with its error, the program's coverage, and its cycle profile.
 
-import { Cell, block, buttonOf, descendant, element } from "../ui/dom.js";
+import { Cell, block, makeButton, descendant, element } from "../ui/dom.js";
 import { hex } from "../../core/bench/numbers.js";
 import { CYCLE_MS } from "../../core/time/mcs4_time.js";
-import { wordsOfCounts, wordsOfTime } from "../../words/results.js";
+import { wordsOfCounts, wordsOfTime } from "../../words/test_results.js";
 import { wordsOfLine } from "../../words/stops.js";
 import * as say from "../../words/testing.js";
 
@@ -56,7 +56,7 @@ export class TestsView {
   makeRow(outcome) {
     const { name, line, failure } = outcome;
     const mark = element("b", { className: failure ? "not-ok" : "ok" }, failure ? say.NOT_OK : "ok");
-    const head = element("p", {}, mark, " ", buttonOf(name, () => this.calls.goTo(line), { className: "name", title: wordsOfLine(line) }),
+    const head = element("p", {}, mark, " ", makeButton(name, () => this.calls.goTo(line), { className: "name", title: wordsOfLine(line) }),
       element("span", { className: "time" }, ` ${wordsOfTime(outcome)}`));
     return element("li", {}, head, ...(failure ? this.failureNodes(outcome, failure) : []));
   }
@@ -66,13 +66,14 @@ export class TestsView {
    * @param {Failure} failure
    */
   failureNodes(outcome, { line, text, words, lamps, registers, trace, file }) {
-    const paragraph = element("p", { className: "wrong" }, buttonOf(wordsOfLine(line), () => this.calls.goTo(line)), ` ${text}: ${words}`);
+    const lineButton = makeButton(wordsOfLine(line), () => this.calls.goTo(line));
+    const paragraph = element("p", { className: "wrong" }, lineButton, ` ${text}: ${words}`);
     if (!file) return [paragraph];
     const state = `${lamps && `lamps ${lamps}\n`}${registers}\n`;
     const lastLines = element("pre", { tabIndex: 0 }, `${state}${trace.join("\n")}`);
     return [paragraph,
       element("details", {}, element("summary", {}, say.LAST_INSTRUCTIONS), lastLines),
-      element("p", { className: "bar" }, buttonOf(say.OPEN_AT_FAILURE, () => this.calls.openFailure(outcome)))];
+      element("p", { className: "bar" }, makeButton(say.OPEN_AT_FAILURE, () => this.calls.openFailure(outcome)))];
   }
 
   /** @param {Profile} profile */
@@ -80,7 +81,7 @@ export class TestsView {
     const cells = (/** @type {(string | Node)[]} */ ...texts) => element("tr", {}, ...texts.map((text) => element("td", {}, text)));
     const percent = (/** @type {number} */ part) => ((100 * part) / total).toFixed(1);
     const tableRows = rows.map(({ label, address, own, calls }) => {
-      const name = address < 0 ? say.NO_LABEL : buttonOf(label, () => this.calls.goToAddress(address), { className: "name" });
+      const name = address < 0 ? say.NO_LABEL : makeButton(label, () => this.calls.goToAddress(address), { className: "name" });
       const callCells = calls ? [calls.times, calls.withCalls, calls.longest].map((count) => count.toLocaleString("en")) : ["", "", ""];
       return cells(name, address < 0 ? "" : hex(address, 3), own.toLocaleString("en"), percent(own), ...callCells);
     });

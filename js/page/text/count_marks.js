@@ -42,19 +42,19 @@ export class CountMarks {
     editor.onEdit(() => this.clear());
   }
 
-  /** @param {LineCoverage[]} covered the execution counts of lines */
-  show(covered) {
+  /** @param {LineCoverage[]} coverage the execution counts of lines */
+  show(coverage) {
     this.clear();
-    const lines = new Map(covered.map((entry) => [entry.line, entry]));
+    const lines = new Map(coverage.map((entry) => [entry.line, entry]));
     const { editor } = this;
     this.isShown = true;
-    const maxLength = Math.max(...covered.map((entry) => formatCount(entry).length), 1);
+    const maxLength = Math.max(...coverage.map((entry) => formatCount(entry).length), 1);
     editor.container.classList.add("counted");
     editor.container.style.setProperty("--counts-width", `${maxLength + 1}ch`);
     this.marks.showTexts("counts", (line) => formatEntry(lines.get(line), formatCount),
       (line) => formatEntry(lines.get(line), describeCount));
     // Highlight lines that never ran, and jumps that were always or never taken.
-    const incompleteLines = covered.filter(({ count, isJump, taken }) => count === 0 || (isJump && (taken === 0 || taken === count)));
+    const incompleteLines = coverage.filter(({ count, isJump, taken }) => count === 0 || (isJump && (taken === 0 || taken === count)));
     editor.showLineStyle("lacking", incompleteLines.map(({ line }) => line - 1).filter((line) => line <= editor.lastLine()));
     editor.refresh();
   }

@@ -1,9 +1,9 @@
 // The editors of the board's text and of the source. The editors check the texts while the user types, and send the texts to the bench.
 
 import { readBoard, parseRefusal } from "../../core/bench/answers.js";
-import { counted } from "../../core/bench/numbers.js";
-import { TextErrorFinder, findFrontPanelErrors, keepTextRefusal } from "../../core/text/all_faults.js";
-import { programTexts, describeAssembled } from "../../core/text/assembling.js";
+import { formatQuantity } from "../../core/bench/numbers.js";
+import { TextErrorFinder, findFrontPanelErrors, keepTextRefusal } from "../../core/text/text_error_finder.js";
+import { programTexts, describeAssembled } from "../../core/text/asm_texts.js";
 import { assemblyColours } from "./assembly_colours.js";
 import { boardColours } from "./board_colours.js";
 import { completeBoard } from "../../core/text/board_completion.js";
@@ -12,9 +12,9 @@ import { block, button, onClick } from "../ui/dom.js";
 import { EditorView } from "./text_editor_view.js";
 import { moreErrors } from "../../core/board/face.js";
 import { PARTS } from "../../core/text/folding.js";
-import { LiveFaults } from "./live_faults.js";
+import { LiveErrors } from "./live_errors.js";
 import { readInstructions } from "../../core/help/manual.js";
-import { isNoProgram } from "../../core/text/program_faults.js";
+import { isNoProgram } from "../../core/text/program_errors.js";
 import { boardTables, helpForBoard, helpForProgram } from "../../core/text/text_help.js";
 import { TOUR_BOARD } from "../../words/help.js";
 import * as say from "../../words/text.js";
@@ -25,11 +25,11 @@ import * as say from "../../words/text.js";
  * @typedef {import("../../core/engine/session_requests.js").SessionRequests} SessionRequests
  * @typedef {import("../../core/bench/bench_client.js").Caller<FileRequests & ProgramRequests & SessionRequests>} Bench
  * @typedef {import("../../core/help/manual.js").ManualSection} ManualSection
- * @typedef {import("../../core/text/program_faults.js").AllFaults} AllFaults
+ * @typedef {import("../../core/text/program_errors.js").AllFaults} AllFaults
  * @typedef {import("../../core/debug/breakpoints.js").Edit} Edit
- * @typedef {import("../../core/text/text_fault.js").Fault} Fault
- * @typedef {import("../../core/bench/words.js").ErrorMessages} ErrorMessages
- * @typedef {import("../machine/breakpoint_row.js").BreakpointField} BreakpointField
+ * @typedef {import("../../core/text/sendable_text.js").Fault} Fault
+ * @typedef {import("../../core/bench/error_messages.js").ErrorMessages} ErrorMessages
+ * @typedef {import("../machine/breakpoint_form.js").BreakpointField} BreakpointField
  */
 
 /**
@@ -49,7 +49,7 @@ import * as say from "../../words/text.js";
  * @property {(line: number, point: { left: number, bottom: number }) => void} openMarginMenu Opens the margin menu of a line at a point of
  *   the window, in pixels.
  * @property {(name: string) => string} describeName Returns the description of a name in the program, or "" if the name is unknown.
- * @property {(text: string, offset: number) => import("../../core/debug/value_words.js").Piece[]} valuesAt Returns the current values of
+ * @property {(text: string, offset: number) => import("../../core/debug/word_values.js").Piece[]} valuesAt Returns the current values of
  *   the word at an offset in a line. Returns an empty list while time is running.
  * @property {import("./meaning_view.js").MakeEditable} makeEditable Makes a cell that shows a value editable.
  * @property {(name: "program" | "board", count: number) => void} showFaultCount Shows the number of errors in a text on its tab.
@@ -78,11 +78,11 @@ export class Editors {
     /** @type {string | null} the board's text while it is being applied; null at other times */
     this.pendingBoardText = null;
     this.faultSearch = this.makeFaultSearch(words);
-    this.programFaults = new LiveFaults((isWanted) => this.faultSearch.findInProgram(this.program.text, isWanted),
+    this.programFaults = new LiveErrors((isWanted) => this.faultSearch.findInProgram(this.program.text, isWanted),
       (result) => this.showFoundFaults("program", result), calls.reportFailure);
     onClick(button("assemble-only"), () => this.assembleOnly().catch(calls.reportFailure));
     onClick(button("first-board"), () => this.applyFirstBoard().catch(calls.reportFailure));
-    this.boardFaults = new LiveFaults((isWanted) => this.faultSearch.findInBoard(this.board.text, isWanted),
+    this.boardFaults = new LiveErrors((isWanted) => this.faultSearch.findInBoard(this.board.text, isWanted),
       (result) => this.showFoundFaults("board", result), calls.reportFailure);
   }
 
@@ -194,7 +194,7 @@ export class Editors {
     const answer = await this.calls.serveLines(`${lines}reset\n`);
     if (answer === null) return;
     const refusal = parseRefusal(answer);
-    const successMessage = say.assembledAll(counted(size, "byte"));
+    const successMessage = say.assembledAll(formatQuantity(size, "byte"));
     this.program.showMessage(refusal ? this.describeRefusal(refusal) : successMessage);
     if (refusal) return;
     await this.calls.handleAssembly(true);

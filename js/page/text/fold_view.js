@@ -1,6 +1,6 @@
 // Code folding: hides the lines below a heading or a label, by a click in the margin or with keys.
 
-import { counted } from "../../core/bench/numbers.js";
+import { formatQuantity } from "../../core/bench/numbers.js";
 import { element } from "../ui/dom.js";
 import { codeFolding, foldAll, foldCode, foldGutter, foldService, foldedRanges, unfoldAll, unfoldEffect } from "@codemirror/language";
 import { findFoldStart, findFoldEnd } from "../../core/text/folding.js";
@@ -26,7 +26,7 @@ function lineReader(doc) {
  * @param {(event: Event) => void} unfoldRange
  */
 function makePlaceholder(count, unfoldRange) {
-  const node = element("span", { className: "folded-lines", title: say.UNFOLDS }, `… ${counted(count, "line")}`);
+  const node = element("span", { className: "folded-lines", title: say.UNFOLDS }, `… ${formatQuantity(count, "line")}`);
   node.addEventListener("click", unfoldRange);
   return node;
 }

@@ -3,12 +3,12 @@
 
 import { element } from "../ui/dom.js";
 import { putBelow } from "../ui/popup_message.js";
-import { textOf } from "../../core/debug/value_words.js";
+import { joinPieces } from "../../core/debug/word_values.js";
 import * as say from "../../words/text.js";
 
 /**
- * @typedef {import("../../core/debug/value_words.js").Piece} Piece
- * @typedef {import("../../core/debug/value_words.js").Value} Value
+ * @typedef {import("../../core/debug/word_values.js").Piece} Piece
+ * @typedef {import("../../core/debug/word_values.js").Value} Value
  * @typedef {(cell: HTMLElement, value: Value) => void} MakeEditable makes a cell editable
  */
 
@@ -53,7 +53,7 @@ export class MeaningView {
     this.cells.forEach((cell, index) => {
       if (cell.textContent !== values[index]) cell.textContent = values[index];
     });
-    const meaning = textOf(pieces);
+    const meaning = joinPieces(pieces);
     const description = meaning === "" ? words : words === "" || meaning.startsWith(words) ? "" : `. ${words}`;
     if (this.words.textContent !== description) this.words.textContent = description;
   }
@@ -74,7 +74,7 @@ export class MeaningView {
    * @param {{ left: number, top: number }} point window coordinates
    */
   showTooltip(pieces, { left, top }) {
-    this.tooltip.textContent = textOf(pieces);
+    this.tooltip.textContent = joinPieces(pieces);
     this.tooltip.hidden = pieces.length === 0;
     if (pieces.length > 0) putBelow(this.tooltip, { left, bottom: top }, BELOW_POINTER);
   }

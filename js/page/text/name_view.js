@@ -1,6 +1,6 @@
 // The commands for names in a text: go to the definition, find all references, rename. Also the command that goes to a line.
 
-import { counted } from "../../core/bench/numbers.js";
+import { formatQuantity } from "../../core/bench/numbers.js";
 import { element, onClick } from "../ui/dom.js";
 import { FieldBar } from "./field_bar.js";
 import { findDefinition, findRenamingError, nameAt, findReferences } from "../../core/text/references.js";
@@ -63,7 +63,7 @@ export class NameView {
     const references = findReferences(lines, name);
     const close = element("button", { type: "button" }, say.CLOSE);
     onClick(close, () => this.close());
-    this.list.replaceChildren(element("li", {}, say.nameIsAt(name, counted(references.length, "place")), close),
+    this.list.replaceChildren(element("li", {}, say.nameIsAt(name, formatQuantity(references.length, "place")), close),
       ...references.map((reference) => this.row(reference, lines[reference.line - 1])));
     this.list.hidden = false;
   }
@@ -101,7 +101,7 @@ export class NameView {
     const references = findReferences(lines, name);
     text.edit([...references].reverse().map(({ line, from, to }) => (
       { from: text.editor.offset({ line: line - 1, ch: from }), to: text.editor.offset({ line: line - 1, ch: to }), insert: newName })));
-    calls.showMessage(say.renamed(name, newName, counted(references.length, "place")));
+    calls.showMessage(say.renamed(name, newName, formatQuantity(references.length, "place")));
     return "";
   }
 

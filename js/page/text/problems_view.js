@@ -5,7 +5,7 @@ import { block, element, onClick } from "../ui/dom.js";
 import * as say from "../../words/text.js";
 
 /**
- * @typedef {import("../../core/text/text_fault.js").Fault} Fault
+ * @typedef {import("../../core/text/sendable_text.js").Fault} Fault
  */
 
 /**

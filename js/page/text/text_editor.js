@@ -5,7 +5,7 @@ import { EditorView } from "@codemirror/view";
 import { indices } from "../../core/bench/numbers.js";
 import { folding, unfold } from "./fold_view.js";
 import { LineEditor } from "./line_editor.js";
-import { STORED_LIMIT, toggleComments } from "../../core/text/text_fault.js";
+import { STORED_LIMIT, toggleComments } from "../../core/text/sendable_text.js";
 import * as say from "../../words/text.js";
 
 /**

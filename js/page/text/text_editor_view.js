@@ -3,7 +3,7 @@
 import { Cell, block, descendant, element, onClick } from "../ui/dom.js";
 import { editorKeys } from "../commands/keys.js";
 import { CountMarks } from "./count_marks.js";
-import { FaultView } from "./fault_view.js";
+import { ErrorView } from "./error_view.js";
 import { foldingActions } from "./fold_view.js";
 import { LineMarks } from "./line_marks.js";
 import { LineValues } from "./line_values.js";
@@ -11,27 +11,27 @@ import { MeaningView } from "./meaning_view.js";
 import { NameView } from "./name_view.js";
 import { SearchBar } from "./search_bar.js";
 import { TextEditor } from "./text_editor.js";
-import { STORED_LIMIT, LONGEST_TEXT, alignedText, sentText } from "../../core/text/text_fault.js";
+import { STORED_LIMIT, LONGEST_TEXT, alignedText, sentText } from "../../core/text/sendable_text.js";
 import * as say from "../../words/text.js";
 
 /**
  * @typedef {import("../../core/machine/breakpoint_marks.js").BreakpointMark} BreakpointMark
  * @typedef {import("../../core/text/completion.js").Completion} Completion
- * @typedef {import("../../core/debug/value_words.js").Piece} Piece
- * @typedef {import("../../core/text/text_fault.js").Fault} Fault
+ * @typedef {import("../../core/debug/word_values.js").Piece} Piece
+ * @typedef {import("../../core/text/sendable_text.js").Fault} Fault
  * @typedef {import("../commands/command_table.js").TextAct} TextAct
  * @typedef {import("./line_editor.js").Position} Position
  * @typedef {import("../../core/debug/breakpoints.js").Edit} Edit
  *
- * @typedef {import("../machine/breakpoint_row.js").BreakpointField} BreakpointField
+ * @typedef {import("../machine/breakpoint_form.js").BreakpointField} BreakpointField
  *
  * The language of a text. `mark` begins a comment. `indent` is the indentation of a new line, by default that of the previous line. `folds`
  * are its foldable parts. `isInstruction` returns true if a word in upper case is an instruction, and is missing for texts without names.
  * `isUnsent` is true for a text that is never sent to the bench. `wordsAt` describes the word at an offset in a line, both from 0.
  * `valuesAt` returns the current values of that word, and `makeEditable` makes a value editable. `complete` returns the completions for the
  * word.
- * @typedef {{ mark: import("../../core/text/text_fault.js").CommentMark, colours: import("./line_colours.js").Colours, gutters: string[],
- *   indent?: string,
+ * @typedef {{ mark: import("../../core/text/sendable_text.js").CommentMark, colours: import("./line_colours.js").Colours,
+ *   gutters: string[], indent?: string,
  *   folds?: import("../../core/text/folding.js").Parts, isInstruction?: (word: string) => boolean,
  *   isUnsent?: boolean,
  *   wordsAt: (lines: string[], line: number, offset: number) => string,
@@ -81,7 +81,7 @@ export class EditorView {
     this.marks = new LineMarks(editor);
     this.counts = new CountMarks(editor, this.marks);
     this.lineValues = new LineValues(editor);
-    this.faults = new FaultView(editor, this.marks, list, (fault) => this.goToFault(fault));
+    this.faults = new ErrorView(editor, this.marks, list, (fault) => this.goToFault(fault));
     this.search = new SearchBar(editor, panel, label);
     this.names = new NameView(this.editor, panel, { isInstruction, showMessage: (words) => this.status.set(words) });
     /** The timer for the description at the resting pointer or caret. */
@@ -133,7 +133,7 @@ export class EditorView {
    * Focuses the text and performs an action in it.
    * @param {TextAct} name
    */
-  performAct(name) {
+  performAction(name) {
     const action = this.editingActions()[name];
     if (!action) return;
     this.editor.editor.focus();

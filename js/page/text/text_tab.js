@@ -5,11 +5,11 @@ import { Face, moreErrors } from "../../core/board/face.js";
 import { button, onClick } from "../ui/dom.js";
 import { EditorView } from "./text_editor_view.js";
 import { PARTS } from "../../core/text/folding.js";
-import { LiveFaults } from "./live_faults.js";
+import { LiveErrors } from "./live_errors.js";
 import { COLOURS } from "../../core/text/test_colours.js";
 
 /**
- * @typedef {import("../../core/testing/prepared.js").TextFault} TextFault
+ * @typedef {import("../../core/testing/test_preparation.js").TextFault} TextFault
  * @typedef {import("../../core/text/completion.js").Completion} Completion
  * @typedef {{ keys: string[], lamps: string[], labels: string[] }} Names the names that the board and the program define
  */
@@ -68,7 +68,7 @@ export class TextTab {
       prove: tabCalls.prove,
       toggleBreakpoint: () => {},
     });
-    this.faults = new LiveFaults(() => this.findFaults(), (faults) => this.showFaults(faults), calls.reportFailure);
+    this.faults = new LiveErrors(() => this.findFaults(), (faults) => this.showFaults(faults), calls.reportFailure);
     onClick(button(kind.firstButton), () => this.insertFirstText().catch(calls.reportFailure));
   }
 
@@ -87,19 +87,19 @@ export class TextTab {
   }
 
   handleEdit() {
-    this.offerFirst();
+    this.offerFirstText();
     this.faults.handleEdit();
     this.calls.handleEdit();
   }
 
   /** Shows the button for a first text only while the editor is empty. */
-  offerFirst() {
+  offerFirstText() {
     button(this.kind.firstButton).hidden = this.editor.text.trim() !== "";
   }
 
   /** Checks the text when its tab comes to the front or another text has changed, because the names may have changed. */
   refresh() {
-    this.offerFirst();
+    this.offerFirstText();
     this.faults.checkNow().catch(this.calls.reportFailure);
   }
 

@@ -62,7 +62,7 @@ export class Clock {
    * per second, so that lamps show their long-term brightness.
    * @param {number} cycles
    */
-  timeOf(cycles) {
+  displayDuration(cycles) {
     return this.isFull || this.speed.isByInstruction ? Infinity : (1000 * cycles) / this.time.perSecond;
   }
 
@@ -136,7 +136,7 @@ export class Clock {
     if (document.hidden || this.isBusy) return false;
     const skippedGap = this.time.skipGap(now, Date.now());
     if (skippedGap && skippedGap.gap >= LONG_GAP) this.calls.reportStandstill(skippedGap.gap, skippedGap.wasHidden);
-    const dueCycles = this.time.due(now, earlyTime);
+    const dueCycles = this.time.takeDueCycles(now, earlyTime);
     if (dueCycles > 0) this.runDueCycles(dueCycles, key);
     return dueCycles > 0;
   }

@@ -1,13 +1,13 @@
 // The bar that moves back and forward in time: by instructions, and to the next or previous change.
 
 import { button, byId, element, field, onClick } from "../ui/dom.js";
-import { parseGoal } from "../../core/debug/becoming.js";
+import { parseGoal } from "../../core/debug/condition_search.js";
 import { parseCount, indices } from "../../core/bench/numbers.js";
 import * as say from "../../words/time.js";
 
 /**
  * @typedef {import("../../core/bench/answers.js").Board} Board
- * @typedef {import("../../core/engine/going_back.js").BackGoal} BackGoal
+ * @typedef {import("../../core/engine/past_search.js").BackGoal} BackGoal
  * @typedef {import("../../core/debug/goals.js").Goal} Goal
  */
 

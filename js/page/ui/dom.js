@@ -121,7 +121,7 @@ export function onClick(node, action) {
  * @param {() => void} action
  * @param {Record<string, unknown>} [properties]
  */
-export function buttonOf(text, action, properties = {}) {
+export function makeButton(text, action, properties = {}) {
   const node = element("button", { type: "button", ...properties }, text);
   onClick(node, action);
   return node;

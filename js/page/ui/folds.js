@@ -4,19 +4,19 @@ import { block, element, onClick } from "./dom.js";
 import * as say from "../../words/page.js";
 
 /**
- * @typedef {import("./choices.js").Choices} Choices
+ * @typedef {import("./preferences.js").Preferences} Preferences
  */
 
 /**
  * Turns the heading of each panel with `data-fold` into a button that folds the panel. Stores the user's choice. Returns the panels' ids.
- * @param {Choices} choices
+ * @param {Preferences} preferences
  */
-export function makeFolds(choices) {
+export function makeFolds(preferences) {
   const panels = [.../** @type {NodeListOf<HTMLElement>} */ (document.querySelectorAll("[data-fold]"))];
   for (const panel of panels) {
     const heading = panel.querySelector("h2");
     if (!heading) continue;
-    heading.replaceChildren(makeFold(panel, heading.textContent || "", choices));
+    heading.replaceChildren(makeFold(panel, heading.textContent || "", preferences));
   }
   return panels.map(({ id }) => id);
 }
@@ -24,19 +24,19 @@ export function makeFolds(choices) {
 /**
  * @param {HTMLElement} panel
  * @param {string} title
- * @param {Choices} choices
+ * @param {Preferences} preferences
  */
-function makeFold(panel, title, choices) {
+function makeFold(panel, title, preferences) {
   const name = `fold.${panel.id}`;
   const fold = element("button", { type: "button", className: "fold", title: say.FOLDS }, title);
-  let isFolded = choices.get(name) === "folded";
+  let isFolded = preferences.get(name) === "folded";
   const show = () => {
     panel.classList.toggle("folded", isFolded);
     fold.setAttribute("aria-expanded", String(!isFolded));
   };
   onClick(fold, () => {
     isFolded = !isFolded;
-    choices.set(name, isFolded ? "folded" : "unfolded");
+    preferences.set(name, isFolded ? "folded" : "unfolded");
     show();
   });
   show();

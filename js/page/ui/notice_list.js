@@ -1,6 +1,6 @@
 // A dialog with all past notices, newest first. The user can still execute the actions of past notices.
 
-import { button, buttonOf, element } from "./dom.js";
+import { button, makeButton, element } from "./dom.js";
 import * as say from "../../words/page.js";
 
 /**
@@ -19,7 +19,7 @@ export class NoticeList {
     /** @type {Message[]} the past notices, newest first */
     this.messages = [];
     this.list = element("ul", { "aria-label": say.NOTICES });
-    const close = buttonOf(say.CLOSE, () => this.dialog.close());
+    const close = makeButton(say.CLOSE, () => this.dialog.close());
     this.dialog = element("dialog", { "id": "notices", "aria-labelledby": "notices-title" },
       element("div", { className: "bar" }, element("h2", { id: "notices-title" }, say.NOTICES), close), this.list);
     document.body.append(this.dialog);
@@ -39,7 +39,7 @@ export class NoticeList {
   /** @param {Message} message */
   row(message) {
     const time = message.time.toLocaleTimeString([], { hour: "2-digit", minute: "2-digit" });
-    const buttons = message.actions.map((action) => buttonOf(action.word, () => {
+    const buttons = message.actions.map((action) => makeButton(action.word, () => {
       this.dialog.close();
       this.act(message, action);
     }, { "aria-label": say.ofNotice(action.word, message.words) }));

@@ -1,10 +1,10 @@
 // The workbench panels. Each panel can be closed, reopened and maximised, with its own buttons or in a menu. The state is stored.
 
-import { Switch, block, button, buttonOf, element, onClick } from "./dom.js";
+import { Switch, block, button, makeButton, element, onClick } from "./dom.js";
 import * as say from "../../words/workbench.js";
 
 /**
- * @typedef {import("./choices.js").Choices} Choices
+ * @typedef {import("./preferences.js").Preferences} Preferences
  * @typedef {{ id: string, name: string, node: HTMLElement, isOpen: Switch, checkBox: HTMLInputElement }} Panel
  */
 
@@ -26,11 +26,11 @@ function panelHead(panel) {
 
 export class Panels {
   /**
-   * @param {Choices} choices
+   * @param {Preferences} preferences
    * @param {() => void} reset restores the splitters, folds and tabs of the layout
    */
-  constructor(choices, reset) {
-    this.choices = choices;
+  constructor(preferences, reset) {
+    this.preferences = preferences;
     this.resetOtherParts = reset;
     this.menu = block("view-menu");
     this.viewButton = button("view-button");
@@ -42,9 +42,9 @@ export class Panels {
     /** The id of the maximised panel, or "" if there is none. */
     this.maximizedId = "";
     this.menu.append(element("ul", {}, ...this.panels.map((panel) => this.makeMenuItem(panel))),
-      buttonOf(say.RESET_LAYOUT, () => this.reset()));
+      makeButton(say.RESET_LAYOUT, () => this.reset()));
     this.addListeners();
-    this.setFull(choices.get(MAXIMIZED_KEY));
+    this.setFull(preferences.get(MAXIMIZED_KEY));
     this.updateColumns();
   }
 
@@ -57,19 +57,19 @@ export class Panels {
     const node = block(id);
     const checkBox = element("input", { type: "checkbox", autocomplete: "off" });
     const isOpen = new Switch((isOn) => node.classList.toggle("closed", !isOn));
-    isOpen.set(this.choices.get(`panel.${id}`) !== "closed");
+    isOpen.set(this.preferences.get(`panel.${id}`) !== "closed");
     checkBox.checked = isOpen.isOn;
     checkBox.addEventListener("change", () => this.open(id, checkBox.checked));
     const tools = element("span", { className: "panel-tools" },
-      buttonOf("\u25A1", () => this.toggleFull(id), { "title": say.fullSize(name), "aria-label": say.fullSize(name), "tabIndex": -1 }),
-      buttonOf("\u00D7", () => this.open(id, false), { "title": say.closes(name), "aria-label": say.closes(name), "tabIndex": -1 }));
+      makeButton("\u25A1", () => this.toggleFull(id), { "title": say.fullSize(name), "aria-label": say.fullSize(name), "tabIndex": -1 }),
+      makeButton("\u00D7", () => this.open(id, false), { "title": say.closes(name), "aria-label": say.closes(name), "tabIndex": -1 }));
     panelHead(node).append(tools);
     return { id, name, node, isOpen, checkBox };
   }
 
   /** @param {Panel} panel */
   makeMenuItem({ id, name, checkBox }) {
-    const fullButton = buttonOf(say.FULL_SIZE, () => {
+    const fullButton = makeButton(say.FULL_SIZE, () => {
       this.isMenuOpen.set(false);
       this.open(id, true);
       this.setFull(id);
@@ -107,7 +107,7 @@ export class Panels {
     if (!isOpen && this.maximizedId === id) this.setFull("");
     panel.isOpen.set(isOpen);
     panel.checkBox.checked = isOpen;
-    this.choices.set(`panel.${id}`, isOpen ? "" : "closed");
+    this.preferences.set(`panel.${id}`, isOpen ? "" : "closed");
     this.updateColumns();
   }
 
@@ -136,7 +136,7 @@ export class Panels {
    */
   setFull(id) {
     this.maximizedId = this.find(id) ? id : "";
-    this.choices.set(MAXIMIZED_KEY, this.maximizedId);
+    this.preferences.set(MAXIMIZED_KEY, this.maximizedId);
     for (const panel of this.panels) panel.node.classList.toggle("full", panel.id === this.maximizedId);
     document.body.classList.toggle("has-full", this.maximizedId !== "");
   }

@@ -4,7 +4,7 @@
 import { Switch, block, button, onClick, pressedSwitch } from "./dom.js";
 
 /**
- * @typedef {import("./choices.js").Choices} Choices
+ * @typedef {import("./preferences.js").Preferences} Preferences
  * @typedef {"board" | "source" | "debug" | "more"} RegionName
  */
 
@@ -13,9 +13,9 @@ const REGIONS = ["board", "source", "debug", "more"];
 const REGION_KEY = "region";
 
 export class Regions {
-  /** @param {Choices} choices */
-  constructor(choices) {
-    this.choices = choices;
+  /** @param {Preferences} preferences */
+  constructor(preferences) {
+    this.preferences = preferences;
     this.marks = REGIONS.map((name) => {
       onClick(button(`region-${name}`), () => this.show(name));
       return { name, isPressed: pressedSwitch(button(`region-${name}`)) };
@@ -30,12 +30,12 @@ export class Regions {
       this.drawer.set(false);
       button("drawer-button").focus();
     });
-    this.draw(REGIONS.find((name) => name === choices.get(REGION_KEY)) || "board");
+    this.draw(REGIONS.find((name) => name === preferences.get(REGION_KEY)) || "board");
   }
 
   /** @param {RegionName} name */
   show(name) {
-    this.choices.set(REGION_KEY, name);
+    this.preferences.set(REGION_KEY, name);
     this.draw(name);
   }
 

@@ -2,7 +2,7 @@
 
 import { block } from "./dom.js";
 
-/** @typedef {import("./choices.js").Choices} Choices */
+/** @typedef {import("./preferences.js").Preferences} Preferences */
 
 /**
  * A splitter: the panel that it resizes, the side of the panel on which it is, and the CSS property and limits of the size in pixels.
@@ -21,11 +21,11 @@ const KEYS = {
 
 export class Splitter {
   /**
-   * @param {Choices} choices
+   * @param {Preferences} preferences
    * @param {Border} border
    */
-  constructor(choices, border) {
-    this.choices = choices;
+  constructor(preferences, border) {
+    this.preferences = preferences;
     this.border = border;
     this.node = block(border.id);
     this.panel = block(border.panel);
@@ -45,7 +45,7 @@ export class Splitter {
     this.node.addEventListener("focus", () => this.showValue());
     this.node.addEventListener("keydown", (event) => this.handleKey(event));
     this.node.addEventListener("dblclick", () => this.reset());
-    this.show(Number(choices.get(this.name)) || 0);
+    this.show(Number(preferences.get(this.name)) || 0);
   }
 
   /** The key of the stored choice. */
@@ -73,13 +73,13 @@ export class Splitter {
   set(size) {
     const { min, max } = this.border;
     const boundedSize = Math.round(Math.min(max, Math.max(min, size)));
-    this.choices.set(this.name, String(boundedSize));
+    this.preferences.set(this.name, String(boundedSize));
     this.show(boundedSize);
   }
 
   /** Restores the panel's initial size. */
   reset() {
-    this.choices.set(this.name, "");
+    this.preferences.set(this.name, "");
     this.show(0);
   }
 

@@ -76,12 +76,12 @@ export class Tabs {
   /**
    * Shows or hides a tab, for example while the tab has no contents.
    * @param {string} name
-   * @param {boolean} isThere
+   * @param {boolean} isOffered
    */
-  offer(name, isThere = true) {
+  offer(name, isOffered = true) {
     const entry = this.find(name);
-    entry.tab.hidden = !isThere;
-    if (!isThere && this.frontTab === entry) this.show(this.tabs[0].name);
+    entry.tab.hidden = !isOffered;
+    if (!isOffered && this.frontTab === entry) this.show(this.tabs[0].name);
   }
 
   /**

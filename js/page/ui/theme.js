@@ -3,9 +3,9 @@
 /** @typedef {"system" | "light" | "dark"} ThemeName */
 
 export class Theme {
-  /** @param {import("./choices.js").Choices} choices */
-  constructor(choices) {
-    this.choices = choices;
+  /** @param {import("./preferences.js").Preferences} preferences */
+  constructor(preferences) {
+    this.preferences = preferences;
     /** The listener for theme changes. */
     this.onChange = () => {};
     this.show();
@@ -13,13 +13,13 @@ export class Theme {
 
   /** @returns {ThemeName} */
   get name() {
-    const storedName = this.choices.get("theme");
+    const storedName = this.preferences.get("theme");
     return storedName === "light" || storedName === "dark" ? storedName : "system";
   }
 
   /** @param {ThemeName} name */
   set(name) {
-    this.choices.set("theme", name);
+    this.preferences.set("theme", name);
     this.show();
     this.onChange();
   }

@@ -254,8 +254,8 @@ export class Scope {
   drawLive(liveWaves) {
     this.isUpToDate = true;
     if (this.liveWaves !== liveWaves) return;
-    this.view.grow(liveWaves.triggered);
-    if (liveWaves.over === "trigger") this.view.showAround(liveWaves.triggered);
+    this.view.grow(liveWaves.triggerMoment);
+    if (liveWaves.over === "trigger") this.view.showAround(liveWaves.triggerMoment);
     else if (!liveWaves.isOn) this.view.fit();
     this.choice.handleGrowth();
     this.showLive(liveWaves);
@@ -269,13 +269,13 @@ export class Scope {
     const { liveWaves } = this;
     if (!liveWaves || !liveWaves.isOn) return;
     this.drawLive(liveWaves);
-    if (liveWaves.triggered < 0) this.view.fit();
+    if (liveWaves.triggerMoment < 0) this.view.fit();
   }
 
   /** @param {LiveWaves} liveWaves */
   showLive(liveWaves) {
     this.status.set(liveWaves.words);
-    this.count.set(liveWaves.isOn ? liveWaves.kept : "");
+    this.count.set(liveWaves.isOn ? liveWaves.lengthText : "");
     this.recordWord.set(liveWaves.isOn ? say.STOP_RECORDING : say.RECORD);
     this.calls.showRecording(liveWaves.isOn);
   }

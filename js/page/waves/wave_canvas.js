@@ -1,7 +1,7 @@
 // Draws waves on a canvas, or into a picture file.
 
 import { isDecoder } from "../../core/waves/decoders.js";
-import { countUpTo } from "../../core/waves/growing.js";
+import { countUpTo } from "../../core/waves/number_queue.js";
 import { isDrawnAsBoxes } from "../../core/waves/wave_lines.js";
 import { tickMoments } from "../../core/waves/wave_window.js";
 

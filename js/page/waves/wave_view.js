@@ -2,7 +2,7 @@
 
 import { Cell, block, button, byId, field, onClick, pressedSwitch } from "../ui/dom.js";
 import { AXIS, ROW, drawWaves } from "./wave_canvas.js";
-import { measureAt, describeMeasurement } from "../../core/waves/measuring.js";
+import { measureAt, describeMeasurement } from "../../core/waves/measurement.js";
 import { RowMenu } from "./row_menu.js";
 import { WavePointers } from "./wave_pointers.js";
 import { ROW_COLOURS, WaveRows } from "../../core/waves/wave_rows.js";
@@ -234,7 +234,7 @@ export class WaveView {
     const selectedRow = this.rows[this.selected];
     action();
     this.arrange(selectedRow);
-    this.calls.storeRows(this.arrangement.kept);
+    this.calls.storeRows(this.arrangement.storedRows);
   }
 
   /**
@@ -262,7 +262,7 @@ export class WaveView {
   /**
    * Changes the appearance of lines, by name.
    * @param {string[]} names
-   * @param {import("../../core/waves/wave_rows.js").RowLook} look
+   * @param {import("../../core/waves/wave_rows.js").RowAppearance} look
    */
   change(names, look) {
     this.rearrange(() => names.forEach((name) => this.arrangement.change(name, look)));
@@ -458,7 +458,7 @@ export class WaveView {
     this.draw(waves, this.showMeasure(waves));
     this.status[0].set(describeCursor("A", view.cursors[0], waves));
     this.status[1].set(describeCursor("B", view.cursors[1], waves));
-    this.status[2].set(describeDistance(view.between));
+    this.status[2].set(describeDistance(view.cursorDistance));
     this.cursorSwitches.forEach((cursorSwitch, cursor) => cursorSwitch.set(view.active === cursor));
     this.canvas.setAttribute("aria-valuemin", String(view.begin));
     this.canvas.setAttribute("aria-valuemax", String(view.end));

@@ -2,7 +2,7 @@
 
 import { BenchCalls } from "../../core/engine/bench_calls.js";
 import { earlySender } from "../bench/early_replies.js";
-import { packFault } from "../../core/bench/faults.js";
+import { packError } from "../../core/bench/bench_errors.js";
 
 /**
  * @typedef {import("../../core/bench/protocol.js").Frame} Frame
@@ -106,7 +106,7 @@ class BenchWorker {
       this.post({ kind: "reply", number, result }, result && result.file instanceof ArrayBuffer ? [result.file] : []);
       if (pressesKey(call, words)) this.calls.bench.checkLastLines();
     } catch (fault) {
-      this.post({ kind: "reply", number, fault: packFault(fault) });
+      this.post({ kind: "reply", number, fault: packError(fault) });
     }
   }
 
@@ -121,7 +121,7 @@ class BenchWorker {
       if (frame) this.postFrame(frame);
     } catch (fault) {
       this.calls.bench.fullSpeed.stop();
-      this.post({ kind: "failed", fault: packFault(fault) });
+      this.post({ kind: "failed", fault: packError(fault) });
     }
   }
 

@@ -1,0 +1,231 @@
+// Starts the packed extension for Visual Studio Code with nothing else installed: `node packed_extension.mjs EXTENSION FOLDER`. EXTENSION is the
+// unpacked extension, and FOLDER is a folder for a workspace. The script acts like the editor, with a stand-in for its module: it activates the
+// extension, opens a text, waits for errors, runs and debugs a test, opens the front panel, prints, and runs a task. Prints `ok WORDS` or `fault:
+// WORDS` for each check.
+import { spawnSync } from "node:child_process";
+import { copyFileSync, cpSync, existsSync, mkdirSync, readFileSync, writeFileSync } from "node:fs";
+import Module, { createRequire } from "node:module";
+import { join } from "node:path";
+import { Client } from "./dap_client.mjs";
+import { standIn } from "./vscode_stand_in.mjs";
+
+const TOP = new URL("../..", import.meta.url).pathname;
+const [extensionFolder, place] = process.argv.slice(2);
+const folder = join(place, "a board, and its program");
+/** The time in milliseconds to wait for each result. It is long, because the editor also waits, however busy the machine is. */
+const TIMEOUT = 60000;
+
+function verdict(is, wanted, words) {
+  const [one, other] = [JSON.stringify(is), JSON.stringify(wanted)];
+  console.log(one === other ? `ok ${words}` : `fault: ${words}: ${one}, not ${other}`);
+}
+
+/** Waits until `find` returns a truthy value. Resolves to that value, or to null after a timeout. */
+async function until(find) {
+  for (const end = Date.now() + TIMEOUT; Date.now() < end;) {
+    const found = find();
+    if (found) return found;
+    await new Promise((resume) => { setTimeout(resume, 20); });
+  }
+  return null;
+}
+
+function makeWorkspace() {
+  for (const name of ["lock", "lone", "printer"]) mkdirSync(join(folder, name), { recursive: true });
+  const copy = (from, to) => copyFileSync(join(TOP, "examples", from), join(folder, to));
+  for (const name of ["board.toml", "lock.asm", "lock.test", "lock.props", "mcs4.toml"]) copy(`lock/${name}`, `lock/${name}`);
+  for (const name of ["board.toml", "printing_calculator.asm", "mcs4.toml"]) copy(`printing_calculator/${name}`, `printer/${name}`);
+  for (const name of ["props", "test"]) copy(`printing_calculator/printing_calculator.${name}`, `printer/printing_calculator.${name}`);
+  writeFileSync(join(folder, "lock", "wrong.asm"), readFileSync(join(folder, "lock", "lock.asm"), "utf8").replace("JCN zero, enter", "JMP enter"));
+  // A program with the extension .4004, without a project.
+  copy("three_lamps/board.toml", "lone/board.toml");
+  copy("three_lamps/three_lamps.asm", "lone/three_lamps.4004");
+  writeFileSync(join(folder, "lone", "three_lamps.test"), "test it begins\n  run 10\n\ntest it fails\n  run 10\n  expect acc 9\n");
+}
+
+/** Sets up an environment in which nothing of the bench is on the PATH or named by a variable. */
+function makeBare() {
+  const bare = join(place, "nothing");
+  mkdirSync(bare);
+  process.env.PATH = bare;
+  for (const name of ["MCS4", "MCS4_PROVE", "HOME", "XDG_CACHE_HOME"]) delete process.env[name];
+  verdict(spawnSync("mcs4", ["version"]).error?.code, "ENOENT", "no mcs4 is there");
+}
+
+const diagnosticsOf = ({ shown }, { uri }) => until(() => shown.diagnostics.has(uri.toString()) && shown.diagnostics.get(uri.toString())
+  .map(({ given: [range, words] }) => [range.start.line, words.split("\n")[0]]));
+
+async function tryTexts(editor) {
+  const wrong = editor.open("lock/wrong.asm", "plaintext");
+  verdict(wrong.languageId, "mcs4", "an .asm beside a board");
+  const line = readFileSync(wrong.fileName, "utf8").split("\n").findIndex((each) => each.includes("JMP enter"));
+  verdict(await diagnosticsOf(editor, wrong), [[line, "JMP is not an instruction; JUN?"]], "errors of a text, where no mcs4 is on the PATH");
+  verdict(await diagnosticsOf(editor, editor.open("lone/three_lamps.4004", "mcs4")), [], "a program called .4004");
+  verdict(await diagnosticsOf(editor, editor.open("lone/three_lamps.test", "plaintext")), [], "its tests");
+}
+
+/** Runs a test profile on items. Resolves to the results. */
+async function runTests(editor, name, include) {
+  const { registered: { tests }, shown } = editor;
+  await tests.profiles[name]({ include, exclude: [] }, { isCancellationRequested: false, onCancellationRequested: () => ({ dispose: () => {} }) });
+  return shown.runs[shown.runs.length - 1];
+}
+
+async function tryTests(editor) {
+  const { registered: { tests }, shown } = editor;
+  await tests.resolveHandler(undefined);
+  const files = [];
+  tests.items.forEach((file) => files.push([file.label, file.children.size]));
+  const own = readFileSync(join(folder, "lock", "lock.test"), "utf8");
+  verdict(files, [["three_lamps.test", 2], ["lock.test", own.match(/^test /gm).length], ["printing_calculator.test", tests.items
+    .get(editor.vscode.Uri.file(join(folder, "printer", "printing_calculator.test")).toString()).children.size]], "the texts of tests, and how many they have");
+  const itemsOf = (name) => tests.items.get(editor.vscode.Uri.file(join(folder, name)).toString());
+  const lock = itemsOf("lock/lock.test");
+  const all = await runTests(editor, "Run", [lock]);
+  verdict([all.isEnded, all.results.length, all.results.every(([kind]) => kind === "passed")], [true, lock.children.size, true], "tests of a project run");
+  const lone = [];
+  itemsOf("lone/three_lamps.test").children.forEach((item) => lone.push(item));
+  const [, fails] = lone;
+  verdict([fails.label, fails.range.start.line], ["it fails", 3], "the line of a test");
+  const { results } = await runTests(editor, "Run", lone);
+  const [[, ], [kind, , message]] = results;
+  const { given: [uri, at] } = message.location;
+  verdict([results[0], kind, uri.fsPath, at.line], [["passed", "it begins"], "failed", join(folder, "lone", "three_lamps.test"), 5], "a test that fails, and where");
+  verdict(/^acc is \w+, but must be 9\n/.test(message.given[0]), true, `why it fails: ${message.given[0].split("\n")[0]}`);
+  await runTests(editor, "Debug", [fails]);
+  return shown.launched.pop();
+}
+
+/**
+ * Debugs like the editor, with the debug adapter that the extension provides. Passes the adapter's events to the extension. Resolves to the client.
+ */
+async function debug(editor, configuration) {
+  const { registered, events } = editor;
+  const { given: [command, words, { env }] } = registered["adapter mcs4"].createDebugAdapterDescriptor();
+  verdict([command, words[words.length - 1], env.ELECTRON_RUN_AS_NODE], [process.execPath, "dap", "1"], "the debug adapter runs on the editor's own Node");
+  const client = new Client(command, place, [], { before: words.slice(0, -1), env: { ...process.env, ...env } });
+  const session = { type: "mcs4", configuration, customRequest: (name, args) => client.ask(name, args) };
+  const tracker = registered["tracker mcs4"].createDebugAdapterTracker(session);
+  const { check } = Client.prototype;
+  client.check = (message) => {
+    check.call(client, message);
+    tracker.onDidSendMessage(message);
+    if (message.event === "boardShown") events.custom.fire({ session, event: message.event, body: message.body });
+  };
+  await client.begin(configuration);
+  return { client, end: async () => {
+    await client.end();
+    events.terminate.fire(session);
+    verdict(client.faults, [], "what the adapter sends");
+  } };
+}
+
+async function tryDebuggedTest(editor, configuration) {
+  const { client, end } = await debug(editor, configuration);
+  await client.event("stopped");
+  const output = client.output();
+  verdict(/three_lamps\.test:6: it fails: acc is \w+, but must be 9/.test(output), true, `a test is debugged: ${output.trim()}`);
+  const counter = async () => (await client.frames())[0].instructionPointerReference;
+  const before = await counter();
+  await client.move("stepBack");
+  verdict(before !== await counter(), true, "time goes back from the failure");
+  await end();
+}
+
+async function tryPanel(editor) {
+  const { registered, shown, vscode } = editor;
+  vscode.window.activeTextEditor = undefined;
+  editor.open("printer/printing_calculator.asm", "mcs4");
+  await registered["command mcs4.openPanel"]();
+  const [{ webview, title, options }] = shown.panels;
+  verdict([title, options.enableScripts, options.localResourceRoots.map(({ fsPath }) => fsPath)], ["Lamps and keys", true, [extensionFolder]], "the front panel");
+  const [, policy] = /Content-Security-Policy" content="([^"]*)"/.exec(webview.html);
+  verdict(policy, "default-src 'none'; script-src vscode-resource:; style-src vscode-resource:; base-uri 'none'; form-action 'none'", "its policy");
+  const sources = [...webview.html.matchAll(/(?:src|href)="([^"]*)"/g)].map(([, each]) => each);
+  verdict(sources.map((each) => existsSync(join(extensionFolder, each.replace("vscode-resource:", "")))), [true, true], `what it loads: ${sources.join(", ")}`);
+  const configuration = shown.launched.pop();
+  verdict([configuration.project, configuration.realTime, configuration.stopOnEntry], [join(folder, "printer"), true, false], "what is launched for it");
+  await webview.say({ isReady: true });
+  const { end } = await debug(editor, { ...configuration, realTime: false });
+  const news = () => Object.assign({}, ...webview.posted.map((each) => each.news || {}));
+  verdict(await until(() => news().board && news().boardText.includes("printer")), true, "the board is drawn");
+  // Press `7` and `+`, which makes the calculator print the operand.
+  for (const legend of ["7", "+"]) {
+    const keyPlace = keyPlaceOf(legend);
+    await webview.say({ place: keyPlace, isDown: true });
+    await until(() => (news().keys || []).includes(keyPlace.replace(" ", ".")));
+    await new Promise((resume) => { setTimeout(resume, 300); });
+    await webview.say({ place: keyPlace, isDown: false });
+    await until(() => (news().keys || []).length === 0);
+    await new Promise((resume) => { setTimeout(resume, 300); });
+  }
+  verdict(Boolean(await until(() => news().printed && news().printed.codes.length > 0)), true, "what is printed comes to the panel");
+  await webview.say({ isTorn: true });
+  verdict(Boolean(await until(() => news().printed.codes.length === 0)), true, "the paper is torn off");
+  await end();
+  verdict(webview.posted[webview.posted.length - 1].news, null, "the panel after the end");
+}
+
+/** Returns the row and column of a key on the printing calculator, by its legend in the board's text. */
+function keyPlaceOf(legend) {
+  const rows = readFileSync(join(folder, "printer", "board.toml"), "utf8").split("\n").flatMap((line) => {
+    const [, row, keys] = /^#\s*row (\d+):\s*(.*)$/.exec(line) || [];
+    return row ? [[row, keys.split(/\s+/)]] : [];
+  });
+  const [row, keys] = rows.find(([, each]) => each.includes(legend));
+  return `${row} ${keys.indexOf(legend)}`;
+}
+
+/** Returns the matches of the problem matchers of package.json in a text. */
+function matchesOf(text, matchers) {
+  return text.split("\n").flatMap((line) => matchers.flatMap(({ pattern: { regexp, file, line: at, message } }) => {
+    const found = new RegExp(regexp).exec(line);
+    return found ? [[found[file], found[at], found[message]]] : [];
+  }));
+}
+
+async function tryTasks({ registered }, { contributes }) {
+  const tasks = await registered["tasks mcs4"].provideTasks();
+  verdict(tasks.map(({ given: [, , name] }) => name).slice(0, 5), ["test lock", "cover lock", "profile lock", "explore lock", "prove lock"], "the tasks of a project");
+  const run = ({ given: [, , , , { given: [command, words, { cwd, env }] }] }) => spawnSync(command, words, { cwd, env: { ...process.env, ...env }, encoding: "utf8" });
+  const { status, stdout } = run(tasks[0]);
+  verdict([status, /^1\.\.\d+$/m.test(stdout)], [0, true], "a task runs the tests");
+  writeFileSync(join(folder, "lock", "mcs4.toml"), readFileSync(join(folder, "lock", "mcs4.toml"), "utf8").replace("lock.asm", "wrong.asm"));
+  const found = matchesOf(run(tasks[0]).stderr, contributes.problemMatchers);
+  const line = readFileSync(join(folder, "lock", "wrong.asm"), "utf8").split("\n").findIndex((each) => each.includes("JMP enter")) + 1;
+  verdict(found.map(([file, at]) => [file, Number(at)]), [[join(folder, "lock", "wrong.asm"), line]], "an error of a task, and where");
+  cpSync(new URL("../../examples/pictures", import.meta.url), join(folder, "pictures"), { recursive: true });
+  const proof = run(registered["tasks mcs4"].resolveTask({ definition: { type: "mcs4", command: "prove", folder: join(folder, "pictures") } }));
+  verdict([proof.status, /^ok 1 - never .* # proved for all inputs \(9 states\)$/m.test(proof.stdout)], [0, true], `a proof by the module: ${proof.stderr.trim()}`);
+  const task = registered["tasks mcs4"].resolveTask({ definition: { type: "mcs4", command: "cover", folder: join(folder, "printer") } });
+  verdict(task.given[2], "cover printer", "a task of tasks.json");
+}
+
+makeWorkspace();
+makeBare();
+const editor = standIn(folder);
+const load = Module._load;
+Module._load = (name, ...more) => (name === "vscode" ? editor.vscode : load(name, ...more));
+const require = createRequire(import.meta.url);
+const own = require(join(extensionFolder, "package.json"));
+const extension = require(join(extensionFolder, own.main));
+const uri = editor.vscode.Uri.file(extensionFolder);
+await extension.activate({ subscriptions: [], extensionPath: extensionFolder, extensionUri: uri });
+verdict(editor.shown.errors, [], "nothing is wrong at the start");
+verdict(own.contributes.languages.map(({ id, extensions }) => [id, extensions]).filter(([, each]) => each), [["mcs4", [".4004"]]], "the ending of its own");
+await tryTexts(editor);
+await tryDebuggedTest(editor, await tryTests(editor));
+await tryPanel(editor);
+await tryTasks(editor, own);
+await extension.deactivate();
+
+// The command in the setting does not exist. The extension's own mcs4 replaces it, and a message says so.
+const other = standIn(folder, { command: join(place, "none", "mcs4") });
+Module._load = (name, ...more) => (name === "vscode" ? other.vscode : load(name, ...more));
+for (const name of Object.keys(require.cache)) if (name.startsWith(extensionFolder)) delete require.cache[name];
+const again = require(join(extensionFolder, own.main));
+await again.activate({ subscriptions: [], extensionPath: extensionFolder, extensionUri: uri });
+verdict(other.shown.errors.map((words) => words.replace(/^The command .* was not started/, "The command was not started")),
+  ["The command was not started; the setting mcs4.command names it. The extension's own commands take its place."], "a command that is not there");
+verdict((await diagnosticsOf(other, other.open("lock/wrong.asm", "mcs4"))).length, 1, "errors of a text, then");
+await again.deactivate();

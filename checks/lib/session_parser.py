@@ -1,0 +1,220 @@
+"""Reads a session file as docs/FORMAT.md specifies: an independent parser for the bytes of states and commands. bench4004.py implements the effects
+of commands and their answers.
+"""
+
+import re
+
+import bench4004
+from session_file import MAX_CYCLES, NAME, SIZE, Board, State, read
+
+MAX_COMMANDS = 2**32 - 1
+# The maximum numbers of chains, and of chips in a chain, by version.
+MAX_CHAINS = {1: 2, 2: 4}
+MAX_CHIPS = {1: 4, 2: 8}
+# Places by their numbers: the form of each, the maxima of the numbers in it, and the maximum of its value.
+PLACES = (("acc", 15), ("cy", 1), ("pc", 4095), ("r{}", 15, 15), ("dcl", 7), ("rom.{}", 4095, 255), ("ram.{}.{}", 7, 255, 15),
+          ("st.{}.{}.{}", 7, 15, 3, 15))
+# The other commands whose operands are all numbers, by their tags.
+COMMANDS = {3: ("press", 255, 255), 4: ("release", 255, 255), 5: ("run", 2**32 - 1), 6: ("step",), 8: ("test", 1), 9: ("reset",),
+            10: ("break", 4095), 11: ("unbreak", 4095), 12: ("watch", 7, 255), 13: ("unwatch", 7, 255)}
+
+
+class Refused(Exception):
+    """The number of the refusal of a file."""
+
+
+def require(holds):
+    """Raises the refusal of a damaged file if a condition does not hold."""
+    if not holds:
+        raise Refused(51)
+
+
+class Reader:
+    """A reader of bytes, one after another."""
+
+    def __init__(self, given):
+        self.given, self.at = bytes(given), 0
+
+    def take(self, count):
+        self.at += count
+        require(self.at <= len(self.given))
+        return self.given[self.at - count:self.at]
+
+    def numbers(self, count, most):
+        """Returns `count` numbers of one byte each."""
+        found = self.take(count)
+        require(all(byte <= most for byte in {*found}))
+        return bytearray(found)
+
+    def number(self, most):
+        """Returns a number of 1, 2 or 4 bytes, depending on its maximum."""
+        found = int.from_bytes(self.take(1 if most < 256 else 2 if most < 65536 else 4), "big")
+        require(found <= most)
+        return found
+
+    def end(self):
+        require(self.at == len(self.given))
+
+
+# --- boards
+
+def has_line(board, line):
+    """Returns true if a board has a line. A number that is not used is 0."""
+    kind, number, second, third = line
+    if kind == 0:
+        return number in board.roms and second < 4 and third == 0
+    if kind == 1:
+        return second < board.banks.get(number, 0) and third < 4
+    return kind == 2 and number < len(board.chains) and second < 10 * board.chains[number][2] and third == 0
+
+
+def is_input(board, line):
+    """Returns true if a line is an input. The first character of a port is its line 3."""
+    return has_line(board, line) and line[0] == 0 and board.roms[line[1]][3 - line[2]] == "i"
+
+
+def is_board(board):
+    """Returns true if these parts form a valid board."""
+    def is_output(line):
+        return has_line(board, line) and line[0] != 2 and not is_input(board, line)
+
+    chain, first, rows, columns = board.keys or (0, 0, 1, None)
+    return (all(0 <= chip < 16 and re.fullmatch("[i01]{4}", port) for chip, port in board.roms.items())
+            and all(0 <= bank < 8 and 1 <= chips <= 4 for bank, chips in board.banks.items())
+            and len(board.chains) <= 4
+            and all(is_output(clock) and is_output(data) and 1 <= chips <= 8 for clock, data, chips in board.chains)
+            and (columns is None or chain < len(board.chains) and 1 <= rows <= 10 and first + rows <= 10 * board.chains[chain][2]
+                 and 1 <= len(columns) <= 8 and all(is_input(board, line) for line in columns))
+            and len(board.lamps) <= 64
+            and all(has_line(board, line) and not is_input(board, line) for line in board.lamps))
+
+
+def read_board(reader, version):
+    ports = [reader.take(4).decode("latin-1") for _chip in range(16)]
+    roms = {chip: port for chip, port in enumerate(ports) if port != "----"}
+    banks = {bank: chips for bank, chips in enumerate(reader.numbers(8, 4)) if chips}
+    chains = [(reader.take(4), reader.take(4), reader.number(MAX_CHIPS[version])) for _n in range(reader.number(MAX_CHAINS[version]))]
+    keys = None
+    if reader.number(1):
+        keys = (*reader.take(3), [reader.take(4) for _n in range(reader.number(8))])
+    board = Board(roms, banks, chains, keys, [reader.take(4) for _n in range(reader.number(64))])
+    require(is_board(board))
+    return board
+
+
+# --- states
+
+def read_state(snapshot):
+    """Parses the state in a snapshot. Returns the state and its version."""
+    reader = Reader(snapshot)
+    seq = reader.number(MAX_COMMANDS)
+    version = 2 if snapshot[4:5] == b"\2" else 1
+    reader.take(version - 1)
+    board = read_board(reader, version)
+    state = State(seq, board, rom=bytearray(reader.take(4096)))
+    for part, count in (("ram", 2048), ("status", 512), ("ram_ports", 32), ("rom_ports", 16)):
+        setattr(state, part, reader.numbers(count, 15))
+    state.accumulator, state.carry, state.registers = reader.number(15), reader.number(1), reader.numbers(16, 15)
+    state.counter, *state.returns = [reader.number(4095) for _n in range(4)]
+    state.bank, state.rom_source, state.bank_sources, state.owed = reader.number(7), reader.number(255), reader.take(8), reader.number(1)
+    state.chains = [reader.numbers(10 * chips, 1) for _clock, _data, chips in board.chains]
+    state.keys, state.test = reader.numbers(board.count_of_keys(), 1), reader.number(1)
+    state.breakpoints = [reader.number(4095) for _n in range(reader.number(32))]
+    if version == 2:
+        state.watches = [(reader.number(7), reader.number(255)) for _n in range(reader.number(8))]
+    reader.end()
+    require(all(found == sorted({*found}) for found in (state.breakpoints, state.watches)))
+    require(not any(any(part) for part in absent_parts(state)))
+    return state, version
+
+
+def absent_parts(state):
+    """Yields the parts that must be 0, because their chip is missing, or because an input line stores nothing."""
+    for chip in range(16):
+        port = state.board.roms.get(chip, "iiii")
+        yield b"" if chip in state.board.roms else state.rom[256 * chip:256 * chip + 256]
+        yield [state.rom_ports[chip] & sum(8 >> at for at, mark in enumerate(port) if mark == "i")]
+    for bank in range(8):
+        chips = state.board.banks.get(bank, 0)
+        yield state.ram[256 * bank + 64 * chips:256 * bank + 256]
+        yield state.status[64 * bank + 16 * chips:64 * bank + 64]
+        yield state.ram_ports[4 * bank + chips:4 * bank + 4]
+        yield [] if chips else [state.bank_sources[bank]]
+
+
+def bench_of(state):
+    """Returns a bench in a state."""
+    bench = bench4004.Bench()
+    bench.seq, board = state.seq, bench.board
+    board.wire(state.board.text())
+    board.rom[:] = state.rom
+    board.acc, board.cy, board.pc, board.ret = state.accumulator, state.carry, state.counter, list(state.returns)
+    board.r, board.dcl, board.owed, board.test = list(state.registers), state.bank, state.owed, state.test
+    board.breaks, board.watches = {*state.breakpoints}, {*state.watches}
+    chips = board.chips
+    chips.ram = [state.ram[256 * bank:256 * bank + 256] for bank in range(8)]
+    chips.status = [[state.status[64 * bank + 4 * high:64 * bank + 4 * high + 4] for high in range(16)] for bank in range(8)]
+    chips.ram_latch = {(bank, chip): state.ram_ports[4 * bank + chip] for bank, chip in chips.ram_latch}
+    chips.rom_latch = {chip: state.rom_ports[chip] for chip in chips.rom_latch}
+    chips.rom_src, chips.bank_src, chips.chains = state.rom_source, list(state.bank_sources), [list(chain) for chain in state.chains]
+    chips.down = {divmod(at, len(chips.columns)) for at, is_down in enumerate(state.keys) if is_down}
+    return bench
+
+
+# --- commands
+
+def read_command(record, version):
+    """Returns the words of the session line of a record, and the cycles that it counts in a log. A text is a list of lines. A board is its whole
+    text."""
+    reader = Reader(record)
+    tag = reader.number(13 if version == 2 else 11)
+    if tag == 1:
+        words = ["wire", read_board(reader, version).text().splitlines()]
+    elif tag == 2:
+        marks = reader.take(512)
+        addresses = [at for at in range(4096) if marks[at // 8] >> at % 8 & 1]
+        words = ["asm", [line for at in addresses for line in (f"ORG {at}", f"DB {reader.number(255)}")]]
+    elif tag == 7:
+        name, *mosts = PLACES[reader.number(7)]
+        numbers = [reader.number(most) for most in mosts]
+        words = ["poke", name.format(*numbers[:-1]), str(numbers[-1])]
+    else:
+        require(tag in COMMANDS)
+        name, *mosts = COMMANDS[tag]
+        words = [name, *(str(reader.number(most)) for most in mosts)]
+    reader.end()
+    return words, {"run": lambda: int(words[1]), "step": lambda: 2}.get(words[0], lambda: 0)()
+
+
+class Standing:
+    """What a file contains: a bench, the text of its board, and the version."""
+
+    def __init__(self, file):
+        """Reads a file. Raises `Refused` if it contains no state."""
+        if len(file) != SIZE or file[:8] != NAME:
+            raise Refused(50)
+        held = read(file)
+        require(held is not None)
+        state, self.version = read_state(held[0])
+        self.bench, self.board = bench_of(state), state.board.text().splitlines()
+        commands = [read_command(record, self.version) for record in held[1]]
+        require(sum(cycles for _words, cycles in commands) <= MAX_CYCLES)
+        for words, _cycles in commands:
+            self.accept(words)
+
+    def accept(self, words):
+        """Applies a command, which must be accepted at this point."""
+        board = self.bench.board
+        require(self.bench.seq < MAX_COMMANDS)
+        require(words[0] != "run" or 1 <= int(words[1]) <= 100_000)
+        require(not self.bench.answer(*words)[0].startswith("no "))
+        require(len(board.breaks) <= 32 and len(board.watches) <= 8)
+        if words[0] == "wire":
+            self.board = words[1]
+
+    def answers_to(self, questions):
+        """Returns the first line of a session and the answers to questions."""
+        answers = [f"session {self.bench.seq}"]
+        for question in questions:
+            answers += ["board", *self.board] if question == "board" else self.bench.answer(*question.split())
+        return "".join(f"{line}\n" for line in answers)

@@ -1,0 +1,55 @@
+// Reads the lamps and displays of a board as text, and reports when this text changes.
+
+import { readItems } from "../bench/answers.js";
+import { DisplayText } from "../board/display_text.js";
+import { Face } from "../board/face.js";
+import { LAMPS_FORECAST_QUERY, PerceivedText, hasScannedDisplay } from "../engine/perceived_text.js";
+
+/** @typedef {import("../debug/debug_session.js").DebugSession} DebugSession */
+
+export class FrontPanelText {
+  /** @param {DebugSession} session */
+  constructor(session) {
+    this.session = session;
+    const face = new Face(session.boardText);
+    this.face = face;
+    this.isScanned = hasScannedDisplay(face);
+    this.displays = face.groups.filter(({ kind }) => kind === "display");
+    this.names = [...face.lamps].map(([at, { text }]) => ({ at, text }));
+    this.reader = new DisplayText(this.displays, this.names);
+    this.lastText = this.currentText();
+  }
+
+  /** Returns one mark per lamp, `*` if the lamp is on. */
+  get marks() {
+    return readItems(this.session.debugger.session.ask("lamps\n")[0]).join("");
+  }
+
+  /**
+   * Returns the display text and the names of the other lamps that are on. Without a display, returns the marks of all lamps and the names
+   * of those that are on. A multiplexed display shows the digits that a person perceives.
+   */
+  currentText() {
+    const { marks } = this;
+    if (marks === "") return "";
+    const { number, names } = this.isScanned ? this.perceivedText(marks.length) : this.reader.read(marks);
+    if (this.displays.length > 0) return `display ${number}${names && ` ${names}`}`;
+    return `lamps ${marks}${names && ` ${names}`}`;
+  }
+
+  /**
+   * Returns the perceived text of a multiplexed display.
+   * @param {number} count the number of lamps
+   */
+  perceivedText(count) {
+    return new PerceivedText(this.face, count).read(this.session.debugger.session.ask(LAMPS_FORECAST_QUERY));
+  }
+
+  /** Returns the current text if it differs from the last report; otherwise "". */
+  take() {
+    const currentText = this.currentText();
+    if (currentText === this.lastText) return "";
+    this.lastText = currentText;
+    return currentText;
+  }
+}

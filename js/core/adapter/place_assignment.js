@@ -1,0 +1,89 @@
+// Sets a place of the machine: TEST, a register pair, a key, or any place that the bench line `poke` accepts.
+
+import { parseRefusal } from "../bench/answers.js";
+import { compileExpression } from "../conditions/condition_language.js";
+import { maxPlaceValue } from "../conditions/places.js";
+import { ConditionError } from "../conditions/scanner.js";
+import { settingLines, settablePlace, parseSetting } from "../conditions/set_command.js";
+import { parseKey, keyLine, formatKey } from "../board/key_place.js";
+import { AdapterError } from "./dap_protocol.js";
+import * as say from "../../words/adapter.js";
+import { listNamedKeys } from "../testing/test_text.js";
+import { cannotBeSet, inColumn } from "../../words/conditions.js";
+
+/** @typedef {import("../debug/debug_session.js").DebugSession} DebugSession */
+
+/**
+ * Returns the current value of an expression as a number; throws AdapterError if its value is not a number.
+ * @param {string} text a numeral, a program name, a place or a sum
+ * @param {DebugSession} session
+ * @param {number} [begin] the column in the typed line at which the text starts
+ */
+export function evaluateNumber(text, session, begin = 0) {
+  // A client can send a displayed value with its suffix, such as `0x012, line 9`.
+  const valueText = text.trim().replace(/^(\w+),.*$/, "$1");
+  if (valueText === "") throw new AdapterError(say.noNumber(say.NOTHING));
+  const { expression, fault, column } = compileExpression(valueText, session.names);
+  if (!expression) throw new AdapterError(inColumn(fault, begin + column));
+  if (!expression.number) throw new AdapterError(say.noNumber(valueText));
+  return expression.number(session.debugger.readPlaces(expression.places));
+}
+
+/**
+ * Returns the bench lines that set a place, even if the place already has the value.
+ * @param {string} place a place from `settablePlace`, or a key in the form `key 0 2`
+ * @param {string} text the value as an expression
+ * @param {DebugSession} session
+ * @param {number} [begin] the column in the typed line at which the text starts
+ */
+function placeLines(place, text, session, begin = 0) {
+  const key = place.startsWith("key ") ? parseKey(place.slice("key ".length)) : null;
+  if (key) {
+    const word = text.trim().toLowerCase();
+    if (word !== say.DOWN && word !== say.UP) throw new AdapterError(say.KEY_IS);
+    return `${keyLine(word === say.DOWN ? "press" : "release", key)}\n`;
+  }
+  const value = evaluateNumber(text, session, begin);
+  if (value < 0 || value > maxPlaceValue(place)) throw new AdapterError(say.holds(place, maxPlaceValue(place)));
+  return settingLines(place, value);
+}
+
+/**
+ * Returns the bench lines for a `set` line.
+ * @param {string} text the text after `set`: `r4 = r5 + 1`
+ * @param {DebugSession} session
+ */
+export function compileSetLine(text, session) {
+  try {
+    const { place, value } = parseSetting(text);
+    return placeLines(place, value.text, session, value.column);
+  } catch (fault) {
+    throw fault instanceof ConditionError ? new AdapterError(inColumn(fault.message, Math.max(0, fault.column))) : fault;
+  }
+}
+
+/**
+ * Returns the name of the place to set, for a key `key 0 2`; throws AdapterError if the text names nothing that can be set.
+ * @param {string} text a place of the machine, or `key NAME`
+ * @param {import("../board/face.js").Face} face
+ * @returns {string}
+ */
+export function findSettablePlace(text, face) {
+  const place = settablePlace(text);
+  const [, name = ""] = /^key\s+(.+)$/i.exec(text.trim()) || [];
+  const namedKey = listNamedKeys(face).get(name);
+  if (namedKey) return `key ${formatKey(namedKey.key)}`;
+  if (place === "") throw new AdapterError(cannotBeSet(text.trim()));
+  return place;
+}
+
+/**
+ * Sets a place; throws AdapterError if the bench rejects it.
+ * @param {DebugSession} session
+ * @param {string} place a place from `settablePlace`, or a key in the form `key 0 2`
+ * @param {string} text the value as an expression
+ */
+export async function setPlace(session, place, text) {
+  const { first } = await session.debugger.session.serve(placeLines(place, text, session), async () => true);
+  if (parseRefusal(first)) throw new AdapterError(say.cannotBeSet(place, first));
+}

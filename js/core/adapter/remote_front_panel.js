@@ -1,0 +1,102 @@
+// Sends the front panel of a board to an editor that draws it (editor_view.js): the board and its text once, and lamps, keys and TEST when
+// they change. Also moves the keys that the user presses in the drawing.
+
+import { readBoard } from "../bench/answers.js";
+import { SnapshotReader } from "../bench/snapshot.js";
+import { Face } from "../board/face.js";
+import { findPrinter } from "../board/face_board.js";
+import { parseKey, keyLine } from "../board/key_place.js";
+import { PrinterCodes } from "../engine/printer_codes.js";
+import { LAMPS_FORECAST_QUERY } from "../engine/perceived_text.js";
+import { BrightnessMeter } from "../engine/brightness_meter.js";
+import { fail } from "./dap_protocol.js";
+import * as say from "../../words/adapter.js";
+
+/**
+ * @typedef {import("./console.js").Console} Console
+ * @typedef {import("./debugged_machine.js").Machine} Machine
+ *
+ * The changes since the last report:
+ * - `board`: the answer to `board`; `boardText`: the board text;
+ * - `lamps`: a mark for each lamp, `*` if it is on;
+ * - `keys`: the pressed keys as `row.column`; `test`: the TEST level;
+ * - `isRunning`: true if the machine runs;
+ * - `litShares`: the perceived brightness of each lamp in the next 30 ms, while the machine runs;
+ * - `printed`: the new output of the printer.
+ * @typedef {{ board?: string[], boardText?: string, lamps?: string, keys?: string[], test?: string, isRunning?: boolean,
+ *   litShares?: import("../engine/brightness_meter.js").LitShares, printed?: import("../engine/printer_codes.js").PrintoutData }} BoardNews
+ */
+
+export class RemoteFrontPanel {
+  /** @param {Machine} machine */
+  constructor(machine) {
+    this.machine = machine;
+    this.reader = new SnapshotReader();
+    this.board = "";
+    /** @type {boolean | null} the last reported `isRunning`; null before the first report */
+    this.isRunning = null;
+    this.face = new Face("");
+    this.lampCount = 0;
+    /** The last reported `litShares` as JSON, "" while time is paused. */
+    this.litShares = "";
+  }
+
+  /**
+   * Returns the changes since the last report; all values in the first report.
+   * @returns {BoardNews}
+   */
+  take() {
+    const { session, isMoving } = this.machine;
+    const { session: bench } = session.debugger;
+    /** @type {BoardNews} */
+    const news = {};
+    const board = bench.statusQueries.board.join("\n");
+    if (board !== this.board) {
+      this.board = board;
+      this.reader.forget();
+      this.face = new Face(session.boardText);
+      const boardParts = readBoard(bench.statusQueries.board);
+      this.lampCount = boardParts.lamps.length;
+      const printer = findPrinter(boardParts, this.face);
+      if (!printer) bench.printing = null;
+      else if (!bench.printing || !bench.printing.isSamePrinter(printer)) bench.printing = new PrinterCodes({ ...printer, codes: [] });
+      Object.assign(news, { board: bench.statusQueries.board, boardText: session.boardText });
+    }
+    Object.assign(news, this.reader.take(bench.ask("state\n")));
+    const newOutput = bench.printing && bench.printing.takeNews(bench.count.total);
+    if (newOutput) news.printed = newOutput;
+    if (isMoving !== this.isRunning) news.isRunning = isMoving;
+    this.isRunning = isMoving;
+    return { ...news, ...this.takeLitShares() };
+  }
+
+  /** Clears the printout. */
+  clear() {
+    const { printing } = this.machine.session.debugger.session;
+    if (printing) printing.clear();
+  }
+
+  /** Returns the perceived lamp brightness if the machine runs and the brightness has changed. */
+  takeLitShares() {
+    const { machine, face, lampCount, litShares: before } = this;
+    this.litShares = "";
+    if (!machine.isMoving || lampCount === 0) return {};
+    const litShares = new BrightnessMeter(face, lampCount, 0).take([machine.session.debugger.session.ask(LAMPS_FORECAST_QUERY)]);
+    this.litShares = JSON.stringify(litShares);
+    return this.litShares === before ? {} : { litShares };
+  }
+}
+
+/**
+ * Presses or releases a key: at once while time is paused, otherwise through the key queue.
+ * @param {Machine} machine
+ * @param {Console} debugConsole
+ * @param {string} text the key position: `0 2` or `test 0`
+ * @param {boolean} isDown
+ */
+export async function changeKey(machine, debugConsole, text, isDown) {
+  const key = parseKey(text) || fail(say.KEY_PLACE);
+  const word = isDown ? "press" : "release";
+  if (machine.isMoving) machine.session.debugger.session.queue[word](key);
+  else await debugConsole.runBenchLines(`${keyLine(word, key)}\n`);
+}

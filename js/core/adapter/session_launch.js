@@ -1,0 +1,318 @@
+// Creates the session for `launch` and `attach`. `launch` creates a session in memory from the texts of a board and a program, or opens or
+// creates a session file. `attach` opens an existing session file. It works on a copy unless `write` is true.
+
+import { parseRefusal } from "../bench/answers.js";
+import { BenchRefusal } from "../bench/bench_errors.js";
+import { hex } from "../bench/numbers.js";
+import { DebugSession } from "../debug/debug_session.js";
+import { PROJECT_FILE, readProjectToml } from "../project/project_toml.js";
+import { getField } from "../server/framing.js";
+import { fileUri, uriFileName, createTestSession, findTestFiles } from "./test_launch.js";
+import { findBoard } from "../server/text_kinds.js";
+import { findLineFaults, sentText } from "../text/sendable_text.js";
+import { readProgram, findDifference } from "../engine/program_check.js";
+import { disassembleRom } from "../engine/text_recovery.js";
+import { SessionWriter } from "./session_writer.js";
+import { AdapterError, optionalFlag, optionalText } from "./dap_protocol.js";
+import * as say from "../../words/adapter.js";
+import { leadsOut } from "../../words/server.js";
+
+/**
+ * @typedef {import("../bench/answers.js").Refusal} Refusal
+ * @typedef {import("../engine/engine_host.js").EngineHost} Engine
+ * @typedef {import("../bench/error_messages.js").ErrorMessages} ErrorMessages
+ * @typedef {import("./session_writer.js").OpenFile} OpenFile
+ *
+ * The functions of the host:
+ * - `nameOf` returns the absolute name of a file whose name is relative to `folder`; `beside`, relative to the folder of the file `other`;
+ * - `read` returns the text of a file, null if the file cannot be read; `whyUnread` returns the error message;
+ * - `isThere` returns whether a file exists; `isInside` returns whether a file is in a folder after symbolic links are resolved;
+ * - `open` and `make` start a program that opens or creates a session file, and resolve to the open file;
+ * - `readSession` resolves to the bytes of a session file that no other program has open;
+ * - `pause` yields to other tasks.
+ * @typedef {{ nameOf: (name: string, folder: string) => string, beside: (name: string, other: string) => string,
+ *   read: (name: string) => string | null, whyUnread: (name: string) => string, isThere: (name: string) => boolean,
+ *   isInside: (name: string, folder: string) => boolean,
+ *   open: (name: string) => Promise<OpenFile>, make: (name: string) => Promise<OpenFile>,
+ *   readSession: (name: string) => Promise<Uint8Array>, pause: () => Promise<void> }} Host
+ *
+ * The result of a launch or attach. `program` is a file name, "" if the text was disassembled from ROM. `nameOf` returns the absolute name
+ * of a file. `test` is the debugged test, null for none; `note` is the test result.
+ * @typedef {{ session: DebugSession, writer: SessionWriter | null, program: string, board: string, stopsOnEntry: boolean,
+ *   isDebugged: boolean, isRealTime: boolean, isAttached: boolean, args: any, nameOf: (name: string) => string, test: TestFiles | null,
+ *   note: string }} LaunchResult
+ *
+ * @typedef {import("./test_launch.js").TestFiles} TestFiles
+ *
+ * The arguments of a launch or attach: absolute file names, "" for none. `load` is true if the program must be written to ROM.
+ * @typedef {{ board: string, program: string, session: string, load: boolean, test: TestFiles | null }} RequestedFiles
+ */
+
+/** @param {string} name */
+const baseName = (name) => name.replace(/^.*[\\/]/, "");
+
+/**
+ * Reads the arguments that name files, and adds the file names from the project.
+ * @param {any} args
+ * @param {Host} host
+ * @returns {RequestedFiles}
+ */
+export function readRequestedFiles(args, host) {
+  const folder = optionalText(args, "cwd");
+  const test = optionalText(args, "test");
+  if (test !== "") {
+    const file = optionalText(args, "tests");
+    if (file === "") throw new AdapterError(say.TEST_NEEDS_TESTS, true);
+    const texts = findTestFiles(test, host.nameOf(file, folder), host.read);
+    return { board: texts.board, program: texts.program, session: "", load: false, test: texts };
+  }
+  const names = ["project", "board", "program", "session"].map((each) => optionalText(args, each));
+  const [project, ownBoard, ownProgram, session] = names.map((name) => (name === "" ? "" : host.nameOf(name, folder)));
+  const projectNames = project === "" ? { board: "", program: "" } : findProjectFiles(project, host);
+  const program = ownProgram || projectNames.program;
+  if (program === "" && session === "") {
+    const message = say.LAUNCH_NEEDS;
+    throw new AdapterError(say.andBoard(message), true);
+  }
+  if (program !== "" && session === program) throw new AdapterError(say.ONE_FILE, true);
+  const boardFile = program === "" ? "" : findBoardFile(program, host);
+  const board = ownBoard || projectNames.board || (host.isThere(boardFile) ? boardFile : "");
+  return { board, program, session, load: optionalFlag(args, "load", false), test: null };
+}
+
+/**
+ * Returns the board and the program of a project; throws if its file cannot be read.
+ * @param {string} name the name of the project folder or the project file
+ * @param {Host} host
+ */
+function findProjectFiles(name, host) {
+  const file = baseName(name) === PROJECT_FILE ? name : host.nameOf(PROJECT_FILE, name);
+  const text = host.read(file);
+  if (text === null) throw new AdapterError(say.noProjectFile(file), true);
+  const { names, faults: [fault] } = readProjectToml(text);
+  if (!names) throw new AdapterError(`${file}, line ${fault.line}: ${fault.words}`, true);
+  const [board, program] = [names.board, names.program].map(({ path, key, line }) => {
+    const fullName = host.beside(path, file);
+    if (!host.isInside(fullName, host.beside(".", file))) throw new AdapterError(`${file}, line ${line}: ${key}: ${leadsOut(path)}`, true);
+    return fullName;
+  });
+  return { board, program };
+}
+
+/**
+ * Returns the board file of a program. The language server uses the same rule.
+ * @param {string} program
+ * @param {Host} host
+ */
+function findBoardFile(program, host) {
+  const { uri, folder } = findBoard(fileUri(program), (each) => host.read(uriFileName(each)));
+  const board = uriFileName(uri);
+  if (folder !== "" && !host.isInside(board, uriFileName(folder))) throw new AdapterError(leadsOut(board), true);
+  return board;
+}
+
+/**
+ * Returns the text of a file with line feeds as line ends; throws AdapterError if the bench does not accept a line.
+ * @param {string} name
+ * @param {";" | "#"} mark the character that starts a comment
+ * @param {Host} host
+ */
+function readBenchText(name, mark, host) {
+  const text = host.read(name);
+  if (text === null) throw new AdapterError(host.whyUnread(name), true);
+  const normalizedText = text.replace(/^\uFEFF/, "").replace(/\r\n?/g, "\n");
+  const [fault] = findLineFaults(normalizedText, mark);
+  if (fault) throw new AdapterError(`${baseName(name)}, line ${fault.line}: ${fault.words}`, true);
+  return normalizedText;
+}
+
+/**
+ * Returns the error for a text that the bench has rejected.
+ * @param {string} name the file name
+ * @param {Refusal} refusal
+ * @param {ErrorMessages} words
+ */
+function refusalError(name, { number, line }, words) {
+  const place = line > 0 ? `, line ${line}` : "";
+  const reason = number > 0 ? `${words.refusalMeaning(number)} (no ${number})` : say.DOT_ALONE;
+  return new AdapterError(`${baseName(name)}${place}: ${reason}`, true);
+}
+
+/**
+ * Makes a session in memory from the texts of a board and a program.
+ * @param {Engine} engine
+ * @param {RequestedFiles} requestedFiles
+ * @param {Host} host
+ * @param {ErrorMessages} words
+ */
+function sessionFromTexts(engine, requestedFiles, host, words) {
+  if (requestedFiles.board === "") {
+    throw new AdapterError(say.noBoardBeside(requestedFiles.program), true);
+  }
+  const [board, program] = [readBenchText(requestedFiles.board, "#", host), readBenchText(requestedFiles.program, ";", host)];
+  const session = new DebugSession(engine, { board, program });
+  for (const { word, refusal } of session.rejectedTexts) {
+    throw refusalError(word === "wire" ? requestedFiles.board : requestedFiles.program, refusal, words);
+  }
+  return session;
+}
+
+/**
+ * Resolves to the session of a test, at the failure or at the end of the test.
+ * @param {Engine} engine
+ * @param {TestFiles} test
+ * @param {Host} host
+ */
+async function sessionFromTest(engine, test, host) {
+  const sources = test.tests.map((name) => ({ name, text: host.read(name) || "" }));
+  const texts = { boardText: readBenchText(test.board, "#", host), programText: readBenchText(test.program, ";", host), sources };
+  const { session, words } = await createTestSession(engine, texts, test, host.pause);
+  return { session, writer: null, note: words };
+}
+
+/**
+ * Opens or creates a session file. Resolves to the session and its writer.
+ * @param {Engine} engine
+ * @param {RequestedFiles} requestedFiles
+ * @param {Host} host
+ * @param {ErrorMessages} words
+ */
+async function sessionFromFile(engine, requestedFiles, host, words) {
+  const board = requestedFiles.board === "" ? "" : readBenchText(requestedFiles.board, "#", host);
+  const program = requestedFiles.program === "" ? "" : readBenchText(requestedFiles.program, ";", host);
+  const isNew = !host.isThere(requestedFiles.session);
+  if (isNew && (board === "" || program === "")) {
+    throw new AdapterError(say.sessionMissing(requestedFiles.session), true);
+  }
+  // Errors in the texts are reported before the file is created.
+  if (isNew) sessionFromTexts(engine, requestedFiles, host, words);
+  const file = await (isNew ? host.make(requestedFiles.session) : host.open(requestedFiles.session));
+  try {
+    const session = new DebugSession(engine, { file: file.bytes, board, program: program || disassembleRom(engine, file.bytes) });
+    const writer = new SessionWriter(file, session.debugger.session);
+    if (isNew) await serveText(session, "wire", sentText(board, "#"), requestedFiles.board, words);
+    if (isNew || requestedFiles.load) await serveText(session, "asm", sentText(program, ";"), requestedFiles.program, words);
+    else if (program !== "") checkRom(session, engine, requestedFiles, words);
+    await writer.write(session.debugger.session);
+    return { session, writer, note: "" };
+  } catch (thrown) {
+    await file.end();
+    throw thrown;
+  }
+}
+
+/**
+ * Loads a copy of a session file into memory. Resolves to the session.
+ * @param {Engine} engine
+ * @param {RequestedFiles} requestedFiles
+ * @param {Host} host
+ * @param {ErrorMessages} words
+ */
+async function sessionFromCopy(engine, requestedFiles, host, words) {
+  const board = requestedFiles.board === "" ? "" : readBenchText(requestedFiles.board, "#", host);
+  const program = requestedFiles.program === "" ? "" : readBenchText(requestedFiles.program, ";", host);
+  const file = await host.readSession(requestedFiles.session);
+  try {
+    const session = new DebugSession(engine, { file, board, program: program || disassembleRom(engine, file) });
+    if (requestedFiles.load && program !== "") await serveText(session, "asm", sentText(program, ";"), requestedFiles.program, words);
+    else if (program !== "") checkRom(session, engine, requestedFiles, words);
+    return { session, writer: null, note: "" };
+  } catch (thrown) {
+    throw thrown instanceof BenchRefusal ? refusalError(requestedFiles.session, { number: thrown.number, line: 0 }, words) : thrown;
+  }
+}
+
+/**
+ * Sends a board or a program to a session; throws AdapterError if the bench rejects the text.
+ * @param {DebugSession} session
+ * @param {"wire" | "asm"} word
+ * @param {string} text
+ * @param {string} name the file name of the text
+ * @param {ErrorMessages} words
+ */
+async function serveText(session, word, text, name, words) {
+  const { first } = await session.debugger.session.serve(`${word}\n${text}.\n`, async () => true);
+  const refusal = parseRefusal(first);
+  if (refusal) throw refusalError(name, refusal, words);
+}
+
+/**
+ * Describes the difference between ROM and the program; returns "" if the bytes are equal.
+ * @param {DebugSession} session
+ */
+export function describeDifference(session) {
+  const { engine, file, statusQueries } = session.debugger.session;
+  const { refusal, ...program } = readProgram(engine, sentText(session.program, ";"));
+  if (refusal) return say.PROGRAM_HAS_ERRORS;
+  const difference = findDifference(engine, file, statusQueries.board, { refusal, ...program });
+  return difference ? say.romDiffers(difference.hasRom, hex(difference.address, 3)) : "";
+}
+
+/**
+ * Throws AdapterError if the program has errors or differs from the contents of ROM.
+ * @param {DebugSession} session
+ * @param {Engine} engine
+ * @param {RequestedFiles} requestedFiles
+ * @param {ErrorMessages} words
+ */
+function checkRom(session, engine, { program, session: file }, words) {
+  const { refusal } = readProgram(engine, sentText(session.program, ";"));
+  if (refusal) throw refusalError(program, refusal, words);
+  const fault = describeDifference(session);
+  if (fault === "") return;
+  const difference = say.notInRomOf(baseName(program), baseName(file), fault);
+  throw new AdapterError(say.loadHint(difference), true);
+}
+
+/**
+ * Creates the session for a `launch`: from a test, from texts, or with a session file.
+ * @param {Engine} engine
+ * @param {any} args
+ * @param {Host} host
+ * @param {ErrorMessages} words
+ * @returns {Promise<LaunchResult>}
+ */
+export async function launch(engine, args, host, words) {
+  const requestedFiles = readRequestedFiles(args, host);
+  const openedSession = requestedFiles.test ? await sessionFromTest(engine, requestedFiles.test, host)
+    : requestedFiles.session === "" ? { session: sessionFromTexts(engine, requestedFiles, host, words), writer: null, note: "" }
+      : await sessionFromFile(engine, requestedFiles, host, words);
+  return addOptions(openedSession, requestedFiles, args, host);
+}
+
+/**
+ * Creates the session for an `attach` to an existing session file. Without `write`, the file does not change.
+ * @param {Engine} engine
+ * @param {any} args
+ * @param {Host} host
+ * @param {ErrorMessages} words
+ * @returns {Promise<LaunchResult>}
+ */
+export async function attach(engine, args, host, words) {
+  if (optionalText(args, "session") === "") throw new AdapterError(say.ATTACH_NEEDS, true);
+  const isWritten = optionalFlag(args, "write", false);
+  const requestedFiles = readRequestedFiles(args, host);
+  if (!host.isThere(requestedFiles.session)) throw new AdapterError(say.noSession(requestedFiles.session), true);
+  const loadSession = isWritten ? sessionFromFile : sessionFromCopy;
+  const openedSession = await loadSession(engine, requestedFiles, host, words);
+  return { ...addOptions(openedSession, requestedFiles, args, host), isAttached: true };
+}
+
+/**
+ * Returns a session with the options of the launch or attach request.
+ * @param {{ session: DebugSession, writer: SessionWriter | null, note: string }} openedSession
+ * @param {RequestedFiles} requestedFiles
+ * @param {any} args
+ * @param {Host} host
+ * @returns {LaunchResult}
+ */
+function addOptions({ session, writer, note }, { program, board, test }, args, host) {
+  if (session.boardText === "") session.boardText = session.debugger.session.ask("board\n").slice(1).join("\n");
+  session.debugger.commonMistakes.map = session.map;
+  return {
+    session, writer, test, note, program, board, stopsOnEntry: optionalFlag(args, "stopOnEntry", true),
+    isDebugged: getField(args, "noDebug") !== true,
+    isRealTime: optionalFlag(args, "realTime", false), isAttached: false, args,
+    nameOf: (name) => host.nameOf(name, optionalText(args, "cwd")),
+  };
+}

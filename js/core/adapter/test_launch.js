@@ -1,0 +1,72 @@
+// Starts a debug session for a test. The test runs first. A session then repeats its commands, so that the user can go back in time from
+// the failure, or from the end, to the start of the test.
+
+import { DebugSession } from "../debug/debug_session.js";
+import { MAX_RUN_CYCLES } from "../engine/key_queue.js";
+import { findDependencies } from "../server/text_kinds.js";
+import { failureLine } from "../testing/tap.js";
+import { runTests } from "../testing/test_suite.js";
+import { AdapterError } from "./dap_protocol.js";
+import * as say from "../../words/adapter.js";
+
+/**
+ * @typedef {import("../engine/engine_host.js").EngineHost} Engine
+ * @typedef {import("../testing/test_session.js").TestSession} TestSession
+ * @typedef {import("../testing/test_suite.js").TestedTexts} TestedTexts
+ *
+ * A test and the absolute names of its files. `file` contains the test. `tests` are the test files, in order, up to `file`.
+ * @typedef {{ name: string, file: string, tests: string[], board: string, program: string }} TestFiles
+ */
+
+/** @type {(name: string) => string} returns the URI of a file, for modules that work with URIs */
+export const fileUri = (name) => `file://${name.split("/").map(encodeURIComponent).join("/")}`;
+/** @type {(uri: string) => string} returns the file name of a URI; the inverse of `fileUri` */
+export const uriFileName = (uri) => decodeURIComponent(uri.slice("file://".length));
+
+/**
+ * Finds the files of a test: the files of its project, or else the files in its folder.
+ * @param {string} name the name of the test
+ * @param {string} file the absolute name of its file
+ * @param {(name: string) => string | null} read returns the text of a file; null if it cannot be read
+ * @returns {TestFiles}
+ */
+export function findTestFiles(name, file, read) {
+  const { board, program, tests } = findDependencies(fileUri(file), (uri) => read(uriFileName(uri)));
+  return { name, file, tests: tests.map(uriFileName), board: uriFileName(board), program: uriFileName(program) };
+}
+
+/**
+ * Returns the bench lines that repeat the commands of a test run.
+ * @param {TestSession} session
+ */
+function replayLines({ actions }) {
+  return actions.map(({ line, cycles }) => {
+    if (line !== "run") return `${line}\n`;
+    const fullRuns = `run ${MAX_RUN_CYCLES}\n`.repeat(Math.floor(cycles / MAX_RUN_CYCLES));
+    return cycles % MAX_RUN_CYCLES > 0 ? `${fullRuns}run ${cycles % MAX_RUN_CYCLES}\n` : fullRuns;
+  }).join("");
+}
+
+/**
+ * Runs a test. Resolves to a session that has run the same commands, and to the test result as text.
+ * @param {Engine} engine
+ * @param {TestedTexts} texts
+ * @param {TestFiles} test
+ * @param {() => Promise<void>} pause yields to other tasks
+ */
+export async function createTestSession(engine, texts, { name, file }, pause) {
+  /** @type {TestSession[]} */
+  const sessions = [];
+  const mayContinue = () => pause().then(() => true);
+  const options = { only: { name, source: file }, ran: (/** @type {TestSession} */ session) => sessions.push(session) };
+  const { faults: [fault], outcomes } = await runTests(engine, texts, mayContinue, options);
+  if (fault) throw new AdapterError(say.testsHaveError(fault.file || fault.text, fault.line, fault.words || ""), true);
+  const outcome = outcomes.pop();
+  const run = sessions.pop();
+  if (!outcome) throw new AdapterError(say.noSuchTest(name, file), true);
+  if (!run || (outcome.failure && !outcome.failure.file)) throw new AdapterError(failureLine(outcome).trim(), true);
+  const session = new DebugSession(engine, { file: engine.bytesOf(run.initialFile), board: texts.boardText, program: texts.programText });
+  const lines = replayLines(run);
+  if (lines !== "") await session.debugger.session.serve(lines, async () => true);
+  return { session, words: outcome.failure ? failureLine(outcome).trim().slice(2) : say.testHasPassed(name) };
+}

@@ -1,0 +1,61 @@
+// The errors that a bench call can throw in the page and in the worker, and their representation in messages.
+
+import * as say from "../../words/bench.js";
+
+/** The error if the bench answers a call with a refusal (`no NN`). */
+export class BenchRefusal extends Error {
+  /** @param {number} number */
+  constructor(number) {
+    super(`no ${number}`);
+    this.number = number;
+  }
+}
+
+/** The error if the WebAssembly module traps during a call. The module is restarted before this error is thrown. */
+export class BenchTrap extends Error {}
+
+/** The error if the user cancels a call. The call has no effect. */
+export class CancelledError extends Error {
+  constructor() {
+    super(say.IT_WAS_CANCELLED);
+  }
+}
+
+/** The error if the worker stops answering or is terminated. */
+export class WorkerDiedError extends Error {
+  constructor() {
+    super(say.WORKER_STOPPED);
+  }
+}
+
+/** The refusal number for a failed allocation. */
+export const OUT_OF_MEMORY = 90;
+
+/**
+ * The representation of an error in a message between page and worker.
+ * @typedef {{ kind: "refusal" | "trap" | "cancelled" | "other", words: string, number: number }} PackedFault
+ */
+
+/**
+ * Converts an error to its message representation.
+ * @param {unknown} fault
+ * @returns {PackedFault}
+ */
+export function packError(fault) {
+  if (fault instanceof BenchRefusal) return { kind: "refusal", words: fault.message, number: fault.number };
+  if (fault instanceof BenchTrap) return { kind: "trap", words: fault.message, number: 0 };
+  if (fault instanceof CancelledError) return { kind: "cancelled", words: fault.message, number: 0 };
+  return { kind: "other", words: fault instanceof Error ? fault.message : String(fault), number: 0 };
+}
+
+/**
+ * Converts an error from a message back to an exception.
+ * @param {PackedFault} fault
+ * @returns {Error}
+ */
+export function unpackError({ kind, words, number }) {
+  if (kind === "refusal") return new BenchRefusal(number);
+  if (kind === "trap") return new BenchTrap(words);
+  if (kind === "cancelled") return new CancelledError();
+  return new Error(words);
+}

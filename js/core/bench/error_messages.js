@@ -1,0 +1,64 @@
+// Texts for users: messages for refusals and errors, and durations.
+
+import { BenchRefusal, BenchTrap, CancelledError, WorkerDiedError } from "./bench_errors.js";
+import { formatQuantity } from "./numbers.js";
+import * as say from "../../words/bench.js";
+
+/** Messages for refusals and errors. */
+export class ErrorMessages {
+  /** @param {Record<string, string>} refusals the refusal meanings, by refusal number */
+  constructor(refusals) {
+    this.refusals = refusals;
+  }
+
+  /**
+   * Returns the meaning of a refusal number.
+   * @param {number} number
+   */
+  refusalMeaning(number) {
+    return this.refusals[number] || say.UNKNOWN_REFUSAL;
+  }
+
+  /**
+   * Returns the error message. The message for a refusal includes its number.
+   * @param {unknown} error
+   */
+  errorMessage(error) {
+    if (error instanceof BenchRefusal) return `${error.message}: ${this.refusalMeaning(error.number)}`;
+    if (error instanceof BenchTrap) return say.moduleStopped(error.message);
+    if (error instanceof WorkerDiedError) return say.startedAgain(error.message);
+    return (error instanceof Error && error.message) || String(error);
+  }
+
+  /**
+   * Returns the message after a failed call to the session.
+   * @param {unknown} error
+   */
+  failureMessage(error) {
+    if (error instanceof CancelledError) return say.WAS_CANCELLED;
+    if (error instanceof BenchRefusal || error instanceof BenchTrap || error instanceof WorkerDiedError) {
+      return say.wasNotDone(this.errorMessage(error));
+    }
+    return say.pageFailed(this.errorMessage(error));
+  }
+}
+
+/**
+ * Returns the number of errors as text, such as `2 faults`.
+ * @param {number} count
+ */
+export function formatErrorCount(count) {
+  return formatQuantity(count, "fault");
+}
+
+/**
+ * Formats a duration with its two largest units, such as `1 hour 2 minutes`; "" for less than half a second.
+ * @param {number} milliseconds
+ */
+export function formatDuration(milliseconds) {
+  const seconds = Math.round(milliseconds / 1000);
+  /** @type {[number, string][]} */
+  const parts = [[Math.floor(seconds / 3600), "hour"], [Math.floor(seconds / 60) % 60, "minute"], [seconds % 60, "second"]];
+  const units = parts.filter(([count]) => count > 0).map(([count, word]) => formatQuantity(count, word));
+  return units.slice(0, 2).join(" ");
+}

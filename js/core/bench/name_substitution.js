@@ -1,0 +1,56 @@
+// Replaces names in lines: `@NAME` becomes the value of that program name, and `set PLACE = VALUE` becomes the lines that set the place.
+// Texts between the lines, such as a program after `asm`, do not change.
+
+import { readSetting } from "../conditions/set_command.js";
+import { opensText, stripReturn } from "./inputs.js";
+import { hex } from "./numbers.js";
+import * as say from "../../words/bench.js";
+import { inColumn } from "../../words/conditions.js";
+
+/**
+ * @typedef {import("../machine/source_map.js").SourceMap} SourceMap
+ *
+ * The lines after the replacement. If a name is wrong, `words` is the first error message and `line` its line number; otherwise they are ""
+ * and 0.
+ * @typedef {{ lines: string, words: string, line: number }} ReplacedLines
+ */
+
+const NAME_REFERENCE = /(^|[ \t])@([^ \t]*)/g;
+const SET_LINE = /^\s*set(?!\S)(.*)$/;
+
+/**
+ * Replaces the names in lines.
+ * @param {string} lines
+ * @param {SourceMap | null} map the source map of the program in ROM; null if unknown
+ * @returns {ReplacedLines}
+ */
+export function replaceNames(lines, map) {
+  let [message, line] = ["", 0];
+  let isOpen = false;
+  /** @type {(wrong: string, at: number) => void} */
+  const reportError = (error, at) => {
+    if (message === "" && error !== "") [message, line] = [error, at];
+  };
+  /** @type {(text: string, at: number) => string} */
+  const replaceIn = (text, at) => {
+    const setMatch = SET_LINE.exec(text);
+    if (!setMatch) return replaceNamesIn(text, at);
+    const { lines: settingLines, fault, column } = readSetting(setMatch[1], map);
+    reportError(fault && `${inColumn(fault, column + text.length - setMatch[1].length)}.`, at);
+    return settingLines.trimEnd();
+  };
+  /** @type {(text: string, at: number) => string} */
+  const replaceNamesIn = (text, at) => text.replace(NAME_REFERENCE, (found, before, name) => {
+    const value = map ? map.findValue(name) : undefined;
+    if (value !== undefined) return `${before}0x${hex(value, 3)}`;
+    reportError(`${found.trim()}: ${map ? say.NO_SUCH_NAME : say.NAMES_UNKNOWN}.`, at);
+    return found;
+  });
+  const changed = lines.split("\n").map((rawLine, index) => {
+    const text = stripReturn(rawLine);
+    const isInText = isOpen;
+    isOpen = isOpen ? text !== "." : opensText(text);
+    return isInText ? rawLine : replaceIn(text, index + 1);
+  });
+  return { lines: changed.join("\n"), words: message, line };
+}

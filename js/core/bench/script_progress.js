@@ -1,0 +1,115 @@
+// Checks whether a session started with a script, and counts the script lines that the session has already received.
+
+import { matchScriptAnswers } from "./script_answers.js";
+import { findInputEnd, opensText } from "./inputs.js";
+import { indices } from "./numbers.js";
+import { PAGE_NUMBERS, listQueries } from "./rom_bytes.js";
+import * as say from "../../words/bench.js";
+
+/**
+ * @typedef {import("../engine/engine_host.js").EngineHost} EngineHost
+ * @typedef {import("../engine/engine_host.js").State} State
+ *
+ * The number of script lines that a session has received. If the session did not start with the script, `words` is an error message, and
+ * `differing` lists answers that differ: `<` marks the answers of the session, `>` those of the script.
+ * @typedef {{ lines: number, words: string, differing: string[] }} ScriptComparison
+ */
+
+const BANK_COUNT = 8;
+/** The minimum number of characters that are served at once. Between two such pieces the user can interrupt the work. */
+const PIECE_LENGTH = 4096;
+/** The maximum number of differing lines that are shown. */
+const MAX_DIFFERING_LINES = 4;
+/** The queries whose answers are compared between the two sessions. */
+const QUERIES = `seq\nboard\nstate\n${indices(BANK_COUNT).map((bank) => `ram ${bank}\n`).join("")}${listQueries(PAGE_NUMBERS)}`;
+
+/**
+ * Splits each answer to `state` into one line per key and value. Returns these lines and the other answers, in order.
+ * @param {string[]} answers
+ */
+function splitState(answers) {
+  return answers.flatMap((answer) => {
+    const [word, ...items] = answer.split(" ");
+    return word === "state" ? indices(Math.floor(items.length / 2)).map((at) => `${items[2 * at]} ${items[2 * at + 1]}`) : [answer];
+  });
+}
+
+/**
+ * Returns the first lines that differ. `<` marks a line of `actual`, `>` a line of `expected`. If the lists differ in length, returns the
+ * lines between the common prefix and the common suffix.
+ * @param {string[]} actual
+ * @param {string[]} expected
+ */
+export function differingLines(actual, expected) {
+  const differs = (/** @type {number} */ at) => actual[at] !== expected[at];
+  if (actual.length === expected.length) {
+    const at = indices(actual.length).filter(differs).slice(0, MAX_DIFFERING_LINES / 2);
+    return [...at.map((index) => `< ${actual[index]}`), ...at.map((index) => `> ${expected[index]}`)];
+  }
+  const shorter = Math.min(actual.length, expected.length);
+  const prefix = indices(shorter).find(differs) ?? shorter;
+  const differsAtEnd = (/** @type {number} */ back) => actual[actual.length - 1 - back] !== expected[expected.length - 1 - back];
+  const suffix = indices(shorter - prefix).find(differsAtEnd) ?? shorter - prefix;
+  const actualLines = actual.slice(prefix, actual.length - suffix).map((line) => `< ${line}`);
+  return [...actualLines, ...expected.slice(prefix, expected.length - suffix).map((line) => `> ${line}`)].slice(0, MAX_DIFFERING_LINES);
+}
+
+/**
+ * Returns the number of script lines up to the last of the first `commands` accepted inputs; -1 if the script has fewer accepted inputs.
+ * @param {import("./script_answers.js").AnsweredInput[]} inputs
+ * @param {number} commands
+ */
+function linesUpTo(inputs, commands) {
+  let acceptedCount = 0;
+  let lines = 0;
+  for (const { input, at, answer } of inputs) {
+    if (acceptedCount === commands) break;
+    if (answer.startsWith("ok ")) acceptedCount += 1;
+    lines = opensText(input.line) ? at + input.text.length + 1 : at;
+  }
+  return acceptedCount === commands ? lines : -1;
+}
+
+/**
+ * Serves lines in a new session, piece by piece; returns the final state and the answers.
+ * @param {EngineHost} engine
+ * @param {string} lines
+ * @param {() => Promise<any>} yieldToMessages called after each piece
+ */
+async function serveScript(engine, lines, yieldToMessages) {
+  const state = engine.begin();
+  /** @type {string[]} */
+  const answers = [];
+  for (let at = 0; at < lines.length;) {
+    const end = findInputEnd(lines, at, PIECE_LENGTH);
+    for (const answer of engine.serve(state, lines.slice(at, end), state).answers) answers.push(answer);
+    at = end;
+    await yieldToMessages();
+  }
+  return { state, answers };
+}
+
+/**
+ * Compares a session with a new session that has served the same number of script commands.
+ * @param {EngineHost} engine
+ * @param {State} state the state of the session
+ * @param {string} script
+ * @param {() => Promise<any>} yieldToMessages called after each piece of long work
+ * @returns {Promise<ScriptComparison>}
+ */
+export async function compareWithScript(engine, state, script, yieldToMessages) {
+  const { opened, answers: actual } = engine.ask(state, QUERIES);
+  const commands = Number(opened.slice("session ".length));
+  const fullRun = await serveScript(engine, script, yieldToMessages);
+  const { inputs, words } = matchScriptAnswers(script, ["session 0", ...fullRun.answers]);
+  if (words !== "") return { lines: 0, words, differing: [] };
+  const lines = linesUpTo(inputs, commands);
+  if (lines < 0) {
+    const accepted = inputs.filter(({ answer }) => answer.startsWith("ok ")).length;
+    return { lines: 0, words: say.acceptedMore(commands, accepted), differing: [] };
+  }
+  const partialRun = await serveScript(engine, script.split("\n").slice(0, lines).map((line) => `${line}\n`).join(""), yieldToMessages);
+  const expected = engine.ask(partialRun.state, QUERIES).answers;
+  const differing = differingLines(splitState(actual), splitState(expected));
+  return { lines, words: differing.length > 0 ? say.answersDiffer(commands) : "", differing };
+}

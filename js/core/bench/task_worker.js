@@ -1,0 +1,55 @@
+// Runs long work in a separate worker, so that the session worker stays responsive. The separate worker exists only while the work runs.
+// Stopping the work terminates the worker at once.
+
+import { WorkerDiedError } from "./bench_errors.js";
+
+/**
+ * @typedef {import("./bench_client.js").Bench} Bench
+ * @typedef {import("../testing/test_preparation.js").TextFault} TextFault
+ *
+ * The result of the work: errors in the texts that prevented it, and whether the user stopped it.
+ * @typedef {{ faults: TextFault[], isStopped: boolean }} TaskResult
+ */
+
+/** A worker for one kind of long work. */
+export class TaskWorker {
+  /**
+   * @param {() => Bench} makeBench
+   * @param {boolean} isPatient true if a silent worker never counts as dead
+   */
+  constructor(makeBench, isPatient) {
+    this.makeBench = makeBench;
+    this.isPatient = isPatient;
+    /** @type {Bench | null} */
+    this.currentBench = null;
+  }
+
+  /** The connection to the worker, created on first use. */
+  get bench() {
+    if (!this.currentBench) {
+      this.currentBench = this.makeBench();
+      this.currentBench.isPatient = this.isPatient;
+    }
+    return this.currentBench;
+  }
+
+  /**
+   * Starts the worker, runs the work in it, and ends the worker.
+   * @param {AbortSignal} signal terminates the worker at once
+   * @param {(bench: Bench) => Promise<TextFault[]>} work
+   * @returns {Promise<TaskResult>}
+   */
+  async runTask(signal, work) {
+    const { bench } = this;
+    signal.addEventListener("abort", () => bench.end());
+    try {
+      await bench.start();
+      return { faults: await work(bench), isStopped: false };
+    } catch (fault) {
+      if (fault instanceof WorkerDiedError) return { faults: [], isStopped: true };
+      throw fault;
+    } finally {
+      bench.end();
+    }
+  }
+}

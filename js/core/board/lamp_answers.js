@@ -1,0 +1,93 @@
+// Converts answers about lamps to display text. An answer to `lamps` gives the text at one instant. An answer to `trace` with `lamps` as
+// its only place gives the perceived text over the traced time.
+
+import { PerceivedText, hasScannedDisplay } from "../engine/perceived_text.js";
+import { DisplayText, joinDisplayText } from "./display_text.js";
+import { groupEnd } from "./face_board.js";
+import * as say from "../../words/board.js";
+
+/**
+ * @typedef {import("../bench/answers.js").Board} Board
+ * @typedef {import("./face.js").Face} Face
+ *
+ * The display texts, one for each answer about lamps. `words` is an error message, or "".
+ * @typedef {{ lines: string[], words: string }} DisplayTexts
+ */
+
+/** The first line of an answer to `trace` with `lamps` as its only place. */
+const TRACE_ANSWER = /^trace ran \d+ \w+ lines (\d+) ([.*]+|-)$/;
+const REFUSAL_ANSWER = /^no \d/;
+
+/** Converts answers about the lamps of a board that has a display. */
+class LampAnswerReader {
+  /**
+   * @param {Face} face
+   * @param {Board} board
+   * @param {string} name the board name, for messages
+   */
+  constructor(face, board, name) {
+    this.name = name;
+    const displays = face.groups.filter(({ kind }) => kind === "display");
+    this.lampsNeeded = Math.max(...displays.map(groupEnd));
+    this.isScanned = hasScannedDisplay(face);
+    this.text = new DisplayText(displays, [...face.lamps].map(([at, { text }]) => ({ at, text })));
+    this.perceivedText = new PerceivedText(face, board.lamps.length);
+  }
+
+  /**
+   * Returns an error message if the displays need more lamps, otherwise "".
+   * @param {string} marks one mark per lamp, `*` if the lamp is on; `-` if the board has no lamps
+   * @param {number} line the line number of the answer
+   */
+  lampCountError(marks, line) {
+    const count = marks === "-" ? 0 : marks.length;
+    return count < this.lampsNeeded ? say.tooFewLamps(line, count, this.name, this.lampsNeeded) : "";
+  }
+
+  /**
+   * Converts the answer that starts at an index of `answers`.
+   * @param {string[]} answers
+   * @param {number} index
+   * @returns {{ text: string, words: string, count: number }} `count` is the number of lines in the answer, 0 if the answer is not about
+   *   lamps
+   */
+  read(answers, index) {
+    const makeFailure = (/** @type {string} */ error) => ({ text: "", words: error, count: 1 });
+    const answer = answers[index];
+    if (REFUSAL_ANSWER.test(answer)) return makeFailure(say.isRefusal(index + 1, answer));
+    const [word, marks = ""] = answer.split(" ");
+    if (word === "lamps") {
+      const message = this.lampCountError(marks, index + 1) || (this.isScanned ? say.isInstant(index + 1, this.name) : "");
+      return message === "" ? { text: joinDisplayText(this.text.read(marks)), words: message, count: 1 } : makeFailure(message);
+    }
+    const [, rows, first] = TRACE_ANSWER.exec(answer) || [];
+    if (first === undefined) return { text: "", words: "", count: 0 };
+    const error = this.lampCountError(first, index + 1);
+    if (error !== "") return makeFailure(error);
+    const count = 1 + Number(rows);
+    if (index + count > answers.length) return makeFailure(say.ENDS_WITHIN_TRACE);
+    return { text: joinDisplayText(this.perceivedText.read(answers.slice(index, index + count))), words: "", count };
+  }
+}
+
+/**
+ * Converts all answers about the lamps of a board to display text.
+ * @param {Face} face
+ * @param {Board} board
+ * @param {string} name the board name, for messages
+ * @param {string[]} answers
+ * @returns {DisplayTexts}
+ */
+export function convertLampAnswers(face, board, name, answers) {
+  if (!face.groups.some(({ kind }) => kind === "display")) return { lines: [], words: say.hasNoDisplay(name) };
+  const reader = new LampAnswerReader(face, board, name);
+  /** @type {string[]} */
+  const lines = [];
+  for (let at = 0; at < answers.length;) {
+    const { text, words, count } = reader.read(answers, at);
+    if (words !== "") return { lines: [], words };
+    if (count > 0) lines.push(text);
+    at += Math.max(1, count);
+  }
+  return { lines, words: lines.length > 0 ? "" : say.NO_LAMPS_SHOWN };
+}

@@ -1,0 +1,41 @@
+// Reads the state of a lamp at one instant, and as perceived over time.
+
+import { MIN_ON_DUTY } from "./brightness.js";
+import { isLit } from "./digit_patterns.js";
+
+/**
+ * @typedef {import("./brightness.js").Brightness} Brightness
+ *
+ * The functions that read a lamp. `isLit` returns whether the lamp is on at one instant, from a text with one mark per lamp. `part` returns
+ * the duty cycle, from 0 to 1. `isOn` returns whether the lamp is perceived as on.
+ * @typedef {{ isLit: (marks: string) => boolean, part: (brightness: Brightness) => number,
+ *   isOn: (brightness: Brightness) => boolean }} LampReader
+ */
+
+/**
+ * Returns the functions that read the lamp with a number.
+ * @param {number} lamp
+ * @returns {LampReader}
+ */
+export function lampAt(lamp) {
+  return { isLit: (marks) => isLit(marks, lamp), part: ({ lamps }) => lamps[lamp], isOn: ({ isOn }) => isOn[lamp] };
+}
+
+/**
+ * Returns the functions that read a lamp of a multiplexed group. Each row is on for at most 1 / `rows` of the time, so the duty cycle is
+ * multiplied by `rows`.
+ * @param {import("./face.js").Group} group
+ * @param {number} number the group's index among the multiplexed groups that are not displays
+ * @param {number} index the lamp's index in the group, row by row
+ * @returns {LampReader & { column: number, row: number }} `column` and `row` are the board lamps that select it
+ */
+export function scannedLampAt({ first, rows, columns, by }, number, index) {
+  const [column, row] = [first + (index % columns), by + Math.floor(index / columns)];
+  /** @type {LampReader["part"]} */
+  const part = ({ scannedGroups }) => Math.min(1, scannedGroups[number][index] * rows);
+  return {
+    column, row, part,
+    isLit: (marks) => isLit(marks, column) && isLit(marks, row),
+    isOn: (brightness) => part(brightness) >= MIN_ON_DUTY,
+  };
+}

@@ -1,0 +1,41 @@
+// Finds the board text from which the bench wired its board. The comments of that text define the front panel, even if the text in the
+// editor has changed since. The page stores the text with the session because the bench does not store it.
+
+import { BoardDraft } from "../drawing/board_draft.js";
+import { sentText } from "../text/sendable_text.js";
+
+/** @typedef {{ text: string, board: string }} WiredText a board text, and the bench's answer to `board` after it wired the text */
+
+/** The maximum number of stored texts: a move back in time can return to an earlier board. */
+const MAX_TEXTS = 4;
+
+/**
+ * Returns whether a text describes the same board as a wired text. Comments are ignored.
+ * @param {string} text
+ * @param {WiredText} wiredText
+ */
+export function describesBoard(text, wiredText) {
+  return sentText(text, "#") === sentText(wiredText.text, "#") || new BoardDraft(text).matchesAnswers(wiredText.board.split("\n"));
+}
+
+/**
+ * Returns the text of the board in the bench; "" if it is unknown.
+ * @param {string[]} answers the answer to `board`
+ * @param {string} text the text in the editor
+ * @param {WiredText[] | undefined} storedTexts the texts stored in the session; if undefined, the editor's text is returned
+ * @returns {WiredText}
+ */
+export function currentWiredText(answers, text, storedTexts) {
+  const board = answers.join("\n");
+  if (!storedTexts || new BoardDraft(text).matchesAnswers(answers)) return { text, board };
+  return storedTexts.find((each) => each.board === board) || { text: "", board };
+}
+
+/**
+ * Returns the texts that the session stores after a board is wired, newest first.
+ * @param {WiredText} wiredText
+ * @param {WiredText[]} [storedTexts]
+ */
+export function textsToStore(wiredText, storedTexts = []) {
+  return [wiredText, ...storedTexts.filter(({ board }) => board !== wiredText.board)].slice(0, MAX_TEXTS);
+}

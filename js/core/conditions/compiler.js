@@ -1,0 +1,206 @@
+// Compiles the syntax tree of a condition, for a board and a program, into functions that evaluate the condition on the bench's answers.
+// Collects the places that the condition depends on. This module does not simulate the machine.
+
+import { compileChain, compileCounter, compileCycles, compileDisplay, compileLamps, compilePrinted } from "./keyword_conditions.js";
+import { fail } from "./scanner.js";
+import { withErrorColumn, characterValues, keyValue, findLabelAddress, lampValue, compileValue } from "./values.js";
+import * as say from "../../words/conditions.js";
+
+/**
+ * @typedef {import("./condition_language.js").Names} Names
+ * @typedef {import("./condition_language.js").ExtraValues} ExtraValues
+ * @typedef {import("./parser.js").ConditionNode} ConditionNode
+ * @typedef {import("./parser.js").CompareNode} CompareNode
+ * @typedef {import("./parser.js").FormNode} FormNode
+ * @typedef {import("./parser.js").PlaceValuesNode} PlaceValuesNode
+ * @typedef {import("./parser.js").PanelIsNode} PanelIsNode
+ * @typedef {import("./parser.js").ValueNode} ValueNode
+ * @typedef {import("./values.js").Dependencies} Dependencies
+ * @typedef {import("./values.js").Value} Value
+ *
+ * A compiled condition. `explain` returns a message with the actual and the required value; if `isNot` is true, with the forbidden value.
+ * `address` is the address in a condition `pc = ADDRESS`, otherwise -1.
+ * @typedef {{ matches: (values: string[], extraValues: ExtraValues) => boolean,
+ *   explain: (values: string[], extraValues: ExtraValues, isNot: boolean) => string, address: number }} Meaning
+ */
+
+/** @type {Record<CompareNode["sign"], (actual: number, expected: number) => boolean>} */
+const COMPARISONS = {
+  "=": (actual, expected) => actual === expected, "!=": (actual, expected) => actual !== expected,
+  "<": (actual, expected) => actual < expected, "<=": (actual, expected) => actual <= expected,
+  ">": (actual, expected) => actual > expected, ">=": (actual, expected) => actual >= expected,
+};
+
+/** @type {Record<string, (words: string[], names: Names, dependencies: Dependencies) => Meaning>} the condition compilers, by keyword */
+const COMPILERS = { lamps: compileLamps, display: compileDisplay, printed: compilePrinted, cycles: compileCycles };
+
+/**
+ * Compiles a comparison of two compiled values.
+ * @param {Value} value
+ * @param {CompareNode["sign"]} sign
+ * @param {Value} required
+ * @returns {Meaning}
+ */
+function compareValues(value, sign, required) {
+  const compare = COMPARISONS[sign];
+  return {
+    address: -1,
+    matches: (values) => compare(value.read(values), required.read(values)),
+    explain: (values, _, isNot) => {
+      const number = required.read(values);
+      const expected = required.isConstant ? String(number) : say.valueIs(required.name, number);
+      return say.mustBe(value.name, String(value.read(values)), sign === "=" ? expected : `${sign} ${expected}`, false, isNot);
+    },
+  };
+}
+
+/**
+ * Throws `Unreadable` if the constant in a comparison exceeds the maximum of the other value.
+ * @param {Value} value
+ * @param {ValueNode} node the syntax node of the constant
+ * @param {Value} required the constant
+ */
+function checkRange(value, node, required) {
+  if (value.isConstant || !required.isConstant) return;
+  const number = required.read([]);
+  if (number <= value.most) return;
+  fail(say.holds(value.name, value.most, node.kind === "number" ? node.text : say.valueIs(node.text, number)), node.column);
+}
+
+/**
+ * Compiles a comparison.
+ * @param {CompareNode} node
+ * @param {Names} names
+ * @param {Dependencies} dependencies
+ * @returns {Meaning}
+ */
+function compileComparison({ sign, left, right }, names, dependencies) {
+  const value = compileValue(left, names, dependencies);
+  const required = compileValue(right, names, dependencies);
+  checkRange(value, right, required);
+  checkRange(required, left, value);
+  if (value.name !== "pc" || !required.isConstant || (sign !== "=" && sign !== "!=")) return compareValues(value, sign, required);
+  const address = required.read([]);
+  const meaning = compileCounter(address, String(address), names, dependencies);
+  return sign === "=" ? meaning : negateMeaning(meaning, "");
+}
+
+/**
+ * Compiles a place followed by its required value, such as `r0 5`. Several values after a RAM character apply to that character and the
+ * following characters.
+ * @param {PlaceValuesNode} node
+ * @param {Names} names
+ * @param {Dependencies} dependencies
+ * @returns {Meaning}
+ */
+function compilePlaceValues({ place, values, text, column }, names, dependencies) {
+  const [first] = values;
+  if (values.length === 1) {
+    return compileComparison({ kind: "compare", sign: "=", left: place, right: first, text, column }, names, dependencies);
+  }
+  const characters = characterValues(place, values.length, names, dependencies);
+  const required = values.map((value, at) => {
+    const each = compileValue(value, names, dependencies);
+    checkRange(characters[at], value, each);
+    return each;
+  });
+  /** @type {(each: Value[], given: string[]) => string} */
+  const joinValues = (each, answers) => each.map((value) => value.read(answers)).join(" ");
+  return {
+    address: -1,
+    matches: (answers) => characters.every((value, at) => value.read(answers) === required[at].read(answers)),
+    explain: (answers, _, isNot) => (
+      say.mustBe(characters[0].name, joinValues(characters, answers), joinValues(required, answers), false, isNot)
+    ),
+  };
+}
+
+/**
+ * Compiles a condition that starts with a keyword.
+ * @param {FormNode} node
+ * @param {Names} names
+ * @param {Dependencies} dependencies
+ */
+function compileKeyword({ words: [head, ...following] }, names, dependencies) {
+  const words = following.map(({ text }) => text);
+  const form = COMPILERS[head.text];
+  return form ? form(words, names, dependencies) : compileChain(head.text, words, names, dependencies);
+}
+
+/**
+ * Compiles `lamp NAME on` or `key NAME down`.
+ * @param {PanelIsNode} node
+ * @param {Names} names
+ * @param {Dependencies} dependencies
+ * @returns {Meaning}
+ */
+function compilePanelState({ what, name, isOn }, names, dependencies) {
+  const value = what === "lamp" ? lampValue(name, names, dependencies) : keyValue(name, names, dependencies);
+  const stateNames = what === "lamp" ? ["off", "on"] : ["up", "down"];
+  return {
+    address: -1,
+    matches: (values) => value.read(values) === Number(isOn),
+    explain: (values, _, isNot) => say.mustBe(`${what} ${name}`, stateNames[value.read(values)], stateNames[Number(isOn)], false, isNot),
+  };
+}
+
+/**
+ * Negates a compiled condition.
+ * @param {Meaning} meaning
+ * @param {string} text the condition's text if it is joined by `and` or `or`, otherwise ""
+ * @returns {Meaning}
+ */
+function negateMeaning(meaning, text) {
+  return {
+    address: -1,
+    matches: (values, extraValues) => !meaning.matches(values, extraValues),
+    explain: (values, extraValues, isNot) => (text === "" ? meaning.explain(values, extraValues, !isNot)
+      : isNot ? meaning.explain(values, extraValues, false)
+      : say.holdsButMustNot(text)),
+  };
+}
+
+/**
+ * Joins compiled conditions with `and` or `or`.
+ * @param {"or" | "and"} operator
+ * @param {Meaning[]} parts
+ * @param {string} text
+ * @returns {Meaning}
+ */
+function joinMeanings(operator, parts, text) {
+  const isAnd = operator === "and";
+  return {
+    address: -1,
+    matches: (values, extraValues) => (
+      isAnd ? parts.every((part) => part.matches(values, extraValues)) : parts.some((part) => part.matches(values, extraValues))
+    ),
+    explain: (values, extraValues, isNot) => {
+      if (isNot) return say.holdsButMustNot(text);
+      const failedParts = parts.filter(({ matches }) => !matches(values, extraValues));
+      const messages = failedParts.map(({ explain }) => explain(values, extraValues, false));
+      return isAnd ? messages[0] : messages.join("; ");
+    },
+  };
+}
+
+/**
+ * Compiles a condition.
+ * @param {ConditionNode} node
+ * @param {Names} names
+ * @param {Dependencies} dependencies collects the places that the condition depends on
+ * @returns {Meaning}
+ */
+export function compileNode(node, names, dependencies) {
+  return withErrorColumn(node.column, () => {
+    if (node.kind === "not") {
+      const isJoined = node.part.kind === "or" || node.part.kind === "and";
+      return negateMeaning(compileNode(node.part, names, dependencies), isJoined ? node.part.text : "");
+    }
+    if (node.kind === "compare") return compileComparison(node, names, dependencies);
+    if (node.kind === "values") return compilePlaceValues(node, names, dependencies);
+    if (node.kind === "panel") return compilePanelState(node, names, dependencies);
+    if (node.kind === "at") return compileCounter(findLabelAddress(node.label, names), `@${node.label}`, names, dependencies);
+    if (node.kind === "form") return compileKeyword(node, names, dependencies);
+    return joinMeanings(node.kind, node.parts.map((part) => compileNode(part, names, dependencies)), node.text);
+  });
+}

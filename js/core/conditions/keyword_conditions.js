@@ -1,0 +1,197 @@
+// Compiles conditions that start with a keyword: `lamps`, `display`, `printed`, `cycles`, and `chain0` for the bits of a chain. Also
+// compiles conditions on the program counter. The parser has already split the conditions into words.
+
+import { hex, indices } from "../bench/numbers.js";
+import { DisplayText } from "../board/display_text.js";
+import { groupLamps, findPrinter } from "../board/face_board.js";
+import { PerceivedText, hasScannedDisplay } from "../engine/perceived_text.js";
+import { parseWholeDuration } from "./durations.js";
+import { parsePlace } from "./places.js";
+import { fail } from "./scanner.js";
+import { findLampNumber } from "./values.js";
+import * as say from "../../words/conditions.js";
+
+/**
+ * @typedef {import("./condition_language.js").Names} Names
+ * @typedef {import("./condition_language.js").ExtraValues} ExtraValues
+ * @typedef {import("./compiler.js").Meaning} Meaning
+ * @typedef {import("./values.js").Dependencies} Dependencies
+ *
+ * The parts of a keyword condition. `subject` names the measured value; `isPlural` is true if that name is plural. `required` is the text
+ * of the required value. `measure` returns the text of the actual value, `matches` compares it, and `remark` returns an addition to the
+ * message.
+ * @typedef {{ subject: string, required: string, isPlural?: boolean, measure: (values: string[], extraValues: ExtraValues) => string,
+ *   matches: (actual: string, extraValues: ExtraValues) => boolean, remark?: (actual: string) => string, address?: number }} FormParts
+ */
+
+/**
+ * Compiles a keyword condition from its parts.
+ * @param {FormParts} parts
+ * @returns {Meaning}
+ */
+function makeMeaning({ subject, required, isPlural = false, measure, matches, remark, address = -1 }) {
+  return {
+    address,
+    matches: (values, extraValues) => matches(measure(values, extraValues), extraValues),
+    explain: (values, extraValues, isNot) => {
+      const actual = measure(values, extraValues);
+      return say.mustBe(subject, actual, required + (remark ? remark(actual) : ""), isPlural, isNot);
+    },
+  };
+}
+
+/**
+ * Returns whether a text matches a pattern. `?` in the pattern stands for any character.
+ * @param {string} text
+ * @param {string} pattern
+ */
+function matchesPattern(text, pattern) {
+  return text.length === pattern.length && [...pattern].every((mark, at) => mark === "?" || mark === text[at]);
+}
+
+/** @type {(value: string) => string} returns one mark per lamp, from the value of the place `lamps` */
+const lampMarks = (value) => (value === "-" ? "" : value);
+
+/**
+ * Returns whether a lamp is an unnamed lamp of a display.
+ * @param {number} lamp the lamp number
+ * @param {Names} names
+ */
+function isDisplayLamp(lamp, { face }) {
+  if (face.lamps.has(lamp)) return false;
+  return face.groups.some((group) => group.kind === "display" && groupLamps(group).includes(lamp));
+}
+
+/**
+ * Compiles `lamps` with a pattern of `*` (on), `.` (off) and `?` (any), or with the names of all lamps that must be on. With names, unnamed
+ * display lamps are ignored.
+ * @param {string[]} words
+ * @param {Names} names
+ * @param {Dependencies} dependencies
+ */
+export function compileLamps(words, names, dependencies) {
+  const count = names.board.lamps.length;
+  if (words.length === 0) fail(say.LAMPS_FORM);
+  let required = words.join("");
+  if (!/^[*.?]+$/.test(required)) {
+    const requiredLamps = new Set(words.join(" ") === "none" ? [] : words.map((name) => findLampNumber(name, names)));
+    required = indices(count).map((at) => (requiredLamps.has(at) ? "*" : isDisplayLamp(at, names) ? "?" : ".")).join("");
+  }
+  if (required.length !== count) fail(say.wrongPatternLength(required.length, count));
+  const place = dependencies.addPlace("lamps");
+  /** @type {(actual: string) => string} */
+  const describeLitLamps = (actual) => {
+    const litLamps = [...names.face.lamps].filter(([at]) => actual[at] === "*").sort(([one], [other]) => one - other);
+    return litLamps.length === 0 ? "" : say.litLamps(litLamps.map(([, { text }]) => text).join(" "));
+  };
+  return makeMeaning({
+    subject: "lamps", isPlural: true, required, remark: describeLitLamps, measure: (values) => lampMarks(values[place]),
+    matches: (actual) => matchesPattern(actual, required),
+  });
+}
+
+/**
+ * Compiles `display 42` for the number on the display, or `display 0 overflow` for the number and lamp names as `mcs4 display` prints them.
+ * For multiplexed digits, the perceived number counts.
+ * @param {string[]} words
+ * @param {Names} names
+ * @param {Dependencies} dependencies
+ */
+export function compileDisplay(words, names, dependencies) {
+  const { face, board } = names;
+  const displays = face.groups.filter(({ kind }) => kind === "display");
+  if (displays.length === 0) fail(say.NO_DISPLAY);
+  if (words.length === 0 || /^([<>]=?|!=?|==?)$/.test(words[0])) fail(say.DISPLAY_FORM);
+  const required = words.join(" ");
+  /** @type {(shown: { number: string, names: string }) => string} */
+  const displayedWords = ({ number, names: lit }) => (lit === "" || number === required ? number : `${number} ${lit}`);
+  const matches = (/** @type {string} */ actual) => actual === required;
+  if (hasScannedDisplay(face)) {
+    dependencies.addNeed("seen", say.DIGITS_ARE_MULTIPLEXED);
+    const seen = new PerceivedText(face, board.lamps.length);
+    return makeMeaning({ subject: "display", required, matches, measure: (_, extraValues) => displayedWords(seen.read(extraValues.seen)) });
+  }
+  const reader = new DisplayText(displays, [...face.lamps].map(([at, { text }]) => ({ at, text })));
+  const place = dependencies.addPlace("lamps");
+  return makeMeaning({ subject: "display", required, matches, measure: (values) => displayedWords(reader.read(lampMarks(values[place]))) });
+}
+
+/**
+ * Compiles `printed 12+ 30= 42`, which compares the last printed words. The word `nothing` stands for an empty printout.
+ * @param {string[]} words
+ * @param {Names} names
+ * @param {Dependencies} dependencies
+ */
+export function compilePrinted(words, { face, board }, dependencies) {
+  if (!findPrinter(board, face)) fail(say.NO_PRINTER);
+  if (words.length === 0) fail(say.PRINTED_FORM);
+  dependencies.addNeed("printed", say.LINE_BY_LINE);
+  const required = words.join(" ");
+  return makeMeaning({
+    subject: "printed", required, matches: (actual) => actual === required,
+    measure: (_, { printed }) => printed.slice(-words.length).join(" ") || "nothing",
+  });
+}
+
+/**
+ * Compiles `cycles 538`, `cycles at most 20 ms` or `cycles at least 1 s`, which compare the cycles since the last mark in a test.
+ * @param {string[]} words
+ * @param {Names} names
+ * @param {Dependencies} dependencies
+ */
+export function compileCycles(words, names, dependencies) {
+  const comparison = words[0] === "at" ? words.slice(0, 2).join(" ") : "";
+  const cycles = parseWholeDuration(words.slice(comparison === "" ? 0 : 2));
+  if (cycles < 1 || !/^(|at most|at least)$/.test(comparison)) fail(say.CYCLES_FORM);
+  dependencies.addNeed("cycles", say.onlyInTests("cycles"));
+  /** @type {(actual: number) => boolean} */
+  const matches = (actual) => (comparison === "" ? actual === cycles : comparison === "at most" ? actual <= cycles : actual >= cycles);
+  return makeMeaning({
+    subject: "cycles", isPlural: true, required: `${comparison && `${comparison} `}${cycles}`, matches: (actual) => matches(Number(actual)),
+    measure: (_, extraValues) => String(extraValues.cycles),
+  });
+}
+
+/**
+ * Compiles `chain0 1100??????`, which compares the bits of a chain.
+ * @param {string} name the name of the chain
+ * @param {string[]} words
+ * @param {Names} names
+ * @param {Dependencies} dependencies
+ */
+export function compileChain(name, words, { board }, dependencies) {
+  const place = parsePlace(name);
+  if (!place || place.probesOn(board).length === 0) return fail(say.boardLacks(name));
+  const bits = 10 * board.chains[Number(name.slice("chain".length))].chips;
+  const required = words.join("");
+  if (!/^[01?]+$/.test(required) || required.length !== bits) fail(say.chainBits(name.slice("chain".length), bits));
+  const at = dependencies.addPlace(name);
+  return makeMeaning({ subject: name, required, measure: (values) => values[at], matches: (actual) => matchesPattern(actual, required) });
+}
+
+/**
+ * Returns an address with its program name: `012 (next + 2)`.
+ * @param {number} address
+ * @param {Names} names
+ */
+function formatAddress(address, { map }) {
+  const name = map ? map.nameOf(address) : "";
+  return `${hex(address, 3)}${name && ` (${name})`}`;
+}
+
+/**
+ * Compiles a comparison of the program counter with an address. It is true only between two instructions.
+ * @param {number} address
+ * @param {string} required the address as written in the condition
+ * @param {Names} names
+ * @param {Dependencies} dependencies
+ */
+export function compileCounter(address, required, names, dependencies) {
+  const digits = hex(address, 3);
+  const at = dependencies.addPlace("pc");
+  return makeMeaning({
+    subject: "pc", required, address,
+    measure: (values, { owed }) => `${formatAddress(parseInt(values[at], 16), names)}${owed === "1" ? say.WITHIN_INSTRUCTION : ""}`,
+    matches: (actual, { owed }) => actual.slice(0, 3) === digits && owed !== "1",
+  });
+}

@@ -1,0 +1,396 @@
+// Manages the breakpoints of the current session. A list of breakpoints moves with the source text. After each change of the list, the
+// bench receives the new breakpoints. Breakpoints that only the bench has, for example from a typed `break`, are added to the list.
+
+import { BreakpointList, MAX_BREAKPOINTS, MAX_ENABLED, instructionAtAddress, instructionForLine } from "./breakpoints.js";
+import { isSoft } from "./soft_breakpoints.js";
+import * as say from "../../words/debug.js";
+
+/**
+ * @typedef {import("../machine/source_map.js").SourceMap} SourceMap
+ * @typedef {import("./breakpoints.js").Breakpoint} Breakpoint
+ * @typedef {import("./breakpoints.js").Edit} Edit
+ * @typedef {import("./breakpoints.js").SavedBreakpoint} SavedBreakpoint
+ * @typedef {import("./debugger.js").Tally} Tally
+ * @typedef {import("./soft_breakpoints.js").LocatedBreakpoint} LocatedBreakpoint
+ */
+
+/**
+ * The callbacks of the keeper.
+ * @typedef {object} KeeperCalls
+ * @property {(placed: LocatedBreakpoint[]) => Promise<[number, string][]>} set Replaces all breakpoints of the bench. Resolves to the ids
+ *   and error messages of breakpoints that cannot be compiled.
+ * @property {() => void} changed Handles a change of the list or of its error messages.
+ * @property {() => void} counted Handles a change of hit counts, without another change of the list.
+ * @property {() => void} touched Handles a change by the user; the list must be saved.
+ * @property {(words: string) => void} showMessage Shows a message near the user's last action.
+ * @property {(fault: unknown) => void} failed Reports an error that `set` threw.
+ */
+
+const TOO_MANY_ENABLED = say.tooManyEnabled(MAX_ENABLED);
+/** The maximum number of sessions with a stored list. */
+const MAX_LISTS = 30;
+
+/** The breakpoints of the current session, in the list and in the bench. */
+export class BreakpointManager {
+  /** @param {KeeperCalls} calls */
+  constructor(calls) {
+    this.calls = calls;
+    this.list = new BreakpointList();
+    /** @type {Map<string, BreakpointList>} the lists of recent sessions, by session id, newest last */
+    this.lists = new Map();
+    /** @type {SourceMap | null} the source map; null if the source is not the program in ROM */
+    this.map = null;
+    /** The reason why ROM does not contain the bytes of the source, or "". */
+    this.mapError = "";
+    /** @type {string[]} the watch expressions, whose names conditions can use */
+    this.watchTexts = [];
+    /** @type {Map<number, string>} the error messages of breakpoints that cannot be compiled, by id */
+    this.faults = new Map();
+    /** @type {Set<number> | null} the breakpoint addresses on the bench; null before the first report about a session */
+    this.onBench = null;
+    /** @type {string[] | null} the bench's breakpoint addresses that arrived during a request; applied after the request */
+    this.postponedBreaks = null;
+    /** True if the saved session contains a list of breakpoints. */
+    this.hasSavedList = false;
+    /** The number of unanswered requests to the bench, and the contents of the last request as JSON. */
+    this.pendingCount = 0;
+    this.lastRequest = "";
+    /** @type {Promise<void>} resolves after all requests are answered */
+    this.allSent = Promise.resolve();
+    /** @type {{ id: number, changes: Partial<SavedBreakpoint> } | null} the changed fields of a breakpoint that the user edits */
+    this.typedEdit = null;
+  }
+
+  // --- Reports from other parts of the page ---
+
+  /**
+   * Switches to another session. If the list of this session is still in memory and equals the saved breakpoints, reuses that list, because
+   * only that list can restore breakpoints on undo.
+   * @param {string} id the session id
+   * @param {SavedBreakpoint[] | undefined} savedBreakpoints the saved breakpoints; if undefined, the breakpoints of the session file are
+   *   used
+   */
+  open(id, savedBreakpoints) {
+    const storedList = this.lists.get(id);
+    const isReusable = storedList && JSON.stringify(storedList.savedBreakpoints) === JSON.stringify(savedBreakpoints);
+    this.list = storedList && isReusable ? storedList : new BreakpointList(savedBreakpoints);
+    this.list.resetHits();
+    this.lists.delete(id);
+    this.lists.set(id, this.list);
+    for (const oldest of [...this.lists.keys()].slice(0, -MAX_LISTS)) this.lists.delete(oldest);
+    this.hasSavedList = savedBreakpoints !== undefined;
+    this.map = null;
+    this.mapError = "";
+    this.onBench = null;
+    this.postponedBreaks = null;
+    this.lastRequest = "";
+    this.typedEdit = null;
+    this.faults.clear();
+    this.calls.changed();
+  }
+
+  /**
+   * Sets the watch expressions.
+   * @param {string[]} texts
+   */
+  setWatchExpressions(texts) {
+    this.watchTexts = texts;
+    if (this.onBench) this.apply();
+  }
+
+  /** Sends the list again, after the bench has restarted and has no breakpoints. */
+  again() {
+    this.lastRequest = "";
+    this.apply();
+  }
+
+  /**
+   * Moves the breakpoints after edits of the source text.
+   * @param {Edit[]} edits the edits, in order
+   */
+  applyTextEdits(edits) {
+    const effectiveEdits = edits.filter((edit) => this.list.edit(edit));
+    if (effectiveEdits.length === 0) return;
+    if (this.onBench) this.apply();
+    else this.calls.changed();
+  }
+
+  /**
+   * Sets the source map, and moves each breakpoint to an instruction of the program.
+   * @param {SourceMap | null} map null if the source is not the program in ROM
+   * @param {string} words the reason if `map` is null
+   */
+  setSourceMap(map, words) {
+    this.map = map;
+    this.mapError = words;
+    if (!this.onBench) return;
+    const messages = map ? this.list.locate(map) : [];
+    if (messages.length > 0) this.calls.showMessage(messages.join(" "));
+    this.apply();
+  }
+
+  /**
+   * Updates the list from the bench's breakpoint addresses.
+   * @param {string[]} breaks the addresses, as hexadecimal digits
+   */
+  take(breaks) {
+    const addresses = breaks.map((address) => parseInt(address, 16));
+    const previousAddresses = this.onBench;
+    if (previousAddresses && this.isApplying) {
+      this.postponedBreaks = breaks;
+      return;
+    }
+    this.onBench = new Set(addresses);
+    if (!previousAddresses) {
+      // This is the first report after opening. If the session was saved without a list, its breakpoints come from the file.
+      if (!this.hasSavedList) for (const address of addresses) this.addFromBench(address);
+      this.calls.changed();
+      return;
+    }
+    const wantedAddresses = new Set(this.hardAddresses);
+    const newAddresses = addresses.filter((each) => !wantedAddresses.has(each) && !previousAddresses.has(each));
+    for (const address of newAddresses) this.addFromBench(address);
+    const missingAddresses = [...wantedAddresses].filter((each) => previousAddresses.has(each) && !addresses.includes(each));
+    for (const address of missingAddresses) this.removeMissing(address);
+    this.apply();
+  }
+
+  /** The addresses of the breakpoints that stop time at every arrival. */
+  get hardAddresses() {
+    return this.list.placed.filter((each) => !isSoft(each)).map(({ address }) => address);
+  }
+
+  /**
+   * Adds a bench breakpoint to the list.
+   * @param {number} address
+   */
+  addFromBench(address) {
+    const found = this.list.findByAddress(address);
+    if (found) {
+      this.list.change(found.id, { isOn: true });
+      return;
+    }
+    const { map } = this;
+    const instruction = map ? instructionAtAddress(address, map) : { line: 0, address, words: "" };
+    if (instruction.words) this.calls.showMessage(instruction.words);
+    if (instruction.line > 0 && this.list.findByLine(instruction.line)) return;
+    this.list.add({ line: instruction.line, address: instruction.address });
+  }
+
+  /**
+   * Removes a breakpoint from the list because the bench no longer has it.
+   * @param {number} address
+   */
+  removeMissing(address) {
+    const found = this.list.findByAddress(address);
+    if (found) this.list.remove(found.id);
+  }
+
+  /**
+   * Adds hits to the hit counts.
+   * @param {Tally} tally
+   */
+  count({ hits }) {
+    if (hits.length === 0) return;
+    this.list.count(hits);
+    this.calls.counted();
+  }
+
+  // --- Actions of the user ---
+
+  /**
+   * Toggles the breakpoint of a line. If the line has no instruction, the breakpoint moves to the next instruction.
+   * @param {number} line
+   */
+  toggleLine(line) {
+    const existingBreakpoint = this.list.findByLine(line);
+    if (existingBreakpoint) {
+      this.remove(existingBreakpoint.id);
+      return;
+    }
+    const instruction = this.map ? instructionForLine(line, this.map) : { line, address: -1, words: this.pendingMessage() };
+    if (instruction.words) this.calls.showMessage(instruction.words);
+    if (instruction.line !== line && this.list.findByLine(instruction.line)) return;
+    if (this.map && instruction.address < 0) return;
+    this.add({ line: instruction.line, address: instruction.address });
+  }
+
+  /**
+   * Returns the breakpoint of a line; adds a breakpoint if the line has none. Returns undefined if no instruction follows the line.
+   * @param {number} line
+   */
+  breakpointOnLine(line) {
+    if (!this.list.findByLine(line)) this.toggleLine(line);
+    const nextLine = this.map ? instructionForLine(line, this.map).line : line;
+    return this.list.findByLine(line) || this.list.findByLine(nextLine);
+  }
+
+  /** Returns a message that a breakpoint has no effect yet, with the reason; "" if no reason is known. */
+  pendingMessage() {
+    return this.mapError ? say.untilThen(this.mapError) : "";
+  }
+
+  /**
+   * Toggles the breakpoint at an address.
+   * @param {number} address
+   */
+  toggleAddress(address) {
+    const existingBreakpoint = this.list.findByAddress(address);
+    if (existingBreakpoint) {
+      this.remove(existingBreakpoint.id);
+      return;
+    }
+    const instruction = this.map ? instructionAtAddress(address, this.map) : { line: 0, address, words: "" };
+    if (instruction.words) this.calls.showMessage(instruction.words);
+    this.add({ line: instruction.line, address: instruction.address });
+  }
+
+  /**
+   * Adds a breakpoint. It is disabled if the maximum number of breakpoints is already enabled.
+   * @param {Partial<SavedBreakpoint>} fields
+   */
+  add(fields) {
+    if (this.list.all.length >= MAX_BREAKPOINTS) {
+      this.calls.showMessage(say.tooManyBreakpoints(MAX_BREAKPOINTS));
+      return;
+    }
+    const isFull = this.list.enabledCount >= MAX_ENABLED;
+    if (isFull) this.calls.showMessage(TOO_MANY_ENABLED);
+    this.list.add({ ...fields, isOn: !isFull });
+    this.saveAndApply();
+  }
+
+  /** @param {number} id */
+  remove(id) {
+    this.list.remove(id);
+    this.saveAndApply();
+  }
+
+  /**
+   * Saves changes of a breakpoint while the user types. The bench receives the changes when the user enters them.
+   * @param {number} id
+   * @param {Partial<SavedBreakpoint>} changes the changed fields
+   */
+  type(id, changes) {
+    this.typedEdit = { id, changes };
+    this.calls.changed();
+    this.calls.touched();
+  }
+
+  /**
+   * The breakpoints to save in the session, including the changes that the user is typing.
+   * @returns {SavedBreakpoint[]}
+   */
+  get savedBreakpoints() {
+    const { list, typedEdit } = this;
+    return list.savedBreakpoints.map((each, at) => (
+      typedEdit && typedEdit.id === list.all[at].id ? { ...each, ...typedEdit.changes } : each));
+  }
+
+  /**
+   * Changes some fields of a breakpoint.
+   * @param {number} id
+   * @param {Partial<SavedBreakpoint>} changes the changed fields
+   */
+  change(id, changes) {
+    const found = this.list.get(id);
+    if (!found) return;
+    if (this.typedEdit && this.typedEdit.id === id) this.typedEdit = null;
+    else if (JSON.stringify({ ...found, ...changes }) === JSON.stringify(found)) return;
+    if (changes.isOn && !found.isOn && this.list.enabledCount >= MAX_ENABLED) {
+      this.calls.showMessage(TOO_MANY_ENABLED);
+      this.calls.changed();
+      return;
+    }
+    this.list.change(id, changes);
+    this.saveAndApply();
+  }
+
+  /**
+   * Enables breakpoints up to the maximum, or disables all breakpoints.
+   * @param {boolean} isOn
+   */
+  switchAll(isOn) {
+    let freeCount = MAX_ENABLED;
+    for (const { id } of [...this.list.all]) {
+      this.list.change(id, { isOn: isOn && freeCount > 0 });
+      freeCount -= 1;
+    }
+    this.saveAndApply();
+  }
+
+  removeAll() {
+    this.list.all = [];
+    this.saveAndApply();
+  }
+
+  /** Resets the hit counts. */
+  resetHits() {
+    this.list.resetHits();
+    this.lastRequest = "";
+    this.apply();
+  }
+
+  // --- The bench ---
+
+  /** True while a request to the bench is unanswered. */
+  get isApplying() {
+    return this.pendingCount > 0;
+  }
+
+  /** Saves and applies a change by the user. */
+  saveAndApply() {
+    this.calls.touched();
+    this.apply();
+  }
+
+  /** Sends the list to the bench, unless the bench already has this list. `settled` resolves after the bench has set the breakpoints. */
+  apply() {
+    this.calls.changed();
+    const { placed } = this.list;
+    // A name can have another meaning in another text, so the comparison includes the texts.
+    const names = placed.some(isSoft) ? [this.map ? this.map.text : "", this.watchTexts] : [];
+    const request = JSON.stringify([names, placed.map((each) => ({ ...each, line: 0, hits: 0 }))]);
+    const isNothingSet = placed.length === 0 && this.onBench !== null && this.onBench.size === 0;
+    if (request === this.lastRequest || (this.lastRequest === "" && isNothingSet)) return;
+    this.lastRequest = request;
+    this.send(placed);
+  }
+
+  /**
+   * Sends the list at once, before any later request to the bench. Handles the answers in the order of the requests.
+   * @param {LocatedBreakpoint[]} placed
+   */
+  send(placed) {
+    const { list, hardAddresses } = this;
+    this.pendingCount += 1;
+    this.allSent = Promise.all([this.calls.set(placed), this.allSent])
+      .finally(() => {
+        this.pendingCount -= 1;
+      })
+      .then(([faults]) => this.handleAnswer(list, hardAddresses, faults))
+      .catch((fault) => this.calls.failed(fault));
+  }
+
+  /**
+   * Handles the bench's answer to a list.
+   * @param {BreakpointList} list
+   * @param {number[]} hardAddresses the addresses of the breakpoints that stop time at every arrival
+   * @param {[number, string][]} faults the ids and error messages of breakpoints that cannot be compiled
+   */
+  handleAnswer(list, hardAddresses, faults) {
+    if (list !== this.list) return;
+    this.faults = new Map(faults);
+    this.onBench = new Set(hardAddresses);
+    this.calls.changed();
+    this.takePostponed();
+  }
+
+  /** Applies the addresses that arrived during a request. A line that the user typed meanwhile can have changed breakpoints. */
+  takePostponed() {
+    const { postponedBreaks } = this;
+    if (this.isApplying || !postponedBreaks) return;
+    this.postponedBreaks = null;
+    this.take(postponedBreaks);
+  }
+}

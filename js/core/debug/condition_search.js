@@ -1,0 +1,54 @@
+// Searches forward or back for the moment at which a condition becomes true.
+
+import { compileExpression, compileTracedCondition } from "../conditions/condition_language.js";
+import { parsePlace } from "../conditions/places.js";
+import { rowValues } from "../engine/forecast_answers.js";
+import { inColumn } from "../../words/conditions.js";
+import * as say from "../../words/debug.js";
+
+/**
+ * @typedef {import("../conditions/condition_language.js").Names} Names
+ * @typedef {{ places: string[], holds: (values: string[]) => boolean }} SearchCondition a compiled condition: `holds`
+ *   evaluates the condition for the values of `places`
+ */
+
+/**
+ * Compiles a condition for a search. `fault` is an error message with its column, or "".
+ * @param {string} text
+ * @param {Names} names
+ * @returns {{ searchCondition: SearchCondition | null, fault: string }}
+ */
+export function compileSearchCondition(text, names) {
+  const { condition, ...conditionError } = compileTracedCondition(text, names);
+  if (!condition) {
+    // If the text has no comparison but an unknown name, the message reports the name.
+    const value = compileExpression(text, names);
+    const { fault, column } = value.expression ? conditionError : value;
+    return { searchCondition: null, fault: inColumn(fault, column) };
+  }
+  return condition.places.length > 0 ? { searchCondition: condition, fault: "" } : { searchCondition: null, fault: say.NEVER_CHANGES };
+}
+
+/**
+ * Parses the text of a search. A place means a search for the next change of the place; a condition, for the moment it becomes true.
+ * @param {string} text
+ * @param {Names} names
+ * @returns {{ goal: { kind: "change", place: string } | { kind: "when", condition: string } | null, fault: string }}
+ */
+export function parseGoal(text, names) {
+  const lamp = names.face.lampNumbers.get(text.trim()) ?? names.face.lampNumbers.get(text.trim().replace(/ /g, "_"));
+  const place = parsePlace(lamp === undefined ? text : `lamp ${lamp}`);
+  if (place) return { goal: { kind: "change", place: place.name }, fault: "" };
+  const { searchCondition, fault } = compileSearchCondition(text, names);
+  return { goal: searchCondition && { kind: "when", condition: text.trim() }, fault };
+}
+
+/**
+ * Returns whether a condition changes from false to true between two trace rows.
+ * @param {SearchCondition} searchCondition
+ * @param {string} before the row before the change
+ * @param {string} after the row after the change
+ */
+export function becomesTrue({ holds }, before, after) {
+  return holds(rowValues(after)) && !holds(rowValues(before));
+}

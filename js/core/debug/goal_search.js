@@ -1,0 +1,127 @@
+// Searches for a goal in the future: finds the number of cycles until the goal, with queries or on a temporary copy of the session. The
+// session does not change during the search, even if the page is closed. Afterwards, the session runs for that number of cycles.
+
+import { CancelledError } from "../bench/bench_errors.js";
+import { MAX_RUN_CYCLES } from "../engine/key_queue.js";
+import { FIRST_PIECE_CYCLES, PieceSize } from "../engine/piece_size.js";
+import { ForecastAnswers } from "../engine/forecast_answers.js";
+import { LARGEST_PIECE, missingGoalEnd, createWatcher } from "./goals.js";
+
+/**
+ * @typedef {import("../engine/engine_host.js").EngineHost} Engine
+ * @typedef {import("../engine/key_queue.js").PlannedLine} PlannedLine
+ * @typedef {import("./goals.js").SearchResult} SearchResult
+ * @typedef {import("./goals.js").Goal} Goal
+ * @typedef {import("./goals.js").Watcher} Watcher
+ */
+
+/**
+ * Returns the bench lines that run a number of cycles, with the watcher's queries between the runs.
+ * @param {Watcher} watcher
+ * @param {number} cycles
+ */
+function pieceLines(watcher, cycles) {
+  let lines = "";
+  for (let left = cycles; left > 0; left -= MAX_RUN_CYCLES) {
+    const run = Math.min(left, MAX_RUN_CYCLES);
+    lines += `${watcher.before(run)}run ${run}\n${watcher.after}`;
+  }
+  return lines;
+}
+
+/**
+ * Searches the answers to run lines for the goal or a stop. Returns null if the runs reach neither.
+ * @param {ForecastAnswers} answers
+ * @param {Watcher} watcher
+ * @returns {SearchResult | null} the cycles count from the start of the first run
+ */
+function searchAnswers(answers, watcher) {
+  let done = 0;
+  while (!answers.isEmpty) {
+    const found = watcher.take(answers);
+    done += found.cycles;
+    if (found.isReached || found.end !== "end") return { ...found, cycles: done };
+  }
+  return null;
+}
+
+/**
+ * Searches for a goal from the current state, without key changes.
+ * @param {Engine} engine
+ * @param {Uint8Array} file the session file; not changed
+ * @param {Goal} goal
+ * @param {(done: number) => Promise<boolean>} shouldContinue called after each piece with the number of cycles searched. If it returns
+ *   false, `searchGoal` throws `CancelledError`
+ * @param {number} maxCycles the maximum number of cycles to search
+ * @param {() => Uint8Array} [codes] returns the contents of ROM
+ * @returns {Promise<SearchResult>}
+ */
+export async function searchGoal(engine, file, goal, shouldContinue, maxCycles, codes) {
+  const copy = file.slice();
+  const watcher = createWatcher(engine, file, goal, codes);
+  if (!watcher) return { cycles: 0, isReached: false, end: missingGoalEnd(goal) };
+  if (watcher.first) engine.serve(copy, watcher.first, copy);
+  const piece = new PieceSize(FIRST_PIECE_CYCLES, 1, LARGEST_PIECE);
+  for (let done = 0; done < maxCycles;) {
+    const cycles = Math.min(piece.size, watcher.most(), maxCycles - done);
+    const found = piece.measure(() => (
+      searchAnswers(new ForecastAnswers(engine.serve(copy, pieceLines(watcher, cycles), copy).answers), watcher)));
+    if (found) return { ...found, cycles: done + found.cycles };
+    done += cycles;
+    if (!(await shouldContinue(done))) throw new CancelledError();
+  }
+  return { cycles: maxCycles, isReached: false, end: "bound" };
+}
+
+/**
+ * Returns the number of cycles of a `run` line; 0 for a key change.
+ * @param {import("../engine/forecast_queries.js").SentLine} planned
+ */
+export function plannedCycles({ line, change }) {
+  return change ? 0 : Number(line.slice("run ".length));
+}
+
+/**
+ * Returns the number of cycles until the next lines reach the goal; -1 if the lines do not reach the goal or stop earlier.
+ * @param {Engine} engine
+ * @param {Uint8Array} file the session file; not changed
+ * @param {PlannedLine[]} planned the next lines
+ * @param {Watcher} watcher a watcher that has read the answers to all earlier runs
+ */
+export function cyclesToGoal(engine, file, planned, watcher) {
+  const lines = planned.map((each) => (
+    each.change ? `${each.line}\n` : `${watcher.before(plannedCycles(each))}${each.line}\n${watcher.after}`));
+  const answers = new ForecastAnswers(engine.ask(file, watcher.first + lines.join("")).answers);
+  if (watcher.first) answers.take();
+  let done = 0;
+  for (const { change } of planned) {
+    if (change) {
+      answers.take();
+      continue;
+    }
+    const found = watcher.take(answers);
+    done += found.cycles;
+    if (found.isReached) return done;
+    if (found.end !== "end") return -1;
+  }
+  return -1;
+}
+
+/**
+ * Returns the first lines, as far as they run a number of cycles. Shortens the last run if necessary.
+ * @param {PlannedLine[]} planned
+ * @param {number} cycles
+ * @returns {PlannedLine[]}
+ */
+export function truncateLines(planned, cycles) {
+  /** @type {PlannedLine[]} */
+  const result = [];
+  let cyclesLeft = cycles;
+  for (const each of planned) {
+    const run = plannedCycles(each);
+    if (cyclesLeft === 0) break;
+    result.push(run > cyclesLeft ? { line: `run ${cyclesLeft}`, change: null } : each);
+    cyclesLeft -= Math.min(run, cyclesLeft);
+  }
+  return result;
+}

@@ -1,0 +1,200 @@
+// Parses watch expressions, to which the user can give names: `count = R5`, `digit = ram 0 0x12`, `r5 + 1 > limit`.
+//
+//     const { watched, fault } = parseWatch("digit = ram 0 0x12", names);
+//     watched.pieces(machineState, names)    the current value as pieces (word_values.js)
+
+import { compileExpression } from "../conditions/condition_language.js";
+import { KEYWORDS, parseExpression } from "../conditions/parser.js";
+import { parsePlace } from "../conditions/places.js";
+import { ConditionError, parseNumeral } from "../conditions/scanner.js";
+import { inColumn } from "../../words/conditions.js";
+import { readPlaceValue } from "./snapshot_values.js";
+import { NAME } from "../text/assembly.js";
+import * as say from "../../words/debug.js";
+
+/**
+ * @typedef {import("./machine_state.js").MachineState} MachineState
+ * @typedef {import("./word_values.js").Piece} Piece
+ * @typedef {import("../conditions/condition_language.js").Names} Names
+ *
+ * A watch expression. `text` is its saved text. `value` is the expression without the name. `place` is the name of a RAM or status
+ * character, "" for any other expression. `pieces` returns the current value.
+ * @typedef {{ name: string, text: string, place: string, value: string, pieces: Reader }} WatchExpression
+ *
+ * Returns the value of a watch expression in a machine state, as pieces of text.
+ * @typedef {(machineState: MachineState, names: Names) => Piece[]} Reader
+ */
+
+/** The maximum number of watch expressions, and the maximum length of a watch expression in characters. */
+export const MAX_WATCH_EXPRESSIONS = 40;
+const MAX_LENGTH = 200;
+/** The largest number that is shown only in decimal, without its hexadecimal form. */
+const MAX_DECIMAL_ONLY = 9;
+
+/**
+ * Returns the reader of a place that the user can edit.
+ * @param {string} place
+ * @param {(machineState: MachineState) => string} value
+ * @returns {Reader}
+ */
+function editableReader(place, value) {
+  return (machineState) => {
+    const text = value(machineState);
+    return text === "" ? [say.LACKED] : [{ place, name: place, value: text }];
+  };
+}
+
+/** @type {Record<string, (machineState: MachineState) => string>} the values of named registers */
+const REGISTERS = {
+  acc: ({ registers }) => registers.accumulator, cy: ({ registers }) => registers.carry, dcl: ({ registers }) => registers.bank,
+};
+
+/**
+ * Returns the reader of a register or register pair; null for any other place.
+ * @param {string} place
+ * @returns {Reader | null}
+ */
+function machineReader(place) {
+  if (Object.prototype.hasOwnProperty.call(REGISTERS, place)) return editableReader(place, REGISTERS[place]);
+  const register = /^r(\d+)$/.exec(place);
+  if (register) return editableReader(place, (machineState) => machineState.register(Number(register[1])));
+  const pair = /^p(\d)$/.exec(place);
+  if (!pair) return null;
+  const halves = [0, 1].map((half) => 2 * Number(pair[1]) + half);
+  return (machineState) => halves.map((half) => ({ place: `r${half}`, name: `R${half}`, value: machineState.register(half) }));
+}
+
+/**
+ * Returns the reader of a RAM or status character; null for any other place.
+ * @param {string} place
+ * @returns {Reader | null}
+ */
+function memoryReader(place) {
+  const [kind, bank, at, number] = place.split(".");
+  if (kind === "ram") return editableReader(place, (machineState) => machineState.character(Number(bank), Number(at)));
+  return kind === "st" ? editableReader(place, (machineState) => machineState.status(Number(bank), Number(at), Number(number))) : null;
+}
+
+/**
+ * Returns the reader of a port; null for any other place.
+ * @param {string} place
+ * @returns {Reader | null}
+ */
+function portReader(place) {
+  const rom = /^rom(\d+)$/.exec(place);
+  if (rom) {
+    return (machineState) => {
+      const port = machineState.romPort(Number(rom[1]));
+      return [port ? say.outAndIn(port.out, port.in) : say.LACKED];
+    };
+  }
+  const ram = /^ram(\d)\.(\d)$/.exec(place);
+  if (!ram) return null;
+  return (machineState) => {
+    const out = machineState.ramPort(Number(ram[1]), Number(ram[2]));
+    return [out === "" ? say.LACKED : `out ${out}`];
+  };
+}
+
+/**
+ * Returns the reader of a place that the user cannot edit.
+ * @param {import("../conditions/places.js").Place} place
+ * @returns {Reader}
+ */
+function placeReader(place) {
+  return (machineState, { board }) => {
+    const probes = place.probesOn(board);
+    return [probes.length === 0 ? say.LACKED : place.value(probes.map((probe) => readPlaceValue(probe, machineState, board)))];
+  };
+}
+
+/**
+ * Returns the reader of any other expression, such as a sum, a comparison or a name.
+ * @param {string} text
+ * @returns {Reader}
+ */
+function expressionReader(text) {
+  return (machineState, names) => {
+    const { expression, fault } = compileExpression(text, names);
+    if (!expression) return [fault];
+    const answers = expression.places.map((place) => readPlaceValue(place, machineState, names.board));
+    const number = expression.number ? expression.number(answers) : 0;
+    const value = expression.textOf(answers);
+    return [number > MAX_DECIMAL_ONLY && /^\d+$/.test(value) ? say.withHex(value, number.toString(16).toUpperCase()) : value];
+  };
+}
+
+/**
+ * Splits a watch expression into its name and its value. `count = R5` has the name `count`. `r5 = 10` is a comparison and has no name.
+ * @param {string} text
+ */
+function splitWatchExpression(text) {
+  const [, name, value] = /^\s*([^\s=<>!&+()-]*)\s*=(?!=)\s*(.*?)\s*$/.exec(text) || [];
+  // `x = 5` is a comparison, because a name for a number would be useless.
+  const isComparison = name === undefined || KEYWORDS.has(name.toLowerCase()) || /^(test|owed)$/i.test(name) || parsePlace(name) !== null
+    || !Number.isNaN(parseNumeral(value));
+  if (isComparison) return { name: "", value: text.trim(), column: text.length - text.trimStart().length };
+  return { name, value, column: text.trimEnd().length - value.length };
+}
+
+/**
+ * Returns the error message for an expression, with a column; "" if there is no error. If `names` is null, only the syntax is checked.
+ * @param {string} value
+ * @param {number} begin the column at which the expression starts
+ * @param {Names | null} names
+ */
+function expressionError(value, begin, names) {
+  if (names) {
+    const { fault, column } = compileExpression(value, names);
+    return fault && inColumn(fault, begin + column);
+  }
+  try {
+    parseExpression(value);
+    return "";
+  } catch (fault) {
+    if (fault instanceof ConditionError) return inColumn(fault.message, begin + Math.max(0, fault.column));
+    throw fault;
+  }
+}
+
+/**
+ * Parses a watch expression. `fault` is an error message, or "".
+ * @param {string} text
+ * @param {Names | null} [names] the names of the board and the program, if known
+ * @returns {{ watched: WatchExpression | null, fault: string }}
+ */
+export function parseWatch(text, names = null) {
+  if (text.length > MAX_LENGTH) return { watched: null, fault: say.tooLong(MAX_LENGTH) };
+  const { name, value, column } = splitWatchExpression(text);
+  if (name !== "" && !NAME.test(name)) return { watched: null, fault: say.NAME_FORM };
+  if (value === "") return { watched: null, fault: say.EXPRESSION_MISSING };
+  const place = parsePlace(value);
+  const fault = place ? "" : expressionError(value, column, names);
+  if (fault) return { watched: null, fault };
+  const placeName = place ? place.name : "";
+  const pieces = machineReader(placeName) || portReader(placeName) || memoryReader(placeName)
+    || (place ? placeReader(place) : expressionReader(value));
+  const character = /^(ram|st)\./.test(placeName) ? placeName : "";
+  return { watched: { name: name || value, text: name ? `${name} = ${value}` : value, place: character, value, pieces }, fault: "" };
+}
+
+/**
+ * Parses saved watch expressions, which can be invalid data. `fault` is the first error message, "" for none.
+ * @param {unknown} texts
+ * @returns {{ all: WatchExpression[], fault: string }}
+ */
+export function parseWatches(texts) {
+  if (!Array.isArray(texts)) return { all: [], fault: "" };
+  const results = texts.slice(0, MAX_WATCH_EXPRESSIONS).flatMap((text) => (typeof text === "string" ? [parseWatch(text)] : []));
+  const failedResult = results.find(({ fault }) => fault !== "");
+  return { all: results.flatMap(({ watched }) => (watched ? [watched] : [])), fault: failedResult ? failedResult.fault : "" };
+}
+
+/**
+ * Returns the names that the user has given to watch expressions, with the expressions. Conditions can use these names.
+ * @param {unknown} texts
+ * @returns {Map<string, string>}
+ */
+export function collectWatchNames(texts) {
+  return new Map(parseWatches(texts).all.filter(({ name, text }) => name !== text).map(({ name, value }) => [name, value]));
+}

@@ -1,0 +1,193 @@
+// Describes the current value of a word in the source: a register, a register pair, the RAM character that an instruction uses, a number or
+// a label. A description is a list of pieces: texts, and values that the user can edit.
+//
+//     pieces(valuesAt("        SRC P2", 13, machineState, names))     "P2 = 60: R4 6, R5 0; selects ROM 6, and of bank 0 chip 1, .."
+
+import { hex, parseNumber } from "../bench/numbers.js";
+import { NUMBER, PAIR, REGISTER, splitStatement, wordAt } from "../text/assembly.js";
+import { describeCharacter } from "./machine_state.js";
+import * as say from "../../words/debug.js";
+
+/**
+ * @typedef {import("./machine_state.js").MachineState} MachineState
+ * @typedef {import("../text/assembly.js").Parts} Parts
+ *
+ * An editable value: its `poke` place, its title, and its text.
+ * @typedef {{ place: string, name: string, value: string }} Value
+ * @typedef {string | Value} Piece
+ *
+ * The program in ROM. `nameOf` returns the value and the description of a program name. `describeInstruction` returns the description of
+ * an instruction; "" for any other word.
+ * @typedef {{ value: number, isLabel: boolean, words: string }} NamedValue
+ * @typedef {{ nameOf: (name: string) => NamedValue | undefined, describeInstruction: (word: string) => string }} Program
+ */
+
+/** Matches the mnemonic of an instruction that uses a status character, and captures the number of this character. */
+const STATUS_INSTRUCTION = /^(?:RD|WR)([0-3])$/;
+/** Matches a description of an instruction that uses the accumulator or the carry. */
+const ACCUMULATOR_WORD = /\b(ACC|CY|carry|borrow)\b/;
+/** The instructions that use a RAM character. */
+const CHARACTER_INSTRUCTIONS = new Set(["WRM", "RDM", "ADM", "SBM"]);
+
+/**
+ * Joins pieces into one text.
+ * @param {Piece[]} pieces
+ */
+export function joinPieces(pieces) {
+  return pieces.map((piece) => (typeof piece === "string" ? piece : piece.value)).join("");
+}
+
+/**
+ * Returns the value of a register.
+ * @param {number} number the register number
+ * @param {MachineState} machineState
+ * @returns {Value}
+ */
+function registerValue(number, machineState) {
+  return { place: `r${number}`, name: `R${number}`, value: machineState.register(number) };
+}
+
+/**
+ * Returns the value of the accumulator or the carry.
+ * @param {string} place `acc` or `cy`
+ * @param {string} name the title
+ * @param {MachineState} machineState
+ * @returns {Value}
+ */
+function machineValue(place, name, { registers }) {
+  return { place, name, value: place === "acc" ? registers.accumulator : registers.carry };
+}
+
+/**
+ * Describes a RAM character with its value.
+ * @param {number} bank
+ * @param {number} byte
+ * @param {MachineState} machineState
+ * @returns {Piece[]}
+ */
+function characterPieces(bank, byte, machineState) {
+  const description = say.inBank(bank, describeCharacter(byte));
+  const value = machineState.character(bank, byte);
+  if (value === "") return [say.boardLacks(description)];
+  return [`${description} = `, { place: `ram.${bank}.0x${hex(byte, 2)}`, name: description, value }];
+}
+
+/**
+ * Describes the ROM port and the RAM character in the current bank that a byte selects when SRC sends this byte.
+ * @param {number} byte
+ * @param {MachineState} machineState
+ * @returns {Piece[]}
+ */
+function selectionPieces(byte, machineState) {
+  const chip = byte >> 4;
+  const rom = machineState.romPort(chip) ? [say.romChip(chip)] : [];
+  const hasRam = machineState.latchedSource() !== undefined;
+  if (!hasRam) return rom.length > 0 ? rom : [say.NOTHING_THERE];
+  return [...rom.map((each) => `${each}; `), ...characterPieces(machineState.bank, byte, machineState)];
+}
+
+/**
+ * Describes a register or register pair. For the operand of SRC, also describes the chip and RAM character that SRC selects.
+ * @param {string} word
+ * @param {Parts} parts the parts of the line
+ * @param {MachineState} machineState
+ * @returns {Piece[]}
+ */
+function registerPieces(word, { head }, machineState) {
+  const number = Number(word.slice(1));
+  if (!PAIR.test(word)) return [`R${number} = `, registerValue(number, machineState)];
+  const byte = machineState.pair(number);
+  /** @type {Piece[]} */
+  const pieces = [`P${number} = ${byte}: R${2 * number} `, registerValue(2 * number, machineState), `, R${2 * number + 1} `,
+    registerValue(2 * number + 1, machineState)];
+  if (!head || head.text.toUpperCase() !== "SRC") return pieces;
+  return [...pieces, say.SELECTS, ...selectionPieces(parseInt(byte, 16), machineState)];
+}
+
+/**
+ * Describes the value that an instruction accesses through the selection by SRC. Returns no pieces if there is no such value.
+ * @param {string} name the upper-case mnemonic
+ * @param {MachineState} machineState
+ * @returns {Piece[]}
+ */
+function portPieces(name, machineState) {
+  const { bank } = machineState;
+  if (name === "WRR" || name === "RDR") {
+    const chip = machineState.source >> 4;
+    const port = machineState.romPort(chip);
+    return [port ? say.portOfRom(chip, port.out, port.in) : say.boardLacks(say.romChip(chip))];
+  }
+  const byte = machineState.latchedSource();
+  const usesRam = CHARACTER_INSTRUCTIONS.has(name) || name === "WMP" || STATUS_INSTRUCTION.test(name);
+  if (byte === undefined) return usesRam ? [say.bankWithoutRam(bank)] : [];
+  if (CHARACTER_INSTRUCTIONS.has(name)) return characterPieces(bank, byte, machineState);
+  if (name === "WMP") {
+    const out = machineState.ramPort(bank, byte >> 6);
+    return [say.portOfRam(bank, byte >> 6, out)];
+  }
+  const status = STATUS_INSTRUCTION.exec(name);
+  if (!status) return [];
+  const description = say.statusAt(bank, byte >> 6, byte >> 4 & 3, status[1]);
+  const value = machineState.status(bank, byte >> 4, Number(status[1]));
+  if (value === "") return [say.boardLacks(description)];
+  return [`${description} = `, { place: `st.${bank}.${byte >> 4}.${status[1]}`, name: description, value }];
+}
+
+/**
+ * Describes the values that an instruction uses in addition to its operands.
+ * @param {string} name the upper-case mnemonic
+ * @param {string} description the description of the instruction
+ * @param {Parts} parts
+ * @param {MachineState} machineState
+ * @returns {Piece[]}
+ */
+function instructionPieces(name, description, parts, machineState) {
+  const [operand] = parts.operands;
+  if (name === "SRC" && operand && PAIR.test(operand.text)) return registerPieces(operand.text, parts, machineState);
+  const pieces = portPieces(name, machineState);
+  if (!ACCUMULATOR_WORD.test(description)) return pieces;
+  /** @type {Piece[]} */
+  const accumulator = ["acc ", machineValue("acc", "acc", machineState), ", cy ", machineValue("cy", "cy", machineState)];
+  return pieces.length > 0 ? [...pieces, "; ", ...accumulator] : accumulator;
+}
+
+/**
+ * Describes a number, also in binary. For the operand of FIM, also describes the chip and RAM character that SRC would select.
+ * @param {string} numberText the number in decimal and hexadecimal
+ * @param {number} value
+ * @param {Parts} parts
+ * @param {MachineState} machineState
+ * @returns {Piece[]}
+ */
+function numberPieces(numberText, value, { head }, machineState) {
+  if (!(value <= 255)) return [numberText];
+  const binary = value.toString(2).padStart(value > 15 ? 8 : 4, "0").replace(/(....)(....)/, "$1 $2");
+  if (!head || head.text.toUpperCase() !== "FIM") return [`${numberText}, ${binary}`];
+  return [say.bySource(numberText, binary), ...selectionPieces(value, machineState)];
+}
+
+/**
+ * Describes the current value of the word at an index in a line. Returns no pieces if the word has no value.
+ * @param {string} text the line
+ * @param {number} at the index
+ * @param {MachineState} machineState
+ * @param {Program} program
+ * @returns {Piece[]}
+ */
+export function valuesAt(text, at, machineState, { nameOf, describeInstruction }) {
+  const word = wordAt(text, at);
+  const parts = splitStatement(text);
+  if (!word || word.from >= parts.comment) return [];
+  const mnemonic = word.text.toUpperCase();
+  const description = describeInstruction(mnemonic);
+  if (description !== "") return instructionPieces(mnemonic, description, parts, machineState);
+  if (REGISTER.test(word.text) || PAIR.test(word.text)) return registerPieces(word.text, parts, machineState);
+  if (NUMBER.test(word.text)) {
+    const value = parseNumber(word.text);
+    return numberPieces(`${value} = 0x${hex(value, 1)}`, value, parts, machineState);
+  }
+  const name = nameOf(word.text);
+  if (!name) return [];
+  if (!name.isLabel) return numberPieces(name.words, name.value, parts, machineState);
+  return [machineState.registers.counter === hex(name.value, 3) ? say.isNext(name.words) : name.words];
+}

@@ -1,0 +1,322 @@
+// Translates an action in the board drawing to edits of the board text. If the action is impossible, returns a message instead. Only the
+// bench decides whether the resulting text is valid.
+
+import { boardLines } from "../bench/board_form.js";
+import { formatQuantity } from "../bench/numbers.js";
+import { Face } from "../board/face.js";
+import { BUZZER, parseChainBit, canWire, targetName, splitTarget, inputLines } from "./board_lines.js";
+import {
+  INPUT_MASK, OUTPUT_MASK, addBuzzer, addChain, addColumn, addDisplay, addKeys, addLamp, addRam, addRom, addMultiplexedDisplay,
+  displayedPartName, ensureRom, requireOutputs, setChips, setRows,
+} from "./part_addition.js";
+import { deletePart, displayAt, lampsInSameGroup } from "./part_deletion.js";
+import { COLOURS, colourLamp, moveBuzzer, nameKey, nameLamp, setLineText, toWord } from "./face_edits.js";
+import { replaceValue, setValue } from "./part_edits.js";
+import { ImpossibleAction, EditedBoard } from "./edited_board.js";
+import * as say from "../../words/drawing.js";
+
+/**
+ * @typedef {import("./text_edits.js").TextEdit} TextEdit
+ *
+ * The actions:
+ * - `add`: adds a part from the shelf; `line` is an optional signal line for a lamp or buzzer; `digits` is the number of display digits
+ * - `wire`: connects a signal line to an input
+ * - `port`: makes a ROM line an input (`i`), or an output that reads as `0` or `1`
+ * - `chips`, `rows`: sets the number of chips in a chain, or the number of key rows
+ * - `column`: adds a key column
+ * - `delete`, `copy`: deletes a part, or adds a copy of it
+ * - `name`: names a part, a key (`key ROW COLUMN`), the board (`title`) or the button or switch at the TEST pin (`test`); "" removes the
+ * name
+ * - `colour`: sets the lamp colour; "" for the default colour
+ * @typedef {{ kind: "add", part: ShelfPart, line?: string, digits?: number } | { kind: "wire", line: string, target: string }
+ *   | { kind: "port", line: string, as: string } | { kind: "chips", chain: number, chips: number } | { kind: "rows", rows: number }
+ *   | { kind: "column" } | { kind: "delete", part: string } | { kind: "copy", part: string }
+ *   | { kind: "name", part: string, name: string } | { kind: "colour", lamp: number, colour: string }} DrawingAction
+ * @typedef {"rom" | "inputs" | "ram" | "chain" | "keys" | "lamp" | "digit" | "segments" | "scanned" | "button" | "switch"
+ *   | "buzzer"} ShelfPart a kind of part on the shelf: `rom` is a ROM with outputs, `inputs` a ROM with inputs, `digit` a display with BCD
+ *   digits, `segments` a display with seven-segment digits, and `scanned` a multiplexed display
+ *
+ * The result of an action: the edits in order, the text after all edits, the affected part, a message (`words`), and the numbers of deleted
+ * chains. If the action is impossible, `refusal` is a message and there are no edits; otherwise `refusal` is "".
+ * @typedef {{ edits: TextEdit[], text: string, part: string, words: string, deletedChains: number[], refusal: string }} Result
+ */
+
+/** @type {ShelfPart[]} the kinds of parts on the shelf, in order */
+export const SHELF_PARTS = ["rom", "inputs", "ram", "chain", "keys", "lamp", "button", "switch", "buzzer", "digit", "segments", "scanned"];
+
+/**
+ * Adds a part from the shelf; returns its name.
+ * @param {EditedBoard} editedBoard
+ * @param {Extract<DrawingAction, { kind: "add" }>} act
+ * @returns {string}
+ */
+function addFromShelf(editedBoard, { part, line, digits = 1 }) {
+  switch (part) {
+    case "scanned": return addMultiplexedDisplay(editedBoard, digits);
+    case "rom": return addRom(editedBoard, OUTPUT_MASK);
+    case "inputs": return addRom(editedBoard, INPUT_MASK);
+    case "ram":
+      ensureRom(editedBoard);
+      return addRam(editedBoard);
+    case "chain": return addChain(editedBoard);
+    case "keys": return addKeys(editedBoard);
+    case "lamp": return addLamp(editedBoard, line);
+    case "buzzer": return addBuzzer(editedBoard, line);
+    case "digit": case "segments": return addDisplay(editedBoard, part, digits);
+    default: return addTest(editedBoard, part);
+  }
+}
+
+/**
+ * Adds a button or switch at the TEST pin; returns the part name.
+ * @param {EditedBoard} editedBoard
+ * @param {"button" | "switch"} kind
+ */
+function addTest(editedBoard, kind) {
+  if (new Face(editedBoard.text).test) throw new ImpossibleAction(say.TEST_IN_USE);
+  ensureRom(editedBoard);
+  editedBoard.edit(setLineText(editedBoard.draft, "test", "", `${kind} ${kind === "button" ? "PUSH" : "RUN"}`));
+  return "test";
+}
+
+/**
+ * Connects a signal line to an input; throws `ImpossibleAction` if the connection is not allowed.
+ * @param {EditedBoard} editedBoard
+ * @param {string} name the name of the line
+ * @param {string} target the input
+ */
+function connectLine(editedBoard, name, target) {
+  const { board, draft } = editedBoard;
+  const line = boardLines(board).find((each) => each.name === name);
+  if (!line || !inputLines(board).has(target)) throw new ImpossibleAction(say.boardHasNo(line ? target : name));
+  if (!canWire(board, line, target)) throw new ImpossibleAction(wireRefusal(line, target));
+  const [kind, number] = splitTarget(target);
+  if (kind === "clock" || kind === "data") editedBoard.edit([setValue(draft, draft.entry("chain", number), kind, name)]);
+  if (kind === "lamp") editedBoard.edit([setValue(draft, draft.entry("lamp", number), "line", name)]);
+  if (kind === "buzzer") editedBoard.edit(moveBuzzer(draft, name));
+  if (kind === "column") {
+    const columns = draft.requireKey(draft.entry("keys", 0), "columns").value;
+    editedBoard.edit([replaceValue(draft, /** @type {import("../text/board_reader.js").Value[]} */ (columns.inner)[number], name)]);
+  }
+  if (kind === "row") {
+    const { chain, bit } = parseChainBit(name);
+    const keys = draft.entry("keys", 0);
+    editedBoard.edit([setValue(draft, keys, "chain", chain), setValue(draft, keys, "first", bit - number)]);
+  }
+}
+
+/**
+ * Returns the message for a signal line that cannot be connected to an input.
+ * @param {import("../bench/board_form.js").BoardLine} line
+ * @param {string} target
+ */
+function wireRefusal({ name, kind, isInput }, target) {
+  const [inputKind] = splitTarget(target);
+  if (inputKind === "column") return say.needsInput(name, targetName(target));
+  if (isInput) return say.needsOutput(name, targetName(target));
+  if (inputKind === "row") return say.cannotDrive(name);
+  return say.needsChipLine(name, kind, targetName(target));
+}
+
+/**
+ * Makes a ROM line an input or an output; throws `ImpossibleAction` if connected parts need the other direction.
+ * @param {EditedBoard} editedBoard
+ * @param {string} line
+ * @param {string} mode `i`, `0` or `1`
+ */
+function setPort(editedBoard, line, mode) {
+  const [chip, at] = line.replace("rom", "").split(".").map(Number);
+  const { draft, board } = editedBoard;
+  const entry = draft.partByNumber("rom", chip);
+  const port = String(draft.requireKey(entry, "port").value.inner);
+  const users = [...inputLines(board)].filter(([target, name]) => name === line && target !== BUZZER).map(([target]) => target);
+  const changesDirection = (port[3 - at] === "i") !== (mode === "i");
+  if (changesDirection && users.length > 0) {
+    throw new ImpossibleAction(say.takenLine(line, users.map(targetName).join(say.AND)));
+  }
+  requireOutputs(editedBoard, (each) => changesDirection && each === line);
+  editedBoard.edit([setValue(draft, entry, "port", port.slice(0, 3 - at) + mode + port.slice(4 - at))]);
+}
+
+/**
+ * Adds a copy of an existing part; returns its name.
+ * @param {EditedBoard} editedBoard
+ * @param {string} part
+ */
+function copyPart(editedBoard, part) {
+  const { board, text } = editedBoard;
+  const [kind, number] = splitTarget(part);
+  const face = new Face(text);
+  if (kind === "rom") return addRom(editedBoard, (board.roms.find(({ chip }) => Number(chip) === number) || { port: OUTPUT_MASK }).port);
+  if (kind === "ram") return addRam(editedBoard);
+  if (kind === "chain") return addChain(editedBoard, board.chains[number].chips);
+  if (kind !== "lamp") throw new ImpossibleAction(say.ONLY_ONCE);
+  const display = displayAt(face, number);
+  if (display) return addDisplay(editedBoard, display.columns < 7 ? "digit" : "segments", display.rows);
+  if (lampsInSameGroup(face, number).length > 1) throw new ImpossibleAction(say.COPY_IN_TEXT);
+  return addLamp(editedBoard, "", (face.colours.get(number) || { text: "" }).text);
+}
+
+/**
+ * Names a lamp; throws `ImpossibleAction` if the new name would change the lamps on the grid.
+ * @param {EditedBoard} editedBoard
+ * @param {number} lamp
+ * @param {string} name
+ */
+function renameLamp(editedBoard, lamp, name) {
+  /** @type {(text: string) => string} */
+  const describeGrid = (text) => new Face(text).grid.map((each) => `${each.row} ${each.column} ${each.lamp}`).join();
+  const grid = describeGrid(editedBoard.text);
+  editedBoard.edit(nameLamp(editedBoard.draft, lamp, name));
+  if (describeGrid(editedBoard.text) !== grid) throw new ImpossibleAction(say.GRID_DIFFERS);
+}
+
+/**
+ * Names a part; throws `ImpossibleAction` if the name is not allowed.
+ * @param {EditedBoard} editedBoard
+ * @param {string} part
+ * @param {string} name
+ */
+function renamePart(editedBoard, part, name) {
+  const { draft, text, board } = editedBoard;
+  const [kind, number] = splitTarget(part);
+  if (kind === "lamp") renameLamp(editedBoard, number, name);
+  else if (kind === "key") editedBoard.edit(nameKey(draft, { row: number, column: Number(part.split(" ")[2]) }, name));
+  else if (kind === "title") editedBoard.edit(setLineText(draft, "title", "", name));
+  else if (kind === "test") {
+    const { test } = new Face(text);
+    if (!test || toWord(name) === "") throw new ImpossibleAction(say.TEST_NEEDS_NAME);
+    editedBoard.edit(setLineText(draft, "test", "", `${test.kind} ${toWord(name)}${test.level ? " to 1" : ""}`));
+  } else if (kind === "buzzer") {
+    if (!board.buzzer || name.trim() === "") throw new ImpossibleAction(say.BUZZER_NEEDS_NAME);
+    editedBoard.edit(setLineText(draft, "buzzer", board.buzzer, name));
+  } else if (["rom", "ram", "chain"].includes(kind)) editedBoard.edit(setLineText(draft, "port", part.replace(" ", ""), name));
+  else throw new ImpossibleAction(say.NO_OWN_NAME);
+}
+
+/**
+ * Sets the lamp colour; throws `ImpossibleAction` for an unknown colour.
+ * @param {EditedBoard} editedBoard
+ * @param {number} lamp
+ * @param {string} colour "" for the default
+ */
+function setColour(editedBoard, lamp, colour) {
+  if (colour !== "" && !COLOURS.has(colour)) throw new ImpossibleAction(say.noColour(colour, [...COLOURS].join(", ")));
+  editedBoard.edit(colourLamp(editedBoard.draft, lamp, colour));
+}
+
+/**
+ * Returns the message after an action on a part, such as `ROM 1 was added`.
+ * @param {string} part
+ * @param {string} participle such as `added`
+ */
+function completionMessage(part, participle) {
+  return `${capitalize(displayedPartName(part))} ${part === "keys" || part === "lamps" ? "were" : "was"} ${participle}`;
+}
+
+/**
+ * Returns a text with an upper-case first letter.
+ * @param {string} text
+ */
+function capitalize(text) {
+  return text.charAt(0).toUpperCase() + text.slice(1);
+}
+
+/**
+ * Performs an action; returns the name of the affected part and the message.
+ * @param {EditedBoard} editedBoard
+ * @param {DrawingAction} action
+ * @returns {[string, string]}
+ */
+function perform(editedBoard, action) {
+  const { board } = editedBoard;
+  switch (action.kind) {
+    case "add": {
+      const part = addFromShelf(editedBoard, action);
+      const isDisplay = ["digit", "segments", "scanned"].includes(action.part);
+      const digits = action.digits || 1;
+      return [part, isDisplay ? say.displayAdded(formatQuantity(digits, "digit")) : completionMessage(part, "added")];
+    }
+    case "copy": {
+      const part = copyPart(editedBoard, action.part);
+      return [part, say.copyAdded(capitalize(displayedPartName(part)), displayedPartName(action.part))];
+    }
+    case "wire":
+      connectLine(editedBoard, action.line, action.target);
+      return [action.target, say.lineWired(action.line, targetName(action.target))];
+    case "port":
+      setPort(editedBoard, action.line, action.as);
+      return [action.line, say.lineIs(action.line, action.as === "i" ? say.INPUT : say.outputReadsAs(action.as))];
+    case "chips":
+      return [setChips(editedBoard, action.chain, action.chips), say.chainHas(action.chain, formatQuantity(action.chips, "chip"))];
+    case "rows":
+      if (board.matrix && action.rows < board.matrix.rows) deletePart(editedBoard, `row ${action.rows}`);
+      else setRows(editedBoard, action.rows);
+      return ["keys", say.keysHave(formatQuantity(action.rows, "row"))];
+    case "column": return [addColumn(editedBoard), say.MORE_COLUMNS];
+    case "delete": {
+      const words = deletePart(editedBoard, action.part);
+      return ["", `${completionMessage(action.part, "deleted")}${words && say.andWithIt(words)}`];
+    }
+    case "name":
+      renamePart(editedBoard, action.part, action.name);
+      return [action.part, say.named(capitalize(displayedPartName(action.part)), action.name.trim())];
+    case "colour":
+      setColour(editedBoard, action.lamp, action.colour);
+      return [`lamp ${action.lamp}`, say.lampIs(action.lamp, action.colour || say.USUAL_RED)];
+  }
+}
+
+/**
+ * Returns the message for a front-panel error that an action caused; "" if there is none.
+ * @param {string} textBefore the text before the action
+ * @param {string} textAfter the text after the action
+ */
+function newPanelError(textBefore, textAfter) {
+  const oldMessages = new Face(textBefore).faults.map(({ words }) => words.replace(/\d+/g, ""));
+  const { faults } = new Face(textAfter);
+  if (faults.length <= oldMessages.length) return "";
+  const [newError] = faults.filter(({ words }) => !oldMessages.includes(words.replace(/\d+/g, "")));
+  return newError ? `${capitalize(newError.words)}.` : say.FACE_UNREADABLE;
+}
+
+/**
+ * Returns the result of an action on a board text.
+ * @param {string} text
+ * @param {DrawingAction} action
+ * @returns {Result}
+ */
+export function applyAction(text, action) {
+  const unchanged = { edits: [], text, part: "", words: "", deletedChains: [] };
+  const editedBoard = new EditedBoard(text);
+  if (!editedBoard.draft.isToml || !editedBoard.draft.boardAnswers) return { ...unchanged, refusal: say.TEXT_HAS_ERRORS };
+  try {
+    const [part, message] = perform(editedBoard, action);
+    const fault = newPanelError(text, editedBoard.text);
+    if (fault) return { ...unchanged, refusal: fault };
+    const alsoAdded = editedBoard.addedParts.length > 0 ? say.withAlso(say.listOf(editedBoard.addedParts)) : "";
+    const { edits, deletedChains } = editedBoard;
+    return { edits, text: editedBoard.text, part, words: `${message}${alsoAdded}.`, deletedChains, refusal: "" };
+  } catch (fault) {
+    if (!(fault instanceof ImpossibleAction)) throw fault;
+    return { ...unchanged, refusal: fault.message };
+  }
+}
+
+/**
+ * Returns the reason why a part from the shelf cannot be added; "" if it can be added.
+ * @param {string} text
+ * @param {ShelfPart} part
+ */
+export function reasonNotToAdd(text, part) {
+  return applyAction(text, { kind: "add", part }).refusal;
+}
+
+/**
+ * Returns whether the page and the bench read the same board from a text. Otherwise the drawing cannot edit the text.
+ * @param {string} text
+ * @param {string[]} answers the answer to `board` after the bench has wired the text
+ */
+export function matchesBench(text, answers) {
+  return new EditedBoard(text).draft.matchesAnswers(answers);
+}

@@ -1,0 +1,361 @@
+// Adds parts to a board and connects them to free signal lines. If there are too few free lines, also adds chips with free lines.
+
+import { formatQuantity, indices } from "../bench/numbers.js";
+import { Face } from "../board/face.js";
+import { printerLines } from "../board/face_board.js";
+import { limit } from "../board/face_words.js";
+import { BITS_PER_CHIP, MAX_COLUMNS, MAX_PARTS, VALUE_RANGES } from "../bench/board_form.js";
+import { addGroup, colourLamp, setLineText } from "./face_edits.js";
+import { BUZZER, parseChainBit, freeLines, inputLines } from "./board_lines.js";
+import { addPart, appendElement, setValue, formatToml } from "./part_edits.js";
+import { ImpossibleAction } from "./edited_board.js";
+import * as say from "../../words/drawing.js";
+
+/**
+ * @typedef {import("./edited_board.js").EditedBoard} EditedBoard
+ * @typedef {import("./board_lines.js").Board} Board
+ */
+
+/** The port masks of a ROM with four outputs, and of a ROM with four inputs. */
+export const OUTPUT_MASK = "0000";
+export const INPUT_MASK = "iiii";
+const LINES_PER_DIGIT = { digit: 4, segments: 7 };
+
+/**
+ * Returns the lowest unused number; undefined if all numbers are used.
+ * @param {number[]} usedNumbers
+ * @param {number} count the numbers are 0 to `count` - 1
+ */
+function freeNumber(usedNumbers, count) {
+  return indices(count).find((number) => !usedNumbers.includes(number));
+}
+
+/**
+ * Adds a ROM; returns its name.
+ * @param {EditedBoard} editedBoard
+ * @param {string} port the port mask
+ */
+export function addRom(editedBoard, port) {
+  const chip = freeNumber(editedBoard.board.roms.map((rom) => Number(rom.chip)), MAX_PARTS.rom);
+  if (chip === undefined) throw new ImpossibleAction(say.maxRoms(MAX_PARTS.rom));
+  editedBoard.edit(addPart(editedBoard.draft, "rom", { chip, port }));
+  return `rom ${chip}`;
+}
+
+/**
+ * Adds a RAM chip; returns its name.
+ * @param {EditedBoard} editedBoard
+ */
+export function addRam(editedBoard) {
+  const { banks } = editedBoard.board;
+  const { to: maxChips } = VALUE_RANGES["ram.chips"];
+  const openBank = banks.find(({ chips }) => chips < maxChips);
+  if (openBank) {
+    editedBoard.edit([setValue(editedBoard.draft, editedBoard.draft.partByNumber("ram", openBank.bank), "chips", openBank.chips + 1)]);
+    return `ram ${openBank.bank}.${openBank.chips}`;
+  }
+  const bank = freeNumber(banks.map((each) => each.bank), MAX_PARTS.ram);
+  if (bank === undefined) throw new ImpossibleAction(say.maxRams(MAX_PARTS.ram, maxChips));
+  editedBoard.edit(addPart(editedBoard.draft, "ram", { bank, chips: 1 }));
+  return `ram ${bank}.0`;
+}
+
+/**
+ * Adds a part that another part needs; returns its name.
+ * @param {EditedBoard} editedBoard
+ * @param {() => string} add adds the part and returns its name
+ */
+function addRequired(editedBoard, add) {
+  const part = add();
+  editedBoard.addedParts.push(displayedPartName(part));
+  return part;
+}
+
+/**
+ * Returns the name of a part for messages: `ROM 0`, `RAM 0.1`, `chain 0`, `lamp 3` or `the keys`.
+ * @param {string} part
+ */
+export function displayedPartName(part) {
+  if (part === "test") return say.AT_TEST;
+  if (part === "title") return say.THE_BOARD;
+  if (part === "keys" || part === "lamps") return say.thePart(part);
+  if (part === BUZZER || part === "buzzer") return say.THE_BUZZER;
+  return part.replace(/^(rom|ram) /, (kind) => kind.toUpperCase());
+}
+
+/**
+ * Adds a ROM for the program if the board has none.
+ * @param {EditedBoard} editedBoard
+ */
+export function ensureRom(editedBoard) {
+  if (editedBoard.board.roms.length === 0) addRequired(editedBoard, () => addRom(editedBoard, OUTPUT_MASK));
+}
+
+/**
+ * Adds parts until there are enough free lines; returns the first `count` free lines.
+ * @param {EditedBoard} editedBoard
+ * @param {number} count the number of lines
+ * @param {(board: Board) => string[]} find returns the suitable free lines
+ * @param {() => string} add adds a part with suitable lines
+ */
+function ensureLines(editedBoard, count, find, add) {
+  while (find(editedBoard.board).length < count) addRequired(editedBoard, add);
+  return find(editedBoard.board).slice(0, count);
+}
+
+/**
+ * Returns the free output lines of ports.
+ * @param {Board} board
+ */
+function freeOutputs(board) {
+  return freeLines(board).filter(({ kind, isInput }) => kind !== "bit" && !isInput).map(({ name }) => name);
+}
+
+/**
+ * Returns the free input lines.
+ * @param {Board} board
+ */
+function freeInputs(board) {
+  return freeLines(board).filter(({ isInput }) => isInput).map(({ name }) => name);
+}
+
+/**
+ * Returns the free lines for lamps: first RAM port lines, then ROM port lines, then chain bits.
+ * @param {Board} board
+ */
+function freeLampLines(board) {
+  const outputLines = freeLines(board).filter(({ isInput }) => !isInput);
+  return ["ram", "rom", "bit"].flatMap((wantedKind) => outputLines.filter(({ kind }) => kind === wantedKind)).map(({ name }) => name);
+}
+
+/**
+ * Adds a chain; returns its name.
+ * @param {EditedBoard} editedBoard
+ * @param {number} chips
+ */
+export function addChain(editedBoard, chips = 1) {
+  const at = editedBoard.board.chains.length;
+  if (at >= MAX_PARTS.chain) throw new ImpossibleAction(say.maxChains(MAX_PARTS.chain));
+  const [clock, data] = ensureLines(editedBoard, 2, freeOutputs, () => addRom(editedBoard, OUTPUT_MASK));
+  editedBoard.edit(addPart(editedBoard.draft, "chain", { clock, data, chips }));
+  return `chain ${at}`;
+}
+
+/**
+ * Returns the first `count` consecutive free bits of a chain; null if no chain has that many.
+ * @param {Board} board
+ * @param {number} count
+ */
+function freeBits(board, count) {
+  const freeNames = new Set(freeLines(board).map(({ name }) => name));
+  for (const [chain, { chips }] of board.chains.entries()) {
+    const starts = indices(Math.max(0, BITS_PER_CHIP * chips - count + 1));
+    const first = starts.find((bit) => indices(count).every((index) => freeNames.has(`chain${chain}.${bit + index}`)));
+    if (first !== undefined) return { chain, first };
+  }
+  return null;
+}
+
+/**
+ * Returns `count` consecutive free bits of a chain; adds a chain if necessary.
+ * @param {EditedBoard} editedBoard
+ * @param {number} count
+ */
+function ensureBits(editedBoard, count) {
+  if (!freeBits(editedBoard.board, count)) addRequired(editedBoard, () => addChain(editedBoard, Math.ceil(count / BITS_PER_CHIP)));
+  return /** @type {{ chain: number, first: number }} */ (freeBits(editedBoard.board, count));
+}
+
+/**
+ * Adds a key matrix with one row and one column per free input line, at most four; returns its name.
+ * @param {EditedBoard} editedBoard
+ */
+export function addKeys(editedBoard) {
+  if (editedBoard.board.matrix) throw new ImpossibleAction(say.ONE_MATRIX);
+  ensureRom(editedBoard);
+  const { chain, first } = ensureBits(editedBoard, 1);
+  if (freeInputs(editedBoard.board).length === 0) addRequired(editedBoard, () => addRom(editedBoard, INPUT_MASK));
+  const columns = freeInputs(editedBoard.board).slice(0, 4);
+  editedBoard.edit(addPart(editedBoard.draft, "keys", { chain, first, rows: 1, columns }));
+  return "keys";
+}
+
+/**
+ * Sets the number of key rows; returns the name of the part.
+ * @param {EditedBoard} editedBoard
+ * @param {number} rows
+ */
+export function setRows(editedBoard, rows) {
+  const { matrix, chains } = editedBoard.board;
+  if (!matrix) throw new ImpossibleAction(say.NO_KEYS);
+  const { from, to } = VALUE_RANGES["keys.rows"];
+  if (rows > to) throw new ImpossibleAction(say.maxRows(to));
+  if (rows < from) throw new ImpossibleAction(say.MIN_ROWS);
+  if (matrix.first + rows > BITS_PER_CHIP * chains[matrix.chain].chips) {
+    throw new ImpossibleAction(say.noBitForRow(matrix.chain));
+  }
+  editedBoard.edit([setValue(editedBoard.draft, editedBoard.draft.entry("keys", 0), "rows", rows)]);
+  return "keys";
+}
+
+/**
+ * Adds a key column; returns the name of the part.
+ * @param {EditedBoard} editedBoard
+ */
+export function addColumn(editedBoard) {
+  const { matrix } = editedBoard.board;
+  if (!matrix) throw new ImpossibleAction(say.NO_KEYS);
+  if (matrix.columns.length >= MAX_COLUMNS) throw new ImpossibleAction(say.maxColumns(MAX_COLUMNS));
+  const [line] = ensureLines(editedBoard, 1, freeInputs, () => addRom(editedBoard, INPUT_MASK));
+  const { draft } = editedBoard;
+  editedBoard.edit(appendElement(draft, draft.requireKey(draft.entry("keys", 0), "columns").value, formatToml(line)));
+  return "keys";
+}
+
+/**
+ * Throws `ImpossibleAction` if `count` more lamps exceed the maximum.
+ * @param {EditedBoard} editedBoard
+ * @param {number} count
+ */
+function checkLampCount({ board }, count) {
+  if (board.lamps.length + count > MAX_PARTS.lamp) throw new ImpossibleAction(say.maxLamps(MAX_PARTS.lamp, board.lamps.length));
+}
+
+/**
+ * Adds one lamp at each line.
+ * @param {EditedBoard} editedBoard
+ * @param {string[]} lines
+ */
+function addLamps(editedBoard, lines) {
+  for (const line of lines) editedBoard.edit(addPart(editedBoard.draft, "lamp", { line }));
+}
+
+/**
+ * Adds a lamp; returns its name.
+ * @param {EditedBoard} editedBoard
+ * @param {string} [line] "" for the next free line
+ * @param {string} [colour] "" for the default colour
+ */
+export function addLamp(editedBoard, line = "", colour = "") {
+  checkLampCount(editedBoard, 1);
+  ensureRom(editedBoard);
+  const at = editedBoard.board.lamps.length;
+  const hasRam = editedBoard.board.banks.length > 0;
+  // The first lamp of a board without RAM gets a RAM chip, so that later lamps can be at the same port.
+  if (!line && !hasRam && at === 0) addRequired(editedBoard, () => addRam(editedBoard));
+  addLamps(editedBoard, [line || ensureLines(editedBoard, 1, freeLampLines, () => addRam(editedBoard))[0]]);
+  if (colour) editedBoard.edit(colourLamp(editedBoard.draft, at, colour));
+  return `lamp ${at}`;
+}
+
+/**
+ * Adds a buzzer; returns its name.
+ * @param {EditedBoard} editedBoard
+ * @param {string} [line] "" for the next free port line
+ */
+export function addBuzzer(editedBoard, line = "") {
+  if (new Face(editedBoard.text).buzzer) throw new ImpossibleAction(say.ONE_BUZZER);
+  ensureRom(editedBoard);
+  const output = line || ensureLines(editedBoard, 1, freeOutputs, () => addRam(editedBoard))[0];
+  editedBoard.edit(setLineText(editedBoard.draft, "buzzer", output, "buzzer"));
+  return BUZZER;
+}
+
+/**
+ * Adds a display; returns the name of its first lamp. Each BCD digit uses a RAM port; seven-segment digits use chain bits.
+ * @param {EditedBoard} editedBoard
+ * @param {"digit" | "segments"} kind
+ * @param {number} digits
+ */
+export function addDisplay(editedBoard, kind, digits) {
+  if (!Number.isInteger(digits) || digits < 1) throw new ImpossibleAction(say.MIN_DIGITS);
+  checkLampCount(editedBoard, digits * LINES_PER_DIGIT[kind]);
+  ensureRom(editedBoard);
+  const at = editedBoard.board.lamps.length;
+  if (kind === "digit") for (let digit = 0; digit < digits; digit++) addLamps(editedBoard, takeDigitPort(editedBoard));
+  else addLamps(editedBoard, takeSegmentBits(editedBoard, digits * LINES_PER_DIGIT.segments));
+  // (The next literal is a comment in the board text, in the syntax of tools/lib/face.txt.)
+  // eslint-disable-next-line no-restricted-syntax
+  const display = `${formatQuantity(digits, "digit")}${kind === "segments" ? " of 7 segments" : ""}`;
+  editedBoard.edit(addGroup(editedBoard.draft, "display", at, display));
+  return `lamp ${at}`;
+}
+
+/**
+ * Adds a multiplexed display with seven segment lines, shared by all digits, and one line per digit. Returns the name of its first lamp.
+ * @param {EditedBoard} editedBoard
+ * @param {number} digits
+ */
+export function addMultiplexedDisplay(editedBoard, digits) {
+  const maxDigits = limit("scanned");
+  if (!Number.isInteger(digits) || digits < 1 || digits > maxDigits) throw new ImpossibleAction(say.maxMultiplexed(maxDigits));
+  const count = LINES_PER_DIGIT.segments + digits;
+  checkLampCount(editedBoard, count);
+  ensureRom(editedBoard);
+  const at = editedBoard.board.lamps.length;
+  /** @type {(board: Board) => string[]} */
+  const find = (board) => freeLampLines(board).filter((line) => line.startsWith("ram"));
+  addLamps(editedBoard, ensureLines(editedBoard, count, find, () => addRam(editedBoard)));
+  // (The next literal is a comment in the board text, in the syntax of tools/lib/face.txt.)
+  // eslint-disable-next-line no-restricted-syntax
+  const display = `${formatQuantity(digits, "digit")} of 7 segments scanned by ${at + LINES_PER_DIGIT.segments}`;
+  editedBoard.edit(addGroup(editedBoard.draft, "display", at, display));
+  return `lamp ${at}`;
+}
+
+/**
+ * Returns the lines of a free RAM port, line 3 first; adds a RAM chip if necessary.
+ * @param {EditedBoard} editedBoard
+ */
+function takeDigitPort(editedBoard) {
+  const freeNames = new Set(freeOutputs(editedBoard.board));
+  for (const { bank, chips } of editedBoard.board.banks) {
+    for (const chip of indices(chips)) {
+      const lines = [3, 2, 1, 0].map((line) => `ram${bank}.${chip}.${line}`);
+      if (lines.every((line) => freeNames.has(line))) return lines;
+    }
+  }
+  const added = addRequired(editedBoard, () => addRam(editedBoard)).replace(" ", "");
+  return [3, 2, 1, 0].map((line) => `${added}.${line}`);
+}
+
+/**
+ * Returns consecutive free chain bits for segments.
+ * @param {EditedBoard} editedBoard
+ * @param {number} count
+ */
+function takeSegmentBits(editedBoard, count) {
+  const { chain, first } = ensureBits(editedBoard, count);
+  return indices(count).map((bit) => `chain${chain}.${first + bit}`);
+}
+
+/**
+ * Throws `ImpossibleAction` if an action removes an output line of the buzzer or the printer.
+ * @param {EditedBoard} editedBoard
+ * @param {(line: string) => boolean} isLost returns true if a line is no longer an output after the action
+ */
+export function requireOutputs({ text }, isLost) {
+  const { buzzer, printer } = new Face(text);
+  if (buzzer && isLost(buzzer.place)) throw new ImpossibleAction(say.buzzerIsAt(buzzer.place));
+  const line = printer && printerLines(printer).find(isLost);
+  if (line) throw new ImpossibleAction(say.printerIsAt(line));
+}
+
+/**
+ * Sets the number of chips in a chain; returns the chain name.
+ * @param {EditedBoard} editedBoard
+ * @param {number} chain
+ * @param {number} chips
+ */
+export function setChips(editedBoard, chain, chips) {
+  const { from, to } = VALUE_RANGES["chain.chips"];
+  if (chips > to) throw new ImpossibleAction(say.maxChips(to));
+  if (chips < from) throw new ImpossibleAction(say.MIN_CHIPS);
+  /** @type {(line: string) => boolean} */
+  const isBeyond = (line) => line.startsWith(`chain${chain}.`) && parseChainBit(line).bit >= BITS_PER_CHIP * chips;
+  requireOutputs(editedBoard, isBeyond);
+  const lostLine = [...inputLines(editedBoard.board).values()].find(isBeyond);
+  if (lostLine) throw new ImpossibleAction(say.inUse(lostLine));
+  editedBoard.edit([setValue(editedBoard.draft, editedBoard.draft.entry("chain", chain), "chips", chips)]);
+  return `chain ${chain}`;
+}

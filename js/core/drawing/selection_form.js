@@ -1,0 +1,251 @@
+// Creates the form for the selected part or pin, with fields such as its name, colour, wires, and number of chips. Each field has a
+// function that returns the action for a new value.
+
+import { indices } from "../bench/numbers.js";
+import { COLOURS } from "../board/face_words.js";
+import { VALUE_RANGES, boardLines } from "../bench/board_form.js";
+import { displayAt, lampsInSameGroup } from "./part_deletion.js";
+import { BUZZER, targetName, possibleSources, splitTarget, inputLines } from "./board_lines.js";
+import * as say from "../../words/drawing.js";
+
+/**
+ * @typedef {import("./board_lines.js").Board} Board
+ * @typedef {import("../board/face.js").Face} Face
+ * @typedef {import("./drawing_actions.js").DrawingAction} DrawingAction
+ *
+ * A field: its label, its value, its options with titles (null for free text), and a function that returns the action for a new value.
+ * @typedef {{ label: string, value: string, options: { value: string, words: string }[] | null,
+ *   act: (value: string) => DrawingAction }} Field
+ *
+ * A button: its label and its action.
+ * @typedef {{ word: string, act: DrawingAction }} Button
+ *
+ * The form for the selection: its title, the name of the part in the board text ("" for none), its fields and its buttons.
+ * @typedef {{ title: string, part: string, fields: Field[], buttons: Button[] }} SelectionForm
+ */
+
+/**
+ * Creates a field with free text.
+ * @param {string} label
+ * @param {string} value
+ * @param {(value: string) => DrawingAction} act
+ * @returns {Field}
+ */
+function textField(label, value, act) {
+  return { label, value: value.replace(/_/g, " "), options: null, act };
+}
+
+/**
+ * Creates a field with options.
+ * @param {string} label
+ * @param {string} value
+ * @param {string[] | { value: string, words: string }[]} options
+ * @param {(value: string) => DrawingAction} act
+ * @returns {Field}
+ */
+function choiceField(label, value, options, act) {
+  return { label, value, options: options.map((each) => (typeof each === "string" ? { value: each, words: each } : each)), act };
+}
+
+/**
+ * Returns the numbers of a range, formatted as text.
+ * @param {{ from: number, to: number }} range
+ */
+function rangeNumbers({ from, to }) {
+  return indices(to + 1).slice(from).map(String);
+}
+
+/**
+ * Returns the field for the signal line of an input.
+ * @param {Board} board
+ * @param {string} target
+ * @param {string} [label]
+ */
+function lineField(board, target, label = targetName(target)) {
+  const currentLine = inputLines(board).get(target) || "";
+  return choiceField(say.lineOf(label), currentLine, possibleSources(board, target), (line) => ({ kind: "wire", line, target }));
+}
+
+/**
+ * Returns the field for the name of a port or chain.
+ * @param {Face} face
+ * @param {string} part
+ */
+function portField(face, part) {
+  const faceText = face.ports.get(part.replace(" ", ""));
+  return textField(say.WHAT_IS_THERE, faceText ? faceText.text : "", (name) => ({ kind: "name", part, name }));
+}
+
+/**
+ * Returns the field for the direction of a ROM line.
+ * @param {string} line
+ * @param {string} port the port mask of the ROM
+ * @returns {Field}
+ */
+function directionField(line, port) {
+  const at = Number(line.split(".")[1]);
+  const options = say.DIRECTIONS.map(([value, words]) => ({ value, words }));
+  return choiceField(say.lineIsA(at), port[3 - at], options, (as) => ({ kind: "port", line, as }));
+}
+
+/** @type {(part: string) => Button} returns the button that copies a part */
+const copyButton = (part) => ({ word: say.COPY, act: { kind: "copy", part } });
+/** @type {(part: string, word?: string) => Button} returns the button that deletes a part */
+const deleteButton = (part, word = say.DELETE) => ({ word, act: { kind: "delete", part } });
+
+/**
+ * Returns the form for a ROM.
+ * @param {Board} board
+ * @param {Face} face
+ * @param {string} part
+ * @returns {SelectionForm}
+ */
+function romFields(board, face, part) {
+  const chip = splitTarget(part)[1];
+  const rom = board.roms.find((each) => Number(each.chip) === chip);
+  const port = rom ? rom.port : "0000";
+  const lines = indices(4).map((at) => directionField(`rom${chip}.${at}`, port));
+  const fields = [portField(face, part), ...lines];
+  return { title: say.romWithPort(chip), part, fields, buttons: [copyButton(part), deleteButton(part)] };
+}
+
+/**
+ * Returns the form for a chain.
+ * @param {Board} board
+ * @param {Face} face
+ * @param {string} part
+ * @returns {SelectionForm}
+ */
+function chainFields(board, face, part) {
+  const at = splitTarget(part)[1];
+  const chips = choiceField("chips", String(board.chains[at].chips), rangeNumbers(VALUE_RANGES["chain.chips"]), (value) => (
+    { kind: "chips", chain: at, chips: Number(value) }));
+  const lines = [lineField(board, `clock ${at}`, "clock"), lineField(board, `data ${at}`, "data")];
+  const fields = [portField(face, part), ...lines, chips];
+  return { title: say.chainOf(at), part, fields, buttons: [copyButton(part), deleteButton(part)] };
+}
+
+/**
+ * Returns the form for the keys.
+ * @param {Board} board
+ * @param {Face} face
+ * @returns {SelectionForm}
+ */
+function keysFields(board, face) {
+  const rows = choiceField("rows", String(board.rows), rangeNumbers(VALUE_RANGES["keys.rows"]), (value) => (
+    { kind: "rows", rows: Number(value) }));
+  const columns = indices(board.columns).map((at) => lineField(board, `column ${at}`, `column ${at}`));
+  const names = indices(board.rows).flatMap((row) => indices(board.columns).map((column) => {
+    const faceText = face.keys.get(`${row} ${column}`);
+    return textField(`key ${row}.${column}`, faceText ? faceText.text : "", (name) => (
+      { kind: "name", part: `key ${row} ${column}`, name }));
+  }));
+  const columnButton = { word: say.ANOTHER_COLUMN, act: /** @type {DrawingAction} */ ({ kind: "column" }) };
+  const fields = [rows, lineField(board, "row 0", "row 0"), ...columns, ...names];
+  return { title: say.KEYS, part: "keys", fields, buttons: [columnButton, deleteButton("keys")] };
+}
+
+/**
+ * Returns the form for a lamp.
+ * @param {Board} board
+ * @param {Face} face
+ * @param {number} lamp
+ * @returns {SelectionForm}
+ */
+function lampFields(board, face, lamp) {
+  const part = `lamp ${lamp}`;
+  const groupLamps = lampsInSameGroup(face, lamp);
+  const isSingle = groupLamps.length === 1;
+  // All lamps of a group have the colour of its first lamp.
+  const [name, colour] = [face.lamps.get(lamp), face.colours.get(groupLamps[0])];
+  const fields = [
+    textField("name", name ? name.text : "", (value) => ({ kind: "name", part, name: value })),
+    choiceField("colour", colour ? colour.text : "red", [...COLOURS], (value) => ({ kind: "colour", lamp: groupLamps[0], colour: value })),
+    lineField(board, part, "lamp"),
+  ];
+  const copies = displayAt(face, groupLamps[0]) ? [{ ...copyButton(`lamp ${groupLamps[0]}`), word: say.COPY_DISPLAY }] : [];
+  const buttons = isSingle ? [copyButton(part), deleteButton(part)] : [...copies, deleteButton(part, say.deleteLamps(groupLamps.length))];
+  return { title: say.lampTitle(lamp), part, fields, buttons };
+}
+
+/**
+ * Returns the form for the buzzer.
+ * @param {Board} board
+ * @param {Face} face
+ * @returns {SelectionForm}
+ */
+function buzzerFields(board, { buzzer }) {
+  const name = textField("name", buzzer ? buzzer.name : "", (value) => ({ kind: "name", part: "buzzer", name: value }));
+  const fields = [name, lineField(board, BUZZER, "buzzer")];
+  return { title: say.THE_BUZZER_TITLE, part: "buzzer", fields, buttons: [deleteButton("buzzer")] };
+}
+
+/**
+ * Returns the form for a RAM chip.
+ * @param {Face} face
+ * @param {string} part
+ * @returns {SelectionForm}
+ */
+function ramFields(face, part) {
+  const title = say.ramWithPort(part.slice(4));
+  return { title, part: part.split(".")[0], fields: [portField(face, part)], buttons: [copyButton(part), deleteButton(part)] };
+}
+
+/**
+ * Returns the form for a port line or a chain bit.
+ * @param {Board} board
+ * @param {string} name
+ * @returns {SelectionForm}
+ */
+function lineFields(board, name) {
+  const line = boardLines(board).find((each) => each.name === name);
+  const rom = line && line.kind === "rom" ? board.roms.find(({ chip }) => name.startsWith(`rom${chip}.`)) : null;
+  const isInput = line !== undefined && line.isInput;
+  /** @type {Button[]} */
+  const buttons = line && !isInput ? [{ word: say.LAMP_HERE, act: { kind: "add", part: "lamp", line: name } }] : [];
+  if (line && !isInput && !board.buzzer) buttons.push({ word: say.BUZZER_HERE, act: { kind: "add", part: "buzzer", line: name } });
+  const [, kind, number] = /^([a-z]+)(\d+)/.exec(name) || ["", "", ""];
+  const fields = rom ? [directionField(name, rom.port)] : [];
+  return { title: say.lineTitle(name, isInput), part: `${kind} ${number}`, fields, buttons };
+}
+
+/**
+ * Returns the form for an input of a chain or the keys.
+ * @param {Board} board
+ * @param {string} target
+ * @returns {SelectionForm}
+ */
+function targetFields(board, target) {
+  const [kind, number] = splitTarget(target);
+  const canDelete = kind === "column" || (kind === "row" && number === board.rows - 1 && number > 0);
+  const name = targetName(target);
+  const title = name.charAt(0).toUpperCase() + name.slice(1);
+  const part = kind === "row" || kind === "column" ? "keys" : `chain ${number}`;
+  return { title, part, fields: [lineField(board, target, say.IT_IS)], buttons: canDelete ? [deleteButton(target)] : [] };
+}
+
+/**
+ * Returns the form for the selection. If nothing is selected, returns the form for the whole board.
+ * @param {Board} board
+ * @param {Face} face
+ * @param {string} selection the selected part or pin
+ * @returns {SelectionForm}
+ */
+export function selectionForm(board, face, selection) {
+  const [kind, number] = splitTarget(selection);
+  if (kind === "rom") return romFields(board, face, selection);
+  if (kind === "chain") return chainFields(board, face, selection);
+  if (kind === "keys") return keysFields(board, face);
+  if (kind === "lamp") return lampFields(board, face, number);
+  if (kind === "ram") return ramFields(face, selection);
+  if (kind === "buzzer" && board.buzzer) return buzzerFields(board, face);
+  if (kind === "lamps") return { title: say.ALL_LAMPS, part: "lamp 0", fields: [], buttons: [deleteButton("lamps", say.DELETE_ALL_LAMPS)] };
+  if (kind === "test" && face.test) {
+    const name = textField("name", face.test.name, (value) => ({ kind: "name", part: "test", name: value }));
+    return { title: say.atTest(face.test.kind), part: "test", fields: [name], buttons: [deleteButton("test")] };
+  }
+  if (inputLines(board).has(selection)) return targetFields(board, selection);
+  if (selection.includes(".")) return lineFields(board, selection);
+  const title = textField("title", face.title, (name) => ({ kind: "name", part: "title", name }));
+  return { title: say.BOARD_TITLE, part: "", fields: [title], buttons: [] };
+}

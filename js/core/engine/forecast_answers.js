@@ -1,0 +1,100 @@
+// Parses the bench's forecasts of runs: the answers to `trace` and `count` in a list of consecutive answers.
+
+import { readRun } from "../bench/answers.js";
+
+/**
+ * A traced instruction: the cycles before it, its address, and the row of watched values after it. Each value in a row is preceded by a
+ * blank.
+ * @typedef {{ cycles: number, address: number, row: string }} TracedInstruction
+ *
+ * The counts of an instruction: how often it started, and how often it jumped (-1 if it cannot jump).
+ * @typedef {{ address: number, begun: number, jumped: number }} InstructionCount
+ *
+ * A trace: the row before the run, the instruction lines, and the cycles of the run.
+ * @typedef {{ row: string, lines: string[], cycles: number }} Trace
+ *
+ * The result of a run: its cycles, and the reason for its end ("end" if nothing stopped it).
+ * @typedef {{ cycles: number, end: string }} RunResult
+ */
+
+const ANSWER_HEAD = /^(?:trace|count) ran (\d+) \w+ lines (\d+)(.*)$/;
+
+/**
+ * Parses a trace line, such as `5 00A 1 0`.
+ * @param {string} line
+ * @returns {TracedInstruction}
+ */
+export function parseTraceLine(line) {
+  const blank = line.indexOf(" ");
+  return { cycles: Number(line.slice(0, blank)), address: parseInt(line.slice(blank + 1, blank + 4), 16), row: line.slice(blank + 4) };
+}
+
+/**
+ * Parses a count line: `00A 12`, or `00A 12 3` for an instruction that can jump.
+ * @param {string} line
+ * @returns {InstructionCount}
+ */
+function readCountLine(line) {
+  const blank = line.indexOf(" ", 4);
+  const begun = Number(blank < 0 ? line.slice(4) : line.slice(4, blank));
+  return { address: parseInt(line.slice(0, 3), 16), begun, jumped: blank < 0 ? -1 : Number(line.slice(blank + 1)) };
+}
+
+/**
+ * Returns the values in a row.
+ * @param {string} row
+ */
+export function rowValues(row) {
+  return row.slice(1).split(" ");
+}
+
+/** Reads consecutive answers. */
+export class ForecastAnswers {
+  /** @param {string[]} answers */
+  constructor(answers) {
+    this.answers = answers;
+    this.at = 0;
+  }
+
+  get isEmpty() {
+    return this.at === this.answers.length;
+  }
+
+  /** Consumes and returns the next answer. */
+  take() {
+    this.at += 1;
+    return this.answers[this.at - 1];
+  }
+
+  /** @param {number} count the number of answers to skip */
+  skip(count) {
+    this.at += count;
+  }
+
+  /**
+   * Consumes and parses the next trace. Throws if the answer is not a trace.
+   * @returns {Trace}
+   */
+  takeTrace() {
+    const answer = this.take();
+    const head = ANSWER_HEAD.exec(answer);
+    if (!head) throw new Error(`the bench answered a question by: ${answer}`);
+    const from = this.at;
+    this.at += Number(head[2]);
+    return { row: head[3], lines: this.answers.slice(from, this.at), cycles: Number(head[1]) };
+  }
+
+  /** Consumes and parses the next answer to `count`: the instructions that start in a run. */
+  takeCounts() {
+    return this.takeTrace().lines.map(readCountLine);
+  }
+
+  /**
+   * Consumes and parses the next answer to a run. For a refusal, `end` is the answer.
+   * @returns {RunResult}
+   */
+  takeRun() {
+    const answer = this.take();
+    return readRun(answer) || { cycles: 0, end: answer };
+  }
+}

@@ -1,0 +1,73 @@
+// Adds queries before each planned run, in the same call. With these queries the bench forecasts what happens in the run.
+
+import { plannedCycles } from "../debug/goal_search.js";
+import { ForecastAnswers } from "./forecast_answers.js";
+
+/**
+ * @typedef {import("./accepted_commands.js").AcceptedCommand} AcceptedCommand
+ *
+ * A line to send. `change` is null for a run; for any other line it is the change that the line makes.
+ * @typedef {{ line: string, change: object | null }} SentLine
+ *
+ * A source of queries before each run, such as the recorder or the printer. `queries` returns the query lines for a run of `cycles` cycles.
+ * `count` is the number of queries; each query has an answer like that of `trace`. `seesChanges` is true if the source also needs the state
+ * after each key change.
+ * @typedef {{ queries: (cycles: number) => string, count: number, seesChanges: boolean }} QuerySource
+ */
+
+/**
+ * Returns the planned lines with the queries of all sources before each run.
+ * @param {SentLine[]} plannedLines
+ * @param {QuerySource[]} querySources
+ */
+export function linesWithQueries(plannedLines, querySources) {
+  const afterChange = querySources.some(({ seesChanges }) => seesChanges) ? "state\n" : "";
+  return plannedLines.map((each) => {
+    if (each.change) return `${each.line}\n${afterChange}`;
+    return `${querySources.map((source) => source.queries(plannedCycles(each))).join("")}${each.line}\n`;
+  }).join("");
+}
+
+/**
+ * Splits the answers of a call. `answers` are the answers to the planned lines and to all later lines. `sourceAnswers` has one list for
+ * each source of queries; the list contains the answers to the queries of the source, for each planned line.
+ * @param {SentLine[]} plannedLines
+ * @param {QuerySource[]} querySources
+ * @param {string[]} allAnswers
+ * @returns {{ answers: string[], sourceAnswers: string[][][] }}
+ */
+export function splitAnswers(plannedLines, querySources, allAnswers) {
+  const answers = new ForecastAnswers(allAnswers);
+  /** @type {string[]} */
+  const lineAnswers = [];
+  /** @type {string[][][]} */
+  const sourceAnswers = querySources.map(() => []);
+  const seesChanges = querySources.some((source) => source.seesChanges);
+  for (const { change } of plannedLines) {
+    if (change) {
+      lineAnswers.push(answers.take());
+      const state = seesChanges ? [answers.take()] : [];
+      querySources.forEach((source, at) => sourceAnswers[at].push(source.seesChanges ? state : []));
+      continue;
+    }
+    querySources.forEach(({ count }, at) => {
+      const from = answers.at;
+      for (let question = 0; question < count; question++) answers.takeTrace();
+      sourceAnswers[at].push(allAnswers.slice(from, answers.at));
+    });
+    lineAnswers.push(answers.take());
+  }
+  return { answers: [...lineAnswers, ...allAnswers.slice(answers.at)], sourceAnswers };
+}
+
+/** Marks a line that is neither a run nor a key change. */
+const OTHER_CHANGE = {};
+
+/**
+ * Returns the line that repeats an accepted command: a run, or the command itself.
+ * @param {AcceptedCommand} command
+ * @returns {SentLine}
+ */
+export function replayLine({ line, cycles }) {
+  return cycles > 0 ? { line: `run ${cycles}`, change: null } : { line, change: OTHER_CHANGE };
+}

@@ -1,0 +1,136 @@
+// Creates the heat map: the number of recent changes of each RAM nibble, and the time and cause of the last change. A copy of the session
+// replays the past, and the bench forecasts the changes of each unit. A write of the same value is not a change.
+
+import { CancelledError } from "../bench/bench_errors.js";
+import { hex, indices } from "../bench/numbers.js";
+import { CHARACTERS, STATUS_COUNT } from "../conditions/places.js";
+import { reportChanges } from "./past_changes.js";
+import { FIRST_PIECE_CYCLES, SEARCH_PIECE_CYCLES, SEARCH_PIECE_UNITS } from "./piece_size.js";
+import { rowValues } from "./forecast_answers.js";
+import { sumCycles, splitIntoPieces, splitUnits, unitsBetween } from "./replay_units.js";
+
+/**
+ * @typedef {import("../bench/answers.js").Board} Board
+ * @typedef {import("./engine_host.js").EngineHost} Engine
+ * @typedef {import("./past_changes.js").PastChange} PastChange
+ * @typedef {import("./timeline.js").ShouldContinue} ShouldContinue
+ * @typedef {import("./timeline.js").Moment} Moment
+ * @typedef {import("./timeline.js").Timeline} Timeline
+ * @typedef {import("./replay_units.js").Unit} Unit
+ *
+ * A changed place, by its `poke` name, with its number of changes. For the last change: the cycles since then, and the address of the
+ * instruction that made it; or -1 and the command.
+ * @typedef {{ place: string, count: number, ago: number, address: number, line: string }} HeatCell
+ *
+ * The changes in the last cycles. `cycles` is less than requested if the past is shorter.
+ * @typedef {{ cycles: number, cells: HeatCell[] }} Heat
+ */
+
+const REGISTERS_PER_CHIP = 4;
+/**
+ * The number of place groups per RAM chip. A group fits into one `trace`: the nibbles of a register, or the status characters of all
+ * registers.
+ */
+export const GROUPS_PER_CHIP = REGISTERS_PER_CHIP + 1;
+
+/**
+ * Returns the places of all RAM nibbles on a board, in groups for `trace`.
+ * @param {Board} board
+ */
+export function nibbleGroups({ banks }) {
+  return banks.flatMap(({ bank, chips }) => indices(chips).flatMap((chip) => [
+    ...indices(REGISTERS_PER_CHIP).map((register) => (
+      indices(CHARACTERS).map((at) => `ram.${bank}.0x${hex((chip * REGISTERS_PER_CHIP + register) * CHARACTERS + at, 2)}`))),
+    indices(REGISTERS_PER_CHIP).flatMap((register) => (
+      indices(STATUS_COUNT).map((at) => `st.${bank}.${chip * REGISTERS_PER_CHIP + register}.${at}`))),
+  ]));
+}
+
+/**
+ * Returns the moment `cycles` cycles ago; if the past is shorter, its start.
+ * @param {Timeline} timeline
+ * @param {number} cycles
+ * @returns {Moment}
+ */
+function findStart(timeline, cycles) {
+  const found = timeline.before(cycles);
+  if (found) return found;
+  let { segment } = timeline.end;
+  while (timeline.segments[segment].follows) segment -= 1;
+  return { segment, entry: 0, cycles: 0 };
+}
+
+/** Counts changes by place. */
+export class ChangeCounter {
+  /** @param {string[][]} groups */
+  constructor(groups) {
+    this.groups = groups;
+    /** The number of cycles so far. */
+    this.cycles = 0;
+    /** @type {Map<string, HeatCell & { at: number }>} */
+    this.cells = new Map();
+  }
+
+  /**
+   * @param {Omit<PastChange, "unit">} change
+   * @param {number} unitStart the number of cycles before the unit that contains the change
+   */
+  add({ group, before, after, cycles, address, line }, unitStart) {
+    const oldValues = rowValues(before);
+    rowValues(after).forEach((value, number) => {
+      if (value === oldValues[number]) return;
+      const place = this.groups[group][number];
+      const { count } = this.cells.get(place) || { count: 0 };
+      this.cells.set(place, { place, count: count + 1, ago: 0, at: unitStart + cycles, address, line });
+    });
+  }
+
+  /**
+   * Replays units on a file, and counts their changes.
+   * @param {Engine} engine
+   * @param {Uint8Array} file
+   * @param {Unit[]} units
+   */
+  follow(engine, file, units) {
+    /** @type {Map<Unit, number>} the cycles before each unit */
+    const unitStarts = new Map();
+    for (const unit of units) {
+      unitStarts.set(unit, this.cycles);
+      this.cycles += unit.cycles;
+    }
+    reportChanges(engine, file, units, this.groups, (change) => this.add(change, unitStarts.get(change.unit) || 0));
+  }
+
+  /** @returns {Heat} */
+  get heat() {
+    return { cycles: this.cycles, cells: [...this.cells.values()].map(({ at, ...cell }) => ({ ...cell, ago: this.cycles - at })) };
+  }
+}
+
+/**
+ * Resolves to the heat map for the last cycles.
+ * @param {Engine} engine
+ * @param {Timeline} timeline
+ * @param {Board} board
+ * @param {number} cycles
+ * @param {ShouldContinue} shouldContinue
+ * @returns {Promise<Heat>}
+ */
+export async function measureHeat(engine, timeline, board, cycles, shouldContinue) {
+  const groups = nibbleGroups(board);
+  const counter = new ChangeCounter(groups);
+  if (groups.length === 0) return counter.heat;
+  const maxCycles = Math.max(FIRST_PIECE_CYCLES, Math.floor(SEARCH_PIECE_CYCLES / groups.length));
+  const { end } = timeline;
+  let from = findStart(timeline, cycles);
+  for (; from.segment <= end.segment; from = { segment: from.segment + 1, entry: 0, cycles: 0 }) {
+    const { entries } = timeline.segments[from.segment];
+    const to = from.segment === end.segment ? end : { segment: from.segment, entry: entries.length, cycles: 0 };
+    const { file } = await timeline.at(engine, from, shouldContinue);
+    for (const units of splitIntoPieces(splitUnits(unitsBetween(timeline, from, to), maxCycles), maxCycles, SEARCH_PIECE_UNITS)) {
+      counter.follow(engine, file, units);
+      if (!(await shouldContinue(sumCycles(units)))) throw new CancelledError();
+    }
+  }
+  return counter.heat;
+}

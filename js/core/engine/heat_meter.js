@@ -1,0 +1,73 @@
+// Reports the RAM nibbles that change while time runs. Reads the changes from the answers to a `trace` before each run. Watches one chip at
+// a time, so that the work per frame does not grow with the number of chips.
+
+import { ChangeCounter, GROUPS_PER_CHIP, nibbleGroups } from "./heat_map.js";
+import { ForecastAnswers, parseTraceLine } from "./forecast_answers.js";
+
+/**
+ * @typedef {import("../bench/answers.js").Board} Board
+ * @typedef {import("./heat_map.js").Heat} Heat
+ *
+ * The changes in one RAM chip. `chips` is the number of RAM chips on the board.
+ * @typedef {Heat & { chips: number }} ChipHeat
+ */
+
+export class HeatMeter {
+  /** @param {Board} board */
+  constructor(board) {
+    const groups = nibbleGroups(board);
+    this.chips = groups.length / GROUPS_PER_CHIP;
+    this.allGroups = groups;
+    /** The index of the chip that is currently watched. */
+    this.chip = 0;
+  }
+
+  get groups() {
+    return this.allGroups.slice(this.chip * GROUPS_PER_CHIP, (this.chip + 1) * GROUPS_PER_CHIP);
+  }
+
+  // --- The queries before each run ---
+
+  get count() {
+    return GROUPS_PER_CHIP;
+  }
+
+  get seesChanges() {
+    return false;
+  }
+
+  /** @param {number} cycles */
+  queries(cycles) {
+    return this.groups.map((places) => `trace ${cycles} ${places.join(" ")}\n`).join("");
+  }
+
+  /**
+   * Returns the changes of the watched chip, from the answers to the queries before runs. The next call watches the next chip.
+   * @param {string[][]} answerLists one list per line
+   * @returns {ChipHeat}
+   */
+  take(answerLists) {
+    const counter = new ChangeCounter(this.groups);
+    for (const answers of answerLists) if (answers.length > 0) this.add(counter, new ForecastAnswers(answers));
+    this.chip = (this.chip + 1) % this.chips;
+    return { ...counter.heat, chips: this.chips };
+  }
+
+  /**
+   * @param {ChangeCounter} counter
+   * @param {ForecastAnswers} answers the answers to the queries before one run
+   */
+  add(counter, answers) {
+    const startCycles = counter.cycles;
+    for (let group = 0; group < GROUPS_PER_CHIP; group++) {
+      const { row, lines, cycles } = answers.takeTrace();
+      let previousRow = row;
+      for (const line of lines) {
+        const { row: after, cycles: cyclesBefore, address } = parseTraceLine(line);
+        counter.add({ group, before: previousRow, after, cycles: cyclesBefore, address, line: "" }, startCycles);
+        previousRow = after;
+      }
+      counter.cycles = startCycles + cycles;
+    }
+  }
+}

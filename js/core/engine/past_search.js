@@ -1,0 +1,208 @@
+// Finds the target of a move back: the last stop, the start of the last instruction, or the moment before the last change of a place. (For
+// the last arrival at a breakpoint, see last_arrival.js.)
+
+import { readBoard, readCounter } from "../bench/answers.js";
+import { CancelledError } from "../bench/bench_errors.js";
+import { parsePlace } from "../conditions/places.js";
+import { becomesTrue } from "../debug/condition_search.js";
+import { reportChanges } from "./past_changes.js";
+import { SEARCH_PIECE_CYCLES, SEARCH_PIECE_UNITS } from "./piece_size.js";
+import { rowValues } from "./forecast_answers.js";
+import { sumCycles, splitIntoPieces, unitsBetween } from "./replay_units.js";
+
+/**
+ * @typedef {import("./engine_host.js").EngineHost} Engine
+ * @typedef {import("../conditions/places.js").Place} Place
+ * @typedef {import("./timeline.js").ShouldContinue} ShouldContinue
+ * @typedef {import("./timeline.js").Moment} Moment
+ * @typedef {import("./timeline.js").Timeline} Timeline
+ * @typedef {import("./replay_units.js").Unit} Unit
+ *
+ * The target of a move back. "arrival": a breakpoint, or the moment before a change of a watched value or of `place` ("" for none). "when":
+ * the moment before a condition becomes true; `searchCondition` is the compiled condition. "call": the call of an open subroutine,
+ * identified by the address of its JMS and the return addresses before it.
+ * @typedef {{ kind: "stop" } | { kind: "instruction" } | { kind: "change", place: string } | { kind: "arrival", place: string }
+ *   | { kind: "when", condition: string, searchCondition?: import("../debug/condition_search.js").SearchCondition }
+ *   | { kind: "call", call: number, returns: string[] }} BackGoal
+ *
+ * The result of a search of the past. `moment` is null if nothing was found; `why` then gives the reason: the past is too short, or the
+ * board does not have the place. For a change: its place, the old and the new value, and the command that made it ("" for an instruction).
+ * For an arrival, `end` is its kind: a breakpoint (with its `id`), a change, or the start of the stored past. `present` is the session at
+ * that moment, if known.
+ * @typedef {{ moment: Moment | null, why: "" | "short" | "lacks", place: string, from: string, to: string, line: string, end: "" | "break"
+ * | "change" | "beginning", id: number, present: import("./timeline.js").Present | null }} BackSearchResult
+ *
+ * A search of the past. `begin` sets the session at which the next units start. `among` replays consecutive units on the file of that
+ * session, and returns the last match in the units.
+ * @typedef {{ begin: (present: import("./timeline.js").Present) => void, among: (units: Unit[]) => BackSearchResult | null }} Finder
+ */
+
+/**
+ * The length of the first block of a search, in cycles before the present. Each further block is BLOCK_GROWTH times as long, up to
+ * MAX_BLOCK.
+ */
+const FIRST_BLOCK = 500;
+const BLOCK_GROWTH = 8;
+const MAX_BLOCK = 4000000;
+
+/** @type {Omit<BackSearchResult, "moment" | "present">} the fields of a result if there was no search */
+export const EMPTY_REPORT = { why: "", place: "", from: "", to: "", line: "", end: "", id: 0 };
+
+/**
+ * Returns a search result with the given fields; the other fields are null or empty.
+ * @param {Partial<BackSearchResult>} fields
+ * @returns {BackSearchResult}
+ */
+export function searchResult(fields) {
+  return { moment: null, present: null, ...EMPTY_REPORT, ...fields };
+}
+
+/**
+ * Resolves to the start of the last instruction. This start is one cycle ago, or two cycles ago if one cycle ago a second cycle was
+ * pending.
+ * @param {Engine} engine
+ * @param {Timeline} timeline
+ * @param {ShouldContinue} shouldContinue
+ */
+async function lastInstruction(engine, timeline, shouldContinue) {
+  for (const cycles of [1, 2]) {
+    const moment = timeline.before(cycles);
+    if (!moment) break;
+    const present = await timeline.at(engine, moment, shouldContinue);
+    if (readCounter(engine.ask(present.file, "regs\n").answers[0]).owed === "0") return searchResult({ moment, present });
+  }
+  return searchResult({ why: "short" });
+}
+
+/** Finds the last change of a place. */
+export class LastChangeFinder {
+  /**
+   * @param {Engine} engine
+   * @param {Place | null} place
+   * @param {string[]} probes
+   */
+  constructor(engine, place, probes) {
+    this.engine = engine;
+    this.place = place;
+    this.probes = probes;
+    this.file = new Uint8Array(0);
+  }
+
+  /** @param {import("./timeline.js").Present} present */
+  begin({ file }) {
+    this.file = file;
+  }
+
+  /** @param {Unit[]} units */
+  among(units) {
+    const { engine, file, probes } = this;
+    /** @type {BackSearchResult | null} */
+    let match = null;
+    reportChanges(engine, file, units, [probes], ({ before, after, unit, cycles, line }) => {
+      const moment = { ...unit.moment, cycles: unit.moment.cycles + cycles };
+      const change = this.changeBetween(before, after);
+      if (change) match = searchResult({ moment, line, ...change, end: "change" });
+    });
+    return match;
+  }
+
+  /**
+   * Returns the fields that describe a change; null if the change does not match.
+   * @param {string} rowBefore the trace row before the change
+   * @param {string} rowAfter
+   * @returns {Partial<BackSearchResult> | null}
+   */
+  changeBetween(rowBefore, rowAfter) {
+    const { place } = this;
+    if (!place) return null;
+    const [from, to] = [rowBefore, rowAfter].map((row) => place.value(rowValues(row)));
+    return { place: place.name, from, to };
+  }
+}
+
+/** Finds the last moment at which a condition became true. */
+class LastTimeTrue extends LastChangeFinder {
+  /**
+   * @param {Engine} engine
+   * @param {import("../debug/condition_search.js").SearchCondition} condition
+   */
+  constructor(engine, condition) {
+    super(engine, null, condition.places);
+    this.searchCondition = condition;
+  }
+
+  /**
+   * @param {string} rowBefore
+   * @param {string} rowAfter
+   */
+  changeBetween(rowBefore, rowAfter) {
+    return becomesTrue(this.searchCondition, rowBefore, rowAfter) ? {} : null;
+  }
+}
+
+/**
+ * Resolves to the last match in the past. The search goes back from the present, block by block.
+ * @param {Engine} engine
+ * @param {Timeline} timeline
+ * @param {Finder} finder
+ * @param {ShouldContinue} shouldContinue
+ * @returns {Promise<{ found: BackSearchResult | null, beginning: Moment }>} `beginning` is the start of the stored past
+ */
+export async function searchPast(engine, timeline, finder, shouldContinue) {
+  let to = timeline.end;
+  for (let size = FIRST_BLOCK; ; size = Math.min(MAX_BLOCK, size * BLOCK_GROWTH)) {
+    // At the start of a segment, the search continues at the end of the previous segment.
+    if (to.entry === 0 && to.cycles === 0) {
+      if (!timeline.segments[to.segment].follows) return { found: null, beginning: to };
+      const { entries } = timeline.segments[to.segment - 1];
+      to = { segment: to.segment - 1, entry: entries.length, cycles: 0 };
+    }
+    const wanted = timeline.before(size, to);
+    const from = wanted && wanted.segment === to.segment ? wanted : { segment: to.segment, entry: 0, cycles: 0 };
+    finder.begin(await timeline.at(engine, from, shouldContinue));
+    /** @type {BackSearchResult | null} */
+    let match = null;
+    for (const units of splitIntoPieces(unitsBetween(timeline, from, to), SEARCH_PIECE_CYCLES, SEARCH_PIECE_UNITS)) {
+      match = finder.among(units) || match;
+      if (!(await shouldContinue(sumCycles(units)))) throw new CancelledError();
+    }
+    if (match) return { found: match, beginning: from };
+    to = from;
+  }
+}
+
+/**
+ * Returns a finder for the last change of a place; null if the board does not have the place.
+ * @param {Engine} engine
+ * @param {Uint8Array} file
+ * @param {string} name
+ */
+export function makeChangeFinder(engine, file, name) {
+  const place = parsePlace(name);
+  const probes = place ? place.probesOn(readBoard(engine.ask(file, "board\n").answers)) : [];
+  return place && probes.length > 0 ? new LastChangeFinder(engine, place, probes) : null;
+}
+
+/**
+ * Resolves to the target moment of a move back.
+ * @param {Engine} engine
+ * @param {{ timeline: Timeline, file: Uint8Array }} session
+ * @param {Exclude<BackGoal, { kind: "arrival" | "call" }>} goal
+ * @param {ShouldContinue} shouldContinue
+ * @returns {Promise<BackSearchResult>}
+ */
+export async function findBackTarget(engine, { timeline, file }, goal, shouldContinue) {
+  if (goal.kind === "change") {
+    const finder = makeChangeFinder(engine, file, goal.place);
+    if (!finder) return searchResult({ why: "lacks", place: goal.place });
+    return (await searchPast(engine, timeline, finder, shouldContinue)).found || searchResult({ why: "short", place: goal.place });
+  }
+  if (goal.kind === "when") {
+    const finder = goal.searchCondition ? new LastTimeTrue(engine, goal.searchCondition) : null;
+    const found = finder ? (await searchPast(engine, timeline, finder, shouldContinue)).found : null;
+    return found || searchResult({ why: "short" });
+  }
+  if (goal.kind === "instruction") return lastInstruction(engine, timeline, shouldContinue);
+  const moment = timeline.lastStop();
+  return searchResult({ moment, why: moment ? "" : "short" });
+}

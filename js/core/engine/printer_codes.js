@@ -1,0 +1,122 @@
+// Collects the codes that a program sends to the printer. Reads them from the answers to a `trace` before each run. Each code is stored
+// with its cycle. Therefore the printout depends only on the session, and a move back in time removes the later codes.
+
+import { linesWithQueries, splitAnswers, replayLine } from "./forecast_queries.js";
+import { RECORDING_PIECE_CYCLES, RECORDING_PIECE_UNITS } from "./piece_size.js";
+import { ForecastAnswers, parseTraceLine, rowValues } from "./forecast_answers.js";
+
+/**
+ * @typedef {import("./accepted_commands.js").AcceptedCommand} AcceptedCommand
+ * @typedef {import("./engine_host.js").EngineHost} Engine
+ *
+ * The strobe line and code port of a printer, and the received codes as pairs of the cycle count and the code.
+ * @typedef {{ strobe: string, port: string, codes: [number, number][] }} PrintoutData
+ */
+
+/** The maximum number of stored codes: several hundred printed lines. */
+const MAX_CODES = 4000;
+
+export class PrinterCodes {
+  /** @param {PrintoutData} data */
+  constructor({ strobe, port, codes }) {
+    this.strobe = strobe;
+    this.port = port;
+    this.codes = [...codes];
+    /** The last report: the number of codes and the cycle count of the last code. */
+    this.lastNews = "";
+  }
+
+  copy() {
+    return new PrinterCodes(this);
+  }
+
+  /** @param {{ strobe: string, port: string }} printer */
+  isSamePrinter({ strobe, port }) {
+    return this.strobe === strobe && this.port === port;
+  }
+
+  /** Clears the printout. */
+  clear() {
+    this.codes = [];
+  }
+
+  /**
+   * Returns the printout if it has changed since the previous report, otherwise null.
+   * @param {number} total the current cycle count
+   * @returns {PrintoutData | null}
+   */
+  takeNews(total) {
+    const count = this.countAt(total);
+    const news = `${count} ${count > 0 ? this.codes[count - 1][0] : ""}`;
+    if (news === this.lastNews) return null;
+    this.lastNews = news;
+    return { strobe: this.strobe, port: this.port, codes: this.codes.slice(0, count) };
+  }
+
+  /** @param {number} cycles the cycle count; later codes do not count */
+  countAt(cycles) {
+    let count = this.codes.length;
+    while (count > 0 && this.codes[count - 1][0] > cycles) count -= 1;
+    return count;
+  }
+
+  // --- The queries before each run ---
+
+  get count() {
+    return 1;
+  }
+
+  get seesChanges() {
+    return false;
+  }
+
+  /** @param {number} cycles */
+  queries(cycles) {
+    return `trace ${cycles} ${this.strobe} ${this.port}\n`;
+  }
+
+  /**
+   * Reads the codes from the answers to the queries before runs. An instruction takes effect after its first cycle.
+   * @param {string[][]} answerLists one list per line
+   * @param {number} total the cycle count before the first line
+   */
+  take(answerLists, total) {
+    this.codes.length = this.countAt(total);
+    let cyclesBefore = total;
+    for (const answers of answerLists) {
+      if (answers.length === 0) continue;
+      const { row, lines, cycles } = new ForecastAnswers(answers).takeTrace();
+      let [level] = rowValues(row);
+      for (const line of lines) {
+        const traced = parseTraceLine(line);
+        const [strobe, code] = rowValues(traced.row);
+        if (level === "0" && strobe === "1") this.codes.push([cyclesBefore + traced.cycles + 1, parseInt(code, 16)]);
+        level = strobe;
+      }
+      cyclesBefore += cycles;
+    }
+    this.codes.splice(0, this.codes.length - MAX_CODES);
+  }
+
+  /**
+   * Reads the codes that served lines sent to the printer. For this, a copy of the session serves the lines again.
+   * @param {Engine} engine
+   * @param {Uint8Array} file the session file before the lines; changed
+   * @param {AcceptedCommand[]} commands
+   * @param {number} total the cycle count before the lines
+   */
+  follow(engine, file, commands, total) {
+    let cyclesBefore = total;
+    for (let at = 0; at < commands.length;) {
+      const startIndex = at;
+      const end = Math.min(commands.length, startIndex + RECORDING_PIECE_UNITS);
+      let cycles = 0;
+      for (; at < end && cycles < RECORDING_PIECE_CYCLES; at++) cycles += commands[at].cycles;
+      const plannedLines = commands.slice(startIndex, at).map(replayLine);
+      const { answers } = engine.serve(file, linesWithQueries(plannedLines, [this]), file);
+      const { sourceAnswers: [answerLists] } = splitAnswers(plannedLines, [this], answers);
+      this.take(answerLists, cyclesBefore);
+      cyclesBefore += cycles;
+    }
+  }
+}

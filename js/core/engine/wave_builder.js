@@ -1,0 +1,277 @@
+// Builds a recording from the bench's answers: the moments at which signal lines change, and at which instructions start.
+
+import { MAX_PLACES } from "../bench/inputs.js";
+import { stateValue } from "../bench/state_line.js";
+import { NumberQueue } from "../waves/number_queue.js";
+import { Track, emptyTrack } from "../waves/track.js";
+import { parseTraceLine, rowValues } from "./forecast_answers.js";
+
+/**
+ * @typedef {import("./forecast_answers.js").ForecastAnswers} ForecastAnswers
+ * @typedef {import("../waves/track.js").TrackData} TrackData
+ * @typedef {import("../waves/wave_lines.js").WaveLine} WaveLine
+ *
+ * A reader of a line: the index of the line, and a function that converts the reported value of the place to the value of the line.
+ * @typedef {{ member: number, read: (answer: string) => number }} Reader
+ *
+ * A place, the lines to read from it, and the position of its value in each row.
+ * @typedef {{ place: string, readers: Reader[], from: number, to: number }} Field
+ *
+ * The places of one query, and the last row of their values.
+ * @typedef {{ fields: Field[], row: string }} QueryGroup
+ *
+ * The part of a recording since the last call of `take`.
+ * @typedef {{ from: number, cycles: number, isStuck: boolean, isOwed: boolean, tracks: TrackData[], moments: Uint32Array,
+ *   counters: Uint16Array }} WavePart
+ */
+
+/** The codes of the characters blank, 0 and 9. */
+const BLANK_CODE = 32;
+const ZERO_CODE = 48;
+const NINE_CODE = 57;
+
+/**
+ * Returns the value of an upper-case hexadecimal digit.
+ * @param {string} line
+ * @param {number} index
+ */
+function digitAt(line, index) {
+  const letter = line.charCodeAt(index);
+  return letter <= NINE_CODE ? letter - ZERO_CODE : letter - 55;
+}
+
+/**
+ * Returns the `trace` place that reports a board line, and a function that reads the line from the value. A port reports a digit whose bit
+ * k is line k. A chain reports its bits.
+ * @param {string} line `rom0.3`, `ram0.1.3`, `chain0.5`
+ */
+function levelPlace(line) {
+  const dot = line.lastIndexOf(".");
+  const [place, bit] = [line.slice(0, dot), Number(line.slice(dot + 1))];
+  /** @type {(answer: string) => number} */
+  const read = place.startsWith("chain") ? (answer) => Number(answer[bit]) : (answer) => (parseInt(answer, 16) >> bit) & 1;
+  return { place, read };
+}
+
+/**
+ * Returns the places of lines without duplicates, and the functions that read the lines from the places.
+ * @param {WaveLine[]} lines
+ * @param {"level" | "value"} kind the kind of lines
+ */
+function fieldsForKind(lines, kind) {
+  /** @type {Map<string, Reader[]>} */
+  const places = new Map();
+  lines.forEach((line, member) => {
+    if (line.kind !== kind) return;
+    for (const { place, read } of kind === "level" ? [levelPlace(line.places[0])] : valuePlaces(line.places)) {
+      places.set(place, [...(places.get(place) || []), { member, read }]);
+    }
+  });
+  return [...places].map(([place, readers]) => ({ place, readers, from: 0, to: 0 }));
+}
+
+/**
+ * Returns one place per digit of a value. The function that reads a digit returns the value that consists of all digits read so far.
+ * @param {string[]} places most significant digit first
+ */
+function valuePlaces(places) {
+  const digits = places.map(() => "0");
+  return places.map((place, at) => ({
+    place,
+    read: (/** @type {string} */ answer) => {
+      digits[at] = answer;
+      return parseInt(digits.join(""), 16);
+    },
+  }));
+}
+
+/**
+ * Returns the places of lines in groups, one group per query. Ports and values are in separate groups because values change far more often.
+ * @param {WaveLine[]} lines
+ */
+function makeGroups(lines) {
+  /** @type {QueryGroup[]} */
+  const groups = [];
+  for (const places of [fieldsForKind(lines, "level"), fieldsForKind(lines, "value")]) {
+    for (let at = 0; at < places.length; at += MAX_PLACES) groups.push({ fields: places.slice(at, at + MAX_PLACES), row: "" });
+  }
+  return groups;
+}
+
+/**
+ * Sets the position of each place in the rows of a group. The length of each value is constant.
+ * @param {QueryGroup} group
+ * @param {string} row
+ */
+function setPositions({ fields }, row) {
+  let from = 1;
+  rowValues(row).forEach((value, at) => {
+    fields[at].from = from;
+    fields[at].to = from + value.length;
+    from += value.length + 1;
+  });
+}
+
+/**
+ * Returns whether two rows are equal in a range.
+ * @param {string} left
+ * @param {string} right
+ * @param {number} from
+ * @param {number} to
+ */
+function isSameRange(left, right, from, to) {
+  for (let at = from; at < to; at++) if (left.charCodeAt(at) !== right.charCodeAt(at)) return false;
+  return true;
+}
+
+/** Builds a recording from the answers to its queries, to runs and to `state`. */
+export class WaveBuilder {
+  /**
+   * @param {WaveLine[]} lines
+   * @param {boolean} [hasCounter] true to record the start of each instruction
+   */
+  constructor(lines, hasCounter = true) {
+    this.lines = lines;
+    this.hasCounter = hasCounter;
+    this.elapsed = 0;
+    /** True if the opcode at the program counter is not an instruction. */
+    this.isStuck = false;
+    this.isSecondCycle = false;
+    this.hasStarted = false;
+    this.groups = makeGroups(lines);
+    this.tracks = lines.map(({ width }) => new Track(emptyTrack(width)));
+    this.moments = new NumberQueue(new Uint32Array(0));
+    this.counters = new NumberQueue(new Uint16Array(0));
+    /** The end of the previous part. */
+    this.from = 0;
+  }
+
+  /**
+   * Returns the queries before a run: a `trace` of all instructions, and a `trace` for each group of places.
+   * @param {number} cycles the length of the run
+   */
+  queries(cycles) {
+    const groups = this.groups.map(({ fields }) => `trace ${cycles} ${fields.map(({ place }) => place).join(" ")}\n`);
+    return `${this.hasCounter ? `trace ${cycles}\n` : ""}${groups.join("")}`;
+  }
+
+  /**
+   * Reads the initial values from the answers to `state` and to the queries.
+   * @param {ForecastAnswers} answers
+   */
+  begin(answers) {
+    const state = answers.take();
+    this.isSecondCycle = stateValue(state, "owed") === "1";
+    this.takeState(state);
+    if (this.hasCounter) answers.takeTrace();
+    for (const group of this.groups) this.takeRow(group, answers.takeTrace().row, 0);
+    for (const track of this.tracks) track.take();
+  }
+
+  /**
+   * Reads the answers to the queries and to the run.
+   * @param {ForecastAnswers} answers
+   */
+  takeRun(answers) {
+    this.takeForecast(answers);
+    const run = answers.takeRun();
+    if (run.cycles === 0 && run.end !== "code") throw new Error(`the bench answered a recording by: ${run.end}`);
+    this.takeEnd(run);
+  }
+
+  /** @param {ForecastAnswers} answers the answers to the queries */
+  takeForecast(answers) {
+    if (this.hasCounter) for (const line of answers.takeTrace().lines) this.takeInstructionLine(line);
+    for (const group of this.groups) {
+      const trace = answers.takeTrace();
+      // A command before the run can have changed the row.
+      this.takeRow(group, trace.row, this.elapsed);
+      for (const line of trace.lines) {
+        const { cycles, row } = parseTraceLine(line);
+        this.takeRow(group, row, this.elapsed + cycles + 1);
+      }
+    }
+  }
+
+  /**
+   * Reads an instruction line such as `5 00A`. A frame has more than a thousand such lines, so this method parses them character by
+   * character.
+   * @param {string} line
+   */
+  takeInstructionLine(line) {
+    let cycles = 0;
+    let at = 0;
+    for (let letter = line.charCodeAt(0); letter !== BLANK_CODE; letter = line.charCodeAt(at)) {
+      cycles = 10 * cycles + letter - ZERO_CODE;
+      at += 1;
+    }
+    const address = 256 * digitAt(line, at + 1) + 16 * digitAt(line, at + 2) + digitAt(line, at + 3);
+    this.takeInstruction(this.elapsed + cycles, address);
+  }
+
+  /** @param {import("./forecast_answers.js").RunResult} run */
+  takeEnd({ cycles, end }) {
+    this.elapsed += cycles;
+    this.isStuck = end === "code";
+  }
+
+  /**
+   * Reads the answer to `state` after a command and at the end.
+   * @param {string} state
+   */
+  takeState(state) {
+    const keys = `,${stateValue(state, "keys")},`;
+    const test = Number(stateValue(state, "test"));
+    this.lines.forEach(({ kind, places }, member) => {
+      if (kind === "key") this.tracks[member].set(Number(keys.includes(`,${places[0]},`)), this.elapsed);
+      if (kind === "test") this.tracks[member].set(test, this.elapsed);
+    });
+    // During the second cycle of an instruction, the counter already points to the next instruction.
+    if (stateValue(state, "owed") === "0" || !this.hasStarted) {
+      this.takeInstruction(this.elapsed, parseInt(stateValue(state, "pc"), 16));
+    }
+  }
+
+  /**
+   * @param {number} moment
+   * @param {number} counter
+   */
+  takeInstruction(moment, counter) {
+    this.hasStarted = true;
+    if (this.moments.last === moment) {
+      this.counters.last = counter;
+      return;
+    }
+    this.moments.push(moment);
+    this.counters.push(counter);
+  }
+
+  /**
+   * Reads a row of values, and records the values that have changed.
+   * @param {QueryGroup} group
+   * @param {string} row the values of the places, each preceded by a blank
+   * @param {number} moment
+   */
+  takeRow(group, row, moment) {
+    if (row === group.row) return;
+    if (group.row === "") setPositions(group, row);
+    for (const { readers, from, to } of group.fields) {
+      if (isSameRange(row, group.row, from, to)) continue;
+      const field = row.slice(from, to);
+      for (const { member, read } of readers) this.tracks[member].set(read(field), moment);
+    }
+    group.row = row;
+  }
+
+  /**
+   * Returns the part of the recording since the previous call of this method.
+   * @returns {WavePart}
+   */
+  take() {
+    const { from, elapsed, isStuck, isSecondCycle } = this;
+    this.from = elapsed;
+    this.isSecondCycle = false;
+    const tracks = this.tracks.map((track) => track.take());
+    return { from, cycles: elapsed, isStuck, isOwed: isSecondCycle, tracks, moments: this.moments.take(), counters: this.counters.take() };
+  }
+}

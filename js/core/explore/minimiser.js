@@ -1,0 +1,166 @@
+// Minimises a counterexample: removes steps and shortens waits as long as the same property is violated.
+
+import { MAX_RUN_CYCLES } from "../engine/key_queue.js";
+import { Watcher } from "./walk_watcher.js";
+import { downInputsAfter, initialDownInputs, areAllowed, longestWaitAfter } from "./walks.js";
+
+/**
+ * @typedef {import("./campaign.js").Campaign} Campaign
+ * @typedef {import("./search.js").Violation} Violation
+ * @typedef {import("./subject.js").Subject} Subject
+ * @typedef {import("./walks.js").WalkStep} WalkStep
+ */
+
+/** The cost of a step in cycles, in addition to its wait. */
+const STEP_COST = 500;
+/** The maximum number of additional cycles to try for the first wait. */
+const MAX_EXTRA_CYCLES = 256;
+/** The fractions of a wait to try. */
+const WAIT_FRACTIONS = [0, 1 / 4, 1 / 2, 3 / 4, 7 / 8, 15 / 16, 63 / 64];
+
+export class Minimiser {
+  /**
+   * @param {Subject} subject
+   * @param {Campaign} campaign
+   * @param {import("./walk_watcher.js").WalkStart} start
+   * @param {Violation} violation
+   * @param {number} cycleLimit the maximum number of cycles to run; a limit in cycles gives the same result on every machine
+   * @param {() => Promise<void>} yieldToMessages called between two tries
+   */
+  constructor(subject, campaign, start, violation, cycleLimit, yieldToMessages) {
+    this.campaign = campaign;
+    // The watcher checks only this property.
+    this.watcher = new Watcher(subject, { ...campaign, properties: [campaign.properties[violation.property]] }, null);
+    this.start = { ...start, memories: [start.memories[violation.property]] };
+    this.property = violation.property;
+    this.steps = violation.steps;
+    this.time = violation.time;
+    this.cyclesLeft = cycleLimit;
+    this.yieldToMessages = yieldToMessages;
+  }
+
+  /** @returns {Promise<Violation | null>} the minimised violation; null if the original steps do not violate the property */
+  async minimise() {
+    let isShorter = await this.tryWalk(this.steps);
+    if (!isShorter) return null;
+    while (isShorter && this.cyclesLeft > 0) {
+      isShorter = await this.removeSteps();
+      isShorter = (await this.removePairs()) || isShorter;
+      isShorter = (await this.shortenWaits()) || isShorter;
+      // This step needs the most tries, so it comes last.
+      isShorter = isShorter || (await this.removeStart());
+    }
+    return { property: this.property, steps: this.steps, time: this.time };
+  }
+
+  /**
+   * Replaces the current steps if the new steps also violate the property.
+   * @param {WalkStep[]} steps
+   */
+  async tryWalk(steps) {
+    if (this.cyclesLeft <= 0 || !areAllowed(this.campaign, steps)) return false;
+    await this.yieldToMessages();
+    const wait = Math.min(this.campaign.maxWait, longestWaitAfter(this.campaign, steps));
+    const finalWait = wait > 0 ? [{ wait, kind: /** @type {const} */ ("none"), input: -1 }] : [];
+    this.cyclesLeft -= [...steps, ...finalWait].reduce((sum, step) => sum + step.wait + STEP_COST, 0);
+    const { broken } = this.watcher.watch(this.start, [...steps, ...finalWait], [0]);
+    if (!broken) return false;
+    this.steps = steps.slice(0, broken.step);
+    this.time = broken.time;
+    return true;
+  }
+
+  /** Removes steps, first many at a time, then few. Returns whether a step was removed. */
+  async removeSteps() {
+    let isShorter = false;
+    for (let size = Math.ceil(this.steps.length / 2); size >= 1; size = size > 1 ? Math.ceil(size / 2) : 0) {
+      for (let at = 0; at < this.steps.length;) {
+        const isRemoved = (/** @type {number} */ index) => index >= at && index < at + size;
+        if (await this.tryWithout(isRemoved)) isShorter = true;
+        else at += 1;
+      }
+    }
+    return isShorter;
+  }
+
+  /**
+   * Removes some steps, with their waits if possible. Returns whether the remaining steps violate the property.
+   * @param {(index: number) => boolean} isRemoved
+   */
+  async tryWithout(isRemoved) {
+    if (await this.tryWalk(this.steps.filter((_, index) => !isRemoved(index)))) return true;
+    const stepsWithout = this.stepsWithout(isRemoved);
+    return stepsWithout !== null && (await this.tryWalk(stepsWithout));
+  }
+
+  /**
+   * Returns the steps without some of them, with the same total time; null if a wait becomes too long.
+   * @param {(index: number) => boolean} isRemoved
+   */
+  stepsWithout(isRemoved) {
+    const { campaign } = this;
+    let down = initialDownInputs(campaign);
+    let waited = 0;
+    /** @type {WalkStep[]} */
+    const remainingSteps = [];
+    for (const [at, step] of this.steps.entries()) {
+      waited += step.wait;
+      if (isRemoved(at)) continue;
+      // If no input is down, a wait can be longer. Each wait must fit into one run.
+      if (waited > (down.length > 0 ? campaign.maxWait : MAX_RUN_CYCLES)) return null;
+      remainingSteps.push({ ...step, wait: waited });
+      down = downInputsAfter(down, step);
+      waited = 0;
+    }
+    return remainingSteps;
+  }
+
+  /** Removes a press and its release. Returns whether it found such a pair. */
+  async removePairs() {
+    for (let at = 0; at < this.steps.length; at++) {
+      const { kind, input } = this.steps[at];
+      const releaseIndex = this.steps.findIndex((step, index) => index > at && step.input === input);
+      if (kind === "reset" || releaseIndex < 0) continue;
+      if (await this.tryWithout((index) => index === at || index === releaseIndex)) return true;
+    }
+    return false;
+  }
+
+  /**
+   * Removes all steps before a moment at which no input is down. Because the phase of the program is then different, also tries additional
+   * cycles for the next wait. Returns whether steps were removed.
+   */
+  async removeStart() {
+    const { campaign, steps } = this;
+    let down = initialDownInputs(campaign);
+    const idleSteps = steps.flatMap((step, at) => {
+      const isIdle = down.length === 0 && at > 0;
+      down = downInputsAfter(down, step);
+      return isIdle ? [at] : [];
+    });
+    for (const at of idleSteps.reverse()) {
+      // A wait must fit into one run.
+      for (let { wait } = steps[at]; wait < Math.min(steps[at].wait + MAX_EXTRA_CYCLES, MAX_RUN_CYCLES + 1); wait++) {
+        if (await this.tryWalk([{ ...steps[at], wait }, ...steps.slice(at + 1)])) return true;
+      }
+    }
+    return false;
+  }
+
+  /** Shortens waits. Returns whether a wait became shorter. */
+  async shortenWaits() {
+    let isShorter = false;
+    for (let at = 0; at < this.steps.length; at++) {
+      const { wait } = this.steps[at];
+      for (const fraction of WAIT_FRACTIONS) {
+        const shorter = Math.max(this.campaign.minWait, Math.floor(wait * fraction));
+        if (shorter >= wait) continue;
+        if (await this.tryWalk(this.steps.map((step, index) => (index === at ? { ...step, wait: shorter } : step)))) {
+          isShorter = true;
+          break;
+        }
+      }
+    }
+    return isShorter;
+  }
+}

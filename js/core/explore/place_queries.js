@@ -1,0 +1,136 @@
+// Queries the `trace` places in properties and notes, at most 16 per query, and evaluates conditions on the answers.
+
+import { MAX_PLACES } from "../bench/inputs.js";
+import { parseRefusal } from "../bench/answers.js";
+import { ForecastAnswers, parseTraceLine, rowValues } from "../engine/forecast_answers.js";
+
+/** @typedef {import("./properties.js").Property} Property */
+
+export class PlaceQueries {
+  /** @param {string[]} names */
+  constructor(names) {
+    this.names = [...new Set(names)];
+    /** The groups of places, one group per query. */
+    this.groups = [];
+    for (let from = 0; from < this.names.length; from += MAX_PLACES) this.groups.push(this.names.slice(from, from + MAX_PLACES));
+  }
+
+  /**
+   * Returns the `trace` lines for the next cycles.
+   * @param {number} cycles
+   */
+  lines(cycles) {
+    return this.groups.map((group) => `trace ${cycles} ${group.join(" ")}\n`).join("");
+  }
+
+  /**
+   * Returns the positions of some places among all places.
+   * @param {string[]} places
+   */
+  indexes(places) {
+    return places.map((place) => this.names.indexOf(place));
+  }
+}
+
+/**
+ * Returns all conditions of a property: its own condition and those of its guards.
+ * @param {Property} property
+ */
+export function listConditions({ condition, guards }) {
+  return [condition, ...guards.map((guard) => guard.condition)];
+}
+
+/** @type {boolean[]} */
+const NONE = [];
+
+/** The conditions of a property, with the positions of their values among the values of all places. */
+export class Conditions {
+  /**
+   * @param {Property} property
+   * @param {{ indexes: (places: string[]) => number[] }} places
+   */
+  constructor(property, places) {
+    const [ownCondition, ...guards] = listConditions(property).map((condition) => (
+      { condition, indexes: condition ? places.indexes(condition.places) : [] }));
+    this.ownCondition = ownCondition;
+    this.guardConditions = guards;
+  }
+
+  /** @param {string[]} values */
+  holds(values) {
+    return evaluateCondition(this.ownCondition, values);
+  }
+
+  /**
+   * Returns for each guard whether its condition is true.
+   * @param {string[]} values
+   */
+  areOpen(values) {
+    return this.guardConditions.length === 0 ? NONE : this.guardConditions.map((guard) => evaluateCondition(guard, values));
+  }
+}
+
+/**
+ * @param {{ condition: import("../conditions/condition_language.js").Condition | null, indexes: number[] }} query
+ * @param {string[]} values
+ */
+function evaluateCondition({ condition, indexes }, values) {
+  return condition !== null && condition.holds(indexes.map((at) => values[at]));
+}
+
+/** Reads consecutive answers to place queries. */
+export class PlaceValues extends ForecastAnswers {
+  /**
+   * Returns the current values of all places; skips the lines of later changes.
+   * @param {PlaceQueries} places
+   */
+  row(places) {
+    let row = "";
+    for (let group = 0; group < places.groups.length; group++) row += this.takeTrace().row;
+    return row.slice(1);
+  }
+
+  /**
+   * Returns the current values of all places, and the values after each instruction that changes them, with the cycles before the
+   * instruction.
+   * @param {PlaceQueries} places
+   * @returns {{ values: string[], changes: Change[] }}
+   */
+  changes(places) {
+    /** @type {string[]} */
+    let values = [];
+    /** @type {Change[][]} */
+    const changesByGroup = [];
+    for (let group = 0; group < places.groups.length; group++) {
+      const { row, lines } = this.takeTrace();
+      const from = values.length;
+      changesByGroup.push(lines.map((line) => parseChange(line, from)));
+      values = [...values, ...rowValues(row)];
+    }
+    if (changesByGroup.length === 1) return { values, changes: changesByGroup[0] };
+    return { values, changes: changesByGroup.flat().sort((one, other) => one.cycles - other.cycles) };
+  }
+
+  /** Returns the answer to `count`; an empty list if the bench rejects the wait. */
+  counts() {
+    if (!parseRefusal(this.answers[this.at])) return this.takeCounts();
+    this.skip(1);
+    return [];
+  }
+}
+
+/**
+ * An instruction that changes values in a group of places: its cycle, its address, and the new values. `from` is the position of the first
+ * value among the values of all places.
+ * @typedef {{ cycles: number, address: number, from: number, values: string[] }} Change
+ */
+
+/**
+ * @param {string} line
+ * @param {number} from
+ * @returns {Change}
+ */
+function parseChange(line, from) {
+  const { cycles, address, row } = parseTraceLine(line);
+  return { cycles, address, from, values: rowValues(row) };
+}

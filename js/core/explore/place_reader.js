@@ -1,0 +1,136 @@
+// Reads the current values of `trace` places with the fastest queries: `lamps`, `regs`, `state` and `ram` report most of these places in
+// the same spelling. Unlike `trace`, these queries need no copy of the bench.
+
+import { parseNumber } from "../bench/numbers.js";
+import { PlaceQueries } from "./place_queries.js";
+
+/**
+ * @typedef {import("../bench/answers.js").Board} Board
+ * @typedef {import("./place_queries.js").PlaceValues} PlaceValues
+ *
+ * The position of a value: the query, the index of the answer line, the first character, and the number of characters. If the answer has
+ * words of varying length, `precedingWord` is the word before the value. If `length` is 0, the value extends to the end of the line.
+ * @typedef {{ query: string, line: number, precedingWord: string, start: number, length: number }} Spot
+ */
+
+/** The positions of registers in `acc H cy B pc HHH owed B dcl D test B r HHHHHHHHHHHHHHHH ..`: first character and length. */
+const REGISTERS = new Map([["acc", [4, 1]], ["cy", [9, 1]], ["pc", [14, 3]], ["dcl", [29, 1]]]);
+/** The position of r0 in the same line. */
+const FIRST_REGISTER = 40;
+/** The number of `ram` lines per chip: one per register, and one for the port. */
+const CHIP_LINES = 5;
+const CHIP_REGISTERS = 4;
+
+/**
+ * Returns the number of chips in a bank of the board.
+ * @param {Board} board
+ * @param {number} bank
+ */
+function countChips({ banks }, bank) {
+  return (banks.find((each) => each.bank === bank) || { chips: 0 }).chips;
+}
+
+/**
+ * @param {string} name
+ * @returns {Spot | null}
+ */
+function registerSpot(name) {
+  const found = REGISTERS.get(name);
+  if (found) return { query: "regs", line: 0, precedingWord: "", start: found[0], length: found[1] };
+  const register = /^r(\d+)$/.exec(name);
+  return register && { query: "regs", line: 0, precedingWord: "", start: FIRST_REGISTER + Number(register[1]), length: 1 };
+}
+
+/**
+ * Returns the position of a RAM or status character: `ram.0.0x12`, `st.0.1.2`.
+ * @param {string} name
+ * @param {Board} board
+ * @returns {Spot | null}
+ */
+function memorySpot(name, board) {
+  const [word, ...parts] = name.split(".");
+  if (word !== "ram" && word !== "st") return null;
+  const [bank, at, statusIndex] = parts.map(parseNumber);
+  const register = word === "ram" ? at >> 4 : at;
+  if ((register >> 2) >= countChips(board, bank)) return null;
+  const line = 1 + (register >> 2) * CHIP_LINES + (register % CHIP_REGISTERS);
+  // `0.0.1 HHHHHHHHHHHHHHHH HHHH`
+  const start = word === "ram" ? 6 + (at % 16) : 23 + statusIndex;
+  return { query: `ram ${bank}`, line, precedingWord: "", start, length: 1 };
+}
+
+/**
+ * Returns the position of a RAM port, such as `ram0.1`. Only its latch drives it. This module reads characters by position, without
+ * bench/state_line.js, because a search takes thousands of snapshots per second.
+ * @param {string} name
+ * @param {Board} board
+ * @returns {Spot | null}
+ */
+function portSpot(name, board) {
+  const match = /^ram(\d)\.(\d)$/.exec(name);
+  if (!match || Number(match[2]) >= countChips(board, Number(match[1]))) return null;
+  // `rams 0.0.H,0.1.H,1.0.H`
+  const before = board.banks.filter(({ bank }) => bank < Number(match[1])).reduce((sum, { chips }) => sum + chips, 0);
+  return { query: "state", line: 0, precedingWord: " rams ", start: 6 * (before + Number(match[2])) + 4, length: 1 };
+}
+
+/**
+ * @param {string} name
+ * @param {Board} board
+ */
+function findSpot(name, board) {
+  if (name === "lamps") return { query: "lamps", line: 0, precedingWord: "", start: 6, length: 0 };
+  return registerSpot(name) || memorySpot(name, board) || portSpot(name, board);
+}
+
+export class PlaceReader {
+  /**
+   * @param {string[]} names
+   * @param {Board} board
+   */
+  constructor(names, board) {
+    const all = [...new Set(names)];
+    const spots = all.map((name) => findSpot(name, board));
+    /** The places that only `trace` reports. */
+    this.remainingPlaces = new PlaceQueries(all.filter((_, at) => !spots[at]));
+    this.spots = spots.flatMap((spot) => spot || []);
+    /** All places, in the order of the values. */
+    this.names = [...all.filter((_, at) => spots[at]), ...this.remainingPlaces.names];
+    this.queries = [...new Set(this.spots.map(({ query }) => query))];
+    /** The query lines. */
+    this.lines = this.queries.map((query) => `${query}\n`).join("") + this.remainingPlaces.lines(1);
+    const counts = this.queries.map((query) => (
+      query.startsWith("ram ") ? 1 + CHIP_LINES * countChips(board, Number(query.slice(4))) : 1));
+    /** The line index of each position in the whole answer. */
+    this.answerIndexes = this.spots.map(({ query, line }) => (
+      line + counts.slice(0, this.queries.indexOf(query)).reduce((sum, count) => sum + count, 0)));
+    this.answerCount = counts.reduce((sum, count) => sum + count, 0);
+  }
+
+  /**
+   * Returns the positions of some places among all places.
+   * @param {string[]} places
+   */
+  indexes(places) {
+    return places.map((place) => this.names.indexOf(place));
+  }
+
+  /**
+   * Returns the values of all places, from the answers to the query lines.
+   * @param {PlaceValues} values
+   */
+  row(values) {
+    const { spots, answerIndexes, remainingPlaces: tracedPlaces } = this;
+    const first = values.at;
+    let row = "";
+    for (let each = 0; each < spots.length; each++) {
+      const { precedingWord, start, length } = spots[each];
+      const answer = values.answers[first + answerIndexes[each]];
+      const begin = precedingWord === "" ? start : answer.indexOf(precedingWord) + precedingWord.length + start;
+      row += `${each === 0 ? "" : " "}${length === 0 ? answer.slice(begin) : answer.substr(begin, length)}`;
+    }
+    values.skip(this.answerCount);
+    if (tracedPlaces.names.length === 0) return row;
+    return row === "" ? values.row(tracedPlaces) : `${row} ${values.row(tracedPlaces)}`;
+  }
+}

@@ -1,0 +1,116 @@
+// Runs the search for counterexamples in the page's worker, in short pieces. With the same seed, the results are the same as those of
+// `mcs4 explore`.
+//
+//     const { searchSetup, faults } = await prepareSearch(engine, texts);
+//     const exploring = new SlicedSearch(engine, texts, searchSetup, { seed: 1, seconds: 20 }, async () => {});
+//     const { report, found, isDone } = await exploring.runFor(200);
+
+import { isConfirmed } from "../testing/confirmation.js";
+import { prepareTests } from "../testing/test_preparation.js";
+import { startCampaign, findLeadingTests } from "./start_state.js";
+import { CampaignRun, minimisingCycles, initialProofTime } from "./campaign_run.js";
+import { readCampaign } from "./campaign.js";
+import { createSubject } from "./subject.js";
+import * as say from "../../words/explore.js";
+
+/**
+ * @typedef {import("../testing/test_preparation.js").TextFault} TextFault
+ * @typedef {import("../engine/engine_host.js").EngineHost} Engine
+ * @typedef {import("./campaign.js").Campaign} Campaign
+ * @typedef {import("./report.js").Report} Report
+ * @typedef {import("./subject.js").Subject} Subject
+ * @typedef {{ boardText: string, programText: string, testText: string, propertiesText: string }} ExploredTexts
+ * @typedef {{ seed: number, seconds: number }} RunOptions
+ * @typedef {{ subject: Subject, campaign: Campaign }} SearchSetup
+ * @typedef {import("../testing/test_preparation.js").PreparedTests} PreparedTests
+ *
+ * The progress: the result so far, the counterexamples since the last report with their sessions, and whether the search is over.
+ * @typedef {{ report: Report, found: { property: number, file: Uint8Array }[], isDone: boolean }} Progress
+ */
+
+/** The time between two checks of the clock, in milliseconds. */
+const SLICE_MS = 50;
+
+/**
+ * Returns the parsed texts, or the errors in them.
+ * @param {Engine} engine
+ * @param {ExploredTexts} texts
+ * @param {boolean} [needsInputs] true if missing inputs are an error
+ * @returns {{ read: (SearchSetup & { prepared: PreparedTests }) | null, faults: TextFault[] }}
+ */
+export function parseSearchTexts(engine, { boardText, programText, testText, propertiesText }, needsInputs = true) {
+  const { prepared, faults } = prepareTests(engine, { boardText, programText });
+  if (!prepared) return { read: null, faults };
+  const subject = createSubject(engine, boardText, programText);
+  const { campaign, faults: errors } = readCampaign(propertiesText, subject, needsInputs);
+  const { from } = campaign;
+  if (from) {
+    const { words } = findLeadingTests(prepared.names, testText, from.state);
+    if (words) errors.push({ line: from.line, column: -1, words });
+  }
+  return errors.length === 0 ? { read: { subject, campaign, prepared }, faults: [] } : { read: null, faults: propertyFaults(errors) };
+}
+
+/**
+ * Returns errors in the properties text with the name of the text.
+ * @param {{ line: number, words: string }[]} faults
+ * @returns {TextFault[]}
+ */
+function propertyFaults(faults) {
+  return faults.map(({ line, words }) => ({ text: "properties", number: 0, line, words }));
+}
+
+/**
+ * Returns a campaign and its subject at the start state, or the errors in the texts.
+ * @param {Engine} engine
+ * @param {ExploredTexts} texts
+ * @returns {Promise<{ searchSetup: SearchSetup | null, faults: TextFault[] }>}
+ */
+export async function prepareSearch(engine, texts) {
+  const { read, faults } = parseSearchTexts(engine, texts);
+  if (!read) return { searchSetup: null, faults };
+  const { searchSetup, words } = await startCampaign(read, read.prepared, texts.testText);
+  const { from } = searchSetup.campaign;
+  return words && from ? { searchSetup: null, faults: propertyFaults([{ line: from.line, words }]) } : { searchSetup, faults: [] };
+}
+
+export class SlicedSearch {
+  /**
+   * @param {Engine} engine
+   * @param {ExploredTexts} texts
+   * @param {SearchSetup} searchSetup
+   * @param {RunOptions} asked
+   * @param {() => Promise<void>} yieldToMessages yields to messages during minimising
+   */
+  constructor(engine, texts, { subject, campaign }, { seed, seconds }, yieldToMessages) {
+    // A counterexample counts only after its test has failed; for a goal, after its test has passed.
+    const confirm = (/** @type {string} */ test, /** @type {boolean} */ isGoal) => (
+      isConfirmed(engine, texts, test, isGoal, yieldToMessages));
+    const [cycleLimit, proofTime] = [minimisingCycles(seconds), initialProofTime(seconds)];
+    this.run = new CampaignRun(subject, campaign, seed, confirm, cycleLimit, null, yieldToMessages, proofTime);
+  }
+
+  /**
+   * Searches for a number of milliseconds. A counterexample ends the search early, but takes longer because it is minimised.
+   * @param {number} milliseconds
+   * @returns {Promise<Progress>}
+   */
+  async runFor(milliseconds) {
+    const { run } = this;
+    const end = performance.now() + milliseconds;
+    /** @type {Progress["found"]} */
+    const found = [];
+    while (found.length === 0 && !run.isDone && performance.now() < end) {
+      const counterexample = await run.runFor(SLICE_MS);
+      if (counterexample && counterexample.violation) {
+        found.push({ property: counterexample.property, file: run.sessionAtViolation(counterexample.violation) });
+      }
+    }
+    return { report: this.report(), found, isDone: run.isDone };
+  }
+
+  report() {
+    const { search, proof, model } = this.run.timeSpent;
+    return this.run.report({ names: say.NAMES, sums: "", seconds: (search + proof + model) / 1000, isStopped: false });
+  }
+}

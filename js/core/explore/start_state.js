@@ -1,0 +1,133 @@
+// Starts a search at a state that a test has saved (`from STATE` in a properties text). Runs the tests that lead to this state once. Each
+// counterexample then begins with the lines of these tests.
+
+import { parseState, parsePorts } from "../bench/state_line.js";
+import { PressedKeys } from "../board/key_place.js";
+import { ExecutionRecorder, MOST_LEVELS } from "../testing/recorders.js";
+import { TestRun } from "../testing/test_run.js";
+import { expandSteps, readTests } from "../testing/test_text.js";
+import * as say from "../../words/explore.js";
+
+/**
+ * @typedef {import("../testing/test_preparation.js").PreparedTests} PreparedTests
+ * @typedef {import("../testing/test_text.js").Test} Test
+ * @typedef {import("./campaign.js").Campaign} Campaign
+ * @typedef {import("./search_inputs.js").Input} Input
+ * @typedef {import("./subject.js").Subject} Subject
+ * @typedef {{ subject: Subject, campaign: Campaign }} SearchSetup
+ */
+
+/** Counts the calls that have not returned, over consecutive tests. */
+class OpenCalls extends ExecutionRecorder {
+  begin() {
+    this.lastPress.key = "";
+  }
+
+  end() {
+    // Calls of a test stay open when the next test continues.
+  }
+}
+
+/**
+ * Returns whether a test saves a state.
+ * @param {Test} test
+ * @param {string} state
+ */
+function savesState({ steps }, state) {
+  return steps.some(({ action }) => action.kind === "save" && action.state === state);
+}
+
+/**
+ * Returns the tests that lead to a saved state, in order. If there are none, `words` is the error message; otherwise it is "".
+ * @param {PreparedTests["names"]} names
+ * @param {string} testText
+ * @param {string} state
+ * @returns {{ tests: Test[], words: string }}
+ */
+export function findLeadingTests(names, testText, state) {
+  const { tests, faults } = readTests(testText, names);
+  if (testText.trim() === "") return { tests: [], words: say.noTests(state) };
+  if (faults.length > 0) return { tests: [], words: say.testsFault(faults[0].line, faults[0].words) };
+  const savingTest = tests.find((test) => savesState(test, state));
+  if (!savingTest) {
+    const stateNames = tests.flatMap(({ steps }) => steps.flatMap(({ action }) => (action.kind === "save" ? [action.state] : [])));
+    return { tests: [], words: say.noSuchState(state, stateNames.join(" ")) };
+  }
+  const earlierTests = savingTest.from === "" ? [] : findLeadingTests(names, testText, savingTest.from).tests;
+  return { tests: [...earlierTests, savingTest], words: "" };
+}
+
+/**
+ * Returns the tests, each cut after the line that saves the state from which the next test continues.
+ * @param {Test[]} tests
+ * @param {string} state
+ * @returns {Test[]}
+ */
+function cutAtSavedStates(tests, state) {
+  return tests.map((test, at) => {
+    const wantedState = at + 1 < tests.length ? tests[at + 1].from : state;
+    const end = test.steps.findIndex(({ action }) => action.kind === "save" && action.state === wantedState);
+    return { ...test, steps: test.steps.slice(0, end + 1) };
+  });
+}
+
+/**
+ * Returns the lines of tests, except the lines that save a state or continue from one.
+ * @param {Test[]} tests
+ */
+function formatLines(tests) {
+  const lines = tests.flatMap((test) => expandSteps(test.steps)).filter(({ action }) => action.kind !== "from" && action.kind !== "save");
+  return lines.map(({ text }) => `  ${text}`);
+}
+
+/**
+ * Returns the range of the number of open calls after tests. The number is unknown if one of the tests resets the machine.
+ * @param {Test[]} tests
+ * @param {OpenCalls} recorder
+ */
+function countOpenCalls(tests, recorder) {
+  const isReset = tests.some(({ steps }) => expandSteps(steps).some(({ action }) => action.kind === "reset"));
+  const { length } = recorder.openCalls;
+  return isReset ? { least: 0, most: MOST_LEVELS } : { least: length, most: length };
+}
+
+/**
+ * Returns an input with its current position (down or up) in a session.
+ * @param {Input} input
+ * @param {string} state the answer to `state`
+ * @returns {Input}
+ */
+function updateInput(input, state) {
+  const { test, ports } = parseState(state);
+  return { ...input, isDown: new PressedKeys(parsePorts(ports).keys).has(input.key, test) };
+}
+
+/**
+ * Resolves to the campaign and its subject at the start state. If the tests do not reach this state, `words` is the error message.
+ * @param {SearchSetup} searchSetup
+ * @param {PreparedTests} prepared
+ * @param {string} testText
+ * @returns {Promise<{ searchSetup: SearchSetup, words: string }>}
+ */
+export async function startCampaign(searchSetup, prepared, testText) {
+  const { subject, campaign } = searchSetup;
+  if (!campaign.from) return { searchSetup, words: "" };
+  const { state } = campaign.from;
+  const { tests, words } = findLeadingTests(prepared.names, testText, state);
+  if (words) return { searchSetup, words };
+  const recorder = new OpenCalls(prepared.codes);
+  const run = new TestRun(subject.engine, prepared, recorder, async () => {});
+  let failureMessage = "";
+  const leadingTests = cutAtSavedStates(tests, state);
+  for (const test of leadingTests) {
+    const { failure } = await run.run(test, "");
+    if (failure && failureMessage === "") failureMessage = say.testFails(failure.line, failure.text, failure.words);
+  }
+  const savedState = run.states.get(state);
+  if (!savedState) return { searchSetup, words: failureMessage };
+  const { file } = savedState;
+  const [stateAnswer] = subject.engine.ask(file, "state\n").answers;
+  const inputs = campaign.inputs.map((input) => updateInput(input, stateAnswer));
+  const start = { inputs, before: formatLines(leadingTests), calls: countOpenCalls(leadingTests, recorder) };
+  return { searchSetup: { subject: { ...subject, file }, campaign: { ...campaign, ...start } }, words: "" };
+}

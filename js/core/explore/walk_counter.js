@@ -1,0 +1,69 @@
+// Determines the executed code and the open calls of a walk, which snapshots do not show, from the answers to `count`. This takes a
+// fraction of the time of watching (walk_watcher.js), but does not determine property memories that depend on the time of an event.
+
+import { isCall, isReturn } from "../engine/rom_codes.js";
+import { PlaceValues } from "./place_queries.js";
+import { downInputsAfter, changeLine } from "./walks.js";
+
+/**
+ * @typedef {import("./properties.js").Property} Property
+ * @typedef {import("./walks.js").WalkStep} WalkStep
+ * @typedef {import("./walk_watcher.js").StepState} StepState
+ * @typedef {import("./walk_watcher.js").WalkStart} WalkStart
+ */
+
+/** The memory of a property whose condition is false. */
+const FALSE_CONDITION_MEMORY = [-1];
+const COUNTABLE_FORMS = new Set(["code", "never", "always", "never for", "reach", "reach at", "model", "calls", "returns"]);
+
+/**
+ * Returns whether snapshots and counts are sufficient for the memories of the open properties. A `never for` property needs watching while
+ * its condition is true, because snapshots do not show how long a condition has been true.
+ * @param {Property[]} properties
+ * @param {number[]} openProperties the numbers of the open properties
+ * @param {boolean[][]} holds true if the condition is true after a step, by step and property
+ */
+export function isCountingSufficient(properties, openProperties, holds) {
+  return openProperties.every((at) => {
+    const { form, guards } = properties[at];
+    return COUNTABLE_FORMS.has(form) && guards.length === 0 && !(form === "never for" && holds.some((each) => each[at]));
+  });
+}
+
+/**
+ * Returns the memory of a property after a step.
+ * @param {Property} property
+ * @param {number[]} memory
+ * @param {WalkStep} step
+ * @param {number} openedCalls the change of the number of open calls: the number of calls minus the number of returns
+ */
+function updateMemory({ form }, memory, { kind }, openedCalls) {
+  if (form === "calls" || form === "returns") return [kind === "reset" ? 0 : memory[0] + openedCalls];
+  return form === "never for" ? FALSE_CONDITION_MEMORY : memory;
+}
+
+/**
+ * Returns the state after each step of a walk.
+ * @param {Pick<import("./walk_watcher.js").Watcher, "subject" | "campaign"> & { coverage: import("./search_coverage.js").Coverage }} search
+ * @param {WalkStart} start
+ * @param {WalkStep[]} steps
+ * @returns {StepState[]}
+ */
+export function countWalk({ subject: { engine, codes }, campaign, coverage }, start, steps) {
+  const lines = steps.map((step) => `count ${step.wait}\nrun ${step.wait}\n${changeLine(campaign, step)}`).join("");
+  const values = new PlaceValues(engine.ask(start.file, lines).answers);
+  let { time, down, memories } = start;
+  return steps.map((step) => {
+    const counts = values.counts();
+    values.skip(step.kind === "none" ? 1 : 2);
+    let openedCalls = 0;
+    for (const { address, begun } of counts) {
+      if (isCall(codes[address])) openedCalls += begun;
+      else if (isReturn(codes[address])) openedCalls -= begun;
+    }
+    time += step.wait;
+    down = downInputsAfter(down, step);
+    memories = memories.map((memory, at) => updateMemory(campaign.properties[at], memory, step, openedCalls));
+    return { time, down, memories, isNew: coverage.add(counts) };
+  });
+}

@@ -1,0 +1,284 @@
+// Watches a walk instruction by instruction: traces the places of the properties, counts the instructions, and reports all events to the
+// properties in time order. The search watches the walks that show something new, and a sample of all other walks.
+
+import { instructionCycles, isCall, isReturn } from "../engine/rom_codes.js";
+import { parseTraceLine } from "../engine/forecast_answers.js";
+import { Conditions, PlaceQueries, PlaceValues, listConditions } from "./place_queries.js";
+import { listAddresses } from "./properties.js";
+import { downInputsAfter, changeLine } from "./walks.js";
+
+/**
+ * @typedef {import("./campaign.js").Campaign} Campaign
+ * @typedef {import("./properties.js").Property} Property
+ * @typedef {import("./properties.js").Event} Event
+ * @typedef {import("./subject.js").Subject} Subject
+ * @typedef {import("./walks.js").WalkStep} WalkStep
+ * @typedef {import("./place_queries.js").Change} Change
+ * @typedef {import("../engine/forecast_answers.js").InstructionCount} InstructionCount
+ *
+ * The start of a walk: the session, the cycles since power-on, the inputs that are down, and the memory of each property.
+ * @typedef {{ file: Uint8Array, time: number, down: number[], memories: number[][] }} WalkStart
+ *
+ * The violation of a property, or the arrival at a goal: the property number, the time, and the number of complete steps before it.
+ * @typedef {{ property: number, time: number, step: number }} WalkViolation
+ *
+ * The state after a step: the time, the inputs that are down, and the memory of each property. `isNew` is true if the step executed code
+ * for the first time.
+ * @typedef {{ time: number, down: number[], memories: number[][], isNew: boolean }} StepState
+ *
+ * The answers about one step. `list` contains all instructions of the step; null if they were not queried.
+ * @typedef {{ values: string[], changes: Change[], counts: InstructionCount[], runAnswer: string,
+ *   list: { cycles: number, address: number }[] | null }} StepReport
+ */
+
+export class Watcher {
+  /**
+   * @param {Subject} subject
+   * @param {Campaign} campaign
+   * @param {import("./search_coverage.js").Coverage | null} coverage null if the executed code does not matter
+   */
+  constructor(subject, campaign, coverage) {
+    this.subject = subject;
+    this.campaign = campaign;
+    this.coverage = coverage;
+    const conditionPlaces = campaign.properties.flatMap(listConditions).flatMap((condition) => (condition ? condition.places : []));
+    this.callProperties = campaign.properties.flatMap(({ form }, at) => (form === "calls" || form === "returns" ? [at] : []));
+    this.places = new PlaceQueries(this.callProperties.length > 0 ? [...conditionPlaces, "ret"] : conditionPlaces);
+    this.conditions = campaign.properties.map((property) => new Conditions(property, this.places));
+    /** @type {Set<number>} the labels of the open properties */
+    this.openLabels = new Set();
+    /** True if the queries include `count`. */
+    this.asksCounts = coverage !== null || this.callProperties.length > 0 || campaign.properties.some(({ address }) => address >= 0);
+  }
+
+  /**
+   * Watches a walk up to the first violation of an open property. Returns the violation, and the state after each complete step.
+   * @param {WalkStart} start
+   * @param {WalkStep[]} steps
+   * @param {number[]} openProperties the numbers of the open properties
+   * @returns {{ broken: WalkViolation | null, after: StepState[] }}
+   */
+  watch(start, steps, openProperties) {
+    this.openLabels = new Set(openProperties.flatMap((at) => listAddresses(this.campaign.properties[at])));
+    const reports = this.queryReports(start.file, steps, openProperties);
+    const memories = start.memories.map((memory) => [...memory]);
+    const walk = new Walk(this, memories, openProperties, start);
+    /** @type {StepState[]} */
+    const stepStates = [];
+    for (const [at, step] of steps.entries()) {
+      const broken = walk.step(reports[at], step);
+      const isNew = this.coverage !== null && this.coverage.add(reports[at].counts);
+      if (broken) return { broken: { ...broken, step: at }, after: stepStates };
+      if (!/ end$/.test(reports[at].runAnswer)) break;
+      stepStates.push({ time: walk.time, down: walk.down, memories: memories.map((memory) => [...memory]), isNew });
+    }
+    return { broken: null, after: stepStates };
+  }
+
+  /**
+   * Watches a change of an input without a wait.
+   * @param {WalkStart} start
+   * @param {WalkStep} step
+   * @param {number[]} openProperties the numbers of properties
+   * @returns {{ broken: WalkViolation | null, after: StepState[] }}
+   */
+  watchChange(start, step, openProperties) {
+    const memories = start.memories.map((memory) => [...memory]);
+    const walk = new Walk(this, memories, openProperties, start);
+    walk.values = new PlaceValues(this.subject.engine.ask(start.file, this.places.lines(1)).answers).changes(this.places).values;
+    walk.notifyStep(step);
+    return { broken: walk.broken && { ...walk.broken, step: 0 }, after: [{ time: walk.time, down: walk.down, memories, isNew: false }] };
+  }
+
+  /**
+   * @param {Uint8Array} file
+   * @param {WalkStep[]} steps
+   * @param {number[]} openProperties
+   * @returns {StepReport[]}
+   */
+  queryReports(file, steps, openProperties) {
+    const { campaign, places, subject: { engine } } = this;
+    const lines = steps.map((step) => {
+      const countLine = this.asksCounts ? `count ${step.wait}\n` : "";
+      return `${places.lines(step.wait)}${countLine}run ${step.wait}\n${changeLine(campaign, step)}`;
+    }).join("");
+    const placeValues = new PlaceValues(engine.ask(file, lines).answers);
+    /** @type {StepReport[]} */
+    const stepReports = [];
+    for (const step of steps) {
+      const { values, changes } = placeValues.changes(places);
+      const counts = this.asksCounts ? placeValues.counts() : [];
+      stepReports.push({ values, changes, counts, runAnswer: placeValues.take(), list: null });
+      if (step.kind !== "none") placeValues.skip(1);
+    }
+    const asksCalls = this.callProperties.some((at) => openProperties.includes(at));
+    this.addInstructionLists(file, steps, stepReports, stepReports.map((each) => this.needsList(each, asksCalls)));
+    return stepReports;
+  }
+
+  /**
+   * Queries all instructions of some steps.
+   * @param {Uint8Array} file
+   * @param {WalkStep[]} steps
+   * @param {StepReport[]} stepReports
+   * @param {boolean[]} isListed
+   */
+  addInstructionLists(file, steps, stepReports, isListed) {
+    if (!isListed.includes(true)) return;
+    const lastListed = isListed.lastIndexOf(true);
+    const lines = steps.slice(0, lastListed + 1).map((step, at) => (
+      `${isListed[at] ? `trace ${step.wait}\n` : ""}run ${step.wait}\n${changeLine(this.campaign, step)}`)).join("");
+    const placeValues = new PlaceValues(this.subject.engine.ask(file, lines).answers);
+    for (const [at, step] of steps.slice(0, lastListed + 1).entries()) {
+      if (isListed[at]) stepReports[at].list = placeValues.takeTrace().lines.map(parseTraceLine);
+      placeValues.skip(step.kind === "none" ? 1 : 2);
+    }
+  }
+
+  /**
+   * Returns whether all instructions of a step must be queried. This is necessary if the counter reaches a label of a property, or if no
+   * trace line shows a call or return because the return addresses stay the same.
+   * @param {StepReport} report
+   * @param {boolean} asksCalls
+   */
+  needsList({ changes, counts }, asksCalls) {
+    if (counts.some(({ address }) => this.openLabels.has(address))) return true;
+    if (!asksCalls) return false;
+    const { codes } = this.subject;
+    /** @type {(address: number) => boolean} */
+    const changesCalls = (address) => isCall(codes[address]) || isReturn(codes[address]);
+    const calls = new Set(changes.filter(({ address }) => changesCalls(address)).map(({ cycles }) => cycles)).size;
+    return calls !== counts.reduce((sum, { address, begun }) => sum + (changesCalls(address) ? begun : 0), 0);
+  }
+}
+
+/** A walk that reports its events to the properties. */
+class Walk {
+  /**
+   * @param {Watcher} watcher
+   * @param {number[][]} memories
+   * @param {number[]} openProperties
+   * @param {WalkStart} start
+   */
+  constructor(watcher, memories, openProperties, { time, down }) {
+    this.watcher = watcher;
+    this.memories = memories;
+    this.openProperties = openProperties;
+    this.time = time;
+    this.down = down;
+    /** @type {string[]} */
+    this.values = [];
+    /** @type {{ property: number, time: number } | null} */
+    this.broken = null;
+  }
+
+  /**
+   * Reports an event to the properties, and records the first violation.
+   * @param {Event} event
+   * @param {number} time
+   * @param {{ address?: number, input?: string, changed?: number }} more the address of a label, the input that goes down, or the time of a
+   *   change of values
+   */
+  notify(event, time, { address = -1, input = "", changed = time } = {}) {
+    const { watcher: { campaign: { properties }, conditions, callProperties }, values } = this;
+    const isOfCalls = event === "call" || event === "return";
+    for (const at of isOfCalls ? callProperties : this.openProperties) {
+      const { update, address: ownLabel, start } = properties[at];
+      if (event === "label" && ownLabel !== address && start !== address) continue;
+      const needsConditions = event === "values" || event === "label";
+      const holds = needsConditions && conditions[at].holds(values);
+      const areOpen = needsConditions || event === "down" ? conditions[at].areOpen(values) : NONE;
+      const moment = { time, changed, address, holds, areOpen, input, isDown: this.down.length };
+      const violationTime = update(this.memories[at], event, moment);
+      const isFirst = violationTime >= 0 && (!this.broken || violationTime < this.broken.time);
+      if (isFirst && this.openProperties.includes(at)) this.broken = { property: at, time: violationTime };
+    }
+  }
+
+  /**
+   * @param {StepReport} report
+   * @param {WalkStep} step
+   */
+  step(report, step) {
+    const startTime = this.time;
+    const end = Number(report.runAnswer.split(" ")[3]);
+    this.values = report.values;
+    this.notify("values", startTime);
+    if (report.list) this.notifyListed(report, startTime, end);
+    else for (const change of report.changes) this.notifyChange(change, startTime, end, true);
+    this.time = startTime + end;
+    this.notify("end", this.time);
+    this.notifyCode(report);
+    if (!this.broken) this.notifyStep(step);
+    return this.broken;
+  }
+
+  /**
+   * @param {Change} change
+   * @param {number} startTime
+   * @param {number} end
+   * @param {boolean} notifiesCalls
+   */
+  notifyChange({ cycles, address, from, values }, startTime, end, notifiesCalls) {
+    const { codes } = this.watcher.subject;
+    if (this.broken) return;
+    this.values = from === 0 && values.length === this.values.length ? values
+      : [...this.values.slice(0, from), ...values, ...this.values.slice(from + values.length)];
+    const time = startTime + Math.min(end, cycles + instructionCycles(codes[address]));
+    this.notify("values", time, { changed: startTime + Math.min(end, cycles + 1) });
+    if (notifiesCalls) this.notifyCall(address, time);
+  }
+
+  /**
+   * @param {number} address
+   * @param {number} time
+   */
+  notifyCall(address, time) {
+    const { codes } = this.watcher.subject;
+    if (isCall(codes[address])) this.notify("call", time);
+    else if (isReturn(codes[address])) this.notify("return", time);
+  }
+
+  /**
+   * Reports the changes of a step with listed instructions. The program counter reaches an instruction before the
+   * instruction changes anything.
+   * @param {StepReport} report
+   * @param {number} startTime
+   * @param {number} end
+   */
+  notifyListed({ list, changes }, startTime, end) {
+    const { openLabels: labels, subject: { codes } } = this.watcher;
+    let changeIndex = 0;
+    for (const { cycles, address } of list || []) {
+      if (this.broken) return;
+      if (labels.has(address)) this.notify("label", startTime + cycles, { address });
+      for (; changeIndex < changes.length && changes[changeIndex].cycles <= cycles; changeIndex++) {
+        this.notifyChange(changes[changeIndex], startTime, end, false);
+      }
+      this.notifyCall(address, startTime + Math.min(end, cycles + instructionCycles(codes[address])));
+    }
+    for (; changeIndex < changes.length; changeIndex++) this.notifyChange(changes[changeIndex], startTime, end, false);
+  }
+
+  /** @param {StepReport} report */
+  notifyCode({ runAnswer }) {
+    if (this.broken || !/ code$/.test(runAnswer)) return;
+    const at = this.watcher.campaign.properties.findIndex(({ form }) => form === "code");
+    if (this.openProperties.includes(at)) this.broken = { property: at, time: this.time };
+  }
+
+  /** @param {WalkStep} step */
+  notifyStep(step) {
+    const { campaign: { inputs } } = this.watcher;
+    this.down = downInputsAfter(this.down, step);
+    if (step.kind === "down") this.notify("down", this.time, { input: inputs[step.input].name });
+    if (step.kind === "reset") {
+      this.notify("reset", this.time);
+      for (const at of this.watcher.callProperties) this.watcher.campaign.properties[at].update(this.memories[at], "reset", EMPTY_MOMENT);
+    }
+  }
+}
+
+/** @type {boolean[]} */
+const NONE = [];
+const EMPTY_MOMENT = { time: 0, changed: 0, address: -1, holds: false, areOpen: NONE, input: "", isDown: 0 };

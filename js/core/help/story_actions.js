@@ -1,0 +1,92 @@
+// Runs the actions of story links. Each action calls a function of the page.
+
+import { TEXTS } from "./story.js";
+import * as say from "../../words/help.js";
+
+/**
+ * @typedef {import("../board/board_keys.js").BoardKey} BoardKey
+ * @typedef {import("../debug/goals.js").Goal} Goal
+ * @typedef {import("../engine/past_search.js").BackGoal} BackGoal
+ * @typedef {import("./story.js").StoryAction} StoryAction
+ */
+
+/**
+ * The functions of the page that the actions call.
+ * @typedef {object} ActCalls
+ * @property {(label: string) => number | undefined} addressOf Returns the address of a label of the program in ROM; undefined if there is
+ *   no such label.
+ * @property {() => BoardKey[]} keys Returns the keys of the displayed board.
+ * @property {() => void} run Runs time without a goal.
+ * @property {() => Promise<void>} pause Pauses time; resolves after time is paused.
+ * @property {(goal: Goal) => Promise<void>} goOn Runs time to a goal. Resolves when time reaches a near goal; for a distant goal, when time
+ *   runs towards it.
+ * @property {(goal: BackGoal) => Promise<void>} goBack Goes back to a goal; resolves when the session is at the goal.
+ * @property {() => Promise<void>} goForward Returns to the state before the last move back.
+ * @property {(address: number) => void} goTo Shows an address in the source and in the listing.
+ * @property {() => boolean} isRunning Returns whether the machine runs; key changes are then queued.
+ * @property {(key: BoardKey) => boolean} isDown Returns whether a key will be down after all queued changes.
+ * @property {(key: BoardKey) => void} press Clicks a key: presses it, or releases it if it is down.
+ * @property {(name: string) => void} showText Shows a text, selected by tab name.
+ * @property {(name: string) => void} showPanel Shows a panel, selected by name.
+ */
+
+/**
+ * Calls a function with the address of a label. Resolves to an error message, "" for none.
+ * @param {string} label
+ * @param {ActCalls} calls
+ * @param {(address: number) => unknown} act
+ */
+async function callWithAddress(label, calls, act) {
+  const address = calls.addressOf(label);
+  if (address === undefined) return say.noLabel(label);
+  await act(address);
+  return "";
+}
+
+/**
+ * Calls a function with the key that has a legend. Returns an error message, "" for none.
+ * @param {string} legend
+ * @param {ActCalls} calls
+ * @param {(key: BoardKey) => unknown} act
+ */
+function callWithKey(legend, calls, act) {
+  const key = calls.keys().find((each) => each.legend === legend);
+  if (!key) return say.noKey(legend);
+  act(key);
+  return "";
+}
+
+/**
+ * The functions that run actions, by name of the action. Each function resolves to an error message, "" for none.
+ * @type {Record<import("./story.js").ActName, (argument: string, calls: ActCalls) => Promise<string>>}
+ */
+const ACTS = {
+  run: (_, calls) => perform(() => calls.run()),
+  stop: (_, calls) => perform(() => calls.pause()),
+  back: (_, calls) => perform(() => calls.goBack({ kind: "stop" })),
+  forward: (_, calls) => perform(() => calls.goForward()),
+  "go to": (argument, calls) => callWithAddress(argument, calls, (address) => calls.goTo(address)),
+  "run to": (argument, calls) => callWithAddress(argument, calls, (address) => calls.goOn({ kind: "here", address })),
+  "back to": (argument, calls) => perform(() => calls.goBack({ kind: "change", place: argument })),
+  press: async (argument, calls) => callWithKey(argument, calls, (key) => (calls.isRunning() || !calls.isDown(key)) && calls.press(key)),
+  release: async (argument, calls) => callWithKey(argument, calls, (key) => calls.isDown(key) && calls.press(key)),
+  show: (argument, calls) => perform(() => (TEXTS.includes(argument) ? calls.showText(argument) : calls.showPanel(argument))),
+};
+
+/**
+ * Calls a function that always succeeds; resolves to "".
+ * @param {() => unknown} act
+ */
+async function perform(act) {
+  await act();
+  return "";
+}
+
+/**
+ * Runs an action of a link. Resolves to an error message, "" for none.
+ * @param {StoryAction} act
+ * @param {ActCalls} calls
+ */
+export function runAction({ name, argument }, calls) {
+  return ACTS[name](argument, calls);
+}

@@ -1,0 +1,159 @@
+// Computes the levels of the heat map, and describes the map. The heat of a RAM nibble depends on how often or how recently it has changed.
+
+import { hex } from "../bench/numbers.js";
+import { wordsOfAddress } from "../../words/stops.js";
+import { formatCycles } from "../time/cycles.js";
+import * as say from "../../words/machine.js";
+
+/**
+ * @typedef {import("../engine/heat_map.js").Heat} Heat
+ * @typedef {import("../engine/heat_map.js").HeatCell} HeatCell
+ * @typedef {import("./source_map.js").SourceMap} SourceMap
+ * @typedef {import("../engine/heat_meter.js").ChipHeat} ChipHeat
+ * @typedef {"often" | "lately"} HeatKind
+ */
+
+/** The highest heat level. */
+export const MAX_HEAT_LEVEL = 5;
+/** The maximum number of intervals into which the stored cycles are divided. */
+const MAX_INTERVALS = 50;
+
+/**
+ * Maps a number from 1 to `max` to a level from 1 to MAX_HEAT_LEVEL on a logarithmic scale.
+ * @param {number} number
+ * @param {number} max
+ */
+function scaleLevel(number, max) {
+  return max <= 1 ? MAX_HEAT_LEVEL : 1 + Math.min(MAX_HEAT_LEVEL - 1, Math.floor(MAX_HEAT_LEVEL * Math.log(number) / Math.log(max + 1)));
+}
+
+/**
+ * Returns the heat levels of all changed places, from 1 to MAX_HEAT_LEVEL. The place that changed most often, or most recently, has the
+ * highest level.
+ * @param {Heat} heat
+ * @param {HeatKind} kind
+ * @returns {Map<string, number>}
+ */
+export function heatLevels({ cycles, cells }, kind) {
+  const maxCount = Math.max(...cells.map(({ count }) => count));
+  const minAge = Math.min(...cells.map(({ ago }) => ago));
+  return new Map(cells.map(({ place, count, ago }) => (
+    [place, kind === "often" ? scaleLevel(count, maxCount) : MAX_HEAT_LEVEL + 1 - scaleLevel(1 + ago - minAge, cycles)])));
+}
+
+/** Collects the changes in the last cycles while time runs. */
+export class PassingHeat {
+  constructor() {
+    this.totalCycles = 0;
+    /** @type {{ from: number, cells: Map<string, HeatCell & { at: number }> }[]} the intervals, each with the cycle count at its start */
+    this.intervals = [];
+  }
+
+  clear() {
+    this.totalCycles = 0;
+    this.intervals = [];
+  }
+
+  /**
+   * @param {ChipHeat} heat
+   * @param {number} cycles the number of cycles since the previous call; at full speed, `heat` describes only some of these cycles
+   * @param {number} storedCycles the number of cycles to store
+   */
+  add({ cells }, cycles, storedCycles) {
+    const from = this.totalCycles;
+    this.totalCycles += cycles;
+    if (this.intervals.length === 0 || this.totalCycles - this.intervals[this.intervals.length - 1].from > storedCycles / MAX_INTERVALS) {
+      this.intervals.push({ from, cells: new Map() });
+    }
+    addChanges(this.intervals[this.intervals.length - 1].cells, cells.map((cell) => ({ ...cell, at: this.totalCycles - cell.ago })));
+    while (this.intervals.length > 1 && this.intervals[1].from <= this.totalCycles - storedCycles) this.intervals.shift();
+  }
+
+  /** @returns {Heat} */
+  get heat() {
+    /** @type {Map<string, HeatCell & { at: number }>} */
+    const changes = new Map();
+    for (const { cells } of this.intervals) addChanges(changes, [...cells.values()]);
+    const from = this.intervals.length > 0 ? this.intervals[0].from : this.totalCycles;
+    const heatCells = [...changes.values()].map(({ at, ...cell }) => ({ ...cell, ago: this.totalCycles - at }));
+    return { cycles: this.totalCycles - from, cells: heatCells };
+  }
+}
+
+/**
+ * Adds newer changes to a map of changes by place.
+ * @param {Map<string, HeatCell & { at: number }>} changes
+ * @param {(HeatCell & { at: number })[]} newChanges
+ */
+function addChanges(changes, newChanges) {
+  for (const cell of newChanges) changes.set(cell.place, { ...cell, count: cell.count + (changes.get(cell.place) || { count: 0 }).count });
+}
+
+/**
+ * Describes the cause of the last change of a place.
+ * @param {HeatCell} cell
+ * @param {SourceMap | null} map
+ */
+function describeCause({ address, line }, map) {
+  return line ? say.theLine(line) : wordsOfAddress(hex(address, 3), map);
+}
+
+/**
+ * Describes the cause and time of the last change of a place.
+ * @param {HeatCell} cell
+ * @param {SourceMap | null} map
+ */
+function describeLastChange(cell, map) {
+  const cause = describeCause(cell, map);
+  return cell.ago === 0 ? say.by(cause) : say.byAgo(cause, formatCycles(cell.ago));
+}
+
+/** @param {number} count */
+function formatTimes(count) {
+  return count === 1 ? say.ONCE : say.manyTimes(count.toLocaleString("en"));
+}
+
+/**
+ * Describes the changes of a place: `12 times, last by 00B (turn + 9, line 7), 320 cycles, 3.456 ms ago`.
+ * @param {HeatCell} cell
+ * @param {SourceMap | null} map
+ */
+export function describeChanges(cell, map) {
+  return `${formatTimes(cell.count)}${cell.count === 1 ? "" : say.LAST} ${describeLastChange(cell, map)}`;
+}
+
+/**
+ * Describes the changes of a place while time runs. The time of the last change is left out because the reports are late and incomplete.
+ * @param {HeatCell} cell
+ * @param {SourceMap | null} map
+ */
+export function describeSeenChanges(cell, map) {
+  return say.seenBy(formatTimes(cell.count), describeCause(cell, map));
+}
+
+/**
+ * Returns the heat map status while time runs.
+ * @param {ChipHeat} heat
+ * @param {boolean} isAll true if all cycles are examined
+ */
+export function describeHeatStatus({ chips }, isAll) {
+  return say.heatCounted(chips, isAll);
+}
+
+/**
+ * Returns the summary of a heat map.
+ * @param {Heat} heat
+ * @param {number} requestedCycles
+ * @param {(place: string) => string} nameOf
+ * @param {SourceMap | null} map
+ */
+export function describeHeat({ cycles, cells }, requestedCycles, nameOf, map) {
+  if (cycles === 0) return say.NOTHING_EARLIER;
+  const period = say.inTheLast(formatCycles(cycles), cycles >= requestedCycles);
+  if (cells.length === 0) return say.noneChanged(period);
+  const mostChanged = cells.reduce((one, other) => (other.count > one.count ? other : one));
+  if (cells.length === 1) return say.oneChanged(period, nameOf(mostChanged.place), describeChanges(mostChanged, map));
+  const lastChanged = cells.reduce((one, other) => (other.ago < one.ago ? other : one));
+  const often = say.mostOften(nameOf(mostChanged.place), formatTimes(mostChanged.count));
+  return say.manyChanged(period, cells.length, often, nameOf(lastChanged.place), describeLastChange(lastChanged, map));
+}

@@ -1,0 +1,90 @@
+// Parsers for the arguments of prompt commands: program locations, counts, times, conditions.
+
+import { LAST_ADDRESS, parseNumber } from "../bench/numbers.js";
+import { parseWholeDuration } from "../conditions/durations.js";
+import { instructionAtAddress, instructionForLine } from "../debug/breakpoints.js";
+import { compileSearchCondition } from "../debug/condition_search.js";
+import { ADDRESS_RANGE } from "../../words/adapter.js";
+import * as say from "../../words/prompt.js";
+
+/**
+ * @typedef {import("../debug/debug_session.js").DebugSession} DebugSession
+ * @typedef {{ line: number, address: number }} ProgramPlace a location in the program; `line` is 0 if the address has no source line
+ */
+
+/** The error for a rejected command. */
+export class RejectedCommand extends Error {}
+
+/**
+ * @param {string} words
+ * @returns {never}
+ */
+export function rejectCommand(words) {
+  throw new RejectedCommand(words);
+}
+
+/**
+ * Returns the address for a text; undefined if the text is not an address.
+ * @param {string} text a label or an address, with an optional offset: `show + 3`
+ * @param {DebugSession} session
+ */
+export function parseAddress(text, { map }) {
+  const [, word, more = "0"] = /^[@*]?\s*([A-Za-z0-9_]+)\s*(?:\+\s*(\w+))?$/.exec(text) || [];
+  if (word === undefined) return undefined;
+  const begin = /^0x/i.test(word) ? parseNumber(word) : map.valueInAnyCase(word);
+  const address = begin === undefined ? NaN : begin + parseNumber(more);
+  return Number.isNaN(address) ? undefined : address;
+}
+
+/**
+ * Returns the instruction at a program location; fails if there is none. For a line without an instruction, returns the next instruction.
+ * @param {string} text a line, a label or an address; "" for the next instruction
+ * @param {DebugSession} session
+ * @returns {ProgramPlace}
+ */
+export function findInstruction(text, session) {
+  const words = text.trim().replace(/^[^\s:]*\.[A-Za-z0-9]+:/, "");
+  if (words === "") return { line: session.line, address: session.address };
+  if (/^\d+$/.test(words)) {
+    const { line, address } = instructionForLine(Number(words), session.map);
+    if (address < 0) rejectCommand(say.noInstructionIn(words));
+    return { line, address };
+  }
+  const address = parseAddress(words, session);
+  if (address === undefined) rejectCommand(say.notInProgram(words, say.FORMS_IN_PROGRAM));
+  if (address > LAST_ADDRESS) rejectCommand(ADDRESS_RANGE);
+  return { line: instructionAtAddress(address, session.map).line, address };
+}
+
+/**
+ * Parses a count; fails if it is not in the range from 1 to `maxCount`.
+ * @param {string} text the count; "" means 1
+ * @param {number} maxCount
+ */
+export function parseCountArgument(text, maxCount) {
+  const count = text.trim() === "" ? 1 : Number(text);
+  if (!/^\s*\d*\s*$/.test(text) || count < 1 || count > maxCount) rejectCommand(say.countIs(maxCount.toLocaleString("en"), text.trim()));
+  return count;
+}
+
+/**
+ * Parses a time such as `20 ms`; returns it in cycles.
+ * @param {string} text
+ */
+export function parseCycles(text) {
+  const cycles = parseWholeDuration(text.trim().split(/\s+/));
+  return cycles > 0 ? cycles : rejectCommand(say.noTime(text.trim() || say.NOTHING));
+}
+
+/**
+ * Returns the text if it is a condition; "" if it is a program location (a line, an address or a label). Fails if the condition has an
+ * error.
+ * @param {string} text
+ * @param {DebugSession} session
+ */
+export function parseConditionText(text, session) {
+  const isPlace = /^\d+$/.test(text) || /^[^\s:]*\.[A-Za-z0-9]+:/.test(text) || parseAddress(text, session) !== undefined;
+  if (isPlace || !/[\s=<>!]/.test(text)) return "";
+  const { searchCondition, fault } = compileSearchCondition(text, session.names);
+  return searchCondition ? text : rejectCommand(fault);
+}

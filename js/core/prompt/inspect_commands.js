@@ -1,0 +1,196 @@
+// The prompt commands that show the state of the session and do not change it.
+
+import { LAST_ADDRESS } from "../bench/numbers.js";
+import { parsePlace } from "../conditions/places.js";
+import { findCommand, commandHelp } from "./prompt_commands.js";
+import { formattedValue } from "./formats.js";
+import * as stateText from "./state_text.js";
+import { parseCountArgument, findInstruction, parseAddress, rejectCommand } from "./argument_parsers.js";
+import { DISASSEMBLED_FROM_ROM } from "../../words/adapter.js";
+import * as say from "../../words/prompt.js";
+import { stoppedAt } from "../../words/stops.js";
+
+/**
+ * @typedef {import("./debugger_prompt.js").CommandHandler} CommandHandler
+ * @typedef {import("./debugger_prompt.js").Prompt} Prompt
+ */
+
+/** The maximum count of the command `x`. */
+const MAX_EXAMINED = 4096;
+/** The number of source lines that `list` prints. */
+const LIST_LENGTH = 10;
+export const INFO_WORDS = [
+  "registers", "ram", "ports", "keys", "breakpoints", "watches", "display", "names", "source", "session", "line", "symbol", "frame",
+  "stack", "program", "locals",
+];
+/** gdb's abbreviations of the words after `info`, mapped to full words. */
+const INFO_ABBREVIATIONS = new Map([
+  ["r", "registers"], ["s", "stack"], ["f", "frame"], ["args", "locals"], ["all-registers", "registers"],
+]);
+
+export class InspectCommands {
+  /** @param {Prompt} prompt */
+  constructor(prompt) {
+    this.prompt = prompt;
+    /** @type {string[]} the expressions that are printed at each stop */
+    this.displays = [];
+    /** The number of the last source line that `list` has printed since the last stop, 0 for none. */
+    this.lastListedLine = 0;
+  }
+
+  /** @returns {Record<string, CommandHandler>} */
+  get handlers() {
+    const { calls, machine, session } = this.prompt;
+    return {
+      lamps: () => calls.print(machine.frontPanelText.currentText() || say.NO_LAMPS),
+      print: (argumentText) => calls.print(this.evaluate(argumentText || rejectCommand(say.PRINT_FORM))),
+      display: (argumentText) => this.addDisplay(argumentText),
+      undisplay: (argumentText) => this.removeDisplays(argumentText),
+      x: (argumentText) => this.printMemory(argumentText),
+      list: (argumentText) => this.listSource(argumentText),
+      info: (argumentText) => calls.print(this.infoText(argumentText)),
+      view: (argumentText) => this.switchView(argumentText),
+      backtrace: () => calls.print(stateText.frameLines(session)),
+      frame: () => calls.print(this.frameText),
+      help: (argumentText) => {
+        if (argumentText !== "" && !findCommand(argumentText).command) rejectCommand(findCommand(argumentText).words);
+        calls.print(commandHelp(argumentText));
+      },
+      quit: () => {
+        this.prompt.isEnded = true;
+      },
+    };
+  }
+
+  /**
+   * Shows or hides the view.
+   * @param {string} argumentText the argument of `view` or of gdb's `layout` and `tui`
+   */
+  switchView(argumentText) {
+    const { view } = this.prompt.calls;
+    if (!/^(|on|off|enable|disable|src|regs|asm|split)$/.test(argumentText)) rejectCommand(say.VIEW_FORM);
+    if (!view) {
+      rejectCommand(say.VIEW_NEEDS_TERMINAL);
+      return;
+    }
+    const words = argumentText === "" ? view.toggle() : view.turn(!/^(off|disable)$/.test(argumentText));
+    if (words) rejectCommand(words);
+  }
+
+  /**
+   * Returns the current value of an expression as text.
+   * @param {string} expression the expression, with an optional format before it: `/x r4`
+   */
+  evaluate(expression) {
+    return formattedValue(expression, this.prompt.expressionContext);
+  }
+
+  /**
+   * Returns the current value of an expression as text, or the error message.
+   * @param {string} expression
+   */
+  evaluateOrExplain(expression) {
+    try {
+      return this.evaluate(expression);
+    } catch (thrown) {
+      return thrown instanceof Error ? thrown.message : String(thrown);
+    }
+  }
+
+  /**
+   * Prints the expressions of `display` with their values.
+   * @param {number} [from] the index of the first expression
+   */
+  showDisplays(from = 0) {
+    this.displays.slice(from).forEach((expression, at) => {
+      this.prompt.calls.print(`${from + at + 1}: ${expression} = ${this.evaluateOrExplain(expression)}`);
+    });
+  }
+
+  /** @param {string} argumentText */
+  addDisplay(argumentText) {
+    if (argumentText === "") return this.showDisplays();
+    this.evaluate(argumentText);
+    this.displays.push(argumentText);
+    return this.showDisplays(this.displays.length - 1);
+  }
+
+  /** @param {string} argumentText */
+  removeDisplays(argumentText) {
+    const numbers = argumentText.split(/\s+/).filter(Boolean).map(Number);
+    const hasInvalidNumber = numbers.some((each) => !(each >= 1 && each <= this.displays.length));
+    if (hasInvalidNumber) rejectCommand(say.NO_DISPLAY);
+    this.displays = argumentText === "" ? [] : this.displays.filter((_, at) => !numbers.includes(at + 1));
+  }
+
+  /** @param {string} argumentText */
+  printMemory(argumentText) {
+    const { calls, session } = this.prompt;
+    const [, count = "", place = ""] = /^(?:\/(\d*)[a-z]?)?\s*(.*)$/.exec(argumentText) || [];
+    const countShown = parseCountArgument(count, MAX_EXAMINED);
+    if (/^ram[. ]/i.test(place)) {
+      const { name } = parsePlace(place) || { name: place };
+      return calls.print(stateText.characterLines(session, name, countShown));
+    }
+    const address = place === "" ? session.address : parseAddress(place, session);
+    if (address === undefined || address > LAST_ADDRESS) return rejectCommand(say.noPlaceOfMemory(place));
+    return calls.print(stateText.codeLines(session, address, countShown));
+  }
+
+  /** @param {string} argumentText */
+  listSource(argumentText) {
+    const { calls, session } = this.prompt;
+    const count = stateText.countSourceLines(session);
+    let from = this.lastListedLine + 1;
+    if (argumentText !== "" || this.lastListedLine === 0) {
+      const line = /^\d+$/.test(argumentText) ? Number(argumentText) : findInstruction(argumentText, session).line;
+      if (line === 0) rejectCommand(say.NO_LINE_THERE);
+      from = Math.max(1, line - LIST_LENGTH / 2);
+    }
+    if (from > count) rejectCommand(say.sourceHas(count));
+    calls.print(stateText.sourceLines(session, from, from + LIST_LENGTH - 1));
+    this.lastListedLine = Math.min(count, from + LIST_LENGTH - 1);
+  }
+
+  /** The text of `frame`: the innermost frame and the next instruction. */
+  get frameText() {
+    const { session } = this.prompt;
+    return `${stateText.frameLines(session).split("\n")[0]}\n${stateText.nextInstruction(session)}`;
+  }
+
+  /** @returns {Record<string, (argumentText: string) => string>} the functions that return the text of `info`, by the word after `info` */
+  get infoTexts() {
+    const { session, keys, launchResult, breakpoints, lastStop } = this.prompt;
+    return {
+      registers: () => stateText.registerLines(session),
+      ram: () => stateText.ramLines(session),
+      ports: () => stateText.portLines(session),
+      keys: () => keys.infoText(),
+      breakpoints: () => breakpoints.lines,
+      watches: () => breakpoints.watches,
+      display: () => this.displays.map((expression, at) => `${at + 1}: ${expression}`).join("\n") || say.NOTHING_DISPLAYED,
+      names: () => stateText.nameLines(session),
+      source: () => say.linesOf(launchResult.program || DISASSEMBLED_FROM_ROM, stateText.countSourceLines(session)),
+      session: () => (launchResult.writer ? say.SESSION_FILE : say.IN_MEMORY),
+      line: (place) => stateText.lineText(session, findInstruction(place, session)),
+      symbol: (place) => {
+        const address = parseAddress(place || rejectCommand(say.SYMBOL_FORM), session);
+        return address === undefined ? rejectCommand(say.noPlaceOfMemory(place)) : stateText.addressText(session, address);
+      },
+      frame: () => this.frameText,
+      stack: () => stateText.frameLines(session),
+      program: () => lastStop.words || stoppedAt(session.counterText),
+      locals: () => say.NO_LOCALS,
+    };
+  }
+
+  /** @param {string} argumentText */
+  infoText(argumentText) {
+    const [, word = "", argument = ""] = /^(\S*)\s*(.*)$/.exec(argumentText) || [];
+    const matchingKinds = INFO_WORDS.filter((kind) => word !== "" && kind.startsWith(word));
+    const [onlyKind] = matchingKinds.length === 1 ? matchingKinds : [""];
+    const kind = INFO_ABBREVIATIONS.get(word) || onlyKind || rejectCommand(say.infoShows(INFO_WORDS.join(", ")));
+    if (argument !== "" && !/^(line|symbol)$/.test(kind)) rejectCommand(say.infoTakesNoArgument(kind));
+    return this.infoTexts[kind](argument);
+  }
+}

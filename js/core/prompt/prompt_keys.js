@@ -1,0 +1,74 @@
+// Finds keys by the names that a user types at a prompt: the names on the board's front panel, or `row.column`.
+
+import { readBoard } from "../bench/answers.js";
+import { matrixKey, formatKey } from "../board/key_place.js";
+import { listNamedKeys, createKey } from "../testing/test_text.js";
+import { pressedKeys } from "./state_text.js";
+import { rejectCommand } from "./argument_parsers.js";
+import * as say from "../../words/prompt.js";
+
+/**
+ * @typedef {import("../debug/debug_session.js").DebugSession} DebugSession
+ * @typedef {import("../testing/test_text.js").Key} NamedKey
+ */
+
+export class PromptKeys {
+  /**
+   * @param {DebugSession} session
+   * @param {import("../board/face.js").Face} face
+   */
+  constructor(session, face) {
+    this.session = session;
+    this.namedKeys = listNamedKeys(face);
+  }
+
+  /** The names of all keys; an unnamed key is called `row.column`. */
+  get names() {
+    const { rows, columns } = readBoard(this.session.debugger.session.statusQueries.board);
+    const namedKeys = new Set([...this.namedKeys.values()].map(({ key }) => formatKey(key)));
+    const unnamed = [];
+    for (let at = 0; at < rows * columns; at++) {
+      const [row, column] = [Math.floor(at / columns), at % columns];
+      if (!namedKeys.has(formatKey(matrixKey(row, column)))) unnamed.push(`${row}.${column}`);
+    }
+    return [...this.namedKeys.keys(), ...unnamed];
+  }
+
+  /** Returns the text of `info keys`. */
+  infoText() {
+    const down = pressedKeys(this.session);
+    const { names } = this;
+    if (names.length === 0) return say.NO_KEYS;
+    return `${names.join(" ")}\n${down.length > 0 ? say.down(down.join(" ")) : say.NONE_DOWN}`;
+  }
+
+  /**
+   * Returns the key with a name; null if there is none.
+   * @param {string} word
+   * @returns {NamedKey | null}
+   */
+  findKey(word) {
+    const named = this.namedKeys.get(word);
+    if (named) return named;
+    const [, row, column] = /^(\d+)\.(\d+)$/.exec(word) || [];
+    const { rows, columns } = readBoard(this.session.debugger.session.statusQueries.board);
+    if (row === undefined || Number(row) >= rows || Number(column) >= columns) return null;
+    return createKey(word, matrixKey(Number(row), Number(column)));
+  }
+
+  /**
+   * Returns the keys for words; fails if a key does not exist. A word that is not a key name is split into letters.
+   * @param {string} text
+   * @param {string} command the prompt command, for messages
+   */
+  parseKeys(text, command) {
+    if (text === "") rejectCommand(say.keyForm(command));
+    /** @type {(word: string) => NamedKey} */
+    const requireKey = (word) => {
+      const { names } = this;
+      const message = names.length === 0 ? say.NO_KEYS : say.noKey(word, names.join(" "));
+      return this.findKey(word) || rejectCommand(message);
+    };
+    return text.split(/\s+/).flatMap((word) => (this.findKey(word) ? [word] : [...word])).map(requireKey);
+  }
+}

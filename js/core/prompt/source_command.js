@@ -1,0 +1,61 @@
+// Executes the command `source FILE` at a prompt: serves the lines of the file, which can also contain `source` lines. Error messages name
+// the file and the line.
+
+import * as say from "../../words/session_prompt.js";
+
+/**
+ * The prompt that serves the lines. `take` returns false if a line is rejected. `drop` discards unfinished input and returns a message
+ * about it, or "".
+ * @typedef {{ isEnded: boolean, take: (line: string) => Promise<boolean>, drop: () => string }} LineServer
+ */
+
+/** The maximum nesting depth of `source` lines. */
+const MAX_NESTING = 8;
+
+export class SourceCommand {
+  /**
+   * @param {LineServer} server
+   * @param {{ read: (name: string) => string, complain: (words: string) => void }} calls `read` throws an error if it cannot read a file
+   */
+  constructor(server, calls) {
+    this.server = server;
+    this.calls = calls;
+    /** @type {{ name: string, at: number }[]} the nested files with their current line numbers, innermost last */
+    this.files = [];
+  }
+
+  /** The file whose line is currently served; undefined if the line was typed. */
+  get file() {
+    return this.files[this.files.length - 1];
+  }
+
+  /**
+   * Reports an error. For an error in a file, adds the file and the line.
+   * @param {string} words
+   */
+  complain(words) {
+    this.calls.complain(this.file ? say.inFile(this.file.name, this.file.at, words) : words);
+  }
+
+  /**
+   * Serves the lines of a file until a line is rejected. Returns false if a line is rejected; throws if the file cannot be served.
+   * @param {string} name
+   */
+  async serve(name) {
+    if (name === "") throw new Error(say.SOURCE_FORM);
+    if (this.files.length === MAX_NESTING) throw new Error(say.tooDeep(MAX_NESTING));
+    const lines = this.calls.read(name).replace(/\n$/, "").split("\n");
+    const file = { name, at: 0 };
+    this.files.push(file);
+    let isDone = true;
+    for (const line of lines) {
+      file.at += 1;
+      isDone = await this.server.take(line);
+      if (!isDone || this.server.isEnded) break;
+    }
+    const dropped = this.server.drop();
+    this.files.pop();
+    if (isDone && dropped !== "" && !this.server.isEnded) throw new Error(say.endsTooSoon(name, dropped));
+    return isDone;
+  }
+}

@@ -1,0 +1,208 @@
+// Formats the state of a debugged session as text for a prompt: source, registers, RAM, ports, ROM, calls and breakpoints.
+
+import { formatQuantity, hex, parseNumber, indices } from "../bench/numbers.js";
+import { formatBreakpoints } from "../debug/breakpoint_lines.js";
+import { MachineState } from "../debug/machine_state.js";
+import { expandTabs } from "../text/tab_expansion.js";
+import { wordsOfAddress } from "../../words/stops.js";
+import { readStackFrames } from "../adapter/frames.js";
+import { listInstructionRows } from "../adapter/disassembly.js";
+import { rejectCommand } from "./argument_parsers.js";
+import * as say from "../../words/prompt.js";
+
+/** @typedef {import("../debug/debug_session.js").DebugSession} DebugSession */
+
+/**
+ * Returns the current state of the machine.
+ * @param {DebugSession} session
+ */
+function readState(session) {
+  return new MachineState(session.debugger.session.takeSnapshot());
+}
+
+/**
+ * Returns a source line with its address. `>` marks the next instruction, and `*` an enabled breakpoint.
+ * @param {DebugSession} session
+ * @param {number} line
+ */
+export function sourceLine(session, line) {
+  const { map, breakpoints } = session;
+  const address = map.addressOf(line);
+  const pointer = line === session.line ? ">" : " ";
+  const mark = breakpoints.all.some((each) => each.line === line && each.isOn) ? "*" : " ";
+  const addressColumn = address === undefined ? "   " : hex(address, 3);
+  const text = expandTabs((session.program.split("\n")[line - 1] || "").replace(/\r$/, ""));
+  return `${pointer}${mark}${String(line).padStart(4)}  ${addressColumn}  ${text}`.trimEnd();
+}
+
+/**
+ * Returns the number of source lines.
+ * @param {DebugSession} session
+ */
+export function countSourceLines({ program }) {
+  return program.replace(/\n$/, "").split("\n").length;
+}
+
+/**
+ * Returns source lines; fails if the first line is after the end of the source.
+ * @param {DebugSession} session
+ * @param {number} from
+ * @param {number} to the last line, inclusive
+ */
+export function sourceLines(session, from, to) {
+  const last = Math.min(to, countSourceLines(session));
+  if (from > last) rejectCommand(say.sourceHas(countSourceLines(session)));
+  return indices(last - from + 1).map((at) => sourceLine(session, from + at)).join("\n");
+}
+
+/**
+ * Returns the source line of the next instruction. Without a source line, returns the disassembled instruction.
+ * @param {DebugSession} session
+ */
+export function nextInstruction(session) {
+  return session.line > 0 ? sourceLine(session, session.line) : codeLines(session, session.address, 1);
+}
+
+/**
+ * Returns disassembled instructions from an address on.
+ * @param {DebugSession} session
+ * @param {number} address
+ * @param {number} count
+ */
+export function codeLines(session, address, count) {
+  const rows = listInstructionRows(session, address, 0, count).filter(({ bytes }) => bytes !== "");
+  return rows.map((row) => {
+    const label = row.name ? `${row.name}: ` : "";
+    const mark = row.address === session.address ? ">" : " ";
+    return `${mark} ${hex(row.address, 3)} ${row.bytes.padEnd(5)} ${label}${row.words}`;
+  }).join("\n");
+}
+
+/**
+ * Returns the text of `info registers`.
+ * @param {DebugSession} session
+ */
+export function registerLines(session) {
+  const { registers } = readState(session);
+  const pairs = indices(8).map((at) => `P${at} ${registers.registers[2 * at]}${registers.registers[2 * at + 1]}`).join("  ");
+  const { accumulator, carry, bank, test, owed } = registers;
+  const owedText = owed === "1" ? "  owed 1" : "";
+  return `acc ${accumulator}  cy ${carry}  pc ${session.counterText}  dcl ${bank}  test ${test}${owedText}\n${pairs}`;
+}
+
+/**
+ * Returns the text of `info ram`: all registers with their status characters, and the output ports.
+ * @param {DebugSession} session
+ */
+export function ramLines(session) {
+  const { ram } = readState(session);
+  const lines = [...ram].flatMap(([bank, { registers, ports }]) => [
+    ...[...registers].map(([name, { characters, status }]) => {
+      const [, chip, register] = name.split(".").map(Number);
+      return `ram.${bank}.0x${hex(chip * 64 + register * 16, 2)}  ${characters}  status ${status}`;
+    }),
+    ...[...ports].map(([name, out]) => `ram${name} out ${out}`),
+  ]);
+  return lines.length > 0 ? lines.join("\n") : say.NO_RAM;
+}
+
+/**
+ * Returns the text of `info ports`: the SRC bytes, the ROM ports, the chains with their bits in groups of ten, and the pressed keys.
+ * @param {DebugSession} session
+ */
+export function portLines(session) {
+  const { sources, roms, chains, keys } = readState(session).ports;
+  return [
+    `src ${sources.join(" ")}`,
+    ...roms.map(({ chip, out, in: reads }) => `rom ${chip} out ${out} in ${reads}`),
+    ...chains.map((bits, at) => `chain ${at} ${bits.replace(/.{10}(?=.)/g, "$& ")}`),
+    `keys ${keys.join(" ") || "-"}`,
+  ].join("\n");
+}
+
+/**
+ * Returns the pressed keys as `row.column`.
+ * @param {DebugSession} session
+ */
+export function pressedKeys(session) {
+  return readState(session).ports.keys;
+}
+
+/**
+ * Returns the number of open calls, which are calls that have not returned.
+ * @param {DebugSession} session
+ */
+export function openCallCount(session) {
+  return readStackFrames(session).length - 1;
+}
+
+/**
+ * Returns an address with its label or line.
+ * @param {DebugSession} session
+ * @param {number} address
+ */
+export function addressText(session, address) {
+  return wordsOfAddress(hex(address, 3), session.map);
+}
+
+/**
+ * Returns the text of `info line`: the source line of an instruction, with the instruction's addresses.
+ * @param {DebugSession} session
+ * @param {{ line: number, address: number }} place
+ */
+export function lineText(session, { line, address }) {
+  const [{ bytes = "" } = {}] = listInstructionRows(session, address, 0, 1);
+  const last = address + Math.max(1, bytes.split(" ").filter(Boolean).length) - 1;
+  return say.lineIs(line, hex(address, 3), session.map.nameOf(address) || "", last > address ? hex(last, 3) : "");
+}
+
+/**
+ * Returns the text of `backtrace`, newest frame first.
+ * @param {DebugSession} session
+ */
+export function frameLines(session) {
+  return readStackFrames(session).map(({ address, line, name }, at) => (
+    `#${at}  ${hex(address, 3)}  ${name}${line > 0 ? `, line ${line}` : ""}${at > 0 ? say.THE_CALL : ""}`)).join("\n");
+}
+
+/**
+ * Returns the text of `info names`.
+ * @param {DebugSession} session
+ */
+export function nameLines({ map }) {
+  const names = [...map.names.values()];
+  if (names.length === 0) return say.NO_NAMES;
+  return names.map(({ name, value, isLabel }) => (
+    `${name.padEnd(16)}${isLabel ? hex(value, 3) : hex(value, 2).padStart(3)}${isLabel ? `  line ${map.lineOf(value)}` : ""}`)).join("\n");
+}
+
+/**
+ * Returns the text of `info breakpoints`.
+ * @param {DebugSession} session
+ * @param {(id: number) => string} extraText returns the additional text for a breakpoint
+ */
+export function breakpointLines({ breakpoints }, extraText) {
+  const { all, savedBreakpoints } = breakpoints;
+  if (all.length === 0) return say.NO_BREAKPOINTS;
+  const lines = formatBreakpoints(savedBreakpoints);
+  return all.map(({ id, hits }, at) => (
+    `${id}  ${lines[at].slice("break ".length)}${hits > 0 ? `, ${formatQuantity(hits, "hit")}` : ""}${extraText(id)}`)).join("\n");
+}
+
+/**
+ * Returns RAM characters, starting at a place; fails if the board lacks this place.
+ * @param {DebugSession} session
+ * @param {string} text the place, such as `ram.0.0x10`
+ * @param {number} count
+ */
+export function characterLines(session, text, count) {
+  const [, bank, at] = /^ram\.([0-7])\.(\w+)$/i.exec(text) || [];
+  const first = parseNumber(at || "");
+  if (bank === undefined || !(first <= 255)) rejectCommand(say.noPlaceOfRam(text));
+  const state = readState(session);
+  const values = indices(Math.min(count, 256 - first)).map((offset) => state.character(Number(bank), first + offset));
+  const missing = values.findIndex((value) => value === "");
+  if (missing === 0) rejectCommand(say.noRamAt(text));
+  const presentValues = missing < 0 ? values : values.slice(0, missing);
+  return `ram.${bank}.0x${hex(first, 2)}  ${presentValues.join("")}`;
+}

@@ -1,0 +1,177 @@
+// Converts the input values in a counterexample of the prover to steps of keys and TEST. Runs the program on the bench. Before each read of
+// an input, sets the keys or TEST so that the program reads the next value.
+
+import { readCounter, readRun } from "../bench/answers.js";
+import { indices } from "../bench/numbers.js";
+import { ADDRESS_COUNT } from "../bench/rom_bytes.js";
+import { parsePorts, parseState } from "../bench/state_line.js";
+import { isSameKey, keyLine, matrixKey, pinKey } from "../board/key_place.js";
+import { MAX_ENABLED } from "../debug/breakpoints.js";
+import { MAX_RUN_CYCLES } from "../engine/key_queue.js";
+import { RDR } from "../engine/rom_codes.js";
+import { createInput, createTestInput, listKeyInputs } from "../explore/search_inputs.js";
+import { PAUSE } from "./question.js";
+
+/**
+ * @typedef {import("../explore/search_inputs.js").Input} Input
+ * @typedef {import("../explore/subject.js").Subject} Subject
+ * @typedef {import("../explore/walks.js").WalkStep} WalkStep
+ */
+
+/**
+ * Returns whether an instruction is a JCN with TEST among its conditions.
+ * @param {number} code
+ */
+const readsTest = (code) => (code & 0xF1) === 0x11;
+
+/**
+ * Returns all inputs of a board: the keys, named or not, and the TEST pin last.
+ * @param {Subject} subject
+ * @returns {Input[]}
+ */
+export function listInputs({ names: { face, board } }) {
+  const namedInputs = new Map(listKeyInputs(face).map((input) => [input.down, input]));
+  const keys = indices(board.rows).flatMap((row) => indices(board.columns).map((column) => {
+    const key = matrixKey(row, column);
+    const [down, up] = [keyLine("press", key), keyLine("release", key)];
+    return namedInputs.get(down) || createInput(`${row},${column}`, key, [down, up]);
+  }));
+  return [...keys, createTestInput(face)];
+}
+
+/** A session that reads given input values. */
+class ValueReplay {
+  /**
+   * @param {Subject} subject
+   * @param {Input[]} inputs
+   */
+  constructor(subject, inputs) {
+    this.subject = subject;
+    this.inputs = inputs;
+    this.file = subject.file.slice();
+    this.down = inputs.map(({ isDown }) => isDown);
+    this.cyclesSinceChange = 0;
+    /** @type {WalkStep[]} */
+    this.steps = [];
+    this.readAddresses = indices(ADDRESS_COUNT).filter((address) => this.readsInput(subject.codes[address]));
+  }
+
+  /**
+   * Returns whether an instruction reads an input.
+   * @param {number} code
+   */
+  readsInput(code) {
+    return code === RDR || readsTest(code);
+  }
+
+  /**
+   * Serves bench lines and returns their answers.
+   * @param {string} lines
+   */
+  serve(lines) {
+    return this.subject.engine.serve(this.file, lines, this.file).answers;
+  }
+
+  /** Returns the code of the next instruction if its first cycle is next and it reads an input; otherwise -1. */
+  nextReadCode() {
+    const { counter, owed } = readCounter(this.subject.engine.ask(this.file, "regs\n").answers[0]);
+    const code = this.subject.codes[parseInt(counter, 16)];
+    return owed === "1" || !this.readsInput(code) ? -1 : code;
+  }
+
+  /**
+   * Moves an input down or up.
+   * @param {number} index
+   * @param {boolean} isDown
+   */
+  moveInput(index, isDown) {
+    if (this.down[index] === isDown) return;
+    this.down[index] = isDown;
+    this.serve(`${isDown ? this.inputs[index].down : this.inputs[index].up}\n`);
+    this.steps.push({ wait: this.cyclesSinceChange, kind: isDown ? "down" : "up", input: index });
+    this.cyclesSinceChange = 0;
+  }
+
+  /**
+   * Sets TEST to a level.
+   * @param {number} level
+   */
+  setTest(level) {
+    const pin = this.inputs.length - 1;
+    this.moveInput(pin, isSameKey(this.inputs[pin].key, pinKey(level)));
+  }
+
+  /**
+   * Sets the keys so that the program reads a value at the selected port: for each 1 bit, presses a key in a driven row.
+   * @param {number} value
+   */
+  setKeys(value) {
+    const { board: { matrix, rows, columns } } = this.subject.names;
+    if (!matrix) return;
+    const { sources, chains } = parsePorts(parseState(this.subject.engine.ask(this.file, "state\n").answers[0]).ports);
+    const port = `rom${parseInt(sources[0][0], 16)}`;
+    const drivenRows = indices(rows).filter((row) => chains[matrix.chain][matrix.first + row] === "1");
+    const wantedLines = new Set(indices(4).filter((line) => Math.floor(value / 2 ** line) % 2 === 1));
+    for (const column of indices(columns)) {
+      const [chip, line] = matrix.columns[column].split(".");
+      if (chip !== port) continue;
+      const isWanted = wantedLines.delete(Number(line));
+      drivenRows.forEach((row, at) => this.moveInput(row * columns + column, isWanted && at === 0));
+    }
+  }
+
+  /**
+   * Runs for a number of cycles. Returns the cycles of the run and the reason for its stop.
+   * @param {number} count
+   */
+  run(count) {
+    const [answer] = this.serve(`run ${count}\n`);
+    const { cycles, end } = readRun(answer) || { cycles: 0, end: "" };
+    this.cyclesSinceChange += cycles;
+    return { cycles, end };
+  }
+
+  /** Runs to the next read of an input, at most PAUSE cycles. Returns false if the program cannot continue. */
+  runToRead() {
+    for (let left = PAUSE; left > 0 && this.nextReadCode() < 0;) {
+      const { cycles, end } = this.run(Math.min(left, this.readAddresses.length <= MAX_ENABLED ? MAX_RUN_CYCLES : 1));
+      left -= cycles;
+      if (end === "code" || end === "") return false;
+    }
+    return true;
+  }
+
+  /**
+   * Sets the inputs for the next cycle.
+   * @param {number} value the value that the next cycle reads; 0 if the cycle does not read an input
+   */
+  setInputs(value) {
+    const code = this.nextReadCode();
+    if (code === RDR) this.setKeys(value);
+    else if (code >= 0) this.setTest(value);
+  }
+}
+
+/**
+ * Returns the steps with which the program reads given values one after the other.
+ * @param {Subject} subject
+ * @param {Input[]} inputs all inputs of the board
+ * @param {number[]} values
+ * @returns {{ steps: WalkStep[], time: number, file: Uint8Array, rest: number }} the steps, their total wait, the session file after the
+ *   last step, and the number of cycles from there to the end, in which the violation must happen
+ */
+export function replayValues(subject, inputs, values) {
+  const replay = new ValueReplay(subject, inputs);
+  if (replay.readAddresses.length <= MAX_ENABLED) replay.serve(replay.readAddresses.map((address) => `break ${address}\n`).join(""));
+  let file = replay.file.slice();
+  values.every((value) => {
+    const { length } = replay.steps;
+    replay.setInputs(value);
+    if (replay.steps.length > length) file = replay.file.slice();
+    replay.run(1);
+    return replay.runToRead();
+  });
+  const unbreakLines = replay.readAddresses.map((address) => `unbreak ${address}\n`).join("");
+  if (replay.readAddresses.length <= MAX_ENABLED) subject.engine.serve(file, unbreakLines, file);
+  return { steps: replay.steps, time: replay.steps.reduce((sum, { wait }) => sum + wait, 0), file, rest: replay.cyclesSinceChange };
+}

@@ -1,0 +1,206 @@
+// Judges properties one after the other: asks the prover and derives a verdict from its answers. The properties of the text come first,
+// then the mistakes that every program is checked for. Callbacks ask the prover and confirm counterexamples.
+
+import { formatSteps } from "../explore/report.js";
+import { replayCounterexample } from "./counterexample.js";
+import { allMistakes } from "./mistakes.js";
+import { createQuestion, jointQuestion, omittedGuards, mistakeQuestion, needsCounting, needsSeparateQuestion } from "./question.js";
+import * as say from "../../words/prove.js";
+
+/**
+ * @typedef {import("./counterexample.js").Counterexample} Counterexample
+ * @typedef {import("./question.js").Answer} Answer
+ * @typedef {import("./question.js").NoAnswer} NoAnswer
+ * @typedef {import("./question.js").PropertyQuestion} PropertyQuestion
+ * @typedef {import("./question.js").Question} Question
+ * @typedef {import("./verdicts.js").JudgedProperty} JudgedProperty
+ * @typedef {import("./verdicts.js").Verdict} Verdict
+ * @typedef {import("../explore/campaign.js").Campaign} Campaign
+ * @typedef {import("../explore/properties.js").Property} Property
+ * @typedef {import("../explore/subject.js").Subject} Subject
+ *
+ * @typedef {object} JudgingCalls
+ * @property {(question: Question) => Promise<Answer>} ask asks the prover
+ * @property {(question: Question) => Promise<Answer>} askBySets asks the prover for a proof by sets of states, which is fast but never
+ *   finds a counterexample
+ * @property {(found: Counterexample, isGoal: boolean) => Promise<boolean>} confirms resolves to true if the test of a counterexample fails;
+ *   for a goal, if the test passes
+ * @property {(answer: NoAnswer) => string} reason returns the reason why an answer decides nothing, as text
+ * @property {() => Promise<void>} yieldToMessages yields to other tasks while a counterexample is minimised
+ */
+
+/** The answers that a question with fewer properties also gets, because its search finds the same states in the same order. */
+const FINAL_ANSWERS = new Set(["more", "full"]);
+
+/**
+ * Creates the verdict that a property is proved.
+ * @param {Property} property
+ * @param {number} states
+ * @param {boolean} bySets
+ * @returns {Verdict}
+ */
+const createProof = (property, states, bySets) => ({ kind: "proved", states, bySets, leftOut: omittedGuards(property) });
+
+/**
+ * Returns the reason why a property is not decided if the bench does not confirm its counterexample.
+ * @param {Property} property
+ */
+function explainUnconfirmed(property) {
+  if (property.guards.length > 0) return say.failsWithout(omittedGuards(property), property.isGoal);
+  return property.form === "only after" ? say.READ_LESS : say.NOT_CONFIRMED;
+}
+
+export class PropertyJudge {
+  /**
+   * @param {Subject} subject
+   * @param {Campaign} campaign
+   * @param {JudgingCalls} calls
+   */
+  constructor(subject, campaign, calls) {
+    this.subject = subject;
+    this.campaign = campaign;
+    this.calls = calls;
+    /** @type {{ property: Property, propertyQuestion: PropertyQuestion }[]} the properties of the text, each with its question */
+    this.all = campaign.properties.filter(({ line }) => line > 0)
+      .map((property) => ({ property, propertyQuestion: createQuestion(property, campaign, subject) }));
+    this.mistakes = allMistakes();
+    /** The number of properties and mistakes that have a verdict. */
+    this.count = 0;
+    /** @type {Answer | null} the answer about all combined questions; null before the prover was asked */
+    this.jointAnswer = null;
+    /** @type {Verdict | null} the verdict, proved by sets of states, that no mistake can occur; null for none */
+    this.noMistakeVerdict = null;
+    /** @type {Answer | null} the answer about all mistakes together; null before the prover was asked */
+    this.anyMistakeAnswer = null;
+  }
+
+  /** The number of properties and mistakes. */
+  get total() {
+    return this.all.length + this.mistakes.length;
+  }
+
+  /**
+   * Returns the text of a property or mistake.
+   * @param {number} index the number of the property, from 0
+   */
+  textOf(index) {
+    const { all, mistakes } = this;
+    return (index < all.length ? all[index] : mistakes[index - all.length]).property.text;
+  }
+
+  /** The questions that can be combined into one. */
+  get jointQuestions() {
+    return this.all.flatMap(({ property, propertyQuestion: { question } }) => (
+      !question || needsSeparateQuestion(property, question) ? [] : [question]));
+  }
+
+  /**
+   * Judges the next property or mistake. Resolves to null after the last one.
+   * @returns {Promise<JudgedProperty | null>}
+   */
+  async next() {
+    const { all, mistakes, count, total } = this;
+    if (count === total) return null;
+    const judged = count < all.length ? await this.judgeProperty(all[count]) : await this.judgeMistake(mistakes[count - all.length]);
+    this.count += 1;
+    return judged;
+  }
+
+  /**
+   * @param {{ property: Property, propertyQuestion: PropertyQuestion }} each
+   * @returns {Promise<JudgedProperty>}
+   */
+  async judgeProperty({ property, propertyQuestion }) {
+    if (!propertyQuestion.question) return { property, verdict: { kind: "open", words: propertyQuestion.words } };
+    return { property, verdict: await this.judge(property, propertyQuestion.question) };
+  }
+
+  /**
+   * Judges a mistake. First asks the prover about all mistakes together. If one of them is possible, asks about this mistake separately.
+   * @param {import("./mistakes.js").Mistake} mistake
+   * @returns {Promise<JudgedProperty>}
+   */
+  async judgeMistake({ property, word }) {
+    const question = mistakeQuestion([word]);
+    const anyMistakeQuestion = mistakeQuestion(this.mistakes.map((each) => each.word));
+    if (this.count === this.all.length) this.noMistakeVerdict = await this.proveBySets(property, anyMistakeQuestion);
+    if (this.noMistakeVerdict) return { property, verdict: this.noMistakeVerdict };
+    if (!this.anyMistakeAnswer) this.anyMistakeAnswer = await this.calls.ask(anyMistakeQuestion);
+    const answer = this.anyMistakeAnswer.kind === "fails" ? await this.calls.ask(question) : this.anyMistakeAnswer;
+    const verdict = await this.createVerdict(property, answer, { ...this.campaign, properties: [property] }, word);
+    return { property, verdict: await this.completeVerdict(property, verdict, question) };
+  }
+
+  /**
+   * Resolves to the verdict that a property is proved by sets of states, or to null. A proof by sets of states cannot count cycles or
+   * presses.
+   * @param {Property} property
+   * @param {Question} question
+   * @returns {Promise<Verdict | null>}
+   */
+  async proveBySets(property, question) {
+    if (needsCounting(question)) return null;
+    const answer = await this.calls.askBySets(question);
+    return answer.kind === "holds" ? createProof(property, answer.states, true) : null;
+  }
+
+  /**
+   * Resolves to a verdict; if it is open, to the verdict by sets of states if there is one.
+   * @param {Property} property
+   * @param {Verdict} verdict
+   * @param {Question} question
+   */
+  async completeVerdict(property, verdict, question) {
+    return (verdict.kind === "open" && await this.proveBySets(property, question)) || verdict;
+  }
+
+  /** Judges all properties and mistakes. Resolves to their verdicts. */
+  async judgeAll() {
+    const judged = [];
+    for (let each = await this.next(); each; each = await this.next()) judged.push(each);
+    return judged;
+  }
+
+  /**
+   * @param {Property} property
+   * @param {Question} question
+   * @returns {Promise<Verdict>}
+   */
+  async judge(property, question) {
+    const verdict = await this.createVerdict(property, await this.askAbout(property, question), this.campaign, "");
+    return this.completeVerdict(property, verdict, question);
+  }
+
+  /**
+   * Resolves to the verdict on a property that follows from an answer.
+   * @param {Property} property
+   * @param {Answer} answer
+   * @param {Campaign} campaign a campaign that contains the property
+   * @param {string} mistake the word of the mistake that the property excludes; "" for other properties
+   * @returns {Promise<Verdict>}
+   */
+  async createVerdict(property, answer, campaign, mistake) {
+    if (answer.kind === "holds") return createProof(property, answer.states, false);
+    if (answer.kind !== "fails") return { kind: "open", words: this.calls.reason(answer) };
+    const { subject, calls } = this;
+    const found = await replayCounterexample(subject, campaign, campaign.properties.indexOf(property), answer.values, calls.yieldToMessages,
+      mistake);
+    if (!found) return { kind: "open", words: explainUnconfirmed(property) };
+    if (!await calls.confirms(found, property.isGoal)) return { kind: "open", words: say.NOT_CONFIRMED };
+    return found.isAllowed || property.isGoal ? { kind: "found", found } : { kind: "open", words: say.excluded(formatSteps(found.steps)) };
+  }
+
+  /**
+   * Asks about a property. First asks the combined question if possible. If its answer does not decide the property, asks separately.
+   * @param {Property} property
+   * @param {Question} question
+   */
+  async askAbout(property, question) {
+    if (needsSeparateQuestion(property, question)) return this.calls.ask(question);
+    const { jointQuestions } = this;
+    if (!this.jointAnswer) this.jointAnswer = await this.calls.ask(jointQuestion(jointQuestions));
+    const { jointAnswer } = this;
+    const isDecisive = jointAnswer.kind === "holds" || FINAL_ANSWERS.has(jointAnswer.kind) || jointQuestions.length === 1;
+    return isDecisive ? jointAnswer : this.calls.ask(question);
+  }
+}

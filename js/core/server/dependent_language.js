@@ -1,0 +1,149 @@
+// The base class of the handlers for test files and property files. Both kinds of files use the names of a board and a program.
+
+import { Face } from "../board/face.js";
+import { prepareTests } from "../testing/test_preparation.js";
+import { findDefinedNames, splitStatement } from "../text/assembly.js";
+import { findDefinition } from "../text/references.js";
+import { wordsUpTo } from "../text/test_words.js";
+import { escapeMarkdown } from "./markdown.js";
+import { rangeInLine } from "./lsp_protocol.js";
+import { inColumn } from "../../words/conditions.js";
+import * as say from "../../words/server.js";
+
+/**
+ * @typedef {import("../engine/engine_host.js").EngineHost} Engine
+ * @typedef {import("../testing/test_preparation.js").Texts} Texts
+ * @typedef {import("../text/test_words.js").TestNames} TestNames
+ * @typedef {import("./diagnostics.js").ShownFault} ShownFault
+ * @typedef {import("./open_text.js").OpenText} OpenText
+ * @typedef {import("./lsp_protocol.js").Position} Position
+ *
+ * A text with its URI. The text is null if its file cannot be read.
+ * @typedef {{ uri: string, text: string | null }} NamedText
+ *
+ * The texts that a test or property file depends on: the board, the program, and the test files of the project up to this file.
+ * @typedef {{ board: NamedText, program: NamedText, tests: NamedText[] }} DependencyTexts
+ */
+
+/** The completion kinds of the protocol. */
+const KEYWORD_COMPLETION = 14;
+const VALUE_COMPLETION = 12;
+
+/**
+ * Adds a range to an error: the word at the column of the error, or the whole line if the column is unknown. Removes the column from the
+ * message if the range shows it.
+ * @param {string[]} lines
+ * @param {{ line: number, column: number, words: string }} fault the line counts from 1, the column from 0; the column is -1 if unknown
+ * @returns {ShownFault}
+ */
+export function locateError(lines, { line, column, words: fullMessage }) {
+  const words = column < 0 ? fullMessage : fullMessage.replace(inColumn("", column), "");
+  const text = lines[line - 1] || "";
+  const end = text.trimEnd().length;
+  const begin = Math.min(end, text.length - text.trimStart().length);
+  if (column < 0 || column >= end) return { number: 0, line, from: begin, to: end, words, isError: true };
+  const [word = ""] = /^\S+/.exec(text.slice(column)) || [];
+  return { number: 0, line, from: column, to: column + Math.max(1, word.length), words, isError: true };
+}
+
+/**
+ * Returns the file name in a URI.
+ * @param {string} uri
+ */
+export function decodeFileName(uri) {
+  const name = uri.replace(/^.*\//, "");
+  try {
+    return decodeURIComponent(name);
+  } catch {
+    return name;
+  }
+}
+
+export class DependentLanguage {
+  /**
+   * @param {Engine} engine
+   * @param {(uri: string) => DependencyTexts} findDependencies
+   */
+  constructor(engine, findDependencies) {
+    this.engine = engine;
+    this.findDependencies = findDependencies;
+    /** @type {{ texts: Texts, prepared: ReturnType<typeof prepareTests> } | null} the last prepared texts, with the result */
+    this.lastPrepared = null;
+  }
+
+  /**
+   * Prepares a board and a program for tests. Returns a session with both and their names, or else their errors. For the texts of the last
+   * call, returns the last result again.
+   * @param {Texts} texts
+   */
+  prepareTexts(texts) {
+    const last = this.lastPrepared;
+    const isKnown = last && last.texts.boardText === texts.boardText && last.texts.programText === texts.programText;
+    if (!this.lastPrepared || !isKnown) this.lastPrepared = { texts, prepared: prepareTests(this.engine, texts) };
+    return this.lastPrepared.prepared;
+  }
+
+  /**
+   * Returns an error if the board or the program is missing or has an error; null if both are valid.
+   * @param {DependencyTexts} dependencies
+   * @returns {ShownFault | null}
+   */
+  dependencyError({ board, program }) {
+    const missingFile = [board, program].find(({ text }) => text === null);
+    const errorAtStart = (/** @type {string} */ words) => ({ number: 0, line: 1, from: 0, to: 0, words });
+    if (missingFile) return errorAtStart(say.neighbourMissing(decodeFileName(missingFile.uri)));
+    const { faults } = this.prepareTexts({ boardText: board.text || "", programText: program.text || "" });
+    if (faults.length === 0) return null;
+    const [{ text, line }] = faults;
+    return errorAtStart(say.neighbourHasError(decodeFileName(text === "board" ? board.uri : program.uri), line));
+  }
+
+  /**
+   * Returns the names of keys, lamps and labels, even if the board or program has errors.
+   * @param {OpenText} openText
+   * @returns {TestNames}
+   */
+  names({ uri }) {
+    const { board, program } = this.findDependencies(uri);
+    const face = new Face(board.text || "");
+    const keys = [...face.keys.values()].map(({ text }) => text).filter((name) => name !== "");
+    const lines = (program.text || "").split("\n");
+    const labels = [...findDefinedNames(lines)].filter(([, line]) => !splitStatement(lines[line - 1]).defines).map(([name]) => name);
+    return { keys: face.test ? [...keys, face.test.name] : keys, lamps: [...face.lampNumbers.keys()], labels };
+  }
+
+  /**
+   * Adds the protocol's completion kinds to the completions.
+   * @param {import("../text/completion.js").Completion} completion
+   */
+  addKinds({ from, to, list }) {
+    return { from, to, list: list.map((each) => ({ ...each, kind: each.what ? KEYWORD_COMPLETION : VALUE_COMPLETION })) };
+  }
+
+  /**
+   * Returns a hover with help for the word at a position; null if there is no help.
+   * @param {string} words the help text, "" for none
+   * @param {string[]} lines
+   * @param {Position} position
+   */
+  hoverWithHelp(words, lines, { line, character }) {
+    if (words === "") return null;
+    const before = wordsUpTo(lines[line], character);
+    const word = before[before.length - 1] || "";
+    const from = lines[line].lastIndexOf(word, character);
+    return { words, markdown: escapeMarkdown(words), range: rangeInLine(line + 1, from, from + word.length) };
+  }
+
+  /**
+   * Returns the location of the program label at a position; null if there is none.
+   * @param {OpenText} openText
+   * @param {Position} position
+   */
+  labelAt({ uri, lines }, { line, character }) {
+    const words = wordsUpTo(lines[line], character);
+    const name = (words[words.length - 1] || "").replace(/^[(!]*@?|[,)]+$/g, "");
+    const { program } = this.findDependencies(uri);
+    const found = findDefinition((program.text || "").split("\n"), name);
+    return found ? { uri: program.uri, range: rangeInLine(found.line, found.from, found.to) } : null;
+  }
+}

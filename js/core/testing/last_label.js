@@ -1,0 +1,76 @@
+// Finds the last label that a session under test has reached, and the time of its arrival there. Repeats the whole test in pieces, and
+// counts the instructions of each piece.
+
+import { MAX_RUN_CYCLES } from "../engine/key_queue.js";
+import { ForecastAnswers, parseTraceLine } from "../engine/forecast_answers.js";
+import * as say from "../../words/testing.js";
+
+/**
+ * @typedef {import("../conditions/condition_language.js").Condition} Condition
+ * @typedef {import("../machine/source_map.js").SourceMap} SourceMap
+ * @typedef {import("./test_session.js").TestAction} TestAction
+ * @typedef {import("./test_session.js").TestSession} TestSession
+ *
+ * An executed instruction: its address, and the number of cycles from the start of the test to the instruction.
+ * @typedef {{ address: number, cycles: number }} PassedInstruction
+ */
+
+/**
+ * Yields the actions of a test. Splits each run into pieces that the bench accepts.
+ * @param {TestAction[]} actions
+ * @returns {Generator<TestAction>}
+ */
+function* splitRuns(actions) {
+  for (const { line, cycles } of actions) {
+    if (line !== "run") yield { line, cycles: 0 };
+    for (let left = cycles; left > 0; left -= MAX_RUN_CYCLES) yield { line: "run", cycles: Math.min(left, MAX_RUN_CYCLES) };
+  }
+}
+
+/**
+ * Returns the last instruction at one of the given addresses; null if there was none.
+ * @param {TestSession} session
+ * @param {Set<number>} addresses
+ * @returns {PassedInstruction | null}
+ */
+export function findLastPassed({ engine, initialFile, actions }, addresses) {
+  const file = initialFile.slice();
+  const stateBefore = initialFile.slice();
+  let [runCycles, elapsed, from] = [0, 0, 0];
+  for (const { line, cycles } of splitRuns(actions)) {
+    if (cycles === 0) {
+      engine.serve(file, `${line}\n`, file);
+      continue;
+    }
+    const counts = new ForecastAnswers(engine.ask(file, `count ${cycles}\n`).answers).takeCounts();
+    if (counts.some(({ address }) => addresses.has(address))) {
+      stateBefore.set(file);
+      [runCycles, from] = [cycles, elapsed];
+    }
+    engine.serve(file, `run ${cycles}\n`, file);
+    elapsed += cycles;
+  }
+  if (runCycles === 0) return null;
+  const { lines } = new ForecastAnswers(engine.ask(stateBefore, `trace ${runCycles}\n`).answers).takeTrace();
+  const last = [...lines].reverse().map(parseTraceLine).find(({ address }) => addresses.has(address));
+  return last ? { address: last.address, cycles: from + last.cycles } : null;
+}
+
+/**
+ * Describes the last label that the session reached, for the message about a condition that did not become true in time. If the condition
+ * is an address, the text also contains the time at which the session last reached this address.
+ * @param {TestSession} session
+ * @param {SourceMap} map
+ * @param {Condition} condition
+ */
+export function describeLastLabel(session, map, { address, text }) {
+  const labels = [...map.names.values()].filter(({ isLabel }) => isLabel);
+  const passedLabel = findLastPassed(session, new Set(labels.map(({ value }) => value)));
+  const formatAge = (/** @type {PassedInstruction} */ { cycles }) => say.cyclesAgo(session.elapsed - cycles);
+  const namedLabel = passedLabel && labels.find(({ value }) => value === passedLabel.address);
+  const labelText = passedLabel && namedLabel ? say.lastLabel(namedLabel.name, formatAge(passedLabel)) : "";
+  if (address < 0) return labelText;
+  const passedAddress = findLastPassed(session, new Set([address]));
+  const passText = passedAddress ? say.passedLast(formatAge(passedAddress)) : say.NOT_PASSED;
+  return say.wasPassed(labelText, text.startsWith("@") ? text : `pc ${address}`, passText);
+}

@@ -1,0 +1,103 @@
+// Prepares tests: loads a board and a program into a new session, and collects the names in both texts. Reports errors in the texts.
+
+import { readBoard, parseRefusal } from "../bench/answers.js";
+import { matchAnswers, readInputs } from "../bench/inputs.js";
+import { Face } from "../board/face.js";
+import { missingParts } from "../board/face_board.js";
+import { SourceMap } from "../machine/source_map.js";
+import { findLineFaults, sentText } from "../text/sendable_text.js";
+import { romCodes } from "../engine/rom_codes.js";
+
+/**
+ * @typedef {import("../conditions/condition_language.js").Names} Names
+ * @typedef {import("../engine/engine_host.js").EngineHost} Engine
+ * @typedef {{ boardText: string, programText: string }} Texts
+ *
+ * An error in a text: the line number (0 if unknown) and the message. `number` is the refusal number, or 0 if the bench did not reject the
+ * text. `file` is the file name of a test text.
+ * @typedef {{ text: "board" | "program" | "tests" | "properties", file?: string, line: number, number: number, words: string }} TextFault
+ *
+ * Everything that a test run needs: the session file, the names in the texts, and the bytes in ROM.
+ * @typedef {{ file: Uint8Array, names: Names & { map: SourceMap }, codes: Uint8Array }} PreparedTests
+ */
+
+/**
+ * Returns the errors in the front-panel comments of a board text that prevent tests.
+ * @param {Face} face
+ * @param {import("../bench/answers.js").Board} board
+ * @returns {TextFault[]}
+ */
+export function findNameErrors(face, board) {
+  const nameErrors = [...face.faults, ...missingParts(face, board)].filter(({ isRefused }) => isRefused);
+  return nameErrors.map(({ line, words }) => ({ text: "board", line, number: 0, words }));
+}
+
+/**
+ * Returns the errors that prevent the bench from receiving a text.
+ * @param {"board" | "program"} name
+ * @param {string} text
+ * @returns {TextFault[]}
+ */
+export function findTextErrors(name, text) {
+  return findLineFaults(text, name === "board" ? "#" : ";").map(({ line, number, words }) => ({ text: name, line, number, words }));
+}
+
+/**
+ * Returns the refusal in an answer as a list of errors.
+ * @param {"board" | "program"} name
+ * @param {string} answer
+ * @returns {TextFault[]}
+ */
+function refusalFaults(name, answer) {
+  const refusal = parseRefusal(answer);
+  return refusal ? [{ text: name, line: refusal.line, number: refusal.number, words: "" }] : [];
+}
+
+/**
+ * Wires a board in a new session. Returns the answers to `board`, or the errors in the board text.
+ * @param {Engine} engine
+ * @param {string} text
+ * @returns {{ faults: TextFault[], answers: string[] }}
+ */
+export function wireBoard(engine, text) {
+  const textFaults = findTextErrors("board", text);
+  if (textFaults.length > 0) return { faults: textFaults, answers: [] };
+  const [wired, ...answers] = engine.ask(engine.begin(), `wire\n${sentText(text, "#")}.\nboard\n`).answers;
+  return { faults: refusalFaults("board", wired), answers };
+}
+
+/**
+ * Returns a new session with a board and a program. An empty text is not sent.
+ * @param {Engine} engine
+ * @param {Texts} texts
+ * @returns {{ file: Uint8Array, faults: TextFault[] }}
+ */
+export function newSession(engine, { boardText, programText }) {
+  const file = engine.begin();
+  const textFaults = [...findTextErrors("board", boardText), ...findTextErrors("program", programText)];
+  if (textFaults.length > 0) return { file, faults: textFaults };
+  const texts = [
+    ...(boardText === "" ? [] : [{ name: /** @type {const} */ ("board"), lines: `wire\n${sentText(boardText, "#")}.\n` }]),
+    ...(programText === "" ? [] : [{ name: /** @type {const} */ ("program"), lines: `asm\n${sentText(programText, ";")}.\n` }]),
+  ];
+  if (texts.length === 0) return { file, faults: [] };
+  const { answers } = engine.serve(file, texts.map(({ lines }) => lines).join(""), file);
+  return { file, faults: texts.flatMap(({ name }, at) => refusalFaults(name, answers[at])).slice(0, 1) };
+}
+
+/**
+ * Prepares the tests of a program on a board. Returns the errors if a text cannot be used.
+ * @param {Engine} engine
+ * @param {Texts} texts
+ * @returns {{ prepared: PreparedTests | null, faults: TextFault[] }}
+ */
+export function prepareTests(engine, { boardText, programText }) {
+  const { file, faults: refused } = newSession(engine, { boardText, programText });
+  if (refused.length > 0) return { prepared: null, faults: refused };
+  const program = sentText(programText, ";");
+  const queries = `board\nmap\n${program}.\n`;
+  const [board, map] = matchAnswers(readInputs(queries), engine.ask(file, queries).answers);
+  const names = { face: new Face(boardText), board: readBoard(board), map: new SourceMap(map, program) };
+  const faults = findNameErrors(names.face, names.board);
+  return { prepared: faults.length > 0 ? null : { file, names, codes: romCodes(engine, file) }, faults };
+}

@@ -1,0 +1,129 @@
+// Creates the `asm` texts that load bytes or a program into ROM. A text is as long as possible, so that few commands are necessary.
+
+import { formatQuantity, hex, indices } from "../bench/numbers.js";
+import { PAGE_NUMBERS, PAGE_BYTES } from "../bench/rom_bytes.js";
+import { LONGEST_TEXT } from "./sendable_text.js";
+import * as say from "../../words/text.js";
+
+/**
+ * The program size in bytes, and the addresses outside the program at which ROM is not 0.
+ * @typedef {{ size: number, left: number[] }} Leftovers
+ */
+
+/** The maximum number of bytes per line; a line has at most 255 characters. */
+const MAX_BYTES_IN_LINE = 60;
+/** The maximum number of zeros per line. */
+const MAX_ZEROS_IN_LINE = 126;
+
+/** @type {(address: number) => number} returns the ROM number for an address */
+const romNumber = (address) => Math.floor(address / PAGE_BYTES);
+
+/**
+ * Returns addresses as ranges of consecutive addresses.
+ * @param {number[]} addresses the addresses in ascending order
+ * @returns {{ from: number, count: number }[]}
+ */
+function groupIntoRanges(addresses) {
+  /** @type {{ from: number, count: number }[]} */
+  const ranges = [];
+  for (const address of addresses) {
+    const last = ranges[ranges.length - 1];
+    if (last && last.from + last.count === address) last.count += 1;
+    else ranges.push({ from: address, count: 1 });
+  }
+  return ranges;
+}
+
+/**
+ * Returns statements that store bytes from an address on.
+ * @param {number} from
+ * @param {number[]} bytes
+ * @param {number} maxInLine the maximum number of bytes per line
+ */
+function formatStatements(from, bytes, maxInLine) {
+  const lines = [`ORG 0x${hex(from, 3)}\n`];
+  for (let done = 0; done < bytes.length; done += maxInLine) lines.push(`DB ${bytes.slice(done, done + maxInLine).join(",")}\n`);
+  return lines.join("");
+}
+
+/**
+ * Returns statements that store 0 at addresses, one text per range.
+ * @param {number[]} addresses the addresses in ascending order
+ * @returns {string[]}
+ */
+function clearingTexts(addresses) {
+  return groupIntoRanges(addresses).map(({ from, count }) => formatStatements(from, Array(count).fill(0), MAX_ZEROS_IN_LINE));
+}
+
+/** The number of characters that a text reserves for one additional byte in each ROM. */
+const RESERVED_LENGTH = PAGE_NUMBERS.length * formatStatements(0, [255], 1).length;
+
+/**
+ * Returns statements that store the last byte of each ROM that gets bytes only from other texts.
+ * @param {Int16Array} bytes
+ * @param {Set<number>} pages the ROMs that get bytes from this text
+ */
+function formatRomStatements(bytes, pages) {
+  const findLastByte = (/** @type {number} */ page) => {
+    let at = (page + 1) * PAGE_BYTES - 1;
+    while (at >= page * PAGE_BYTES && bytes[at] < 0) at -= 1;
+    return at;
+  };
+  const uncoveredPages = PAGE_NUMBERS.filter((page) => !pages.has(page)).map((page) => ({ page, at: findLastByte(page) }));
+  return uncoveredPages.filter(({ page, at }) => at >= page * PAGE_BYTES).map(({ at }) => formatStatements(at, [bytes[at]], 1)).join("");
+}
+
+/**
+ * Returns the `asm` texts that store bytes in ROM. If several texts are necessary, each of them stores at least one byte in every ROM that
+ * gets bytes. The bench then rejects either all texts or none, if one of these ROMs is missing on the board.
+ * @param {Int16Array} bytes the bytes by address; negative for no byte
+ * @returns {string[]}
+ */
+export function createByteTexts(bytes) {
+  const lines = groupIntoRanges([...bytes.keys()].filter((at) => bytes[at] >= 0)).flatMap(({ from, count }) => {
+    const lineStarts = indices(Math.ceil(count / MAX_BYTES_IN_LINE)).map((at) => from + at * MAX_BYTES_IN_LINE);
+    return lineStarts.map((at) => ({ at, end: Math.min(at + MAX_BYTES_IN_LINE, from + count) }));
+  }).map(({ at, end }) => {
+    const text = formatStatements(at, [...bytes.subarray(at, end)], MAX_BYTES_IN_LINE);
+    return { text, pages: [at, end - 1].map(romNumber) };
+  });
+  const wholeText = lines.map(({ text }) => text).join("");
+  if (wholeText.length <= LONGEST_TEXT) return [wholeText];
+  /** @type {{ text: string, pages: Set<number> }[]} */
+  const texts = [{ text: "", pages: new Set() }];
+  for (const { text, pages } of lines) {
+    if (texts[texts.length - 1].text.length + text.length > LONGEST_TEXT - RESERVED_LENGTH) texts.push({ text: "", pages: new Set() });
+    const last = texts[texts.length - 1];
+    last.text += text;
+    for (const page of pages) last.pages.add(page);
+  }
+  return texts.map(({ text, pages }) => text + formatRomStatements(bytes, pages));
+}
+
+/**
+ * Returns the `asm` texts that load a program into ROM and store 0 at other addresses. If one text is not enough, the last text contains
+ * the program.
+ * @param {string} program the text as sent to the bench
+ * @param {number[]} addresses the addresses in ascending order
+ * @returns {string[]}
+ */
+export function programTexts(program, addresses) {
+  const texts = [program];
+  for (const piece of clearingTexts(addresses)) {
+    // The program comes first in its text, so that its line numbers do not change.
+    if (texts[0].length + piece.length <= LONGEST_TEXT) texts[0] += piece;
+    else texts.unshift(piece);
+  }
+  return texts;
+}
+
+/**
+ * Returns the message after a program was assembled, including the bytes outside it that stay in ROM.
+ * @param {Leftovers} leftovers
+ * @param {string} counter the program counter, as text
+ */
+export function describeAssembled({ size, left }, counter) {
+  const first = left.length > 0 ? `0x${hex(left[0], 3)}` : "";
+  const stay = say.stays(formatQuantity(left.length, "byte"), left.length === 1, first);
+  return say.assembled(formatQuantity(size, "byte"), left.length > 0 ? ` ${stay}` : "", counter);
+}

@@ -1,0 +1,36 @@
+// Breaks paragraphs into lines of a maximum width, between words.
+
+/**
+ * Wraps a paragraph. A word that is longer than the width gets its own line.
+ * @param {string} text
+ * @param {number} width
+ * @param {string} [firstPrefix] the prefix of the first line
+ * @param {string} [otherPrefix] the prefix of the other lines
+ */
+export function wrapText(text, width, firstPrefix = "", otherPrefix = firstPrefix) {
+  const lines = [firstPrefix];
+  let isFresh = true;
+  for (const word of text.trim().split(/\s+/)) {
+    const last = lines[lines.length - 1];
+    if (!isFresh && last.length + 1 + word.length > width) lines.push(otherPrefix + word);
+    else lines[lines.length - 1] = isFresh ? last + word : `${last} ${word}`;
+    isFresh = false;
+  }
+  return lines.join("\n");
+}
+
+/** The prefix of lines that are never wrapped, such as program and board lines. */
+export const QUOTED = "    ";
+
+/**
+ * Wraps the long lines of a message and indents the continuation lines.
+ * @param {string} message
+ * @param {number} width
+ */
+export function wrapMessage(message, width) {
+  return message.split("\n").map((line) => {
+    if (line.length <= width || line.startsWith(QUOTED)) return line;
+    const indent = line.slice(0, line.length - line.trimStart().length);
+    return wrapText(line, width, indent, `${indent}  `);
+  }).join("\n");
+}

@@ -1,0 +1,113 @@
+// Finds all errors in a program. The bench reports line numbers and refusal numbers. This module adds the wrong word in each line, and a
+// message.
+
+import { findDefinedNames, splitStatement } from "./assembly.js";
+import { hex } from "../bench/numbers.js";
+import { MAX_ERRORS } from "../bench/text_check_answers.js";
+import { explainProgramLine } from "./program_words.js";
+import { TEXT_TOO_LONG, alignedText, findLineFaults, sentLine } from "./sendable_text.js";
+import * as say from "../../words/text.js";
+
+/**
+ * @typedef {import("../bench/answers.js").Refusal} Refusal
+ * @typedef {import("../help/manual.js").Instruction} Instruction
+ * @typedef {import("./program_words.js").KnownWords} KnownWords
+ * @typedef {import("./program_words.js").WordError} WordError
+ * @typedef {import("./sendable_text.js").Fault} Fault
+ *
+ * The errors in the lines of a program. `isWhole` is false if the bench has not checked all lines. `rest` is a refusal of the program
+ * without a line number (42: the board lacks a ROM).
+ * @typedef {{ faults: Fault[], isWhole: boolean, rest: Refusal | null }} AllFaults
+ */
+
+/** The refusal number for a program that does not fit into the ROMs of the board. */
+export const MISSING_ROM = 42;
+
+/**
+ * Creates an error in a line. Its range is the wrong word, or all code of the line.
+ * @param {string} source the text of the line
+ * @param {number} lineNumber the line number
+ * @param {WordError | null} error
+ * @param {number} number the refusal number
+ * @param {(number: number) => string} messageFor
+ * @returns {Fault}
+ */
+function createFault(source, lineNumber, error, number, messageFor) {
+  const code = source.slice(0, splitStatement(source).comment);
+  const from = code.length - code.trimStart().length;
+  const range = error && error.word ? { from: error.word.from, to: error.word.to } : { from, to: Math.max(from, code.trimEnd().length) };
+  const cures = error && error.word && error.cures ? { cures: error.cures } : {};
+  return { number, line: lineNumber, ...range, words: error ? error.words : messageFor(number), ...cures };
+}
+
+/**
+ * Returns an error that the bench reports for a line, with its position and message.
+ * @param {string[]} lines the program lines
+ * @param {import("../bench/text_check_answers.js").LineError} error
+ * @param {KnownWords} facts
+ * @param {(number: number) => string} wordsOf returns the message of a refusal
+ * @returns {Fault}
+ */
+export function createLineError(lines, { line, number }, facts, wordsOf) {
+  const text = lines[line - 1];
+  return createFault(text, line, explainProgramLine(text, number, facts), number, wordsOf);
+}
+
+/**
+ * Resolves to the errors in a program. Lines that cannot be sent to the bench are replaced by empty lines.
+ * @param {string} program
+ * @param {Map<string, Instruction>} instructions
+ * @param {(number: number) => string} wordsOf returns the message of a refusal
+ * @param {Pick<import("./text_error_finder.js").FaultQueries, "errors" | "refuse">} queries
+ * @returns {Promise<AllFaults>}
+ */
+export async function findProgramFaults(program, instructions, wordsOf, queries) {
+  const textFaults = findLineFaults(program, ";");
+  if (textFaults.some(({ number }) => number === TEXT_TOO_LONG)) return { faults: textFaults, isWhole: false, rest: null };
+  const lines = alignedText(program, ";").split("\n");
+  const unsentLines = new Set(textFaults.map(({ line }) => line));
+  const sent = lines.map((line, at) => (unsentLines.has(at + 1) ? "" : sentLine(line, ";"))).join("\n");
+  const errors = await queries.errors(sent);
+  /** @type {KnownWords} */
+  const facts = { instructions, names: findDefinedNames(lines) };
+  const found = errors.map((error) => createLineError(lines, error, facts, wordsOf));
+  const faults = [...textFaults, ...found].sort((one, other) => one.line - other.line || one.from - other.from);
+  const rest = faults.length === 0 ? await queries.refuse(sent) : null;
+  return { faults, isWhole: errors.length < MAX_ERRORS, rest };
+}
+
+/**
+ * Returns an error for each missing ROM, at the first program line in that ROM.
+ * @param {string[]} lines the program lines
+ * @param {import("../machine/source_map.js").SourceMap} map
+ * @param {Set<number>} roms the ROM numbers on the board
+ * @returns {Fault[]}
+ */
+export function findMissingRoms(lines, map, roms) {
+  /** @type {Map<number, Fault>} */
+  const faults = new Map();
+  lines.forEach((text, at) => {
+    const line = at + 1;
+    const address = map.addressOf(line);
+    if (address === undefined) return;
+    const chip = [Math.floor(address / 256), Math.floor((address + map.sizes[line] - 1) / 256)].find((each) => !roms.has(each));
+    if (chip === undefined || faults.has(chip)) return;
+    const message = say.noRomForLine(chip, hex(address, 3));
+    faults.set(chip, createFault(text, line, { word: null, words: message }, MISSING_ROM, () => message));
+  });
+  return [...faults.values()];
+}
+
+/**
+ * Returns whether a text is probably not a program, because every checked code line has an error.
+ * @param {string} program
+ * @param {AllFaults} found
+ */
+export function isNoProgram(program, { faults, isWhole }) {
+  const wrongLines = new Set(faults.map(({ line }) => line));
+  const last = isWhole ? Infinity : Math.max(0, ...wrongLines);
+  /** @type {(text: string) => boolean} */
+  const isCode = (text) => text.slice(0, splitStatement(text).comment).trim() !== "";
+  const code = program.split("\n").flatMap((text, at) => (at < last && isCode(text) ? [at + 1] : []));
+  return code.length > 0 && code.every((line) => wrongLines.has(line));
+}

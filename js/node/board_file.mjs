@@ -1,0 +1,38 @@
+// Reads the board file of a command: the board as the bench wires it, and its front panel. Errors name the file and the line.
+import { readBoard } from "../core/bench/answers.js";
+import { Face } from "../core/board/face.js";
+import { findNameErrors, wireBoard } from "../core/testing/test_preparation.js";
+import { pressLines } from "../core/testing/press_lines.js";
+import { keysWithoutNames, noKeyOnBoard } from "../words/commands.js";
+import { rejectedTextsError } from "./native_program.mjs";
+import { CommandError } from "./output.mjs";
+
+/** @typedef {import("./input_texts.mjs").GivenText} GivenText */
+
+/**
+ * Reads a board and its front panel. Returns both, and the bench's answer lines to `board`.
+ * @param {import("../core/engine/engine_host.js").EngineHost} engine
+ * @param {GivenText} boardFile
+ */
+export async function readBoardAndFace(engine, boardFile) {
+  const { faults, answers } = wireBoard(engine, boardFile.text);
+  const face = new Face(boardFile.text);
+  const board = readBoard(answers);
+  const errors = faults.length > 0 ? faults : findNameErrors(face, board);
+  if (errors.length > 0) throw await rejectedTextsError(engine, { board: boardFile }, errors);
+  return { board, face, answers };
+}
+
+/**
+ * Returns the session lines that press a sequence of keys. Throws a CommandError if the front panel lacks one of them.
+ * @param {Face} face
+ * @param {string} boardName
+ * @param {string} keys
+ * @param {import("../core/testing/press_lines.js").Pace} pace
+ */
+export function makeKeyLines(face, boardName, keys, pace) {
+  const { lines, unknown: unknownKey } = pressLines(face, keys, pace);
+  if (unknownKey === null) return lines;
+  const hasNames = face.test !== null || [...face.keys.values()].some(({ text }) => text !== "");
+  throw new CommandError(hasNames ? noKeyOnBoard(boardName, unknownKey) : keysWithoutNames(boardName));
+}

@@ -1,0 +1,124 @@
+// Child processes of the Node tools. Most children have their own process group, so that a signal from the tool also reaches the processes that the
+// child has started.
+import { processes } from "./lazy_child_process.mjs";
+
+/** The maximum output of a child in characters. A child that prints more is terminated. */
+const MAX_OUTPUT = 1048576;
+/** An environment variable that children receive. A command with this variable suppresses messages that each user should see only once. */
+export const IS_RUN_BY_COMMAND = "MCS4_IS_RUN_BY_COMMAND";
+/** Windows has no process groups. */
+const HAS_GROUPS = process.platform !== "win32";
+/**
+ * The time in milliseconds after which a child that ignores SIGTERM is killed. A copy of this tool gets more time, because it must end its own
+ * children.
+ */
+const KILL_DELAYS = { command: 1000, tool: 10000 };
+
+/** @type {Map<number, { child: import("node:child_process").ChildProcess, hasGroup: boolean }>} the running children, by process id */
+const runningChildren = new Map();
+let isEnding = false;
+
+/** Returns a promise that never resolves, for callers that must wait while the process is ending. */
+const waitForever = () => new Promise(() => {});
+
+/**
+ * Sends a signal to a child, and to its whole process group if it has one.
+ * @param {number} pid
+ * @param {NodeJS.Signals} signal
+ */
+function sendSignal(pid, signal) {
+  const { hasGroup = false } = runningChildren.get(pid) || {};
+  try {
+    process.kill(hasGroup && HAS_GROUPS ? -pid : pid, signal);
+  } catch {
+    // The child has already ended.
+  }
+}
+
+/**
+ * Tracks a child until it ends. Resolves to its exit status, its signal, and an error message if it could not be started.
+ * @param {import("node:child_process").ChildProcess} child
+ * @param {boolean} hasGroup
+ */
+function trackChild(child, hasGroup) {
+  const { pid } = child;
+  if (pid !== undefined) runningChildren.set(pid, { child, hasGroup });
+  return new Promise((resolve) => {
+    const finish = (result) => {
+      if (pid !== undefined) runningChildren.delete(pid);
+      resolve(result);
+    };
+    child.on("error", ({ message }) => finish({ status: null, signal: null, words: message }));
+    child.on("close", (status, signal) => finish({ status, signal, words: "" }));
+  });
+}
+
+/**
+ * Runs a command with an input. Resolves to its exit status or signal, and its output. Terminates a command that prints too much.
+ * @param {string} command
+ * @param {string[]} words
+ * @param {string} [input]
+ */
+export async function runCommand(command, words, input = "") {
+  const env = { ...process.env, [IS_RUN_BY_COMMAND]: "1" };
+  const child = processes().spawn(command, words, { detached: HAS_GROUPS, env, stdio: ["pipe", "pipe", "pipe"] });
+  const endResult = trackChild(child, true);
+  const outputs = [child.stdout, child.stderr].map((stream) => {
+    const output = { text: "" };
+    stream.setEncoding("utf8");
+    stream.on("data", (text) => {
+      output.text += text;
+      if (output.text.length > MAX_OUTPUT && child.pid !== undefined) sendSignal(child.pid, "SIGTERM");
+    });
+    return output;
+  });
+  child.stdin.on("error", () => {});
+  child.stdin.end(input);
+  const { status, signal, words: startError } = await endResult;
+  if (isEnding) await waitForever();
+  return { status, signal, stdout: outputs[0].text, stderr: outputs[1].text || startError };
+}
+
+/**
+ * Runs this command again in another process, without its arguments. Resolves to the exit status, or to null if a signal ended the process. Both
+ * processes are in one group, so Ctrl-C reaches both.
+ * @param {Record<string, string | undefined>} env
+ */
+export async function rerunCommand(env) {
+  const child = processes().spawn(process.execPath, process.argv.slice(1, 3), { env, stdio: ["ignore", "ignore", "inherit"] });
+  const { status } = await trackChild(child, false);
+  if (isEnding) await waitForever();
+  return status;
+}
+
+/** Sends SIGINT to the children that have their own process group, because Ctrl-C does not reach them. */
+export function interruptChildren() {
+  for (const [pid, { hasGroup }] of runningChildren) if (hasGroup) sendSignal(pid, "SIGINT");
+}
+
+/** Lets pending events run. Never resolves once the process is ending. */
+export function yieldToMessages() {
+  return new Promise((resume) => {
+    setImmediate(() => {
+      if (!isEnding) resume(undefined);
+    });
+  });
+}
+
+/**
+ * Ends all children, then this process.
+ * @param {number} status
+ */
+async function endAll(status) {
+  if (isEnding) return;
+  isEnding = true;
+  await Promise.all([...runningChildren].map(([pid, { child, hasGroup }]) => new Promise((resolve) => {
+    child.on("close", resolve);
+    sendSignal(pid, "SIGTERM");
+    setTimeout(() => sendSignal(pid, "SIGKILL"), hasGroup ? KILL_DELAYS.command : KILL_DELAYS.tool);
+  })));
+  process.exit(status);
+}
+
+process.on("SIGTERM", () => endAll(143));
+process.on("SIGHUP", () => endAll(129));

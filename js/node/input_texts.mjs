@@ -1,0 +1,138 @@
+// Reads the texts that a command's arguments name: files, pipes, or `-` for standard input.
+import { closeSync, openSync } from "node:fs";
+import { CommandError } from "./output.mjs";
+import { readStream, readUserFile, statInput } from "./user_files.mjs";
+import { noAnswers } from "../words/commands.js";
+
+/** The maximum sizes, in bytes, of a session script, of answers, and of a single text. */
+export const MAX_SCRIPT = 16777216;
+export const MAX_ANSWERS = 67108864;
+export const MAX_TEXT_BYTES = 1048576;
+export const STANDARD_INPUT = 0;
+const UTF8_MARK = Buffer.from([0xEF, 0xBB, 0xBF]);
+/** @type {Record<string, string>} the encodings by their byte order marks in hexadecimal; PowerShell writes UTF-16 */
+const UTF_16 = { fffe: "utf-16le", feff: "utf-16be" };
+
+/**
+ * The text of a board or a program, with the name of its file, the number of file lines before the text, and the file's encoding.
+ * @typedef {{ name: string, text: string, before: number, encoding: BufferEncoding }} GivenText
+ */
+
+/**
+ * Decodes a text and removes its byte order mark. UTF-16 is recognised by its mark. Bytes that are not valid UTF-8 are decoded as Latin 1.
+ * @param {Buffer} bytes
+ * @returns {{ text: string, encoding: BufferEncoding }}
+ */
+function decodeText(bytes) {
+  const utf16Encoding = UTF_16[bytes.toString("hex", 0, 2)];
+  if (utf16Encoding) return { text: new TextDecoder(utf16Encoding).decode(bytes), encoding: "utf8" };
+  try {
+    return { text: new TextDecoder("utf-8", { fatal: true }).decode(bytes), encoding: "utf8" };
+  } catch {
+    const isMarked = bytes.subarray(0, UTF8_MARK.length).equals(UTF8_MARK);
+    return { text: bytes.toString("latin1", isMarked ? UTF8_MARK.length : 0), encoding: "latin1" };
+  }
+}
+
+/**
+ * Reads and decodes a regular file.
+ * @param {string} name
+ * @param {number} maxBytes the maximum number of bytes
+ */
+export function readDecodedFile(name, maxBytes) {
+  return decodeText(readUserFile(name, maxBytes));
+}
+
+/** @param {string} name */
+function isPipe(name) {
+  const stat = statInput(name);
+  return stat !== undefined && (stat.isFIFO() || stat.isCharacterDevice());
+}
+
+export class InputTexts {
+  constructor() {
+    /** @type {Buffer | null} the contents of standard input, which can be read only once; null before it is read */
+    this.standardInput = null;
+  }
+
+  /**
+   * Returns the contents of the file, pipe or standard input that an argument names. Throws an error if it is empty.
+   * @param {string} name
+   * @param {number} maxBytes the maximum number of bytes
+   */
+  read(name, maxBytes) {
+    const bytes = name === "-" ? this.readStandardInput(maxBytes) : this.readFileOrPipe(name, maxBytes);
+    if (bytes.length === 0) throw new CommandError(`${name} is empty`);
+    return bytes;
+  }
+
+  /** @param {number} maxBytes the maximum number of bytes */
+  readStandardInput(maxBytes) {
+    if (!this.standardInput) this.standardInput = readStream(STANDARD_INPUT, "-", maxBytes);
+    return this.standardInput;
+  }
+
+  /**
+   * @param {string} name
+   * @param {number} maxBytes the maximum number of bytes
+   */
+  readFileOrPipe(name, maxBytes) {
+    if (!isPipe(name)) return readUserFile(name, maxBytes);
+    const pipe = openSync(name, "r");
+    try {
+      return readStream(pipe, name, maxBytes);
+    } finally {
+      closeSync(pipe);
+    }
+  }
+
+  /**
+   * Returns a tests or properties text.
+   * @param {string} name
+   */
+  source(name) {
+    return { name, text: decodeText(this.read(name, MAX_TEXT_BYTES)).text.replace(/\r\n?/g, "\n") };
+  }
+
+  /**
+   * Returns the text of a board (`wire`) or a program (`asm`): the whole file, or the first such text in a session script.
+   * @param {string} name
+   * @param {"wire" | "asm"} word
+   * @returns {GivenText}
+   */
+  text(name, word) {
+    const bytes = this.read(name, MAX_SCRIPT);
+    const { text, encoding } = decodeText(bytes);
+    const lines = text.split(/\r\n?|\n/);
+    const beginIndex = lines.findIndex((line) => line.replace(/[ \t]+$/, "") === word);
+    if (beginIndex < 0 && bytes.length > MAX_TEXT_BYTES) {
+      throw new CommandError(`${name} has ${bytes.length} bytes, more than the text of a board or a program can have (${MAX_TEXT_BYTES})`);
+    }
+    if (beginIndex < 0) return { name, text: lines.join("\n"), before: 0, encoding };
+    const endIndex = lines.indexOf(".", beginIndex);
+    const textLines = lines.slice(beginIndex + 1, endIndex < 0 ? lines.length : endIndex);
+    return { name, text: textLines.map((line) => `${line}\n`).join(""), before: beginIndex + 1, encoding };
+  }
+
+  /** Returns the text on standard input. */
+  lines() {
+    return decodeText(this.readStandardInput(MAX_SCRIPT));
+  }
+
+  /**
+   * Returns the bench's answer lines on standard input. Ignores a last line without a line feed, because it is truncated.
+   * @param {string} command the command that reads the answers
+   */
+  answers(command) {
+    if (this.readStandardInput(MAX_ANSWERS).length === 0) throw new CommandError(noAnswers(command));
+    return decodeText(this.readStandardInput(MAX_ANSWERS)).text.split("\n").slice(0, -1).map((line) => line.replace(/\r$/, ""));
+  }
+
+  /**
+   * Returns a session script.
+   * @param {string} name
+   */
+  script(name) {
+    return decodeText(this.read(name, MAX_SCRIPT)).text;
+  }
+}

@@ -1,0 +1,121 @@
+// The search of `mcs4 prove`. Its questions go to the program mcs4-prove, or to the proved module if there is no such program for this system. `mcs4
+// test` must confirm each counterexample.
+import { writeFileSync } from "node:fs";
+import { join } from "node:path";
+import { PropertyJudge } from "../core/prove/property_judge.js";
+import { MAX_SETS, questionText, readAnswer } from "../core/prove/question.js";
+import { readCampaign } from "../core/explore/campaign.js";
+import { formatNumber } from "../core/explore/report.js";
+import { createSubject } from "../core/explore/subject.js";
+import { prepareTests } from "../core/testing/test_preparation.js";
+import * as say from "../words/prove.js";
+import { interruptChildren, runCommand } from "./child_processes.mjs";
+import { yieldToMessages, rejectedTextsError, proverPath, startEngine } from "./native_program.mjs";
+import { CommandError } from "./output.mjs";
+import { removeFolder, temporaryFolder } from "./temporary_folders.mjs";
+
+/**
+ * @typedef {import("./input_texts.mjs").GivenText} GivenText
+ * @typedef {{ board: GivenText, program: GivenText, properties: { name: string, text: string } }} Texts
+ *
+ * The limits of a search: the maximum number of states, and the maximum memory for them in MB (0 for all memory).
+ * @typedef {{ most: number, memory: number }} Limits
+ */
+
+/** A run of `mcs4 prove`: the texts, the limits and the prover. */
+class ProofSession {
+  /**
+   * @param {Texts} texts
+   * @param {Limits} limits
+   */
+  constructor(texts, limits) {
+    this.texts = texts;
+    this.limits = limits;
+    this.program = proverPath();
+    /** @type {((question: string) => string) | null} answers a question with the module; null if the program mcs4-prove answers */
+    this.module = null;
+    // This handler runs before the engine's handler. Ctrl-C does not reach the search, because the search has its own process group.
+    process.on("SIGINT", interruptChildren);
+  }
+
+  /** Reads the texts. Resolves to the object that judges their properties. */
+  async begin() {
+    const engine = await startEngine();
+    if (this.program === "") this.module = (await import("./module_prover.mjs")).makeModuleProver();
+    const { board, program, properties } = this.texts;
+    const { prepared, faults: textErrors } = prepareTests(engine, { boardText: board.text, programText: program.text });
+    if (!prepared) throw await rejectedTextsError(engine, { board, program }, textErrors);
+    const subject = createSubject(engine, board.text, program.text, program.before);
+    const { campaign, faults } = readCampaign(properties.text, subject, false);
+    if (faults.length > 0) throw new CommandError(faults.map(({ line, words }) => `${properties.name}:${line}: ${words}`).join("\n"));
+    return new PropertyJudge(subject, campaign, {
+      ask: (question) => this.ask(question, this.limits),
+      askBySets: (question) => this.ask(question, { most: 0, sets: MAX_SETS }),
+      confirms: (counterexample, isGoal) => this.confirms(counterexample, isGoal),
+      reason: (answer) => this.reason(answer),
+      yieldToMessages,
+    });
+  }
+
+  /**
+   * Returns the reason why the prover's answer decides nothing.
+   * @param {import("../core/prove/question.js").NoAnswer} answer
+   */
+  reason(answer) {
+    const { most, memory } = this.limits;
+    if (answer.kind === "more") return say.moreStates(formatNumber(most));
+    if (answer.kind === "lost") return say.GAVE_UP;
+    if (answer.states === 0) return say.NO_MEMORY;
+    return memory > 0 ? say.noRoomIn(formatNumber(answer.states), memory) : say.noRoom(formatNumber(answer.states));
+  }
+
+  /**
+   * Sends the text of a question to the prover. Resolves to its output, its errors, and the signal that ended it, if any.
+   * @param {string} text
+   */
+  async search(text) {
+    return this.module ? { stdout: this.module(text), stderr: "", signal: null } : runCommand(this.program, [], text);
+  }
+
+  /**
+   * Asks the prover a question. Resolves to the parsed answer.
+   * @param {import("../core/prove/question.js").Question} question
+   * @param {import("../core/prove/question.js").QuestionLimits} limits
+   */
+  async ask(question, limits) {
+    const { board, program } = this.texts;
+    const { stdout, stderr, signal } = await this.search(questionText({ board: board.text, program: program.text }, question, limits));
+    const answer = readAnswer(stdout);
+    if (!answer) throw new CommandError(say.proverEnded([stdout.trim(), stderr.trim(), signal].filter(Boolean).join("; ")));
+    return answer;
+  }
+
+  /**
+   * Resolves to true if `mcs4 test` confirms a counterexample. A counterexample in session lines needs no confirmation, because the bench has already
+   * run it.
+   * @param {import("../core/prove/counterexample.js").Counterexample} counterexample
+   * @param {boolean} isGoal
+   */
+  async confirms({ isTest, text }, isGoal) {
+    if (!isTest) return true;
+    const folder = temporaryFolder("prove");
+    const names = ["board_text", "program_text", "found.test"].map((name) => join(folder, name));
+    [this.texts.board.text, this.texts.program.text, text].forEach((content, index) => writeFileSync(names[index], content));
+    try {
+      const { status } = await runCommand(process.execPath, [process.argv[1], "test", ...names]);
+      return status === (isGoal ? 0 : 1);
+    } finally {
+      removeFolder(folder);
+    }
+  }
+}
+
+/**
+ * Reads the texts and prepares the proof of their properties. The caller then judges one property at a time.
+ * @param {Texts} texts
+ * @param {Limits} limits
+ * @returns {Promise<PropertyJudge>}
+ */
+export function beginProving(texts, limits) {
+  return new ProofSession(texts, limits).begin();
+}

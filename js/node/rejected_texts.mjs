@@ -1,0 +1,140 @@
+// Messages about rejected texts for a terminal: the file, the line number, the number of the refusal with its message, and the line itself.
+import { readFileSync } from "node:fs";
+import { readBoard } from "../core/bench/answers.js";
+import { readWiring } from "../core/bench/text_check_answers.js";
+import { ErrorMessages } from "../core/bench/error_messages.js";
+import { readProgram } from "../core/engine/program_check.js";
+import { readInstructions } from "../core/help/manual.js";
+import { SourceMap } from "../core/machine/source_map.js";
+import { findDefinedNames } from "../core/text/assembly.js";
+import { createBoardError } from "../core/text/board_error.js";
+import { MISSING_ROM, createLineError, findMissingRoms } from "../core/text/program_errors.js";
+import { alignedText, sentText } from "../core/text/sendable_text.js";
+import { boardTables } from "../core/text/text_help.js";
+import { readPageData } from "./page_parts.mjs";
+
+/**
+ * @typedef {import("../core/engine/engine_host.js").EngineHost} EngineHost
+ * @typedef {import("../core/testing/test_preparation.js").TextFault} TextFault
+ * @typedef {import("../core/text/sendable_text.js").Fault} Fault
+ * @typedef {import("./input_texts.mjs").GivenText} GivenText
+ */
+
+const MAX_ERRORS = 20;
+export const MAX_SHOWN_LENGTH = 120;
+export const NO_FORM = 30;
+/** Matches a line in the syntax of another assembler. */
+const OTHER_SPELLING = new RegExp("[ \\t,][0-7]P([ \\t,]|$)|[0-9]<|[ \\t,][0-9][0-9A-F]*H([ \\t,]|$)|[ \\t,][$][0-9A-F]|^[A-Z_][A-Z0-9_]*,|"
+  + "[ \\t]/|[ \\t](TZ|TN|CZ|CN|AZ|AN)[ \\t,]");
+
+/** @type {ErrorMessages | null} */
+let words = null;
+/** @type {ReturnType<typeof boardTables> | null} */
+let tables = null;
+/** @type {ReturnType<typeof readInstructions> | null} */
+let instructions = null;
+
+/** Returns the manual's tables about boards, and its instructions. */
+function readManual() {
+  if (!tables || !instructions) {
+    const { manual } = readPageData();
+    [tables, instructions] = [boardTables(manual), readInstructions(manual)];
+  }
+  return { tables, instructions };
+}
+
+/** Returns the message of a refusal, by its number. */
+export function describeRefusal(number) {
+  if (!words) {
+    const rows = readFileSync(new URL("../../tools/lib/refusals.txt", import.meta.url), "utf8").split("\n");
+    words = new ErrorMessages(Object.fromEntries(rows.filter((row) => /^\d/.test(row)).map((row) => [row.slice(0, 2), row.slice(3)])));
+  }
+  return words.refusalMeaning(number);
+}
+
+/**
+ * Returns a hint if a line is in the syntax of another assembler, otherwise "".
+ * @param {string} line
+ */
+export function spellingHint(line) {
+  return OTHER_SPELLING.test(line.replace(/;.*/, "").toUpperCase()) ? "; mcs4 import takes programs in Intel's and AS's spelling" : "";
+}
+
+/** Composes the messages about rejected texts. An engine checks the texts again to find the details. */
+export class RejectedTexts {
+  /**
+   * @param {EngineHost} engine
+   * @param {{ board?: GivenText, program: GivenText }} givenTexts
+   */
+  constructor(engine, givenTexts) {
+    this.engine = engine;
+    this.givenTexts = givenTexts;
+  }
+
+  /**
+   * Returns the error in a board's text, with its line and its message. Returns null if the bench does not report a line.
+   * @param {string} text
+   */
+  findBoardError(text) {
+    const { engine } = this;
+    const error = readWiring(engine.ask(engine.begin(), `wiring\n${sentText(text, "#")}.\n`).answers[0]);
+    return error && error.line > 0 ? createBoardError(alignedText(text, "#"), error, readManual().tables, describeRefusal) : null;
+  }
+
+  /**
+   * Returns the error for the first program line that puts bytes into a ROM chip that the board does not have. Returns null if there is none.
+   * @param {string} text
+   */
+  findLineWithoutRom(text) {
+    const { engine, givenTexts: { board } } = this;
+    if (!board) return null;
+    const file = engine.begin();
+    engine.serve(file, `wire\n${sentText(board.text, "#")}.\n`, file);
+    const roms = new Set(readBoard(engine.ask(file, "board\n").answers).roms.map(({ chip }) => chip));
+    const sent = sentText(text, ";");
+    const [error = null] = findMissingRoms(sent.split("\n"), new SourceMap(readProgram(engine, sent).map, sent), roms)
+      .sort((first, second) => first.line - second.line);
+    return error;
+  }
+
+  /**
+   * Returns the error in a text, with its line and its message. Returns null if the line is not known.
+   * @param {TextFault} fault
+   * @param {string} text
+   * @returns {Fault | null}
+   */
+  findError({ text: kind, line, number }, text) {
+    if (kind === "board") return line > 0 ? null : this.findBoardError(text);
+    if (number === MISSING_ROM) return this.findLineWithoutRom(text);
+    if (line === 0 || number < NO_FORM) return null;
+    const lines = alignedText(text, ";").split("\n");
+    const facts = { instructions: readManual().instructions, names: findDefinedNames(lines) };
+    return createLineError(lines, { line, number }, facts, describeRefusal);
+  }
+
+  /**
+   * Returns the message about an error, followed by the wrong line.
+   * @param {TextFault} fault
+   */
+  formatError(fault) {
+    const { text: kind, file, line, number } = fault;
+    if (kind === "tests") return `${file}:${line}: ${fault.words}`;
+    const { name, text, before } = this.givenTexts[kind];
+    const error = number > 0 ? this.findError(fault, text) : null;
+    const at = line || (error ? error.line : 0);
+    const shownLines = at > 0 && number > 0 ? [text.split("\n")[at - 1]] : [];
+    const hint = number === NO_FORM && shownLines.length > 0 ? spellingHint(shownLines[0]) : "";
+    const reason = `${number > 0 ? `no ${number}: ` : ""}${fault.words || (error ? error.words : describeRefusal(number))}${hint}`;
+    const location = at > 0 ? `line ${at + before}: ` : "";
+    return [`${name}: ${location}${reason}`, ...shownLines.map((shownLine) => `    ${shownLine.slice(0, MAX_SHOWN_LENGTH)}`)].join("\n");
+  }
+
+  /**
+   * Returns the messages about all errors. At most MAX_ERRORS of them are listed.
+   * @param {TextFault[]} faults
+   */
+  message(faults) {
+    const moreLines = faults.length > MAX_ERRORS ? [`and ${faults.length - MAX_ERRORS} more`] : [];
+    return [...faults.slice(0, MAX_ERRORS).map((fault) => this.formatError(fault)), ...moreLines].join("\n");
+  }
+}

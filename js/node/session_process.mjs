@@ -1,0 +1,142 @@
+// Runs the native program on a user's session file, with asynchronous reads. The program executes session lines and prints their answers.
+import { spawn } from "node:child_process";
+import { constants } from "node:os";
+import { parseRefusal } from "../core/bench/answers.js";
+import { SEQ_ANSWER, isSeq } from "../core/bench/inputs.js";
+import { programPath } from "./native_program.mjs";
+import { CommandError } from "./output.mjs";
+import { programEnded, sessionWasRefused } from "../words/commands.js";
+
+/** The offset of an exit status that represents a signal: shells add it to the signal's number. */
+const SIGNAL_STATUS_OFFSET = 128;
+
+/** The error of a program that has ended before it answered. */
+export class ProgramEnded extends CommandError {}
+
+/** A running program that serves a session file. */
+export class SessionProcess {
+  /**
+   * @param {"new" | "open"} word
+   * @param {string} name
+   * @param {boolean} [isAtTerminal] true if the program shares this process's standard error; signals from the terminal then do not reach the program
+   */
+  constructor(word, name, isAtTerminal = false) {
+    this.child = spawn(programPath(), [word, name], { stdio: ["pipe", "pipe", isAtTerminal ? "inherit" : "pipe"], detached: isAtTerminal });
+    this.child.stdout.setEncoding("utf8");
+    /** @type {string[]} the answer lines that have not been read yet */
+    this.lines = [];
+    /** The incomplete last line of the output. */
+    this.partialLine = "";
+    /** The program's output on standard error, and the error if the program did not start. */
+    this.words = "";
+    /** The first answer line. */
+    this.openingLine = "";
+    this.wake = () => {};
+    this.hasEnded = false;
+    /** The program's exit status. Valid once the program has ended. */
+    this.status = 1;
+    this.child.stdout.on("data", (text) => {
+      const lines = (this.partialLine + text).split("\n");
+      this.partialLine = lines.pop();
+      this.lines.push(...lines);
+      this.wake();
+    });
+    if (this.child.stderr) {
+      this.child.stderr.on("data", (text) => {
+        this.words += text;
+      });
+    }
+    this.child.stdin.on("error", () => {});
+    this.endPromise = new Promise((resolve) => {
+      const finish = (words) => {
+        this.hasEnded = true;
+        this.words += words;
+        this.wake();
+        resolve();
+      };
+      this.child.on("error", ({ message }) => finish(message));
+      this.child.on("close", (status, signal) => {
+        this.status = signal ? SIGNAL_STATUS_OFFSET + constants.signals[signal] : status;
+        finish("");
+      });
+    });
+  }
+
+  /**
+   * Resolves to the next answer lines. Throws ProgramEnded if the program ends before it has printed them.
+   * @param {number} count
+   */
+  async readLines(count) {
+    while (this.lines.length < count) {
+      if (this.hasEnded) throw new ProgramEnded(programEnded([...this.lines, this.words.trim()].filter(Boolean).join("; ")));
+      await new Promise((resolve) => {
+        this.wake = resolve;
+      });
+    }
+    return this.lines.splice(0, count);
+  }
+
+  /**
+   * Serves lines. Resolves to their answers.
+   * @param {string} lines
+   * @param {number} count the number of answer lines
+   */
+  ask(lines, count) {
+    this.child.stdin.write(lines);
+    return this.readLines(count);
+  }
+
+  /**
+   * Serves one input, or several inputs without `seq`. A `seq` line follows, because its answer marks the end, however many answers there are.
+   * @param {string} input
+   * @param {(line: string) => void} onAnswer called with each answer line as it arrives
+   */
+  async serve(input, onAnswer) {
+    this.child.stdin.write(`${input}seq\n`);
+    let expectedSeqs = isSeq(input.trimEnd()) ? 1 : 0;
+    for (;;) {
+      const [line] = await this.readLines(1);
+      if (SEQ_ANSWER.test(line)) {
+        if (expectedSeqs === 0) return;
+        expectedSeqs -= 1;
+      }
+      onAnswer(line);
+    }
+  }
+
+  /** Closes the program's input, so that the program ends. */
+  close() {
+    this.child.stdin.end();
+  }
+
+  /** Closes the program's input and waits until the program has ended. */
+  async end() {
+    this.close();
+    await this.endPromise;
+  }
+}
+
+/**
+ * Returns an answer. A refusal is followed by its message. (Loads the messages only then.)
+ * @param {string} answer
+ */
+async function addRefusalMessage(answer) {
+  const refusal = parseRefusal(answer);
+  if (!refusal) return answer;
+  const { describeRefusal } = await import("./rejected_texts.mjs");
+  return `${answer}: ${describeRefusal(refusal.number)}`;
+}
+
+/**
+ * Starts the program on a session file. If the program rejects the file, throws an error with the message.
+ * @param {"new" | "open"} word
+ * @param {string} name
+ */
+export async function openProgram(word, name) {
+  const program = new SessionProcess(word, name);
+  const [firstLine] = await program.readLines(1);
+  program.openingLine = firstLine;
+  if (firstLine.startsWith("session ")) return program;
+  await program.end();
+  throw new CommandError(sessionWasRefused(name, [await addRefusalMessage(firstLine), program.words.trim()].filter(Boolean).join("; ")));
+}

@@ -1,0 +1,80 @@
+// The debugger's view (js/core/prompt/view.js) on a terminal. The view occupies the upper rows, and commands scroll in the rows below. On a terminal
+// that cannot move its cursor (TERM=dumb), the view is printed after each command instead. With TERM=dumb or NO_COLOR, the view has no colours.
+import { MIN_COLUMNS, MIN_ROWS, View, viewSize } from "../core/prompt/view.js";
+import { isDumb, makePainter } from "./terminal.mjs";
+
+const REVERSE = 7;
+const BOLD = 1;
+const YELLOW = 33;
+const NO_ROOM_MESSAGE = `the view needs a terminal of ${MIN_COLUMNS} columns and ${MIN_ROWS} rows at least`;
+
+export class TerminalView {
+  /** Creates a hidden view. The callback `showPrompt` shows the prompt again at the cursor. */
+  constructor(prompt, output, env, showPrompt) {
+    this.view = new View(prompt);
+    this.output = output;
+    this.showPrompt = showPrompt;
+    this.isDumb = isDumb(env);
+    const paint = makePainter(env);
+    this.marks = { head: paint(REVERSE), here: paint(BOLD), other: paint(YELLOW) };
+    this.isOn = false;
+    /** The number of rows that the view currently occupies. */
+    this.rows = 0;
+  }
+
+  get size() {
+    return viewSize(this.output.rows, this.output.columns);
+  }
+
+  /** Shows or hides the view. Returns the reason why it cannot be shown, or "". */
+  turn(isOn) {
+    if (isOn === this.isOn) return "";
+    if (isOn && !this.size) return NO_ROOM_MESSAGE;
+    this.isOn = isOn;
+    if (isOn) this.place();
+    else this.leave();
+    return "";
+  }
+
+  /** Toggles the view. Returns the reason why it cannot be shown, or "". */
+  toggle() {
+    return this.turn(!this.isOn);
+  }
+
+  /** Clears the terminal, and limits scrolling to the rows below the view. */
+  place() {
+    const { size, output } = this;
+    if (this.isDumb) return;
+    if (!size) {
+      this.leave();
+      return;
+    }
+    this.rows = size.rows;
+    output.write(`\x1b[2J\x1b[${size.rows + 1};${output.rows}r\x1b[${output.rows};1H`);
+  }
+
+  /** Draws the view without moving the cursor. */
+  draw() {
+    const { size, output } = this;
+    if (!this.isOn || !size) return;
+    const lines = this.view.lines(size, this.marks);
+    const rowTexts = lines.map((line, index) => `\x1b[${index + 1};1H\x1b[K${line}`).join("");
+    output.write(this.isDumb ? `${lines.join("\n")}\n` : `\x1b7\x1b[?7l${rowTexts}\x1b[?7h\x1b8`);
+  }
+
+  /** Redraws the view and the prompt after a resize, or after other programs have used the terminal. */
+  redraw() {
+    if (!this.isOn || this.isDumb) return;
+    this.place();
+    this.draw();
+    this.showPrompt();
+  }
+
+  /** Clears the view's rows, and lets the whole terminal scroll again. */
+  leave() {
+    if (this.rows === 0) return;
+    const rows = Array.from({ length: this.rows }, (_, index) => `\x1b[${index + 1};1H\x1b[K`).join("");
+    this.output.write(`\x1b[r${rows}\x1b[${this.output.rows};1H`);
+    this.rows = 0;
+  }
+}

@@ -1,0 +1,202 @@
+// Key presses by pointer and keyboard, while time is running and while it is paused.
+
+import { formatKey } from "../../core/board/key_place.js";
+
+/**
+ * @typedef {import("../../core/board/board_keys.js").BoardKey} BoardKey
+ * @typedef {import("../../core/board/key_place.js").Key} Key
+ */
+
+/**
+ * The callbacks of KeyPresser.
+ * @typedef {object} KeyPresserCalls
+ * @property {() => boolean} isRunning Returns true if time is running, so that presses are queued.
+ * @property {(key: Key) => boolean} isDown Returns true if a key will be down after all queued presses and releases.
+ * @property {(key: Key) => void} press Queues a press of a key while time is running.
+ * @property {(key: Key) => void} release Queues a release of a key while time is running.
+ * @property {(word: "press" | "release", key: Key) => void} change Presses or releases a key immediately while time is paused.
+ * @property {(event: KeyboardEvent) => BoardKey | undefined} keyForEvent Returns the board's key for a keyboard event. Returns undefined if
+ *   there is none, or if another element handles the event.
+ */
+
+/**
+ * A key that a finger presses. If `staysDown` is true, the key stays down when the finger lifts. `undoPress` undoes the press.
+ * @typedef {{ key: Key, staysDown: boolean, undoPress: () => void }} HeldKey
+ */
+
+/** The delay in milliseconds before a touch presses a key. Within this time the browser recognises a scroll gesture. */
+const SWIPE_TIME = 60;
+/** The time in milliseconds after a finger lifts during which every click is attributed to that finger, regardless of its pointer type. */
+const TAP_TIME = 500;
+
+export class KeyPresser {
+  /** @param {KeyPresserCalls} calls */
+  constructor(calls) {
+    this.calls = calls;
+    /** @type {Map<string, HeldKey>} the keys that fingers press, by key name */
+    this.heldKeys = new Map();
+    /** @type {Map<number, number>} the timers of touches that may still become swipes, by pointer id */
+    this.touchTimers = new Map();
+  }
+
+  /** Forgets all pressed keys and pending touches, because the board's keys have changed. */
+  forget() {
+    this.heldKeys.clear();
+    for (const timer of this.touchTimers.values()) clearTimeout(timer);
+    this.touchTimers.clear();
+  }
+
+  /**
+   * @param {HTMLButtonElement} button
+   * @param {BoardKey} boardKey
+   */
+  listen(button, boardKey) {
+    const { key } = boardKey;
+    let liftTime = -Infinity;
+    button.addEventListener("pointerdown", (event) => {
+      if (event.button !== 0) return;
+      event.preventDefault();
+      button.setPointerCapture(event.pointerId);
+      if (event.pointerType === "touch") this.pressLater(event.pointerId, boardKey);
+      else this.down(boardKey, event.shiftKey);
+    });
+    button.addEventListener("pointerup", (event) => {
+      liftTime = event.timeStamp;
+      // A tap shorter than SWIPE_TIME has not pressed the key yet.
+      if (this.cancelTouch(event.pointerId)) this.down(boardKey, false);
+      this.up(key);
+    });
+    button.addEventListener("pointercancel", (event) => {
+      if (!this.cancelTouch(event.pointerId)) this.undoPress(key);
+    });
+    button.addEventListener("lostpointercapture", () => this.up(key));
+    button.addEventListener("contextmenu", (event) => event.preventDefault());
+    button.addEventListener("keydown", (event) => this.activate(event, () => this.down(boardKey, event.shiftKey)));
+    button.addEventListener("keyup", (event) => this.activate(event, () => this.up(key)));
+    // A click without a pointer or a keyboard, for example from a screen reader, is a short press.
+    button.addEventListener("click", (event) => {
+      if (event.detail !== 0 || event.timeStamp - liftTime < TAP_TIME) return;
+      if (event instanceof PointerEvent && event.pointerId > 0) return;
+      this.down(boardKey, false);
+      this.up(key);
+    });
+  }
+
+  /**
+   * @param {KeyboardEvent} event
+   * @param {() => void} action
+   */
+  activate(event, action) {
+    if (event.key !== " " && event.key !== "Enter") return;
+    event.preventDefault();
+    event.stopPropagation();
+    if (!event.repeat) action();
+  }
+
+  /**
+   * Presses a key after SWIPE_TIME, unless the touch ends or becomes a swipe first.
+   * @param {number} pointer
+   * @param {BoardKey} boardKey
+   */
+  pressLater(pointer, boardKey) {
+    this.touchTimers.set(pointer, window.setTimeout(() => {
+      this.touchTimers.delete(pointer);
+      this.down(boardKey, false);
+    }, SWIPE_TIME));
+  }
+
+  /**
+   * Cancels the delayed press of a touch. Returns true if the touch had not pressed its key yet.
+   * @param {number} pointer
+   */
+  cancelTouch(pointer) {
+    clearTimeout(this.touchTimers.get(pointer));
+    return this.touchTimers.delete(pointer);
+  }
+
+  /**
+   * Presses a key, or releases it if it is already down. A switch stays in its new position, and so does a key pressed with Shift.
+   * @param {Pick<BoardKey, "key" | "isSwitch">} boardKey
+   * @param {boolean} hasShift
+   */
+  down({ key, isSwitch }, hasShift) {
+    const name = formatKey(key);
+    if (this.heldKeys.has(name)) return;
+    const isDown = this.calls.isDown(key);
+    const { change, press, release } = this.calls;
+    if (!this.calls.isRunning()) {
+      change(isDown ? "release" : "press", key);
+      this.heldKeys.set(name, { key, staysDown: true, undoPress: () => change(isDown ? "press" : "release", key) });
+    } else if (isDown) {
+      // An earlier press left the key down.
+      release(key);
+      this.heldKeys.set(name, { key, staysDown: true, undoPress: () => press(key) });
+    } else {
+      press(key);
+      this.heldKeys.set(name, { key, staysDown: hasShift || isSwitch, undoPress: () => release(key) });
+    }
+  }
+
+  /**
+   * Undoes the press of a touch that became a swipe.
+   * @param {Key} key
+   */
+  undoPress(key) {
+    const name = formatKey(key);
+    const heldKey = this.heldKeys.get(name);
+    this.heldKeys.delete(name);
+    if (heldKey) heldKey.undoPress();
+  }
+
+  /**
+   * Releases a key when its finger lifts, unless the key stays down. If time was paused in between, the release takes effect when time
+   * resumes.
+   * @param {Key} key
+   */
+  up(key) {
+    const name = formatKey(key);
+    const heldKey = this.heldKeys.get(name);
+    if (heldKey === undefined) return;
+    this.heldKeys.delete(name);
+    if (!heldKey.staysDown) this.calls.release(key);
+  }
+
+  releaseAll() {
+    for (const { key } of [...this.heldKeys.values()]) this.up(key);
+  }
+
+  /** Lets the computer's keyboard press the board's keys, unless another element handles the key. */
+  listenToKeyboard() {
+    /** @type {Map<string, Key>} */
+    const keysByCode = new Map();
+    addEventListener("keydown", (event) => {
+      const boardKey = this.calls.keyForEvent(event);
+      if (!boardKey) return;
+      event.preventDefault();
+      if (event.repeat || keysByCode.has(event.code)) return;
+      keysByCode.set(event.code, boardKey.key);
+      this.down(boardKey, false);
+    });
+    addEventListener("keyup", (event) => {
+      const key = keysByCode.get(event.code);
+      keysByCode.delete(event.code);
+      if (key !== undefined) this.up(key);
+    });
+    // The page does not receive key releases after it has lost the focus.
+    addEventListener("blur", () => {
+      keysByCode.clear();
+      this.releaseAll();
+    });
+  }
+}
+
+/**
+ * Returns true if an element handles a keyboard key itself.
+ * @param {EventTarget | null} target
+ * @param {string} keyName
+ */
+export function wantsKey(target, keyName) {
+  if (!(target instanceof Element)) return false;
+  if (target.matches("input:not([type=checkbox]), textarea, select") || target.closest("[contenteditable]")) return true;
+  return target.matches("button, summary, a, input") && (keyName === "Enter" || keyName === " ");
+}

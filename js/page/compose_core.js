@@ -1,0 +1,107 @@
+// Creates the components that run the board, execute session lines and save the session. The callbacks connect each of them to the page's
+// other components.
+
+import { wordsOfAddress, wordsOfWhen } from "../words/stops.js";
+import { LineServer } from "./lines/line_server.js";
+import { Recovery } from "./recovery.js";
+import { CurrentSession } from "./session/current_session.js";
+import { RunController } from "./time/run_controller.js";
+
+/** @typedef {import("./bench_page.js").Page} Page */
+
+/**
+ * @param {Page} page
+ * @returns {CurrentSession}
+ */
+export function makeCurrentSession(page) {
+  return new CurrentSession(page.bench, page.store, {
+    begin: (record) => page.begin(record),
+    show: (shown) => page.show(shown),
+    checkSource: () => page.checkSource(),
+    run: () => page.runController.run(),
+    showPaused: (words) => page.runController.endRun(words),
+    stopTime: () => page.runController.stopRun(),
+    describeCounter: () => page.runController.counterText,
+    handleSessionChange: () => page.sessionsController.handleSessionChange(),
+    takeRuns: () => page.logView.takeRuns(),
+    logRuns: (ran, fault) => page.logView.showRuns(ran, fault),
+    showSaveError: (words) => (words ? page.notice.show(words, "kept") : page.notice.hide("kept")),
+    showSaveState: (state) => page.layout.status.showSaved(state),
+  }, page.storedHistory);
+}
+
+/**
+ * @param {Page} page
+ * @returns {Recovery}
+ */
+export function makeRecovery(page) {
+  return new Recovery(page.bench, page.words, page.notice, {
+    session: () => page.currentSession.session,
+    isRunning: () => page.runController.clock.isRunning,
+    stopClock: () => page.runController.clock.stop(),
+    showPaused: (words) => page.runController.endRun(words),
+    showLastFrame: (frame) => page.runController.handleFrame(frame),
+    reopenSession: async (record) => {
+      page.show(await page.currentSession.callOpen(record));
+      page.breakpoints.keeper.again();
+    },
+  });
+}
+
+/**
+ * @param {Page} page
+ * @returns {RunController}
+ */
+export function makeRunController(page) {
+  const { currentSession } = page;
+  return new RunController(page.bench, currentSession, {
+    handleRunStart: () => page.mistakesView.clear(),
+    handleRunEnd: () => page.scope.showPaused(),
+    showFrame: (frame) => {
+      page.logView.collect(frame.ran);
+      page.mistakesView.show(frame.tally.usual);
+      page.heatView.handleFrame(frame);
+      page.show(frame, true, frame.litShares);
+      page.breakpoints.count(frame.tally);
+    },
+    drawSlowViews: () => page.snapshotView.showSlowViews(),
+    drawListing: () => page.snapshotView.showListing(),
+    isSecondCyclePending: () => {
+      const { registers } = page.snapshotView.reader;
+      return registers !== null && registers.owed === "1";
+    },
+    cycles: () => page.cyclesView.cycles.total,
+    describeCounter: () => wordsOfAddress(page.snapshotView.counter, page.source.map),
+    describeCondition: (id) => wordsOfWhen(page.breakpoints.keeper.list.get(id), page.breakpoints.keeper.faults.get(id)),
+    countUnreadable: () => page.breakpoints.keeper.faults.size,
+    describeRefusal: (number) => page.words.refusalMeaning(number),
+    step: () => page.lineServer.serveLines("step\n"),
+    reportFailure: (fault) => page.recovery.reportFailure(fault),
+  });
+}
+
+/**
+ * @param {Page} page
+ * @returns {LineServer}
+ */
+export function makeLineServer(page) {
+  const { currentSession, runController } = page;
+  return new LineServer(page.bench, page.words, page.notice, {
+    map: () => page.source.map,
+    work: (words, work) => page.workView.show(words, (signal, progress) => work({ signal, progress })),
+    counter: () => page.snapshotView.counter,
+    show: (result) => {
+      if (result.touchesRom) page.snapshotView.forgetRom();
+      page.show(result);
+    },
+    checkSource: () => page.checkSource(),
+    keep: () => currentSession.touchAndKeep(),
+    log: (entries, fault) => page.logView.show(entries, fault),
+    countHits: (tally) => page.breakpoints.count(tally),
+    isRunning: () => runController.clock.isRunning,
+    forgetGoal: () => runController.forgetGoal(),
+    describeStop: (stop) => runController.describeStop(stop, null),
+    showMessage: (words) => runController.showMessage(words),
+    reportFailure: (fault) => page.recovery.reportFailure(fault),
+  });
+}

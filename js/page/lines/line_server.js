@@ -1,0 +1,139 @@
+// Executes session lines that change the session. The bench executes the lines, then the page saves the session, and then shows the
+// answers.
+
+import { parseRefusal } from "../../core/bench/answers.js";
+import { CancelledError } from "../../core/bench/bench_errors.js";
+import { replaceNames } from "../../core/bench/name_substitution.js";
+import { lineEnded } from "../../words/debug.js";
+import * as say from "../../words/page.js";
+import { stoppedAt } from "../../words/stops.js";
+
+/**
+ * @typedef {import("../../core/engine/worker_session.js").ServedInput} ServedInput
+ * @typedef {import("../../core/bench/error_messages.js").ErrorMessages} ErrorMessages
+ * @typedef {import("../../core/debug/debugger.js").Stop} Stop
+ * @typedef {import("../../core/debug/debugger.js").Tally} Tally
+ * @typedef {import("../../core/machine/source_map.js").SourceMap} SourceMap
+ * @typedef {import("../ui/notice.js").Notice} Notice
+ * @typedef {import("../../core/engine/session_requests.js").SessionRequests} SessionRequests
+ * @typedef {import("../../core/bench/bench_client.js").Caller<SessionRequests>} Bench
+ * @typedef {import("../../core/bench/protocol.js").LinesReply} LinesReply
+ * @typedef {import("../../core/bench/bench_client.js").CallOptions} CallOptions
+ */
+
+/**
+ * The callbacks of LineServer.
+ * @typedef {object} LineServerCalls
+ * @property {() => SourceMap | null} map Returns the source map of the program in ROM, which has the values of `@NAME`, or null if ROM does
+ *   not match the source.
+ * @property {<Result>(words: string, work: (ways: CallOptions) => Promise<Result>) => Promise<Result>} work Performs long work, described
+ *   by `words`, and shows its progress. Rejects with `CancelledError` if the user cancels the work.
+ * @property {() => string} counter Returns the program counter on the page, as three hexadecimal digits.
+ * @property {(result: LinesReply) => void} show Shows the session after the lines.
+ * @property {() => void} checkSource Compares the source with ROM again.
+ * @property {() => Promise<string>} keep Saves the session. Resolves to the reason why it could not be saved, or to "".
+ * @property {(entries: ServedInput[], fault: string) => void} log Logs lines with their answers, and the reason if the session could not be
+ *   saved.
+ * @property {(tally: Tally) => void} countHits Shows the hit counts and log messages of breakpoints.
+ * @property {() => boolean} isRunning Returns true if time is running.
+ * @property {() => void} forgetGoal Forgets the goal of the run, because the bench was reset.
+ * @property {(stop: Stop) => string} describeStop Returns the message with the reason why a run stopped.
+ * @property {(words: string) => void} showMessage Shows a message in the status line.
+ * @property {(fault: unknown) => void} reportFailure Reports an error that a call threw.
+ */
+
+export class LineServer {
+  /**
+   * @param {Bench} bench
+   * @param {ErrorMessages} words
+   * @param {Notice} notice
+   * @param {LineServerCalls} calls
+   */
+  constructor(bench, words, notice, calls) {
+    this.bench = bench;
+    this.words = words;
+    this.notice = notice;
+    this.calls = calls;
+  }
+
+  /**
+   * Serves lines that change the session, saves the session and shows the answers. Resolves to the first answer, or to null after a
+   * failure.
+   * @param {string} lines
+   * @returns {Promise<string | null>}
+   */
+  async serveLines(lines) {
+    const result = await this.performWork(say.SENDING_LINES, (ways) => this.bench.call("serve", [lines], ways));
+    return result && result.first;
+  }
+
+  /**
+   * Serves typed lines after replacing each `@NAME` with the value of that name. A run in these lines stops at each breakpoint.
+   * @param {string} typedLines
+   */
+  async serveTyped(typedLines) {
+    const { calls } = this;
+    const { lines, words } = replaceNames(typedLines, calls.map());
+    if (words !== "") {
+      this.notice.show(words);
+      return null;
+    }
+    const result = await this.performWork(say.SENDING_LINES, (ways) => this.bench.call("serveTyped", [lines], ways));
+    if (!result) return null;
+    const { id, cut, cycles, tally } = result.typed;
+    calls.countHits(tally);
+    if (id !== 0 && !calls.isRunning()) {
+      calls.showMessage(lineEnded(calls.describeStop({ why: "break", id, cycles, returns: false }), cut));
+    }
+    return result.first;
+  }
+
+  /**
+   * Performs other work that changes the session, saves the session and shows the result. Resolves to the result, or to null after a
+   * failure.
+   * @template {LinesReply} Result
+   * @param {string} words the description of the work
+   * @param {(ways: CallOptions) => Promise<Result>} work
+   * @returns {Promise<Result | null>}
+   */
+  async performWork(words, work) {
+    let result;
+    try {
+      result = await this.calls.work(words, work);
+    } catch (fault) {
+      // After a cancellation, time resumes if it was running.
+      if (fault instanceof CancelledError) this.notice.show(this.words.failureMessage(fault));
+      else this.calls.reportFailure(fault);
+      return null;
+    }
+    await this.handleResult(result);
+    return result;
+  }
+
+  /** @param {LinesReply} result */
+  async handleResult(result) {
+    const { calls } = this;
+    const counter = calls.counter();
+    calls.show(result);
+    this.showCounter(counter, result.entries);
+    if (result.touchesRom) calls.checkSource();
+    const fault = await calls.keep();
+    if (result.status !== 0) this.notice.show(say.LINES_TOO_LONG);
+    calls.log(result.entries, fault);
+  }
+
+  /**
+   * Updates the status line after lines were served. A message about the last stop must not stay after the program counter has moved.
+   * @param {string} previousCounter the program counter before the lines, as three hexadecimal digits
+   * @param {ServedInput[]} entries
+   */
+  showCounter(previousCounter, entries) {
+    const { calls } = this;
+    const counter = calls.counter();
+    const isReset = entries.some(({ line, answers }) => line.trim() === "reset" && parseRefusal(answers[0]) === null);
+    const isRunning = calls.isRunning();
+    if (isReset) calls.forgetGoal();
+    if (isReset) calls.showMessage(isRunning ? say.RESET_RUNNING : say.wasReset(counter));
+    else if (counter !== previousCounter && !isRunning) calls.showMessage(stoppedAt(counter));
+  }
+}

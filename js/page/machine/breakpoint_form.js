@@ -1,0 +1,182 @@
+// The form that edits a breakpoint's condition, hit count and log message. The form appears below the breakpoint's source line, or in the
+// list of breakpoints if the breakpoint has no line. Enter applies the changes, Escape discards them.
+
+import { parseCount } from "../../core/bench/numbers.js";
+import { Cell, makeButton, element } from "../ui/dom.js";
+import * as say from "../../words/machine.js";
+
+/**
+ * @typedef {import("../../core/debug/breakpoints.js").Breakpoint} Breakpoint
+ * @typedef {import("../../core/debug/breakpoints.js").SavedBreakpoint} SavedBreakpoint
+ * @typedef {"condition" | "from" | "note"} BreakpointField
+ * @typedef {Pick<SavedBreakpoint, BreakpointField>} BreakpointTexts
+ */
+
+/**
+ * The callbacks of the breakpoint form.
+ * @typedef {object} BreakpointFormCalls
+ * @property {(id: number, changes: BreakpointTexts) => void} change Changes a breakpoint, by its id, and sends the change to the bench.
+ * @property {(id: number, changes: BreakpointTexts) => void} type Shows the typed text in the breakpoint's mark and list entry, without
+ *   sending it to the bench.
+ * @property {() => Promise<void>} waitForChanges Resolves when the bench has received all changes.
+ * @property {(breakpoint: Breakpoint, node: HTMLElement) => void} placeForm Puts the form below the breakpoint's source line, or into the
+ *   list of breakpoints if the breakpoint has no line.
+ * @property {(action: () => void) => void} callWhenPlaced Calls `action` when the form is in the page and can receive the focus.
+ * @property {(node: HTMLElement) => void} removeForm Removes the form.
+ * @property {(breakpoint: Breakpoint) => void} returnFocus Returns the focus to the breakpoint.
+ */
+
+const MAX_HITS = 999999999;
+
+/**
+ * @param {string} label
+ * @param {Record<string, unknown>} properties
+ */
+function makeField(label, properties) {
+  const field = element("input", { autocomplete: "off", autocapitalize: "off", spellcheck: false, ...properties });
+  return { field, label: element("label", {}, element("span", {}, label), field) };
+}
+
+/** @param {Breakpoint} breakpoint */
+const breakpointTexts = ({ condition, from, note }) => ({ condition, from, note });
+
+export class BreakpointForm {
+  /** @param {BreakpointFormCalls} calls */
+  constructor(calls) {
+    this.calls = calls;
+    /** @type {Breakpoint | null} the breakpoint before the edits; null if the form is closed */
+    this.originalBreakpoint = null;
+    const labelledFields = {
+      condition: makeField(say.CONDITION, { "placeholder": say.CONDITION_EXAMPLE, "aria-description": say.CONDITION_HINT }),
+      from: makeField(say.HIT_COUNT, { "size": 6, "inputMode": "numeric", "aria-description": say.STOPS_FROM_HIT }),
+      note: makeField(say.LOG_MESSAGE, { "placeholder": say.NOTE_EXAMPLE, "aria-description": say.LOG_MESSAGE_HINT }),
+    };
+    this.fields = { condition: labelledFields.condition.field, from: labelledFields.from.field, note: labelledFields.note.field };
+    this.status = new Cell(element("p", { className: "fault", role: "alert" }));
+    this.node = element("form", { "className": "breakpoint-row", "aria-label": say.BREAKPOINT_FIELDS },
+      ...Object.values(labelledFields).map(({ label }) => label), element("div", { className: "bar" },
+        element("button", { type: "submit", title: "Enter" }, say.APPLY),
+        makeButton(say.CANCEL, () => this.cancel(), { title: "Escape" })), this.status.node);
+    this.addListeners();
+  }
+
+  addListeners() {
+    const { node } = this;
+    node.addEventListener("submit", (event) => {
+      event.preventDefault();
+      void this.apply();
+    });
+    node.addEventListener("input", () => {
+      const changes = this.readFields();
+      if (this.originalBreakpoint && changes) this.calls.type(this.originalBreakpoint.id, changes);
+    });
+    node.addEventListener("keydown", (event) => {
+      if (event.key !== "Escape") return;
+      event.preventDefault();
+      event.stopPropagation();
+      this.cancel();
+    });
+    // The form stays open when it loses the focus, so that nothing moves under the pointer.
+    node.addEventListener("focusout", ({ relatedTarget }) => {
+      if (!(relatedTarget instanceof Node && node.contains(relatedTarget))) this.applyFields();
+    });
+  }
+
+  /**
+   * Opens the form for a breakpoint, with the caret in one of its fields.
+   * @param {Breakpoint} breakpoint
+   * @param {string} fault
+   * @param {BreakpointField} fieldName
+   */
+  open(breakpoint, fault, fieldName) {
+    this.applyFields();
+    this.originalBreakpoint = breakpoint;
+    const { fields } = this;
+    fields.condition.value = breakpoint.condition;
+    fields.from.value = breakpoint.from > 1 ? String(breakpoint.from) : "";
+    fields.note.value = breakpoint.note;
+    this.readFields();
+    this.showFault(fault);
+    this.calls.placeForm(breakpoint, this.node);
+    const focus = () => {
+      fields[fieldName].focus();
+      fields[fieldName].select();
+    };
+    // A line that is out of view has no position yet, so the focus must wait.
+    if (this.node.isConnected) focus();
+    else this.calls.callWhenPlaced(focus);
+  }
+
+  /**
+   * Updates the form after the list of breakpoints has changed.
+   * @param {(id: number) => Breakpoint | undefined} find
+   * @param {Map<number, string>} faults
+   */
+  show(find, faults) {
+    if (!this.originalBreakpoint) return;
+    const breakpoint = find(this.originalBreakpoint.id);
+    if (!breakpoint) {
+      this.close();
+      return;
+    }
+    this.calls.placeForm(breakpoint, this.node);
+    this.showFault(faults.get(breakpoint.id) || "");
+  }
+
+  /** @param {string} fault the error in the applied condition */
+  showFault(fault) {
+    this.status.set(fault && say.stopsEachTime(fault));
+    this.fields.condition.setAttribute("aria-invalid", String(fault !== ""));
+  }
+
+  /**
+   * Returns the contents of the fields, or null if the hit count is not a valid number.
+   * @returns {BreakpointTexts | null}
+   */
+  readFields() {
+    const { condition, from, note } = this.fields;
+    const hitCount = from.value.trim() === "" ? 1 : parseCount(from.value, MAX_HITS);
+    from.setAttribute("aria-invalid", String(hitCount < 1));
+    return hitCount < 1 ? null : { condition: condition.value.trim(), from: hitCount, note: note.value.trim() };
+  }
+
+  /** Applies the contents of the fields. Returns false if the hit count is not a valid number. */
+  applyFields() {
+    const changes = this.originalBreakpoint && this.readFields();
+    if (this.originalBreakpoint && changes) this.calls.change(this.originalBreakpoint.id, changes);
+    return changes !== null;
+  }
+
+  /** Applies the contents of the fields. Closes the form if the condition has no error. */
+  async apply() {
+    const { originalBreakpoint } = this;
+    if (!originalBreakpoint || !this.applyFields()) return;
+    await this.calls.waitForChanges();
+    if (this.originalBreakpoint === originalBreakpoint && this.status.text === "") this.finish(originalBreakpoint);
+  }
+
+  /** Restores the breakpoint as it was before the edits, and closes the form. */
+  cancel() {
+    const { originalBreakpoint } = this;
+    if (!originalBreakpoint) return;
+    this.calls.change(originalBreakpoint.id, breakpointTexts(originalBreakpoint));
+    this.finish(originalBreakpoint);
+  }
+
+  /** @param {Breakpoint} originalBreakpoint */
+  finish(originalBreakpoint) {
+    const hadFocus = this.node.contains(document.activeElement);
+    // From here on, the form applies nothing when it loses the focus.
+    this.originalBreakpoint = null;
+    // The focus returns first: in WebKit, the caret of the source would move to its start after the focused form is removed.
+    if (hadFocus) this.calls.returnFocus(originalBreakpoint);
+    this.calls.removeForm(this.node);
+  }
+
+  /** Removes the form. */
+  close() {
+    if (!this.originalBreakpoint) return;
+    this.originalBreakpoint = null;
+    this.calls.removeForm(this.node);
+  }
+}

@@ -1,0 +1,122 @@
+// The watch list: expressions with their names and current values. The values can be edited in place.
+
+import { Cell, block, element, field, onClick } from "../ui/dom.js";
+import { MAX_WATCH_EXPRESSIONS, parseWatches, parseWatch } from "../../core/debug/watch_expressions.js";
+import * as say from "../../words/machine.js";
+
+/**
+ * @typedef {import("../../core/debug/machine_state.js").MachineState} MachineState
+ * @typedef {import("../../core/debug/watch_expressions.js").WatchExpression} WatchExpression
+ * @typedef {import("../../core/conditions/condition_language.js").Names} Names
+ * @typedef {{ root: HTMLLIElement, value: HTMLElement, shape: string, cells: Cell[] }} Row
+ */
+
+/**
+ * The callbacks of the watch list.
+ * @typedef {object} WatchViewCalls
+ * @property {import("../text/meaning_view.js").MakeEditable} makeEditable Makes a cell that shows a value editable.
+ * @property {() => MachineState | null} pausedState Returns the state that has the values, or null while time is running.
+ * @property {() => Names} names Returns the names that expressions can use.
+ * @property {() => void} handleListChange Called after the list has changed.
+ * @property {(texts: string[]) => void} storeExpressions Saves the expressions as texts.
+ */
+
+export class WatchView {
+  /** @param {WatchViewCalls} calls */
+  constructor(calls) {
+    this.calls = calls;
+    this.list = block("watched-list");
+    this.status = block("watched-status");
+    /** @type {WatchExpression[]} */
+    this.expressions = [];
+    /** @type {Row[]} */
+    this.rows = [];
+    block("watched-form").addEventListener("submit", (event) => {
+      event.preventDefault();
+      this.add();
+    });
+  }
+
+  /** @param {unknown} texts the expressions that were saved with a session, not yet validated */
+  open(texts) {
+    const { all: expressions, fault } = parseWatches(texts);
+    this.status.textContent = fault;
+    this.setExpressions(expressions);
+  }
+
+  add() {
+    const input = field("watched-field");
+    const { watched, fault } = parseWatch(input.value, this.calls.names());
+    const isFull = this.expressions.length >= MAX_WATCH_EXPRESSIONS;
+    this.status.textContent = isFull ? say.maxWatched(MAX_WATCH_EXPRESSIONS) : fault;
+    input.setAttribute("aria-invalid", String(this.status.textContent !== ""));
+    if (!watched || isFull) return;
+    input.value = "";
+    this.setExpressions([...this.expressions.filter(({ name }) => name !== watched.name), watched]);
+    this.storeAll();
+  }
+
+  storeAll() {
+    this.calls.storeExpressions(this.expressions.map(({ text }) => text));
+  }
+
+  /** @param {WatchExpression[]} expressions */
+  setExpressions(expressions) {
+    this.expressions = expressions;
+    this.rows = expressions.map((watch) => this.makeRow(watch));
+    this.list.replaceChildren(...this.rows.map(({ root }) => root));
+    this.calls.handleListChange();
+    this.show();
+  }
+
+  /**
+   * @param {WatchExpression} watched
+   * @returns {Row}
+   */
+  makeRow(watched) {
+    const value = element("span", { className: "values" }, element("small", {}, say.WHEN_PAUSED));
+    const remove = element("button", { "type": "button", "className": "remove", "title": say.stopWatching(watched.name) }, "\u00D7");
+    remove.setAttribute("aria-label", say.stopWatching(watched.name));
+    onClick(remove, () => {
+      this.setExpressions(this.expressions.filter((entry) => entry !== watched));
+      this.storeAll();
+    });
+    const root = element("li", { title: watched.text }, element("b", {}, watched.name), " ", value, " ", remove);
+    return { root, value, shape: "", cells: [] };
+  }
+
+  /** Shows the current values. While time is running, the last values stay. */
+  show() {
+    const state = this.calls.pausedState();
+    if (!state) return;
+    const names = this.calls.names();
+    this.expressions.forEach((watched, index) => this.showRow(this.rows[index], watched, watched.pieces(state, names)));
+  }
+
+  /**
+   * @param {Row} row
+   * @param {WatchExpression} watched
+   * @param {import("../../core/debug/word_values.js").Piece[]} pieces the expression's current value, as texts and editable values
+   */
+  showRow(row, watched, pieces) {
+    const shape = pieces.map((piece) => (typeof piece === "string" ? piece : piece.place)).join("\n");
+    const values = pieces.flatMap((piece) => (typeof piece === "string" ? [] : [piece]));
+    if (shape !== row.shape) {
+      row.shape = shape;
+      row.cells = [];
+      row.value.replaceChildren(...pieces.map((piece) => {
+        if (typeof piece === "string") return piece;
+        const label = `${watched.name}, ${piece.name}`;
+        const cell = new Cell(element("button", { "type": "button", "className": "value", "aria-label": label }));
+        cell.set(piece.value);
+        this.calls.makeEditable(cell.node, piece);
+        row.cells.push(cell);
+        return cell.node;
+      }));
+      return;
+    }
+    row.cells.forEach((cell, index) => {
+      cell.node.classList.toggle("changed", cell.set(values[index].value));
+    });
+  }
+}

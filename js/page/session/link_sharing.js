@@ -1,0 +1,154 @@
+// Links that contain a session's texts. Nothing is sent anywhere: the user copies a link, and the recipient opens it in their own page.
+
+import { formatAddress } from "./address.js";
+import { readBoard, parseRefusal } from "../../core/bench/answers.js";
+import { sessionTitle, describeBoard } from "../../core/session/session_summary.js";
+import { element } from "../ui/dom.js";
+import { shortName } from "../../core/session/names.js";
+import { tooLongMessage } from "../../core/session/project_file.js";
+import { MAX_LINK_LENGTH, MAX_SAFE_LINK_LENGTH, toLink, readLink } from "./share_link.js";
+import { formatLineCount } from "./texts_controller.js";
+import * as say from "../../words/session.js";
+
+/**
+ * @typedef {import("../ui/confirm_dialog.js").ConfirmDialog} ConfirmDialog
+ * @typedef {import("../../core/engine/file_requests.js").FileRequests} FileRequests
+ * @typedef {import("../../core/bench/bench_client.js").Caller<FileRequests>} Bench
+ * @typedef {import("../ui/notice.js").Notice} Notice
+ * @typedef {import("./share_link.js").Texts} Texts
+ * @typedef {import("../../core/bench/error_messages.js").ErrorMessages} ErrorMessages
+ */
+
+/**
+ * The callbacks of LinkSharing.
+ * @typedef {object} LinkSharingCalls
+ * @property {() => Texts | null} currentTexts Returns the name and the texts of the current session, or null if there is none.
+ * @property {() => void} showSessionAddress Puts the address of the current session into the address bar.
+ * @property {(texts: Texts, file: Uint8Array, runs: boolean) => Promise<boolean>} begin Begins a new session from texts and a file. If
+ *   `runs`, time is running in the session. Resolves to true if the session was created.
+ * @property {() => void} save Saves the project as a file. Called if the link would be too long.
+ */
+
+/**
+ * Returns a sentence that lists the contents of a link.
+ * @param {Texts} texts
+ */
+function describeContents({ testText, propertiesText }) {
+  const containedParts = [...say.ALWAYS_HELD, ...(testText ? [say.THE_TESTS] : []), ...(propertiesText ? [say.THE_PROPERTIES] : [])];
+  return say.linkContains(containedParts.slice(0, -1).join(", "), containedParts[containedParts.length - 1]);
+}
+
+export class LinkSharing {
+  /**
+   * @param {Bench} bench
+   * @param {ConfirmDialog} confirmDialog
+   * @param {Notice} notice
+   * @param {ErrorMessages} words
+   * @param {LinkSharingCalls} calls
+   */
+  constructor(bench, confirmDialog, notice, words, calls) {
+    this.bench = bench;
+    this.confirmDialog = confirmDialog;
+    this.notice = notice;
+    this.words = words;
+    this.calls = calls;
+  }
+
+  /** Copies a link to the current session. Offers a file instead if the link is too long. */
+  async share() {
+    const texts = this.calls.currentTexts();
+    if (!texts) return;
+    const lengthError = tooLongMessage(texts);
+    if (lengthError) {
+      this.notice.show(say.noLink(lengthError), "refusal");
+      return;
+    }
+    const address = location.href.replace(/#.*$/, "") + formatAddress("link", await toLink(texts));
+    const size = say.characters(address.length.toLocaleString("en"));
+    if (address.length > MAX_LINK_LENGTH) {
+      await this.offerFile(size);
+      return;
+    }
+    const messages = [`${describeContents(texts)}${location.protocol === "file:" ? say.LINK_FROM_FILE : ""}`];
+    if (address.length > MAX_SAFE_LINK_LENGTH) messages.push(say.LONG);
+    try {
+      await navigator.clipboard.writeText(address);
+      this.notice.show(say.linkCopied(size, messages.join(" ")), "share");
+    } catch {
+      await this.showLink(address, messages);
+    }
+  }
+
+  /** @param {string} size the length of the link as a text */
+  async offerFile(size) {
+    const isSaved = await this.confirmDialog.ask({
+      title: say.TOO_LONG_LINK,
+      words: [say.longLink(size, MAX_LINK_LENGTH.toLocaleString("en"))],
+      accept: say.SAVE_PROJECT,
+      refuse: say.LEAVE_IT,
+    });
+    if (isSaved) this.calls.save();
+  }
+
+  /**
+   * Shows the link for the user to copy. Called if the browser cannot copy the link.
+   * @param {string} address
+   * @param {string[]} messages
+   */
+  async showLink(address, messages) {
+    const area = element("textarea", { id: "link", rows: 4, readOnly: true, value: address, autofocus: true });
+    area.setAttribute("aria-label", say.THE_LINK);
+    const answer = this.confirmDialog.ask({
+      title: say.COPY_LINK,
+      words: [say.COPY_MANUALLY, area, ...messages],
+      accept: "",
+      refuse: say.CLOSE,
+    });
+    area.focus();
+    area.select();
+    await answer;
+  }
+
+  /**
+   * Shows the contents of a link. Opens them as a new session if the user agrees.
+   * @param {string} link
+   */
+  async open(link) {
+    try {
+      const texts = await readLink(link);
+      const result = await this.bench.call("dryRun", [texts]);
+      const isWanted = await this.confirmDialog.ask({
+        title: say.openFromLink(texts.name),
+        words: this.describeLink(texts, result),
+        accept: say.OPEN_AS_NEW,
+        refuse: say.LEAVE_IT,
+      });
+      if (isWanted) await this.calls.begin(texts, result.file, result.refused.length === 0 && texts.programText !== "");
+    } catch (fault) {
+      this.notice.show(say.linkNotOpened(this.words.errorMessage(fault)), "session");
+    } finally {
+      this.calls.showSessionAddress();
+    }
+  }
+
+  /**
+   * @param {Texts} texts
+   * @param {import("../../core/engine/dry_run.js").DryRunResult} result
+   */
+  describeLink({ boardText, programText, testText = "", propertiesText = "" }, { board, refused }) {
+    const title = shortName(sessionTitle(boardText, programText));
+    const lines = refused.map(({ word, answer }) => {
+      const refusal = parseRefusal(answer);
+      const reason = refusal ? `${answer}: ${this.words.refusalMeaning(refusal.number)}` : answer;
+      return say.benchRefusesText(word === "wire", reason);
+    });
+    return [
+      ...(title ? [title] : []),
+      say.sizesOfTexts(formatLineCount(boardText), formatLineCount(programText), testText && formatLineCount(testText),
+        propertiesText && formatLineCount(propertiesText)),
+      say.onTheBoard(describeBoard(readBoard(board))),
+      ...lines,
+      say.BECOMES_SESSION,
+    ];
+  }
+}

@@ -1,0 +1,119 @@
+// A session that is open in this tab: its record, which has the last state from the bench, and the writes of the record to the store.
+
+import { shortName } from "../../core/session/names.js";
+import { LeftTexts } from "./left_texts.js";
+import { withTimeout, describeStoreError } from "./store.js";
+
+/**
+ * @typedef {import("./locks.js").Release} Release
+ * @typedef {import("./store.js").SessionRecord} SessionRecord
+ * @typedef {import("./store.js").SessionStore} SessionStore
+ */
+
+let createdCount = 0;
+
+/**
+ * Returns a new session record with a unique id.
+ * @param {string} name
+ * @param {Uint8Array} file
+ * @param {{ boardText: string, programText: string, testText?: string, propertiesText?: string, breakpoints?: SessionRecord["breakpoints"],
+ *   watched?: SessionRecord["watched"], wired?: SessionRecord["wired"] }} content
+ * @param {boolean} runs
+ * @returns {SessionRecord}
+ */
+export function newRecord(name, file, content, runs = false) {
+  const { boardText, programText, testText = "", propertiesText = "", breakpoints, watched, wired } = content;
+  createdCount += 1;
+  const id = `${Date.now().toString(36)}-${createdCount}-${Math.floor(Math.random() * 1e9).toString(36)}`;
+  const texts = { boardText, programText, testText, propertiesText };
+  const record = { id, name: shortName(name) || "session", file, ...texts, runs, revision: 0, changed: Date.now() };
+  return { ...record, ...(breakpoints ? { breakpoints } : {}), ...(watched ? { watched } : {}), ...(wired ? { wired } : {}) };
+}
+
+export class OpenSession {
+  /**
+   * @param {SessionStore} store
+   * @param {SessionRecord} record
+   * @param {Release} release releases the session's lock
+   * @param {string} example the example's name if the session is still unchanged, otherwise ""; an unchanged example is not saved
+   */
+  constructor(store, record, release, example = "") {
+    this.store = store;
+    this.record = record;
+    this.release = release;
+    this.example = example;
+    this.leftTexts = new LeftTexts();
+    if (record.revision > 0) this.leftTexts.note(record);
+    /** @type {Promise<string>} the write in progress */
+    this.currentWrite = Promise.resolve("");
+    /** @type {Promise<string> | null} the next write after the one in progress; null if there is none */
+    this.nextWrite = null;
+  }
+
+  /**
+   * Stores the file's new bytes. Returns the buffer with the old bytes for reuse.
+   * @param {ArrayBuffer} file
+   * @returns {ArrayBuffer}
+   */
+  take(file) {
+    const oldBuffer = this.record.file.buffer;
+    this.record.file = new Uint8Array(file);
+    return oldBuffer;
+  }
+
+  /**
+   * Writes the session. Resolves to "" when the session is on the disk, otherwise to an error message. Calls during a write share the next
+   * write. If the store does not answer in time, the write counts as failed, and later writes wait until the store answers.
+   * @returns {Promise<string>}
+   */
+  keep() {
+    return this.isUntouched ? Promise.resolve("") : withTimeout(this.writeNext()).catch(describeStoreError);
+  }
+
+  /** @returns {Promise<string>} */
+  writeNext() {
+    if (this.nextWrite === null) {
+      this.nextWrite = this.currentWrite.then(() => {
+        this.nextWrite = null;
+        this.currentWrite = this.write();
+        return this.currentWrite;
+      });
+    }
+    return this.nextWrite;
+  }
+
+  /**
+   * Writes the session when the user leaves the page and the page cannot wait. Nothing is written if the store must answer a read first:
+   * the answer would arrive too late, and the unfinished write would block other pages.
+   */
+  keepNow() {
+    if (!this.store.isAtomic || this.isUntouched) return Promise.resolve("");
+    const write = this.write();
+    this.leftTexts.leave(this.record);
+    return write;
+  }
+
+  get isUntouched() {
+    return this.example !== "";
+  }
+
+  /** Records that the user has changed the session. From then on, the session is saved. Returns true if this is the first change. */
+  touch() {
+    const { isUntouched } = this;
+    this.example = "";
+    return isUntouched;
+  }
+
+  /** @returns {Promise<string>} */
+  async write() {
+    try {
+      this.record.changed = Date.now();
+      const writtenRecord = { ...this.record };
+      await this.store.put(this.record);
+      this.leftTexts.note(writtenRecord);
+      return "";
+    } catch (fault) {
+      return describeStoreError(fault);
+    }
+  }
+}

@@ -1,0 +1,102 @@
+// Detects sessions that hang the page while they are opened, for example through a text that takes too long. Such a session must not be
+// opened automatically at every start. A flag is set before a session is opened. The flag is cleared when the page shows the session and
+// still responds.
+
+import { browserStore } from "../ui/preferences.js";
+
+/** @typedef {Pick<Storage, "getItem" | "setItem" | "removeItem">} FlagStore */
+
+const KEY = "fethsaim.opening.";
+/** The time in milliseconds after which an opened session counts as harmless. */
+const SETTLE_TIME = 1000;
+/**
+ * The maximum age in milliseconds of a recent opening. If the user leaves the page within this time, the page has not hung. In another tab,
+ * the session may still be opening.
+ */
+const RECENT_TIME = 2000;
+/** The window events that announce that the user leaves the page. Every browser sends at least one of them. */
+const LEAVE_EVENTS = ["beforeunload", "pagehide"];
+
+export class OpeningGuard {
+  /**
+   * @param {FlagStore | null} store null if the browser has no storage
+   * @param {(action: () => void, time: number) => void} callLater calls a function after a time in milliseconds
+   * @param {() => number} currentTime returns the current time in milliseconds
+   */
+  constructor(store = browserStore(), callLater = (action, time) => { setTimeout(action, time); }, currentTime = () => Date.now()) {
+    this.store = store;
+    this.callLater = callLater;
+    this.currentTime = currentTime;
+    /**
+     * @type {Map<string, { time: number, isEnded: boolean }>} the openings whose flags this page has set: the start time, and whether the
+     *   opening has ended
+     */
+    this.pendingOpenings = new Map();
+  }
+
+  /**
+   * Opens a session. The session's flag is set during the opening and for SETTLE_TIME afterwards.
+   * @param {string} id
+   * @param {() => Promise<void>} open opens the session; a rejection also ends the opening
+   */
+  async runOpening(id, open) {
+    const opening = { time: this.currentTime(), isEnded: false };
+    this.pendingOpenings.set(id, opening);
+    this.accessStore((store) => store.setItem(KEY + id, String(opening.time)));
+    try {
+      await open();
+    } finally {
+      opening.isEnded = true;
+      // The session may have been opened again in the meantime.
+      this.callLater(() => (this.pendingOpenings.get(id) === opening ? this.forget(id) : undefined), SETTLE_TIME);
+    }
+  }
+
+  /**
+   * Returns true if the last opening of a session has not ended. Ignores a recent opening, which may still be in progress.
+   * @param {string} id
+   */
+  hasUnfinishedOpening(id) {
+    /** @type {string | null} */
+    let flag = null;
+    this.accessStore((store) => {
+      flag = store.getItem(KEY + id);
+    });
+    return flag !== null && !this.isRecent(Number(flag));
+  }
+
+  /** @param {number} time the time at which an opening began, in milliseconds */
+  isRecent(time) {
+    const age = this.currentTime() - time;
+    return age >= 0 && age < RECENT_TIME;
+  }
+
+  /** @param {string} id the id of a session whose opening has ended, or which has been deleted */
+  forget(id) {
+    this.pendingOpenings.delete(id);
+    this.accessStore((store) => store.removeItem(KEY + id));
+  }
+
+  /** @param {Pick<Window, "addEventListener">} target the page's window */
+  listen(target) {
+    // When the user leaves a page, Firefox 153 often does not run functions that have never run. Run all functions needed at that time once
+    // now.
+    this.pendingOpenings.set("", { time: this.currentTime(), isEnded: false });
+    this.handleLeave();
+    for (const name of LEAVE_EVENTS) target.addEventListener(name, () => this.handleLeave());
+  }
+
+  /** Clears the flags of openings that have ended or are recent, because a page that still runs this function has not hung. */
+  handleLeave() {
+    for (const [id, { time, isEnded }] of this.pendingOpenings) if (isEnded || this.isRecent(time)) this.forget(id);
+  }
+
+  /** @param {(store: FlagStore) => void} action */
+  accessStore(action) {
+    try {
+      if (this.store) action(this.store);
+    } catch {
+      // Without storage, no saved session is opened automatically.
+    }
+  }
+}

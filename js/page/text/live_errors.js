@@ -1,0 +1,46 @@
+// Error checks while the user types. A check starts when the user pauses. An edit cancels the check in progress, and another check starts
+// at the next pause.
+
+/** The delay in milliseconds between the last edit and a check. */
+const CHECK_DELAY = 300;
+
+/**
+ * @template Result
+ */
+export class LiveErrors {
+  /**
+   * @param {(isWanted: () => boolean) => Promise<Result | undefined>} find resolves to the errors, or to undefined if the check is
+   *   cancelled
+   * @param {(result: Result) => void} show
+   * @param {(fault: unknown) => void} reportFailure
+   */
+  constructor(find, show, reportFailure) {
+    this.find = find;
+    this.show = show;
+    this.reportFailure = reportFailure;
+    this.checkCount = 0;
+    this.timer = 0;
+  }
+
+  /** Cancels the check in progress, and schedules another one. Called after each edit. */
+  handleEdit() {
+    this.checkCount += 1;
+    clearTimeout(this.timer);
+    this.timer = window.setTimeout(() => this.checkNow().catch(this.reportFailure), CHECK_DELAY);
+  }
+
+  /**
+   * Checks the text immediately and shows the result. Resolves to the result, or to undefined if the text was edited in the meantime.
+   * @returns {Promise<Result | undefined>}
+   */
+  async checkNow() {
+    clearTimeout(this.timer);
+    this.checkCount += 1;
+    const { checkCount } = this;
+    const isWanted = () => checkCount === this.checkCount;
+    const result = await this.find(isWanted);
+    if (result === undefined || !isWanted()) return undefined;
+    this.show(result);
+    return result;
+  }
+}

@@ -1,0 +1,52 @@
+// The appearance of the texts: the font size, and whether long lines wrap.
+
+import { block, button, field, onClick } from "../ui/dom.js";
+
+/**
+ * @typedef {import("../ui/preferences.js").Preferences} Preferences
+ * @typedef {import("./line_editor.js").LineEditor} LineEditor
+ */
+
+/** The font sizes in pixels. */
+const DEFAULT_SIZE = 13;
+const MIN_SIZE = 9;
+const MAX_SIZE = 28;
+
+export class TextAppearance {
+  /**
+   * @param {Preferences} preferences
+   * @param {LineEditor[]} editors
+   */
+  constructor(preferences, editors) {
+    this.preferences = preferences;
+    this.editors = editors;
+    onClick(button("text-smaller"), () => this.resize(this.size - 1));
+    onClick(button("text-larger"), () => this.resize(this.size + 1));
+    const wrap = field("text-wrap");
+    wrap.checked = preferences.get("wrap") === "on";
+    wrap.addEventListener("change", () => {
+      preferences.set("wrap", wrap.checked ? "on" : "");
+      this.show();
+    });
+    this.show();
+  }
+
+  get size() {
+    return Math.min(MAX_SIZE, Math.max(MIN_SIZE, Number(this.preferences.get("size")) || DEFAULT_SIZE));
+  }
+
+  /** @param {number} size */
+  resize(size) {
+    this.preferences.set("size", String(Math.min(MAX_SIZE, Math.max(MIN_SIZE, size))));
+    this.show();
+  }
+
+  show() {
+    block("texts").style.setProperty("--text-size", `${this.size}px`);
+    const wraps = this.preferences.get("wrap") === "on";
+    for (const editor of this.editors) {
+      editor.wrap(wraps);
+      editor.refresh();
+    }
+  }
+}

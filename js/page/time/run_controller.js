@@ -1,0 +1,322 @@
+// Runs time until it stops, by the clock or at full speed. Handles the frames that the worker reports.
+
+import { isStop, readRun, parseRefusal } from "../../core/bench/answers.js";
+import { wordsOfHalt, wordsOfMove, wordsOfStop } from "../../words/stops.js";
+import { Cell, block } from "../ui/dom.js";
+import { formatDuration } from "../../core/bench/error_messages.js";
+import { PendingKeys } from "../../core/board/pending_keys.js";
+import { Sound } from "../board/sound.js";
+import { Clock } from "./clock.js";
+import { Rate } from "../../core/time/rate.js";
+import { REAL_TIME_SPEED } from "../../core/time/speeds.js";
+import * as say from "../../words/time.js";
+
+/**
+ * @typedef {import("../../core/bench/protocol.js").Frame} Frame
+ * @typedef {import("../../core/bench/protocol.js").Stop} Stop
+ * @typedef {import("../../core/debug/goals.js").Goal} Goal
+ * @typedef {import("../../core/engine/output_requests.js").OutputRequests} OutputRequests
+ * @typedef {import("../../core/engine/time_requests.js").TimeRequests} TimeRequests
+ * @typedef {import("../../core/engine/travel_requests.js").TravelRequests} TravelRequests
+ * @typedef {import("../../core/bench/bench_client.js").Caller<OutputRequests & TimeRequests & TravelRequests>} RunningCaller
+ * @typedef {RunningCaller & { isRunning: boolean }} Bench
+ * @typedef {import("../session/current_session.js").CurrentSession} CurrentSession
+ * @typedef {import("../../core/board/key_place.js").Key} Key
+ * @typedef {import("../../core/time/speeds.js").Speed} Speed
+ */
+
+/**
+ * The callbacks of RunController.
+ * @typedef {object} RunControllerCalls
+ * @property {() => void} handleRunStart Handles the start of a run.
+ * @property {() => void} handleRunEnd Handles the end of a run, after the page shows its final state.
+ * @property {(frame: Frame) => void} showFrame Shows, logs and counts the contents of a frame.
+ * @property {() => void} drawSlowViews Updates the views that are updated less often while time is running.
+ * @property {() => void} drawListing Updates the disassembly, which follows the program counter only at slow speeds.
+ * @property {() => boolean} isSecondCyclePending Returns true if the second cycle of an instruction is pending.
+ * @property {() => number} cycles Returns the total number of cycles in the session.
+ * @property {() => string} describeCounter Returns a text with the program counter, its name and its source line.
+ * @property {(id: number) => string} describeCondition Returns a text with the condition of a breakpoint, by its id.
+ * @property {() => number} countUnreadable Returns the number of breakpoints whose condition has an error. These breakpoints stop at every
+ *   hit.
+ * @property {(number: number) => string} describeRefusal Returns the message of a refusal.
+ * @property {() => Promise<string | null>} step Serves a step. Resolves to its answer, or to null if the call failed.
+ * @property {(fault: unknown) => void} reportFailure Reports an error that a call threw.
+ */
+
+/** The interval in milliseconds between saves of the session while time is running. */
+const SAVE_INTERVAL = 1000;
+/** The time in milliseconds for which the message about a standstill stays. */
+const MESSAGE_TIME = 8000;
+
+export class RunController {
+  /**
+   * @param {Bench} bench
+   * @param {CurrentSession} currentSession
+   * @param {RunControllerCalls} calls
+   */
+  constructor(bench, currentSession, calls) {
+    this.bench = bench;
+    this.currentSession = currentSession;
+    this.calls = calls;
+    /** @type {(why: string) => void} called with the reason when a run has stopped on its own */
+    this.onRunEnd = () => {};
+    /** @type {(isRunning: boolean) => void} called when time starts or pauses */
+    this.showRunning = () => {};
+    /** @type {Goal | null} the goal of the run, or null if it has none */
+    this.goal = null;
+    /** The total cycle count at the start of the run. */
+    this.startCycles = 0;
+    this.rate = new Rate(0);
+    this.clock = this.makeClock();
+    this.pendingKeys = new PendingKeys();
+    this.sound = new Sound({
+      listenToLine: (line) => {
+        bench.call("listenTo", [line]).catch(calls.reportFailure);
+      },
+      isRealTime: () => this.clock.speed === REAL_TIME_SPEED,
+    });
+    this.status = new Cell(block("status"));
+    this.rateStatus = new Cell(block("rate"));
+  }
+
+  makeClock() {
+    const { bench, calls } = this;
+    return new Clock({
+      advance: (cycles, key) => this.advance(cycles, key),
+      runInstruction: () => this.runInstruction(),
+      runFull: () => bench.call("run", [document.hidden]),
+      reportStandstill: (time, wasHidden) => this.reportStandstill(time, wasHidden),
+      reportFailure: calls.reportFailure,
+    });
+  }
+
+  /** True if time is running so fast that the page cannot show every line that runs. */
+  get isFast() {
+    return this.clock.isRunning && !this.clock.isSlow;
+  }
+
+  /** @param {string} words the text of the status line */
+  showMessage(words) {
+    // A narrow status bar truncates long messages, so the tooltip shows them in full.
+    if (this.status.set(words)) this.status.node.title = words;
+  }
+
+  /** Starts a new measurement of the rate. */
+  startRateMeasurement() {
+    this.rate = new Rate(this.clock.now);
+    this.showRate();
+  }
+
+  showRate() {
+    const rate = Math.round(this.rate.perSecond);
+    this.rateStatus.set(this.clock.isRunning && rate > 0 ? say.cyclesASecond(rate.toLocaleString("en")) : "");
+  }
+
+  /** @param {Goal | null} [goal] the goal of the run; the bench has already received it */
+  run(goal = null) {
+    const { bench, currentSession, calls } = this;
+    if (!currentSession.session || this.clock.isRunning) return;
+    currentSession.session.record.runs = true;
+    this.goal = goal;
+    this.storeGoal(goal);
+    this.startCycles = calls.cycles();
+    calls.handleRunStart();
+    if (!goal) bench.call("drop", []).catch(calls.reportFailure);
+    this.showRunning(true);
+    this.showMessage(goal ? wordsOfMove(goal) : say.isRunning(currentSession.name, calls.countUnreadable()));
+    this.clock.start();
+    this.startRateMeasurement();
+    bench.isRunning = this.clock.isFull;
+    currentSession.keep();
+  }
+
+  /** @param {Goal | null} goal the goal of a move; saved with the session, so that a reload can report that the move was interrupted */
+  storeGoal(goal) {
+    const { session } = this.currentSession;
+    if (!session) return;
+    if (goal) session.record.goal = goal;
+    else delete session.record.goal;
+  }
+
+  /** Forgets the goal after a reset, because the subroutine that it waits for can no longer return. */
+  forgetGoal() {
+    this.goal = null;
+  }
+
+  /** Resumes or pauses time at the user's request. */
+  runOrStop() {
+    this.currentSession.touch();
+    if (this.clock.isRunning) this.stop();
+    else this.run();
+  }
+
+  /** @param {Speed} speed */
+  async setSpeed(speed) {
+    const { bench } = this;
+    if (!speed.isFull && this.clock.isFull && this.clock.isRunning) this.handleFrame(await bench.call("halt", []));
+    this.clock.setSpeed(speed);
+    this.sound.update();
+    this.startRateMeasurement();
+    bench.isRunning = speed.isFull && this.clock.isRunning;
+    this.calls.drawListing();
+  }
+
+  /**
+   * @param {number} cycles
+   * @param {Key | null} key the key to press before the cycles; null for none
+   */
+  async advance(cycles, key) {
+    const removePending = key ? this.pendingKeys.send({ word: "press", key }) : () => {};
+    const frame = await this.bench.call("advance", [cycles, key]).finally(removePending);
+    this.handleFrame(frame);
+  }
+
+  /** Runs one instruction, which can take two cycles. Breakpoints and watches stop it like any other run. */
+  async runInstruction() {
+    const { bench, calls } = this;
+    this.handleFrame(await bench.call("advance", [1]));
+    if (this.clock.isRunning && calls.isSecondCyclePending()) this.handleFrame(await bench.call("advance", [1]));
+  }
+
+  /** @param {boolean} isHidden */
+  setHidden(isHidden) {
+    const { bench, currentSession, calls } = this;
+    if (isHidden) this.clock.hide();
+    if (this.clock.isFull && this.clock.isRunning) bench.call("pace", [isHidden]).catch(calls.reportFailure);
+    if (isHidden) currentSession.keepNow();
+  }
+
+  /**
+   * Shows for MESSAGE_TIME that time stood still, and restarts the measurement of the rate.
+   * @param {number} time the duration in milliseconds
+   * @param {boolean} wasHidden
+   */
+  reportStandstill(time, wasHidden) {
+    this.startRateMeasurement();
+    const message = say.wasPausedFor(formatDuration(time), wasHidden);
+    this.showMessage(message);
+    setTimeout(() => {
+      if (this.status.text === message) this.showMessage(say.isRunning(this.currentSession.name, this.calls.countUnreadable()));
+    }, MESSAGE_TIME);
+  }
+
+  /**
+   * Ends the run and shows why time is paused.
+   * @param {string} words the reason
+   */
+  endRun(words) {
+    const { bench, currentSession, calls } = this;
+    this.clock.stop();
+    this.goal = null;
+    bench.isRunning = false;
+    if (currentSession.session) currentSession.session.record.runs = false;
+    this.storeGoal(null);
+    this.showRunning(false);
+    this.showMessage(words);
+    this.showRate();
+    calls.drawSlowViews();
+    calls.drawListing();
+    calls.handleRunEnd();
+  }
+
+  /** Stops the clock and the worker, and handles the last frame. */
+  async stopRun() {
+    if (!this.clock.isRunning) return;
+    this.clock.stop();
+    this.bench.isRunning = false;
+    this.handleFrame(await this.bench.call("halt", []));
+  }
+
+  /** Pauses time, shows the current address, and saves the session. */
+  async stop() {
+    const { currentSession, calls } = this;
+    try {
+      await this.stopRun();
+    } catch (fault) {
+      calls.reportFailure(fault);
+      return;
+    }
+    // A breakpoint may already have stopped the run.
+    if (currentSession.session && currentSession.session.record.runs) {
+      calls.drawSlowViews();
+      this.endRun(wordsOfHalt(this.goal, calls.cycles() - this.startCycles, this.counterText));
+    }
+    await currentSession.keep();
+  }
+
+  /** Pauses time if it is running. */
+  async pause() {
+    if (this.clock.isRunning) await this.stop();
+  }
+
+  /**
+   * Handles a frame from the worker.
+   * @param {Frame} frame
+   */
+  handleFrame(frame) {
+    const { currentSession } = this;
+    const isNewRate = this.rate.add(frame.cycles, this.clock.now);
+    if (frame.stop) this.clock.stop();
+    this.sound.playHeard(frame.heard);
+    this.calls.showFrame(frame);
+    if (frame.stop) {
+      this.endRun(this.describeStop(frame.stop));
+      this.onRunEnd(frame.stop.why);
+      currentSession.keep();
+      return;
+    }
+    if (isNewRate || !this.clock.isRunning) this.showRate();
+    // A key press is saved immediately. A hidden page receives only one frame per second, and saves each time.
+    if (frame.changesKeys || document.hidden || performance.now() - currentSession.lastSaveTime >= SAVE_INTERVAL) currentSession.keep();
+  }
+
+  /** A text with the program counter, its name and its source line. */
+  get counterText() {
+    return this.calls.describeCounter();
+  }
+
+  /**
+   * @param {Omit<Stop, "id"> & { id?: number }} stop
+   * @param {Goal | null} [goal]
+   */
+  describeStop(stop, goal = this.goal) {
+    const refusal = parseRefusal(stop.why);
+    if (refusal) return say.stoppedBy(stop.why, this.calls.describeRefusal(refusal.number));
+    return wordsOfStop(goal, stop, this.counterText, this.calls.describeCondition(stop.id || 0));
+  }
+
+  async stepOnce() {
+    if (this.clock.isRunning) await this.stop();
+    const answer = await this.calls.step();
+    if (answer === null) return;
+    const run = readRun(answer);
+    const cycles = run ? run.cycles : 0;
+    if (isStop(answer)) this.showMessage(this.describeStop({ why: run ? run.end : answer, cycles, returns: false }));
+    else this.showMessage(wordsOfStop({ kind: "over" }, { why: "goal", cycles, returns: false }, this.counterText));
+  }
+
+  /**
+   * Queues a key change while time is running.
+   * @param {"press" | "release" | "forget"} word
+   * @param {Key} key
+   */
+  queueKeyChange(word, key) {
+    const { bench, currentSession, calls } = this;
+    currentSession.touch();
+    if (word === "press" && this.clock.pressNow(key)) return;
+    const removePending = this.pendingKeys.send({ word, key });
+    bench.call(word, [key]).finally(removePending).then((waiting) => {
+      this.pendingKeys.waitingChanges = waiting;
+    }, calls.reportFailure);
+  }
+
+  /**
+   * Returns true if a key will be down after all queued changes. If changes are not queued, returns `isDown`.
+   * @param {Key} key
+   * @param {boolean} isDown true if the bench reports the key as down
+   */
+  willBeDown(key, isDown) {
+    return this.clock.movesKeys ? this.pendingKeys.willBeDown(key, isDown) : isDown;
+  }
+}

@@ -1,0 +1,66 @@
+// The user's preferences for the page, for example folded panels and the tab in front. The preferences are in the browser's local storage
+// if the browser allows that, otherwise in memory until the page is closed.
+
+const KEY = "fethsaim.choices";
+
+/** @typedef {Pick<Storage, "getItem" | "setItem">} ChoiceStore */
+
+/** Returns the browser's local storage, or null if the page cannot use it. */
+export function browserStore() {
+  try {
+    return localStorage;
+  } catch {
+    return null;
+  }
+}
+
+/**
+ * @param {string | null} text
+ * @returns {Record<string, string>}
+ */
+function readChoices(text) {
+  try {
+    const storedChoices = JSON.parse(text || "{}");
+    return Object.fromEntries(Object.entries(storedChoices).filter(([, value]) => typeof value === "string"));
+  } catch {
+    return {};
+  }
+}
+
+export class Preferences {
+  /** @param {ChoiceStore | null} store null if the browser has no storage */
+  constructor(store = browserStore()) {
+    this.store = store;
+    this.choiceByName = readChoices(this.read());
+  }
+
+  read() {
+    try {
+      return this.store && this.store.getItem(KEY);
+    } catch {
+      return null;
+    }
+  }
+
+  /**
+   * Returns the choice with this name, or "" if there is none.
+   * @param {string} name
+   */
+  get(name) {
+    return Object.prototype.hasOwnProperty.call(this.choiceByName, name) ? this.choiceByName[name] : "";
+  }
+
+  /**
+   * @param {string} name
+   * @param {string} value
+   */
+  set(name, value) {
+    // Another tab may have stored other preferences in the meantime.
+    this.choiceByName = { ...this.choiceByName, ...readChoices(this.read()), [name]: value };
+    try {
+      if (this.store) this.store.setItem(KEY, JSON.stringify(this.choiceByName));
+    } catch {
+      // Without storage, the choice lasts until the page is closed.
+    }
+  }
+}

@@ -1,0 +1,36 @@
+// Control characters of texts of others, at a terminal.
+import assert from "node:assert/strict";
+import { spawnSync } from "node:child_process";
+import { mkdtempSync, rmSync, writeFileSync } from "node:fs";
+import { tmpdir } from "node:os";
+import { join } from "node:path";
+import { after, test } from "node:test";
+import { escapeControls } from "../core/text/control_escapes.js";
+
+const folder = mkdtempSync(join(tmpdir(), "escaped."));
+after(() => rmSync(folder, { recursive: true }));
+const MCS4 = new URL("../../mcs4", import.meta.url).pathname;
+const ESCAPE = "\x1b]0;PWNED\x07\x1b[2J\x9b2J\u202e";
+const SHOWN = "\\x1B]0;PWNED\\x07\\x1B[2J\\x9B2J\\u202E";
+// eslint-disable-next-line no-control-regex
+const RAW = /[\u0000-\u0008\u000b-\u001f\u007f-\u009f\u202e]/;
+
+test("control characters are written out, and all else stays", () => {
+  assert.equal(escapeControls(ESCAPE), SHOWN);
+  assert.equal(escapeControls("a\tb\n\u00e9 \u{1F600} \\"), "a\tb\n\u00e9 \u{1F600} \\");
+});
+
+test("source lines, labels, commands and names of files are shown with their control characters written out", () => {
+  const [board, program, properties] = ["board.toml", "p.asm", "p.props"].map((name) => join(folder, name));
+  writeFileSync(board, "[[rom]]\nchip = 0\nport = \"0000\"\n");
+  writeFileSync(program, `start:  LDM 1 ; ${ESCAPE}\n        JUN start\n`);
+  writeFileSync(properties, `test\nnever acc 5${ESCAPE}\n`);
+  const run = (name, words, input = "") => spawnSync(MCS4, [name, ...words], { encoding: "utf8", input });
+  const debugged = run("debug", [board, program], `list\nstep\nprint ${ESCAPE}\n`);
+  const explored = run("explore", [board, program, properties, "--seconds", "1"]);
+  const missing = run("debug", [board, join(folder, `none${ESCAPE}`)]);
+  const texts = { list: debugged.stdout, print: debugged.stderr, explore: explored.stderr, name: missing.stderr };
+  for (const [what, text] of Object.entries(texts)) {
+    assert.ok(text.includes(SHOWN) && !RAW.test(text), `${what}: ${JSON.stringify(text)}`);
+  }
+});

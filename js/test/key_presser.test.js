@@ -1,0 +1,125 @@
+// Fingers on keys: taps, presses, swipes and several fingers, while time runs and while it is paused.
+
+import assert from "node:assert/strict";
+import test from "node:test";
+import { keyLine, matrixKey, formatKey } from "../core/board/key_place.js";
+import { KeyPresser } from "../page/board/key_presser.js";
+
+global.window = global;
+
+/** A button of a key, as far as pressing needs it. */
+class FakeButton extends EventTarget {
+  setPointerCapture() {}
+
+  fire(type, properties = {}) {
+    const event = { button: 0, pointerId: 1, pointerType: "touch", ...properties };
+    this.dispatchEvent(Object.assign(new Event(type, { cancelable: true }), event));
+  }
+}
+
+/** Returns a bench with two keys, and its log. */
+function bench(isRunning) {
+  const down = new Set();
+  const done = [];
+  const note = (word, key) => {
+    done.push(keyLine(word, key));
+    if (word === "press") down.add(formatKey(key));
+    else down.delete(formatKey(key));
+  };
+  const pressing = new KeyPresser({
+    isRunning: () => isRunning,
+    isDown: (key) => down.has(formatKey(key)),
+    press: (key) => note("press", key),
+    release: (key) => note("release", key),
+    change: note,
+    keyForEvent: () => undefined,
+  });
+  const buttons = [matrixKey(0, 0), matrixKey(0, 1)].map((key) => {
+    const button = new FakeButton();
+    pressing.listen(button, { key });
+    return button;
+  });
+  return { done, down, buttons };
+}
+
+const wait = (time) => new Promise((done) => setTimeout(done, time));
+const LONGER = 120;
+
+for (const isRunning of [true, false]) {
+  const when = isRunning ? "while time runs" : "while time stands still";
+
+  test(`a swipe that begins on a key presses nothing, ${when}`, async () => {
+    const { done, buttons } = bench(isRunning);
+    buttons[0].fire("pointerdown");
+    buttons[0].fire("pointercancel");
+    buttons[0].fire("lostpointercapture");
+    await wait(LONGER);
+    assert.deepEqual(done, []);
+  });
+
+  test(`a slow swipe takes its press back, ${when}`, async () => {
+    const { done, down, buttons } = bench(isRunning);
+    buttons[0].fire("pointerdown");
+    await wait(LONGER);
+    assert.deepEqual(done, ["press 0 0"]);
+    buttons[0].fire("pointercancel");
+    buttons[0].fire("lostpointercapture");
+    assert.deepEqual([done, down.size], [["press 0 0", "release 0 0"], 0]);
+  });
+
+  test(`a slow swipe over a key that stays down leaves it down, ${when}`, async () => {
+    const { down, buttons } = bench(isRunning);
+    down.add("0 0");
+    buttons[0].fire("pointerdown");
+    await wait(LONGER);
+    assert.equal(down.size, 0);
+    buttons[0].fire("pointercancel");
+    assert.deepEqual([...down], ["0 0"]);
+  });
+}
+
+test("a click that comes of a tap presses nothing more", () => {
+  const { done, buttons } = bench(true);
+  buttons[0].fire("pointerdown");
+  buttons[0].fire("pointerup");
+  buttons[0].fire("click", { detail: 0 });
+  assert.deepEqual(done, ["press 0 0", "release 0 0"]);
+});
+
+test("a tap presses and lets go", () => {
+  const { done, buttons } = bench(true);
+  buttons[0].fire("pointerdown");
+  buttons[0].fire("pointerup");
+  buttons[0].fire("lostpointercapture");
+  assert.deepEqual(done, ["press 0 0", "release 0 0"]);
+});
+
+test("two fingers hold two keys", async () => {
+  const { done, down, buttons } = bench(true);
+  buttons[0].fire("pointerdown", { pointerId: 1 });
+  buttons[1].fire("pointerdown", { pointerId: 2 });
+  await wait(LONGER);
+  assert.deepEqual([...down], ["0 0", "0 1"]);
+  buttons[0].fire("pointerup", { pointerId: 1 });
+  buttons[1].fire("pointerup", { pointerId: 2 });
+  assert.deepEqual(done, ["press 0 0", "press 0 1", "release 0 0", "release 0 1"]);
+});
+
+test("a mouse presses at once, and with Shift the key stays down", () => {
+  const { done, down, buttons } = bench(true);
+  buttons[0].fire("pointerdown", { pointerType: "mouse" });
+  assert.deepEqual(done, ["press 0 0"]);
+  buttons[0].fire("pointerup", { pointerType: "mouse" });
+  buttons[1].fire("pointerdown", { pointerType: "mouse", shiftKey: true });
+  buttons[1].fire("pointerup", { pointerType: "mouse", shiftKey: true });
+  assert.deepEqual([...down], ["0 1"]);
+});
+
+test("while time stands still a tap turns a key over", () => {
+  const { done, buttons } = bench(false);
+  for (let tap = 0; tap < 2; tap++) {
+    buttons[0].fire("pointerdown");
+    buttons[0].fire("pointerup");
+  }
+  assert.deepEqual(done, ["press 0 0", "release 0 0"]);
+});

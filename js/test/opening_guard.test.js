@@ -1,0 +1,108 @@
+// Sessions whose last opening did not end.
+import assert from "node:assert/strict";
+import { test } from "node:test";
+import { OpeningGuard } from "../page/session/opening_guard.js";
+
+/** A browser's store of words, a clock, and timers that fire when the test says so. */
+function browser() {
+  const words = new Map();
+  const timers = [];
+  const store = {
+    getItem: (key) => (words.has(key) ? words.get(key) : null),
+    setItem: (key, value) => words.set(key, value),
+    removeItem: (key) => words.delete(key),
+  };
+  let time = 1e12;
+  const load = () => new OpeningGuard(store, (act) => timers.push(act), () => time);
+  const wait = (passed) => { time += passed; };
+  return { load, words, wait, settle: () => timers.splice(0).forEach((act) => act()) };
+}
+
+test("an opening that came to an end leaves nothing, also where it was refused", async () => {
+  const { load, words, wait, settle } = browser();
+  const openings = load();
+  await openings.runOpening("one", async () => {
+    wait(3000);
+    assert.equal(load().hasUnfinishedOpening("one"), true);
+  });
+  assert.equal(load().hasUnfinishedOpening("one"), true);
+  await assert.rejects(openings.runOpening("two", async () => { throw new Error("no 51"); }), /no 51/);
+  settle();
+  assert.deepEqual([words.size, load().hasUnfinishedOpening("one"), load().hasUnfinishedOpening("two")], [0, false, false]);
+});
+
+test("one that did not is known at the next start, and forgotten once it did", async () => {
+  const { load, words, wait, settle } = browser();
+  load().runOpening("one", () => new Promise(() => {}));
+  await load().runOpening("two", async () => {});
+  settle();
+  wait(3000);
+  assert.deepEqual([load().hasUnfinishedOpening("one"), load().hasUnfinishedOpening("two")], [true, false]);
+  await load().runOpening("one", async () => {});
+  settle();
+  assert.equal(words.size, 0);
+});
+
+test("a page that is left at once was not hung; one that is left later may have been", () => {
+  const { load, wait } = browser();
+  const openings = load();
+  openings.runOpening("one", () => new Promise(() => {}));
+  openings.handleLeave();
+  wait(3000);
+  assert.equal(load().hasUnfinishedOpening("one"), false);
+  openings.runOpening("two", () => new Promise(() => {}));
+  wait(3000);
+  openings.handleLeave();
+  assert.equal(load().hasUnfinishedOpening("two"), true);
+});
+
+test("a page that is left while it shows a session was not hung by it, however long the opening took", async () => {
+  const { load, wait } = browser();
+  const openings = load();
+  await openings.runOpening("one", async () => wait(3000));
+  openings.handleLeave();
+  assert.equal(load().hasUnfinishedOpening("one"), false);
+});
+
+test("a page that is left learns so from each of two events, since a browser may pass over one", async () => {
+  for (const name of ["beforeunload", "pagehide"]) {
+    const { load, wait } = browser();
+    const openings = load();
+    const target = new EventTarget();
+    openings.listen(target);
+    assert.equal(openings.pendingOpenings.size, 0);
+    await openings.runOpening("one", async () => {});
+    target.dispatchEvent(new Event(name));
+    wait(3000);
+    assert.equal(load().hasUnfinishedOpening("one"), false, name);
+  }
+});
+
+test("another tab may just be opening it", () => {
+  const { load, wait } = browser();
+  load().runOpening("one", () => new Promise(() => {}));
+  wait(1999);
+  assert.equal(load().hasUnfinishedOpening("one"), false);
+  wait(1);
+  assert.equal(load().hasUnfinishedOpening("one"), true);
+});
+
+test("a session that is opened twice in a row is settled by its last opening", async () => {
+  const { load, wait, settle } = browser();
+  const openings = load();
+  await openings.runOpening("one", async () => {});
+  openings.pendingOpenings.set("one", { time: 0, isEnded: false });
+  settle();
+  wait(3000);
+  assert.equal(load().hasUnfinishedOpening("one"), true);
+});
+
+test("a browser that keeps nothing", async () => {
+  const broken = () => { throw new DOMException("", "SecurityError"); };
+  for (const store of [null, { getItem: broken, setItem: broken, removeItem: broken }]) {
+    const openings = new OpeningGuard(store, (act) => act());
+    let isOpen = false;
+    await openings.runOpening("one", async () => { isOpen = true; });
+    assert.deepEqual([isOpen, openings.hasUnfinishedOpening("one")], [true, false]);
+  }
+});

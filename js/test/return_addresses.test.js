@@ -1,0 +1,37 @@
+import assert from "node:assert/strict";
+import { test } from "node:test";
+import { findLiveReturns, callAddress, describeCounter, describeReturn } from "../core/machine/return_addresses.js";
+import { SourceMap } from "../core/machine/source_map.js";
+
+// docs/MANUAL.md: JMS keeps the address after its two words as the newest return address; BBL makes the address after it the oldest one.
+const TEXT = "go: JMS one\n\tJUN go\none: FIM P0, 0x50\n\tBBL 0\n\tNOP\n";
+const MAP = new SourceMap(["map lines 5 names 2", "line 1 000 2", "line 2 002 2", "line 3 004 2", "line 4 006 1", "line 5 007 1",
+  "name go 000", "name one 004"], TEXT);
+
+test("an address that no call left is left over, and so is all below it", () => {
+  assert.deepEqual(findLiveReturns([2, 2, 0], ["50", "50", "00"], null), [true, true, false]);
+  assert.deepEqual(findLiveReturns([6, 2, 0], ["20", "50", "00"], null), [false, false, false]);
+  assert.deepEqual(findLiveReturns([2, 2, 2], ["50", "50", "50"], null), [true, true, true]);
+});
+
+test("a byte that looks like a JMS, but is none in the program", () => {
+  // After BBL at 006 follows 007; the byte at 005 is the 50 of FIM.
+  assert.deepEqual(findLiveReturns([7, 0, 0], ["50", "00", "00"], null), [true, false, false]);
+  assert.deepEqual(findLiveReturns([7, 0, 0], ["50", "00", "00"], MAP), [false, false, false]);
+  assert.deepEqual(findLiveReturns([2, 0, 0], ["50", "00", "00"], MAP), [true, false, false]);
+  // An address outside the program is judged by its byte.
+  assert.deepEqual(findLiveReturns([0x102, 0, 0], ["5F", "00", "00"], MAP), [true, false, false]);
+});
+
+test("the call before an address, also round the end", () => {
+  assert.deepEqual([2, 1, 0].map(callAddress), [0, 0xFFF, 0xFFE]);
+});
+
+test("what the addresses are, in words", () => {
+  assert.deepEqual(describeCounter(5, MAP), { isLive: true, words: "one + 1, line 3", title: "one: FIM P0, 0x50" });
+  assert.equal(describeCounter(9, MAP).words, "");
+  assert.equal(describeCounter(5, null).words, "");
+  assert.deepEqual(describeReturn(2, true, MAP), { isLive: true, words: "go + 2, call in line 1", title: "go: JMS one" });
+  assert.equal(describeReturn(2, true, null).words, "");
+  assert.equal(describeReturn(2, false, MAP).words, "stale");
+});

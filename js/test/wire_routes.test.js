@@ -1,0 +1,76 @@
+// Wires of the picture run below no part.
+import assert from "node:assert/strict";
+import { test } from "node:test";
+import { readBoard } from "../core/bench/answers.js";
+import { isCurveCovered, pathText, routeWire } from "../core/board/wire_routes.js";
+import { drawBoard } from "../core/board/wiring.js";
+
+/** A board with as many chips, chains, keys and lamps as there can be. */
+function largest() {
+  const lines = ["board"];
+  for (let chip = 0; chip < 16; chip++) lines.push("[[rom]]", `chip = ${chip}`, `port = "${chip % 2 ? "iiii" : "0000"}"`);
+  for (let bank = 0; bank < 8; bank++) lines.push("[[ram]]", `bank = ${bank}`, "chips = 4");
+  for (let chain = 0; chain < 4; chain++) lines.push("[[chain]]", `clock = "rom0.${chain}"`, `data = "rom2.${chain}"`, "chips = 8");
+  lines.push("[keys]", "chain = 0", "first = 0", "rows = 10",
+    `columns = [${[1, 3].flatMap((rom) => [0, 1, 2, 3].map((line) => `"rom${rom}.${line}"`)).join(", ")}]`);
+  for (let lamp = 0; lamp < 64; lamp++) {
+    lines.push("[[lamp]]", `line = "${lamp % 2 ? `chain${lamp % 4}.${lamp + 15}` : `ram${lamp % 8}.0.${lamp % 4}`}"`);
+  }
+  return readBoard(lines);
+}
+
+const SMALL = readBoard(["board", "[[rom]]", "chip = 1", 'port = "iiii"', "[[chain]]", 'clock = "rom0.0"', 'data = "rom0.1"', "chips = 4",
+  "[keys]", "chain = 0", "first = 0", "rows = 4", 'columns = ["rom1.0", "rom1.1"]']);
+
+for (const [name, board] of Object.entries({ "a small board": SMALL, "the largest board": largest() })) {
+  test(`${name}: no wire runs below a part, and each comes to its pin`, () => {
+    const { parts, wires } = drawBoard(board);
+    assert.ok(wires.length > 0);
+    wires.forEach((wire, at) => {
+      const route = routeWire(wire, parts, at);
+      for (const curve of route) for (const part of parts) assert.ok(!isCurveCovered(curve, part), `${wire.line} below ${part.id}`);
+      assert.deepEqual([route[0][0], route[route.length - 1][3]], [wire.from, wire.to]);
+      for (let next = 1; next < route.length; next++) assert.deepEqual(route[next][0], route[next - 1][3]);
+    });
+  });
+}
+
+/** Pseudo-random numbers, the same in each run. */
+function chances(seed) {
+  let state = seed;
+  return (most) => {
+    state = (Math.imul(state, 1103515245) + 12345) >>> 0;
+    return (state >>> 8) % most;
+  };
+}
+
+test("where parts were dragged to and fro, with room between them, hardly a wire runs below a part", () => {
+  let [below, wouldBe] = [0, 0];
+  for (let seed = 1; seed <= 40; seed++) {
+    const chance = chances(seed);
+    const order = drawBoard(SMALL).parts.map(({ id, height }) => ({ id, height, rank: chance(1000) }))
+      .sort((one, other) => one.rank - other.rank);
+    const moved = new Map();
+    let y = 20;
+    order.forEach(({ id, height }) => {
+      moved.set(id, { x: 20 + 220 * chance(4) + chance(30), y });
+      y += height + 24;
+    });
+    const { parts, wires } = drawBoard(SMALL, undefined, moved);
+    const isHidden = (route) => route.some((curve) => parts.some((part) => isCurveCovered(curve, part)));
+    wires.forEach((wire, at) => {
+      below += Number(isHidden(routeWire(wire, parts, at)));
+      wouldBe += Number(isHidden(routeWire(wire, [], at)));
+    });
+  }
+  // A part may be where a wire would need to turn twice.
+  assert.ok(below <= 3 && wouldBe > 150, `${below} of ${wouldBe}`);
+});
+
+test("a wire with nothing between is one curve; where there is no room to turn, too", () => {
+  const ends = { from: { x: 0, y: 0 }, to: { x: 100, y: 50 } };
+  assert.equal(pathText(routeWire(ends, [], 0)), "M0 0C50 0 50 50 100 50");
+  assert.equal(pathText(routeWire({ from: { x: 5, y: 0 }, to: { x: 5, y: 9 } }, [], 0)), "M5 0C17 0 17 9 5 9");
+  assert.equal(routeWire(ends, [{ x: 4, y: 0, width: 92, height: 60 }], 0).length, 1);
+  assert.equal(routeWire(ends, [{ x: 40, y: 0, width: 20, height: 60 }], 0).length, 3);
+});

@@ -1,0 +1,102 @@
+// Messages about the results of a search for counterexamples: all properties, a single property, the coverage.
+
+import { formatQuantity } from "../core/bench/numbers.js";
+import { Coverage } from "../core/explore/search_coverage.js";
+import { formatNumber, hasExpectedResult, formatRemark, formatSteps } from "../core/explore/report.js";
+
+/**
+ * @typedef {import("../core/explore/report.js").Report} Report
+ * @typedef {import("../core/explore/report.js").PropertyResult} PropertyResult
+ */
+
+const NEEDS_COMMAND = "a page cannot run a command; mcs4 explore --allow-model can";
+
+/**
+ * Returns the number of broken properties, and the number of goals not reached.
+ * @param {Report} report
+ */
+function countsOf({ properties }) {
+  return {
+    broken: properties.filter(({ isGoal, found }) => !isGoal && found).length,
+    left: properties.filter(({ isGoal, found }) => isGoal && !found).length,
+  };
+}
+
+/**
+ * Returns the line with a search's steps, rate, states and seeds. It is the same during the search and after it.
+ * @param {Report} report
+ */
+export function wordsOfFigures({ seeds, steps, seconds, states }) {
+  const rate = seconds > 0 ? `, ${formatNumber(steps / seconds)} a second` : "";
+  return `${formatSteps(steps)}${rate}; ${formatQuantity(states, "different state")}; seed ${seeds.join(" ")}.`;
+}
+
+/**
+ * Returns the summary while the search is running.
+ * @param {Report} report
+ */
+export function wordsSoFar(report) {
+  const { broken } = countsOf(report);
+  if (broken === 0) return "Searching for keys that break a property.";
+  return `${formatQuantity(broken, "property is", "properties are")} broken so far.`;
+}
+
+/**
+ * Returns the summary at the end of the search.
+ * @param {Report} report
+ * @param {boolean} isStopped true if the search was stopped before its time was up
+ */
+export function wordsOfEnd(report, isStopped) {
+  const { broken, left } = countsOf(report);
+  const summary = broken === 0 ? "Nothing was found that breaks a property."
+    : `${formatQuantity(broken, "property is", "properties are")} broken.`;
+  const goals = left === 0 ? "" : ` ${formatQuantity(left, "goal was", "goals were")} not reached.`;
+  return `${isStopped ? "Stopped. " : ""}${summary}${goals}`;
+}
+
+/**
+ * Returns the tab's mark, or "" if no property is broken.
+ * @param {Report} report
+ */
+export function markOfReport(report) {
+  const { broken } = countsOf(report);
+  return broken > 0 ? `${formatNumber(broken)} broken` : "";
+}
+
+/**
+ * Returns the mark in front of a property. While the search is running, the mark is "open" for a goal that has not been reached, and for a
+ * property that has not been checked.
+ * @param {PropertyResult} property
+ * @param {boolean} goesOn true if the search is running
+ */
+export function markOf(property, goesOn) {
+  if (property.isSkipped) return "not run";
+  if (goesOn && !property.found && (property.isGoal || !property.applied)) return "open";
+  return hasExpectedResult(property) ? "ok" : "not ok";
+}
+
+/**
+ * Returns the text after a property, or "" if the text would only repeat the amount of the search.
+ * @param {PropertyResult} property
+ * @param {Report} report
+ */
+export function wordsOfProperty(property, report) {
+  const { isGoal, isSkipped, found, applied, states } = property;
+  if (isSkipped) return NEEDS_COMMAND;
+  if (!found) return applied && states === 0 ? "" : formatRemark(property, report);
+  return `${isGoal ? "reached" : "broken"} by ${formatSteps(found.steps)}, ${formatNumber(found.cycles)} cycles`;
+}
+
+/**
+ * Returns the program's coverage: the coverage of its instructions and of its branch directions, each with a text, and the lines that never
+ * ran.
+ * @param {Report} report
+ */
+export function coverageOf({ covered, instructions }) {
+  const { run, all, ways, allWays, left } = new Coverage(covered).summary(instructions);
+  return {
+    instructions: { part: run, whole: all, words: `${run} of ${all} instructions were run` },
+    ways: { part: ways, whole: allWays, words: `${ways} of ${allWays} branch directions` },
+    left,
+  };
+}

@@ -1,0 +1,65 @@
+// Messages about the results of tests: all tests, a single test, the coverage.
+
+import { formatQuantity } from "../core/bench/numbers.js";
+import { formatCoverageSummary } from "../core/testing/coverage.js";
+import { CYCLE_MS } from "../core/time/mcs4_time.js";
+
+/**
+ * @typedef {import("../core/testing/test_preparation.js").TextFault} TextFault
+ * @typedef {import("../core/testing/test_suite.js").Report} Report
+ * @typedef {import("../core/testing/test_run.js").Outcome} Outcome
+ */
+
+/** @type {Record<TextFault["text"], string>} the titles of the texts */
+const WHERE = { board: "Board", program: "Source", tests: "Tests", properties: "Properties" };
+
+/**
+ * Returns the summary of all tests.
+ * @param {Outcome[]} outcomes
+ */
+export function wordsOfOutcomes(outcomes) {
+  const failed = outcomes.filter(({ failure }) => failure).length;
+  if (failed === 0) return outcomes.length === 1 ? "The test passed." : `All ${formatQuantity(outcomes.length, "test")} passed.`;
+  return `${failed} of ${formatQuantity(outcomes.length, "test")} failed.`;
+}
+
+/**
+ * Returns the tab's mark.
+ * @param {Outcome[]} outcomes
+ */
+export function markOfOutcomes(outcomes) {
+  const failed = outcomes.filter(({ failure }) => failure).length;
+  return failed > 0 ? `${failed} failed` : "passed";
+}
+
+/**
+ * Returns the message that no test has run because the texts have errors.
+ * @param {TextFault[]} faults
+ * @param {(number: number) => string} describeRefusal
+ */
+export function wordsOfFaults(faults, describeRefusal) {
+  const [{ text, line, number, words }] = faults;
+  const what = words || `no ${number}: ${describeRefusal(number)}`;
+  const more = faults.length > 1 ? `, and ${faults.length - 1} more` : "";
+  return `Nothing was run: ${WHERE[text]}${line > 0 ? `, line ${line}` : ""}: ${what}${more}.`;
+}
+
+/**
+ * Returns the duration of a test, in cycles and in milliseconds or seconds.
+ * @param {Outcome} outcome
+ */
+export function wordsOfTime({ cycles }) {
+  const time = cycles * CYCLE_MS;
+  return `${formatQuantity(cycles, "cycle")}, ${time < 1000 ? `${time.toFixed(1)} ms` : `${(time / 1000).toFixed(2)} s`}`;
+}
+
+/**
+ * Returns the text about the program's coverage by the tests, or "" if nothing was counted.
+ * @param {Report} report
+ */
+export function wordsOfCounts({ coverage }) {
+  if (!coverage || coverage.instructions === 0) return "";
+  const ways = coverage.lines.filter(({ isJump, count, taken }) => isJump && count > 0 && (taken === 0 || taken === count)).length;
+  const oneWay = ways === 0 ? "" : ` ${formatQuantity(ways, "jump")} always went one way.`;
+  return `${formatCoverageSummary(coverage)}.${oneWay} Counts are in the margin.`;
+}
