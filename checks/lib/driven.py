@@ -6,7 +6,7 @@ import time
 ELEMENT = "element-6066-11e4-a52e-4f735466cecf"
 # The pause between one finger and the next.
 PAUSE = {"type": "pause", "duration": 10}
-# A function that precedes every script. It returns true if an element is visible. (The oldest browsers have no call for this.)
+# A function that precedes every script. It returns true if an element is visible. The oldest browsers have no `checkVisibility`.
 BEFORE_SCRIPTS = "const isShown = (element) => element.getClientRects().length > 0;\n"
 PLACE_AND_TEXT = """
 const element = document.querySelector(arguments[0]);

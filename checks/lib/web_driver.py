@@ -153,9 +153,10 @@ class WebKit(WebDriver):
     """The MiniBrowser of Debian's WebKitGTK, or the one that MINIBROWSER names. It has no headless mode, so Xvfb is its display."""
 
     name = "WebKit"
-    # It has no setting that blocks site data.
+    # WebKit has no setting that blocks site data.
     blocks_data = None
-    # Its driver moves only one pointer, which is a mouse, and its tabs are windows that do not hide each other.
+    # The driver of WebKit has only a mouse pointer, no touch. It opens each tab as a separate window, so a tab in the background still counts as
+    # visible.
     has_fingers = False
     hides_tabs = False
     settles = 0.3

@@ -4,7 +4,7 @@ import { mock, test } from "node:test";
 import { Bench } from "../core/bench/bench_client.js";
 import { CancelledError, WorkerDiedError } from "../core/bench/bench_errors.js";
 
-/** Returns a bench over workers that behave as the test says. */
+/** Returns a bench with stand-ins for its workers, whose answers the test sets. */
 function begin() {
   mock.timers.enable({ apis: ["setInterval", "setTimeout"] });
   const workers = [];

@@ -97,7 +97,7 @@ function readRequestedPlace(args, session, addressOf) {
 }
 
 /**
- * Serves the request `readMemory`.
+ * Serves the `readMemory` request.
  * @param {any} args
  * @param {DebugSession} session
  * @param {(reference: string) => number} addressOf
@@ -114,7 +114,7 @@ export function readMemory(args, session, addressOf) {
 }
 
 /**
- * Serves the request `writeMemory`. Writes all bytes, or no byte if the bench rejects one of them. With `allowPartial`, skips the bytes
+ * Serves the `writeMemory` request. Writes all bytes, or no byte if the bench rejects one of them. With `allowPartial`, skips the bytes
  * outside the range.
  * @param {any} args
  * @param {DebugSession} session

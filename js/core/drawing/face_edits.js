@@ -177,9 +177,9 @@ function renumberList(draft, line, deletedLamps, newNumber) {
   const head = setWord(/** @type {import("./face_lines.js").FaceWord} */ (line.first), String(newNumber(remainingLamps[0])));
   if (!isGroup) return [...head, ...removeWords(line, (at) => deletedLamps.has(first + at))];
   // In `scanned by N`, N is also a lamp number.
-  const scanWord = line.words[line.words.findIndex(({ text }) => text === "scanned") + 2];
+  const scanLampWord = line.words[line.words.findIndex(({ text }) => text === "scanned") + 2];
   const isMultiplexed = line.words.some(({ text }) => text === "scanned");
-  return isMultiplexed && scanWord ? [...head, ...setWord(scanWord, String(newNumber(Number(scanWord.text))))] : head;
+  return isMultiplexed && scanLampWord ? [...head, ...setWord(scanLampWord, String(newNumber(Number(scanLampWord.text))))] : head;
 }
 
 /**

@@ -72,7 +72,7 @@ function addDependents(board, face, deletedParts) {
     deletedParts.keys = deletedParts.keys || deletedParts.chains.has(matrix.chain) || deletedParts.columns.size === matrix.columns.length;
   }
   board.lamps.forEach((line, at) => isLineDeleted(deletedParts, line) && deletedParts.lamps.add(at));
-  // The whole group of a deleted lamp is deleted. (The loop also visits the lamps that it adds.)
+  // The whole group of a deleted lamp is deleted. The loop also visits the lamps that are added to the set while the loop runs.
   for (const at of deletedParts.lamps) {
     const groups = face.groups.map(groupLamps).filter((lamps) => lamps.includes(at));
     for (const lamp of groups.flat()) if (lamp < board.lamps.length) deletedParts.lamps.add(lamp);

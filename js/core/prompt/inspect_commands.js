@@ -43,7 +43,7 @@ export class InspectCommands {
     const { calls, machine, session } = this.prompt;
     return {
       lamps: () => calls.print(machine.frontPanelText.currentText() || say.NO_LAMPS),
-      print: (argumentText) => calls.print(this.evaluate(argumentText || rejectCommand(say.PRINT_FORM))),
+      print: (argumentText) => calls.print(this.evaluate(argumentText || rejectCommand(say.PRINT_SYNTAX))),
       display: (argumentText) => this.addDisplay(argumentText),
       undisplay: (argumentText) => this.removeDisplays(argumentText),
       x: (argumentText) => this.printMemory(argumentText),
@@ -68,13 +68,13 @@ export class InspectCommands {
    */
   switchView(argumentText) {
     const { view } = this.prompt.calls;
-    if (!/^(|on|off|enable|disable|src|regs|asm|split)$/.test(argumentText)) rejectCommand(say.VIEW_FORM);
+    if (!/^(|on|off|enable|disable|src|regs|asm|split)$/.test(argumentText)) rejectCommand(say.VIEW_SYNTAX);
     if (!view) {
       rejectCommand(say.VIEW_NEEDS_TERMINAL);
       return;
     }
-    const words = argumentText === "" ? view.toggle() : view.turn(!/^(off|disable)$/.test(argumentText));
-    if (words) rejectCommand(words);
+    const message = argumentText === "" ? view.toggle() : view.turn(!/^(off|disable)$/.test(argumentText));
+    if (message) rejectCommand(message);
   }
 
   /**
@@ -174,7 +174,7 @@ export class InspectCommands {
       session: () => (launchResult.writer ? say.SESSION_FILE : say.IN_MEMORY),
       line: (place) => stateText.lineText(session, findInstruction(place, session)),
       symbol: (place) => {
-        const address = parseAddress(place || rejectCommand(say.SYMBOL_FORM), session);
+        const address = parseAddress(place || rejectCommand(say.SYMBOL_SYNTAX), session);
         return address === undefined ? rejectCommand(say.noPlaceOfMemory(place)) : stateText.addressText(session, address);
       },
       frame: () => this.frameText,

@@ -1,4 +1,4 @@
-// Creates a sample test for a board without tests. The test presses the first key of the board, if there is one, and expects the result:
+// Creates a sample test for a board without tests. The test presses the first key of the board (if the board has keys) and expects the result:
 // the display text, or a lamp that is on.
 
 import { convertLampAnswers } from "../board/lamp_answers.js";
