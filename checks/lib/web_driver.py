@@ -15,7 +15,7 @@ import urllib.request
 from driven import BEFORE_SCRIPTS, ELEMENT, Driven, Fault
 
 # The events of a touch, and of a click with the secondary mouse button.
-TOUCH = """
+TOUCH_ELEMENT = """
 const [selector, time] = arguments;
 const node = document.querySelector(selector);
 const send = (kind) => node.dispatchEvent(new PointerEvent(kind, { pointerType: "touch", bubbles: true, cancelable: true }));
@@ -179,7 +179,7 @@ class WebKit(WebDriver):
         self.resize_back()
 
     def touch(self, selector, time_down):
-        self.script(TOUCH, selector, time_down)
+        self.script(TOUCH_ELEMENT, selector, time_down)
 
     def click_secondary(self, x, y):
         # After a press of this button, the driver would type every character without Shift.
