@@ -163,8 +163,8 @@ function brokenBy(property, { c, g, acts }) {
 }
 
 /**
- * Returns the instants of a run: each cycle, and whether all guards are open in it. A cycle with a key press or a power cycle gives one instant
- * before it and one after it.
+ * Returns the instants of a run: each cycle, and whether all guards are open in it. A cycle with a key press or a power cycle gives two
+ * instants: one before the press or power cycle, and one after it.
  */
 function instantsOf({ c, g, acts }, guards) {
   const instants = [];

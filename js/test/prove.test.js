@@ -105,7 +105,8 @@ const CONDITIONS = [
   "r5 - r7 = 0", "r5 & 3 = 1", "r5 >= 0",
 ];
 
-const questionOf = (text, own = subject) => createQuestion(readCampaign(`press A\n${text}`, own).campaign.properties[0], { from: null }, own);
+const questionOf = (text, own = subject) => (
+  createQuestion(readCampaign(`press A\n${text}`, own).campaign.properties[0], { from: null }, own));
 
 test("comparisons mean what their condition means", () => {
   const all = [...states()];

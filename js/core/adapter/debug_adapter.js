@@ -308,9 +308,9 @@ export class DebugAdapter {
     const name = needText(args, "name");
     const reference = needNumber(args, "variablesReference", 0);
     const found = reference > 0 ? queryHandlers.findWatchPlace(reference, name) : name;
-    const data = describeDataBreakpoint(found, launchResult.session);
-    if (!data) return { dataId: null, description: say.notWatched(name) };
-    return { ...data, accessTypes: ["write"] };
+    const dataBreakpoint = describeDataBreakpoint(found, launchResult.session);
+    if (!dataBreakpoint) return { dataId: null, description: say.notWatched(name) };
+    return { ...dataBreakpoint, accessTypes: ["write"] };
   }
 
   /** @param {any} args */

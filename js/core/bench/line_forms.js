@@ -10,7 +10,8 @@ import * as say from "../../words/lines.js";
  * The error in a line: the refusal number, and a message that names the wrong word.
  * @typedef {{ number: number, words: string }} LineFault
  *
- * The syntax of a kind of place: the pattern of its name, the maximum of each number in the name (`most`), and the maximum value of the place (`value`).
+ * The syntax of a kind of place: the pattern of its name, the maximum of each number in the name (`most`), and the maximum value of the
+ * place (`value`).
  * @typedef {{ pattern: RegExp, most: number[], value: number }} PlaceSyntax
  * @typedef {[number, number]} Range the first and the last number
  */
@@ -93,8 +94,8 @@ function findPlaceSyntax(word, places) {
  * @param {PlaceSyntax} found
  */
 function isInRange(word, { pattern, most }) {
-  const numbers = /** @type {RegExpExecArray} */ (pattern.exec(word)).slice(1).map(Number);
-  return numbers.every((number, at) => number <= most[at]);
+  const placeNumbers = /** @type {RegExpExecArray} */ (pattern.exec(word)).slice(1).map(Number);
+  return placeNumbers.every((number, at) => number <= most[at]);
 }
 
 /** @type {(word: string, names: string[]) => LineFault} */

@@ -146,11 +146,11 @@ function removeChain(editedBoard, chain) {
   const { draft } = editedBoard;
   const values = draft.partsOfKind("lamp").map((entry) => draft.requireKey(entry, "line").value);
   const bits = values.filter(({ inner }) => rename(String(inner)) !== inner);
-  const numbers = draft.partsOfKind("keys").map((entry) => draft.requireKey(entry, "chain").value)
+  const chainNumbers = draft.partsOfKind("keys").map((entry) => draft.requireKey(entry, "chain").value)
     .filter(({ inner }) => Number(inner) > chain);
   editedBoard.edit([
     ...bits.map((value) => replaceValue(draft, value, rename(String(value.inner)))),
-    ...numbers.map((value) => replaceValue(draft, value, Number(value.inner) - 1)),
+    ...chainNumbers.map((value) => replaceValue(draft, value, Number(value.inner) - 1)),
   ]);
   editedBoard.edit(renamePorts(editedBoard.draft, (port) => (port === `chain${chain}` ? "" : rename(port))));
   editedBoard.edit(removePart(editedBoard.draft, "chain", chain));

@@ -117,10 +117,10 @@ export class InspectCommands {
 
   /** @param {string} argumentText */
   removeDisplays(argumentText) {
-    const numbers = argumentText.split(/\s+/).filter(Boolean).map(Number);
-    const hasInvalidNumber = numbers.some((each) => !(each >= 1 && each <= this.displays.length));
+    const ids = argumentText.split(/\s+/).filter(Boolean).map(Number);
+    const hasInvalidNumber = ids.some((each) => !(each >= 1 && each <= this.displays.length));
     if (hasInvalidNumber) rejectCommand(say.NO_DISPLAY);
-    this.displays = argumentText === "" ? [] : this.displays.filter((_, at) => !numbers.includes(at + 1));
+    this.displays = argumentText === "" ? [] : this.displays.filter((_, at) => !ids.includes(at + 1));
   }
 
   /** @param {string} argumentText */

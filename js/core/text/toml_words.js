@@ -3,8 +3,8 @@
 import * as say from "../../words/text.js";
 
 /**
- * A word: a punctuation sign, a string without its quotes, a bare word, the end of a line, or an invalid word. `fault` is the error message for an
- * invalid word.
+ * A word: a punctuation sign, a string without its quotes, a bare word, the end of a line, or an invalid word. `fault` is the error message
+ * for an invalid word.
  * @typedef {{ kind: "punctuation" | "string" | "bare" | "end" | "bad", text: string, line: number, from: number, to: number,
  *   fault: string }} TomlWord
  */
