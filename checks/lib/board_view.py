@@ -15,18 +15,18 @@ sys.dont_write_bytecode = True
 from web_driver import Chromium  # noqa: E402
 
 LIB = pathlib.Path(__file__).resolve().parent
-STUB = """window.said = [];
+INSTALL_STUB = """window.said = [];
 window.acquireVsCodeApi = () => ({ postMessage: (message) => window.said.push(message) });
 window.broken = [];
 addEventListener("securitypolicyviolation", (event) => window.broken.push(event.violatedDirective));
 addEventListener("error", (event) => window.broken.push(event.message));
 """
-TAKE = "return window.said.splice(0)"
-POST = "dispatchEvent(new MessageEvent('message', { data: arguments[0] }))"
-KEYS = "return [...document.querySelectorAll('#keys button')].map((each) => each.textContent).join(' ')"
-DOWN = "return [...document.querySelectorAll('#keys [aria-pressed=true]')].map((each) => each.textContent).join(' ')"
-LAMPS = "return [...document.querySelectorAll('.bulb')].map((each) => each.getAttribute('aria-label')).join('; ')"
-HIDDEN = "return [document.getElementById('front').hidden, document.getElementById('nothing').hidden]"
+TAKE_MESSAGES = "return window.said.splice(0)"
+POST_MESSAGE = "dispatchEvent(new MessageEvent('message', { data: arguments[0] }))"
+GET_KEYS = "return [...document.querySelectorAll('#keys button')].map((each) => each.textContent).join(' ')"
+GET_KEYS_DOWN = "return [...document.querySelectorAll('#keys [aria-pressed=true]')].map((each) => each.textContent).join(' ')"
+GET_LAMPS = "return [...document.querySelectorAll('.bulb')].map((each) => each.getAttribute('aria-label')).join('; ')"
+GET_HIDDEN = "return [document.getElementById('front').hidden, document.getElementById('nothing').hidden]"
 WAIT = 60
 
 
@@ -50,12 +50,12 @@ class Bridge:
         self.child.stdin.flush()
 
     def pump(self):
-        for said in self.browser.script(TAKE):
+        for said in self.browser.script(TAKE_MESSAGES):
             self.send(said=said)
         while not self.lines.empty():
             message = json.loads(self.lines.get())
             if "post" in message:
-                self.browser.script(POST, message["post"])
+                self.browser.script(POST_MESSAGE, message["post"])
             else:
                 self.messages.append(message)
 
@@ -90,30 +90,30 @@ def main():
         browser = Chromium(profile, profile, ["--window-size=500,800"])
         try:
             bridge = Bridge(folder, browser)
-            (folder / "stub.js").write_text(STUB)
+            (folder / "stub.js").write_text(INSTALL_STUB)
             page = folder / "opened.html"
             page.write_text(bridge.html.replace('<link rel', '<script src="stub.js"></script>\n<link rel', 1))
             browser.go(page.as_uri())
-            bridge.until(HIDDEN, [False, True], "the board stands there once a program is debugged")
-            verdict(browser.script(KEYS), "1 2 3 4 5 6 7 8 9 * 0 #", "its keys by their names")
-            bridge.until(LAMPS, "locked, dark; open, dark; alarm, dark", "its lamps")
+            bridge.until(GET_HIDDEN, [False, True], "the board stands there once a program is debugged")
+            verdict(browser.script(GET_KEYS), "1 2 3 4 5 6 7 8 9 * 0 #", "its keys by their names")
+            bridge.until(GET_LAMPS, "locked, dark; open, dark; alarm, dark", "its lamps")
             browser.click("#keys button:nth-child(5)")
-            bridge.until(DOWN, "5", "while time stands a key stays down")
+            bridge.until(GET_KEYS_DOWN, "5", "while time stands a key stays down")
             state = bridge.ask("evaluate", expression="state", context="repl")["result"]
             verdict(" keys 1.1 " in state, True, "and is down in the machine")
             browser.click("#keys button:nth-child(5)")
-            bridge.until(DOWN, "", "and goes up by another click")
+            bridge.until(GET_KEYS_DOWN, "", "and goes up by another click")
             bridge.ask("continue", threadId=1)
-            bridge.until(LAMPS, "locked, lit; open, dark; alarm, dark", "while time runs the lamps are lit")
+            bridge.until(GET_LAMPS, "locked, lit; open, dark; alarm, dark", "while time runs the lamps are lit")
             browser.keys([*"4711#"])
-            bridge.until(LAMPS, "locked, dark; open, lit; alarm, dark", "the keyboard presses the keys: the lock is open")
+            bridge.until(GET_LAMPS, "locked, dark; open, lit; alarm, dark", "the keyboard presses the keys: the lock is open")
             if len(sys.argv) > 2:
                 pathlib.Path(sys.argv[2]).write_bytes(browser.picture())
-            bridge.until(LAMPS, "locked, lit; open, dark; alarm, dark", "and is locked again after a while")
+            bridge.until(GET_LAMPS, "locked, lit; open, dark; alarm, dark", "and is locked again after a while")
             bridge.ask("pause", threadId=1)
             verdict(browser.script("return window.broken"), [], "nothing that its policy forbids, and no fault")
             bridge.send(end=True)
-            bridge.until(HIDDEN, [True, False], "once nothing is debugged it says so")
+            bridge.until(GET_HIDDEN, [True, False], "once nothing is debugged it says so")
             bridge.child.wait(WAIT)
             verdict([each for each in bridge.messages if "error" in each], [], "no fault is shown")
         finally:

@@ -85,7 +85,7 @@ const inputPath = join(work, "input");
 function byProgram(file, input) {
   rmSync(path, { force: true });
   if (file) writeFileSync(path, file);
-  // The input comes from a file, because a program that rejects its session does not read its input.
+  // The input comes from a file. A program that rejects its session exits without reading its input, so a write to a pipe would fail (EPIPE).
   writeFileSync(inputPath, input);
   const from = openSync(inputPath);
   const ran = spawnSync(mcs4, [file ? "open" : "new", path], { stdio: [from, "pipe", "pipe"], maxBuffer: 1 << 28 });

@@ -6,9 +6,9 @@ import time
 ELEMENT = "element-6066-11e4-a52e-4f735466cecf"
 # The pause between one finger and the next.
 PAUSE = {"type": "pause", "duration": 10}
-# A function that precedes every script. It returns true if an element is visible. (The oldest browsers have no call for this.)
+# A function that precedes every script. It returns true if an element is visible. The oldest browsers have no `checkVisibility`.
 BEFORE_SCRIPTS = "const isShown = (element) => element.getClientRects().length > 0;\n"
-PLACE_AND_TEXT = """
+GET_PLACE_AND_TEXT = """
 const element = document.querySelector(arguments[0]);
 return `${element.getBoundingClientRect().top} ${element.textContent}`"""
 
@@ -45,7 +45,7 @@ class Driven:
         self.show(selector)
         seen = None
         end = time.monotonic() + 10
-        while (now := self.script(PLACE_AND_TEXT, selector)) != seen and time.monotonic() < end:
+        while (now := self.script(GET_PLACE_AND_TEXT, selector)) != seen and time.monotonic() < end:
             seen = now
             time.sleep(0.3)
         self.click_element(self.find(selector))

@@ -102,7 +102,7 @@ EXAMPLES = [
         "lamp left on and lamp middle on": "in ramport 0 line2 1 1 & in ramport 0 line1 1 1",
         "lamp middle on and lamp right on": "in ramport 0 line1 1 1 & in ramport 0 line0 1 1"}),
 ]
-# The answers of longer searches, which need a gigabyte of memory. (The search of the clock takes minutes.)
+# The answers of longer searches, which need a gigabyte of memory. The search of the clock takes minutes.
 LONGER = {"counter.props": "holds 2240113"}
 # The possible outputs of RAM ports, by index, in the examples whose mutants are searched. The lock, the traffic light and the three lamps never show
 # other values, whatever is pressed.
@@ -237,11 +237,11 @@ def programs() -> list[str]:
     return sorted([*texts, *(path.parent.name for path in EXAMPLE_FILES.glob("*/board.toml"))])
 
 
-def mistakes_of(name: str, asked: tuple[str, ...] = MISTAKES) -> Question:
+def mistakes_of(name: str, mistakes: tuple[str, ...] = MISTAKES) -> Question:
     """Returns the question whether an example's program makes any of these mistakes."""
     path = EXAMPLE_FILES / name
     board, program = texts_of(f"{name}/{name}.props" if path.is_dir() else str(path.with_suffix(".props").name))
-    return Question(board, program, [[("mistake", *asked)]], PROGRAM_MAX_STATES, PROGRAM_PAUSE)
+    return Question(board, program, [[("mistake", *mistakes)]], PROGRAM_MAX_STATES, PROGRAM_PAUSE)
 
 
 def program_of(image: dict[int, int]) -> list[str]:

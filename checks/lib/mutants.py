@@ -212,14 +212,14 @@ RIGHT_CONDITION, RIGHT_MET, RIGHT_BEGINS = second_search.condition_of, second_se
 RIGHT_CYCLE, RIGHT_MISTAKES = second_search.cycle, second_search.mistakes
 def kept(board: Board) -> int:
     """Keeps the marks that were seen when the condition holds."""
-    look = second_search.look_of(board)
-    return second_search.seen_of(board) if look and look.opens(board) else RIGHT_SEEN(board)
+    sequence = second_search.mark_sequence_of(board)
+    return second_search.seen_of(board) if sequence and sequence.opens(board) else RIGHT_SEEN(board)
 
 
 def seen_while_open(board: Board) -> int:
-    """Begins to look for marks while the condition holds."""
-    look = second_search.look_of(board)
-    return int(second_search.is_shown(board, look.marks[0])) if look and look.opens(board) else RIGHT_SEEN(board)
+    """Starts the search for marks while the condition holds."""
+    sequence = second_search.mark_sequence_of(board)
+    return int(second_search.is_shown(board, sequence.marks[0])) if sequence and sequence.opens(board) else RIGHT_SEEN(board)
 
 
 def shown_by_line(level: str) -> Callable[[Board, Mark], bool]:
@@ -266,6 +266,6 @@ WRONG_SEARCHES: dict[str, Callable[[], AbstractContextManager]] = {
     "a key is down if its line is 1": method(second_search, "is_shown", shown_by_line("down")),
     "up is down": method(second_search, "is_shown", lambda board, mark: RIGHT_SHOWN(board, ("down" if mark[0] == "up" else "up", *mark[1:]))),
     "the last mark need not be seen": method(second_search, "is_early", lambda board: (
-        RIGHT_EARLY(board) and second_search.seen_of(board) < len(second_search.look_of(board).marks) - 1)),
+        RIGHT_EARLY(board) and second_search.seen_of(board) < len(second_search.mark_sequence_of(board).marks) - 1)),
     **{f"no mistake {kind}": method(second_search, "mistakes", lambda board, kind=kind: RIGHT_MISTAKES(board) - {kind}) for kind in second_search.MISTAKES},
 }

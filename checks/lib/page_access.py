@@ -3,7 +3,7 @@ screen reader (its accessibility tree), the order of the Tab key, and the contra
 
 import re
 
-from page_in_browser import (AT_COUNTER, ESCAPE, PUT_INTO_EDITOR, TAB, TEXT_OF_EDITOR, choose_example, lines_answered, open_anew, show_text,
+from page_in_browser import (ESCAPE, GET_TEXT_OF_EDITOR, IS_AT_COUNTER, PUT_INTO_EDITOR, TAB, choose_example, lines_answered, open_anew, show_text,
                              step_with_marks, stop_time)
 from verdicts import eventually, verdict
 from web_driver import Chromium
@@ -39,11 +39,11 @@ def check_answers_announced(browser):
 
 
 # The panels in the order in which the Tab key reaches them, starting at the session's name. Escape and then Tab leave an editor.
-PLACE = """
+DESCRIBE_FOCUS = """
 const at = document.activeElement;
 const place = at.closest("#session-bar, #clock, #tools, #front, #texts, #dock, #side > section, #statusbar, #notice, .splitter");
 return place ? place.id : at.id"""
-IN_EDITOR = "return document.activeElement.closest('.cm-editor') !== null"
+IS_FOCUS_IN_EDITOR = "return document.activeElement.closest('.cm-editor') !== null"
 # In Firefox, a scrollable column is a tab stop of its own, because the arrow keys scroll it.
 SCROLLED = "side"
 SIDE = ["processor", "calls", "watched", "breakpoints", "memory", "ports"]
@@ -57,20 +57,20 @@ def check_tab_key(browser):
     browser.script("document.getElementById('name').focus()")
     seen = []
     stops = 0
-    while stops < 110 and (place := browser.script(PLACE)) in (*ORDER, SCROLLED):
+    while stops < 110 and (place := browser.script(DESCRIBE_FOCUS)) in (*ORDER, SCROLLED):
         if place != SCROLLED and place not in seen[-1:]:
             seen.append(place)
         if place == "statusbar":
             break
-        browser.keys([ESCAPE, TAB] if browser.script(IN_EDITOR) else [TAB], 1, 1)
+        browser.keys([ESCAPE, TAB] if browser.script(IS_FOCUS_IN_EDITOR) else [TAB], 1, 1)
         stops += 1
     verdict("Tab goes through the panels in their order", seen, ORDER)
     verdict("in few stops", stops < 80, True)
     browser.script("document.querySelector('#program-editor .cm-editor').lineEditor.focus()")
-    before = browser.script(TEXT_OF_EDITOR, "#program-editor")
+    before = browser.script(GET_TEXT_OF_EDITOR, "#program-editor")
     browser.keys([ESCAPE, TAB])
-    verdict("Escape and then Tab leaves a text", browser.script(IN_EDITOR), False)
-    verdict("which is as it was", browser.script(TEXT_OF_EDITOR, "#program-editor"), before)
+    verdict("Escape and then Tab leaves a text", browser.script(IS_FOCUS_IN_EDITOR), False)
+    verdict("which is as it was", browser.script(GET_TEXT_OF_EDITOR, "#program-editor"), before)
 
 
 # --- the accessibility tree and colours, through Chromium's driver ---
@@ -104,7 +104,7 @@ def check_contrast(browser, view):
     for scheme in ("light", "dark"):
         browser.command("Emulation.setEmulatedMedia", features=[{"name": "prefers-color-scheme", "value": scheme}])
         browser.until(f"return matchMedia('(prefers-color-scheme: {scheme})').matches", True)
-        verdict(f"{view}: the contrast, {scheme}", browser.script(CONTRAST), [])
+        verdict(f"{view}: the contrast, {scheme}", browser.script(FIND_LOW_CONTRAST), [])
     browser.command("Emulation.setEmulatedMedia", features=[])
 
 
@@ -130,7 +130,7 @@ def check_views(browser):
 
 def check_board(browser):
     step_with_marks(browser)
-    eventually(browser, "the listing is at the counter", AT_COUNTER, True)
+    eventually(browser, "the listing is at the counter", IS_AT_COUNTER, True)
     browser.click_at_rest("#lines-of-program button.next")
     eventually(browser, "a breakpoint is said as pressed", "return document.querySelector('#lines-of-program .next').getAttribute('aria-pressed')", "true")
     verdict("the line that comes next is said as the current one",
@@ -214,7 +214,7 @@ def check_dialogs(browser):
 
 
 # Computes the contrast of two colours as WCAG defines it. A transparent colour is blended with its background.
-CONTRAST = """
+FIND_LOW_CONTRAST = """
 const parts = (text) => (text.match(/[\\d.]+/g) || []).map(Number);
 const over = (text, ground) => {
   const [red, green, blue, alpha = 1] = parts(text);

@@ -7,8 +7,8 @@ import re
 
 from page_module import with_worker_code
 
-# Stores the worker in a variable, so that tests can send messages to FAULTS.
-SHOW_WORKER = """
+# Stores the worker in a variable, so that tests can send messages to INSTALL_FAULTS.
+EXPOSE_WORKER = """
 const made = Worker;
 window.Worker = function (...words) {
   window.benchWorker = new made(...words);
@@ -16,7 +16,7 @@ window.Worker = function (...words) {
 };"""
 
 # In the worker: a fault that is requested by a message occurs at the next call of the module, or immediately.
-FAULTS = """
+INSTALL_FAULTS = """
 (() => {
   const made = WebAssembly.Instance;
   const NO_MEMORY = 90;
@@ -48,7 +48,7 @@ FAULTS = """
   };
 })();"""
 
-FAULT = "window.benchWorker.postMessage({ fault: arguments[0] })"
+CAUSE_FAULT = "window.benchWorker.postMessage({ fault: arguments[0] })"
 
 
 def hash_of(script):

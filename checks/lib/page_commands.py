@@ -5,7 +5,7 @@ import re
 
 from driven import ELEMENT
 from page_access import look_at
-from page_in_browser import (DOWN, ENTER, ESCAPE, READY, STATUS, STEPPED, TAB, TOP, choose_example, open_anew, show_text, stop_time, until_ready)
+from page_in_browser import DOWN, ENTER, ESCAPE, GET_STATUS, IS_READY, STEPPED, TAB, TOP, choose_example, open_anew, show_text, stop_time, until_ready
 from verdicts import eventually, verdict
 from web_driver import Chromium
 
@@ -14,16 +14,16 @@ F1, F5, F8, F9, F10, F11 = "\ue031", "\ue035", "\ue038", "\ue039", "\ue03a", "\u
 # F5 can pause time inside a subroutine or before a call, depending on the timing.
 STEPPED_OVER = re.compile(f"{STEPPED.pattern}|^Returned to [0-9A-F]{{3}}, after ")
 STEPPED_OUT = re.compile("^Returned to |no call is open here")
-OPEN = "const palette = document.getElementById('palette'); return palette !== null && palette.open"
-WORDS = "return [...document.querySelectorAll('#palette-list li .grow')].map((each) => each.textContent)"
-FIRST = "return document.querySelector('#palette-list li').textContent"
-ACTIVE = """
+IS_PALETTE_OPEN = "const palette = document.getElementById('palette'); return palette !== null && palette.open"
+GET_PALETTE_WORDS = "return [...document.querySelectorAll('#palette-list li .grow')].map((each) => each.textContent)"
+GET_FIRST_COMMAND = "return document.querySelector('#palette-list li').textContent"
+GET_ACTIVE_OPTION = """
 const field = document.querySelector('#palette input');
 const option = document.getElementById(field.getAttribute('aria-activedescendant'));
 return option && option.getAttribute('aria-selected') === 'true' ? [...option.parentElement.children].indexOf(option) : -1"""
-FOCUS = "return document.activeElement.id"
-TIP = "const tip = document.getElementById('tooltip'); return tip.hidden ? '' : tip.textContent"
-FRONT = "return document.querySelector('#text-tabs [aria-selected=true]').id"
+GET_FOCUSED_ID = "return document.activeElement.id"
+GET_TOOLTIP = "const tip = document.getElementById('tooltip'); return tip.hidden ? '' : tip.textContent"
+GET_FRONT_TAB = "return document.querySelector('#text-tabs [aria-selected=true]').id"
 # Buttons without a command. They answer, close or choose something in an open dialog, or belong to a field beside them.
 OF_WHAT_IS_OPEN = {
     "menu-button": "opens the menu of files", "view-button": "opens the menu of panels", "cancel": "of work that goes on",
@@ -42,7 +42,7 @@ def chord(browser, *keys):
 
 def open_palette(browser, words=""):
     chord(browser, CONTROL, "k")
-    browser.until(OPEN, True)
+    browser.until(IS_PALETTE_OPEN, True)
     if words:
         browser.type_into("#palette input", words)
 
@@ -51,7 +51,7 @@ def do(browser, words):
     """Executes the first command that the palette finds for a query."""
     open_palette(browser, words)
     browser.keys([ENTER])
-    browser.until(OPEN, False)
+    browser.until(IS_PALETTE_OPEN, False)
 
 
 def check_reach(browser):
@@ -59,7 +59,7 @@ def check_reach(browser):
     choose_example(browser, "calculator")
     stop_time(browser)
     open_palette(browser)
-    listed = set(browser.script(WORDS))
+    listed = set(browser.script(GET_PALETTE_WORDS))
     source = (TOP / "js/words/page_commands.js").read_text()
     table = re.search(r"export const COMMANDS = \{(.*?)\n\};", source, re.S).group(1)
     names = dict(re.findall(r'^  "([\w.]+)": "(.*)",$', table, re.M))
@@ -69,7 +69,7 @@ def check_reach(browser):
     verdict("and each text, panel, theme, speed and example", {"Show Source", "Show RAM", "Theme: dark", "Speed: full speed",
                                                               "Open the example three lamps", "Press C"} - listed, set())
     browser.keys([ESCAPE])
-    browser.until(OPEN, False)
+    browser.until(IS_PALETTE_OPEN, False)
     commands = (TOP / "js/page/commands/command_table.js").read_text()
     bench = (TOP / "page/bench.html").read_text()
     buttons = set(re.findall(r'<button[^>]* id="([\w-]+)"', bench)) 
@@ -84,53 +84,53 @@ def check_listbox(browser):
     """Checks the ARIA combobox pattern: the field keeps the focus and names the active option."""
     browser.script("document.getElementById('name').focus()")
     chord(browser, CONTROL, SHIFT, "p")
-    eventually(browser, "Control, Shift and P open the palette", OPEN, True)
+    eventually(browser, "Control, Shift and P open the palette", IS_PALETTE_OPEN, True)
     roles = "return ['input', 'ul', 'li'].map((each) => document.querySelector(`#palette ${each}`).getAttribute('role'))"
     verdict("its roles", browser.script(roles), ["combobox", "listbox", "option"])
     named = "return ['', ' input', ' ul'].map((each) => document.querySelector(`#palette${each}`).getAttribute('aria-label'))"
     verdict("its names", browser.script(named), ["Commands", "Type a command", "Commands"])
-    verdict("the first one is chosen", browser.script(ACTIVE), 0)
+    verdict("the first one is chosen", browser.script(GET_ACTIVE_OPTION), 0)
     browser.keys([DOWN, DOWN, UP])
-    verdict("arrows choose another one", browser.script(ACTIVE), 1)
+    verdict("arrows choose another one", browser.script(GET_ACTIVE_OPTION), 1)
     browser.keys([UP, UP])
     last = "return document.querySelectorAll('#palette-list li').length - 1"
-    verdict("and go round at the ends", browser.script(ACTIVE), browser.script(last))
+    verdict("and go round at the ends", browser.script(GET_ACTIVE_OPTION), browser.script(last))
     browser.type_into("#palette input", "step ov")
-    eventually(browser, "words find a command, which shows its key", FIRST, "Step overTimeF10")
+    eventually(browser, "words find a command, which shows its key", GET_FIRST_COMMAND, "Step overTimeF10")
     verdict("the field has the focus", browser.script("return document.activeElement.getAttribute('role')"), "combobox")
     browser.type_into("#palette input", " qqq")
-    eventually(browser, "what nothing has is said", FIRST, "Nothing is named step ov qqq")
+    eventually(browser, "what nothing has is said", GET_FIRST_COMMAND, "Nothing is named step ov qqq")
     browser.keys([ESCAPE])
-    eventually(browser, "Escape closes it", OPEN, False)
-    verdict("and the focus is back", browser.script(FOCUS), "name")
+    eventually(browser, "Escape closes it", IS_PALETTE_OPEN, False)
+    verdict("and the focus is back", browser.script(GET_FOCUSED_ID), "name")
     browser.script("document.activeElement.blur()")
 
 
 def check_disabled(browser):
     open_palette(browser, "redo what")
-    verdict("a command that cannot be done says why", browser.script(FIRST), "Redo what was undonenothing was undone")
+    verdict("a command that cannot be done says why", browser.script(GET_FIRST_COMMAND), "Redo what was undonenothing was undone")
     verdict("and is marked", browser.script("return document.querySelector('#palette-list li').getAttribute('aria-disabled')"), "true")
     browser.keys([ENTER])
-    verdict("Enter does nothing", browser.script(OPEN), True)
+    verdict("Enter does nothing", browser.script(IS_PALETTE_OPEN), True)
     browser.keys([ESCAPE])
 
 
 def check_keys(browser):
     """Checks that each key executes its command and that the browser's own action is suppressed."""
     choose_example(browser, "three lamps")
-    browser.until(STATUS, re.compile("^Running"))
+    browser.until(GET_STATUS, re.compile("^Running"))
     browser.script("document.activeElement.blur()")
     browser.keys([F5])
-    eventually(browser, "F5 pauses", STATUS, re.compile("^Paused"))
+    eventually(browser, "F5 pauses", GET_STATUS, re.compile("^Paused"))
     browser.keys([F11])
-    eventually(browser, "F11 steps", STATUS, STEPPED)
-    stepped = browser.script(STATUS)
+    eventually(browser, "F11 steps", GET_STATUS, STEPPED)
+    stepped = browser.script(GET_STATUS)
     chord(browser, CONTROL, F11)
     eventually(browser, "Control and F11 step back", f"return document.getElementById('status').textContent !== {stepped!r}", True)
     browser.keys([F10])
-    eventually(browser, "F10 steps over", STATUS, STEPPED_OVER)
+    eventually(browser, "F10 steps over", GET_STATUS, STEPPED_OVER)
     chord(browser, SHIFT, F11)
-    eventually(browser, "Shift and F11 step out, or say that no call waits for its return", STATUS, STEPPED_OUT)
+    eventually(browser, "Shift and F11 step out, or say that no call waits for its return", GET_STATUS, STEPPED_OUT)
     show_text(browser, "program")
     browser.script("document.querySelector('#program-editor .cm-editor').lineEditor.setCursor({ line: 12, ch: 0 })")
     browser.script("document.activeElement.blur()")
@@ -140,9 +140,9 @@ def check_keys(browser):
     browser.keys([F9])
     eventually(browser, "and clears it", breakpoints, 0)
     browser.keys([F5])
-    eventually(browser, "F5 continues", STATUS, re.compile("^Running"))
+    eventually(browser, "F5 continues", GET_STATUS, re.compile("^Running"))
     browser.keys([F8])
-    eventually(browser, "F8 goes on to pause", STATUS, re.compile("^Paused"))
+    eventually(browser, "F8 goes on to pause", GET_STATUS, re.compile("^Paused"))
     browser.keys([F1])
     eventually(browser, "F1 opens the help", "return document.getElementById('help').hidden", False)
     browser.keys([ESCAPE])
@@ -151,36 +151,36 @@ def check_keys(browser):
 def check_places(browser):
     """Checks Ctrl+P: labels, addresses, lines, texts and examples."""
     chord(browser, CONTROL, "p")
-    eventually(browser, "Control and P open the palette for places", OPEN, True)
+    eventually(browser, "Control and P open the palette for places", IS_PALETTE_OPEN, True)
     verdict("its name", browser.script("return document.getElementById('palette').getAttribute('aria-label')"), "Go to")
     browser.type_into("#palette input", "wiring" + ENTER)
-    eventually(browser, "a text comes to the front", FRONT, "wiring-tab")
+    eventually(browser, "a text comes to the front", GET_FRONT_TAB, "wiring-tab")
     chord(browser, CONTROL, "p")
-    browser.until(OPEN, True)
+    browser.until(IS_PALETTE_OPEN, True)
     browser.type_into("#palette input", ":3" + ENTER)
-    eventually(browser, "a line of the source", FRONT, "program-tab")
+    eventually(browser, "a line of the source", GET_FRONT_TAB, "program-tab")
     line = "return document.querySelector('#program-editor .cm-editor').lineEditor.getCursor().line"
     eventually(browser, "has the caret", line, 2)
     browser.script("document.activeElement.blur()")
     chord(browser, CONTROL, "p")
-    browser.until(OPEN, True)
+    browser.until(IS_PALETTE_OPEN, True)
     browser.type_into("#palette input", "00C" + ENTER)
     eventually(browser, "an address is shown in the listing", "return document.getElementById('lines-of-program').textContent", re.compile("00C"))
     chord(browser, CONTROL, "p")
-    browser.until(OPEN, True)
+    browser.until(IS_PALETTE_OPEN, True)
     browser.type_into("#palette input", ">stop")
     eventually(browser, "> changes to commands", "return document.getElementById('palette').getAttribute('aria-label')", "Commands")
     browser.keys([ESCAPE])
 
 
-SHOWN = "return isShown(document.getElementById('watched'))"
-KEY_ROWS = "return [...document.querySelectorAll('#help-sections tr')].map((each) => each.textContent).join('|')"
+IS_WATCH_SHOWN = "return isShown(document.getElementById('watched'))"
+GET_KEY_ROWS = "return [...document.querySelectorAll('#help-sections tr')].map((each) => each.textContent).join('|')"
 
 
 def check_acts(browser):
     """Checks one command of each kind through the palette."""
     do(browser, "show tests")
-    eventually(browser, "a text is shown", FRONT, "tests-tab")
+    eventually(browser, "a text is shown", GET_FRONT_TAB, "tests-tab")
     size = "return document.getElementById('texts').style.getPropertyValue('--text-size')"
     before = browser.script(size)
     do(browser, "larger text")
@@ -189,44 +189,44 @@ def check_acts(browser):
     do(browser, "find in the text")
     eventually(browser, "something is done in the text in front", "return document.activeElement.closest('#tests-editor') !== null", True)
     do(browser, "add a watch")
-    eventually(browser, "a field has the caret", FOCUS, "watched-field")
+    eventually(browser, "a field has the caret", GET_FOCUSED_ID, "watched-field")
     do(browser, "speed 1/100")
     speed = browser.script("return document.getElementById('speed').value")
     verdict("a speed is chosen", speed in ("hundredth", "thousandth"), True)
     do(browser, "speed real time")
     do(browser, "close or reopen watch")
-    eventually(browser, "a panel is closed", SHOWN, False)
+    eventually(browser, "a panel is closed", IS_WATCH_SHOWN, False)
     do(browser, "close or reopen watch")
-    eventually(browser, "and opened again", SHOWN, True)
+    eventually(browser, "and opened again", IS_WATCH_SHOWN, True)
     do(browser, "list of keys")
-    eventually(browser, "the help lists the keys", KEY_ROWS, re.compile(r"F5, F8Continue\|F10Step over.*Ctrl\+Shift\+P, Ctrl\+KShow all commands"))
+    eventually(browser, "the help lists the keys", GET_KEY_ROWS, re.compile(r"F5, F8Continue\|F10Step over.*Ctrl\+Shift\+P, Ctrl\+KShow all commands"))
     browser.keys([ESCAPE])
     do(browser, "open the example stopwatch")
     eventually(browser, "an example is opened", "return document.title", re.compile("^stopwatch"))
     stop_time(browser)
 
 
-PAPER = "return getComputedStyle(document.body).backgroundColor"
+GET_PAGE_COLOUR = "return getComputedStyle(document.body).backgroundColor"
 
 
 def check_theme(browser):
     """Checks that a theme that the user chose stays after a reload, and that the theme follows the system by default."""
-    light = browser.script(PAPER)
+    light = browser.script(GET_PAGE_COLOUR)
     do(browser, "theme dark")
-    eventually(browser, "the theme is dark", f"{PAPER} !== {light!r}", True)
-    dark = browser.script(PAPER)
+    eventually(browser, "the theme is dark", f"{GET_PAGE_COLOUR} !== {light!r}", True)
+    dark = browser.script(GET_PAGE_COLOUR)
     scheme = "return getComputedStyle(document.documentElement).colorScheme"
     verdict("so are the browser's own parts", browser.script(scheme), "dark")
     browser.reload()
     until_ready(browser)
-    eventually(browser, "it is kept", PAPER, dark)
+    eventually(browser, "it is kept", GET_PAGE_COLOUR, dark)
     browser.command("Emulation.setEmulatedMedia", features=[{"name": "prefers-color-scheme", "value": "dark"}])
     do(browser, "theme light")
-    eventually(browser, "the theme is light where the system is dark", PAPER, light)
+    eventually(browser, "the theme is light where the system is dark", GET_PAGE_COLOUR, light)
     do(browser, "theme system")
-    eventually(browser, "as the system", PAPER, dark)
+    eventually(browser, "as the system", GET_PAGE_COLOUR, dark)
     browser.command("Emulation.setEmulatedMedia", features=[])
-    eventually(browser, "it follows the system", PAPER, light)
+    eventually(browser, "it follows the system", GET_PAGE_COLOUR, light)
 
 
 HOVER = {"type": "pointer", "id": "mouse", "parameters": {"pointerType": "mouse"}}
@@ -236,54 +236,54 @@ def check_tooltips(browser):
     """Checks a button's tooltip with its key: on focus, under a resting pointer, and on a long touch."""
     browser.script("document.getElementById('back-instruction').focus()")
     browser.keys([TAB, TAB])
-    eventually(browser, "it is shown where the focus is", TIP, "Step over: one instruction; a subroutine that it calls runs whole F10")
+    eventually(browser, "it is shown where the focus is", GET_TOOLTIP, "Step over: one instruction; a subroutine that it calls runs whole F10")
     browser.keys([ESCAPE])
-    eventually(browser, "Escape takes it away", TIP, "")
+    eventually(browser, "Escape takes it away", GET_TOOLTIP, "")
     browser.script("document.activeElement.blur()")
     over = {"type": "pointerMove", "duration": 0, "x": 0, "y": 0, "origin": {ELEMENT: browser.find("#step")}}
     browser.actions({**HOVER, "actions": [over]})
-    eventually(browser, "where the pointer rests", TIP, re.compile("^Step into.* F11$"))
+    eventually(browser, "where the pointer rests", GET_TOOLTIP, re.compile("^Step into.* F11$"))
     browser.actions({**HOVER, "actions": [{"type": "pointerMove", "duration": 0, "x": 300, "y": 300}]})
-    eventually(browser, "not once it has gone", TIP, "")
-    before = browser.script(STATUS)
+    eventually(browser, "not once it has gone", GET_TOOLTIP, "")
+    before = browser.script(GET_STATUS)
     browser.touch("#out", 900)
-    eventually(browser, "and where a finger stays", TIP, re.compile("^Step out.* Shift\\+F11$"))
-    verdict("which does nothing else", browser.script(STATUS), before)
-    eventually(browser, "it leaves after the finger", TIP, "")
+    eventually(browser, "and where a finger stays", GET_TOOLTIP, re.compile("^Step out.* Shift\\+F11$"))
+    verdict("which does nothing else", browser.script(GET_STATUS), before)
+    eventually(browser, "it leaves after the finger", GET_TOOLTIP, "")
 
 
-PRIMARY = """
+GET_PRIMARY_BUTTONS = """
 return [...document.querySelectorAll("#toolbar button")].filter((each) => isShown(each)
   && getComputedStyle(each).backgroundColor === getComputedStyle(document.getElementById("run")).backgroundColor).length"""
-TOOLS = """
+MEASURE_TOOLS = """
 return [...document.querySelectorAll("#toolbar button")].filter((each) => isShown(each)).map((each) => {
   const { width, height } = each.getBoundingClientRect();
   return { id: each.id, name: each.getAttribute("aria-label") || each.textContent, icons: each.querySelectorAll("svg.icon").length,
     size: Math.min(width, height) };
 })"""
-MENU = "return document.getElementById('menu-button').getAttribute('aria-expanded')"
+IS_MENU_EXPANDED = "return document.getElementById('menu-button').getAttribute('aria-expanded')"
 
 
 def check_toolbar(browser):
     """Checks the toolbar. It is one row of 44 pixels. Each button has an icon, a name and at least 24 pixels. Exactly one button is filled. The
     keyboard opens the menus."""
     verdict("the toolbar is one row", browser.script("return document.getElementById('toolbar').offsetHeight"), 44)
-    tools = browser.script(TOOLS)
+    tools = browser.script(MEASURE_TOOLS)
     verdict("each button has an icon", [each["id"] for each in tools if each["icons"] == 0 and each["id"] != "test"], [])
     verdict("and a name", [each["id"] for each in tools if not each["name"].strip()], [])
     verdict("and room for a finger's tip", [each["id"] for each in tools if each["size"] < 24], [])
-    verdict("exactly one button is filled", browser.script(PRIMARY), 1)
+    verdict("exactly one button is filled", browser.script(GET_PRIMARY_BUTTONS), 1)
     browser.script("document.getElementById('menu-button').focus()")
     browser.keys([ENTER])
-    eventually(browser, "Enter opens the menu of files", MENU, "true")
-    verdict("at its first item", browser.script(FOCUS), "open-button")
+    eventually(browser, "Enter opens the menu of files", IS_MENU_EXPANDED, "true")
+    verdict("at its first item", browser.script(GET_FOCUSED_ID), "open-button")
     roles = "return [...document.querySelectorAll('#menu button')].map((each) => each.getAttribute('role')).join(' ')"
     verdict("its items' roles", set(browser.script(roles).split()), {"menuitem"})
     browser.keys([UP])
-    verdict("the arrow goes round", browser.script(FOCUS), "projects-button")
+    verdict("the arrow goes round", browser.script(GET_FOCUSED_ID), "projects-button")
     browser.keys([ESCAPE])
-    eventually(browser, "Escape closes it", MENU, "false")
-    verdict("and the focus is at its button", browser.script(FOCUS), "menu-button")
+    eventually(browser, "Escape closes it", IS_MENU_EXPANDED, "false")
+    verdict("and the focus is at its button", browser.script(GET_FOCUSED_ID), "menu-button")
     browser.script("document.activeElement.blur()")
     browser.click("#theme-button")
     checked = "return [...document.querySelectorAll('#theme-menu button')].map((each) => each.getAttribute('aria-checked'))"
@@ -308,8 +308,8 @@ def check_looks(browser):
     browser.command("Accessibility.disable")
 
 
-CARDS = "return [...document.querySelectorAll('#welcome b')].map((each) => each.textContent)"
-LIT = "return document.querySelectorAll('.bulb.lit').length"
+GET_WELCOME_CARDS = "return [...document.querySelectorAll('#welcome b')].map((each) => each.textContent)"
+COUNT_LAMPS_LIT = "return document.querySelectorAll('.bulb.lit').length"
 
 
 def check_first_visit(browser, page):
@@ -318,28 +318,28 @@ def check_first_visit(browser, page):
     browser.script("localStorage.clear()")
     browser.go("about:blank")
     browser.go(page.as_uri())
-    eventually(browser, "the page is ready", READY, True, 90)
+    eventually(browser, "the page is ready", IS_READY, True, 90)
     if browser.script("return indexedDB.databases === undefined"):
         return
     do_without_cards = "return document.getElementById('welcome').open"
     if not browser.script(do_without_cards):
         # Earlier checks have stored sessions, so a command must show the cards.
         do(browser, "first steps")
-    cards = browser.script(CARDS)
+    cards = browser.script(GET_WELCOME_CARDS)
     verdict("six cards", len(cards), 6)
     verdict("the first of them", cards[0], "Light a lamp (3 clicks)")
     browser.click("#welcome li:nth-child(1) button")
     eventually(browser, "the first program begins", "return document.getElementById('tour').hidden", False)
-    eventually(browser, "the tour points at the button that inserts its program", RING, "tour-put")
+    eventually(browser, "the tour points at the button that inserts its program", DESCRIBE_TOUR_RING, "tour-put")
     browser.click("#tour-put")
-    eventually(browser, "then at the one that assembles it", RING, "send")
+    eventually(browser, "then at the one that assembles it", DESCRIBE_TOUR_RING, "send")
     browser.click("#program-editor .send")
-    eventually(browser, "after three clicks a lamp is lit", LIT, 1)
-    eventually(browser, "then at what goes on", RING, "tour-next")
+    eventually(browser, "after three clicks a lamp is lit", COUNT_LAMPS_LIT, 1)
+    eventually(browser, "then at what goes on", DESCRIBE_TOUR_RING, "tour-next")
     for number in range(4):
         browser.script("document.getElementById('tour-next').click()")
     browser.click("#tour-put")
-    eventually(browser, "what it points at comes into view", SEEN_RAM, True)
+    eventually(browser, "what it points at comes into view", MEASURE_RAM_IN_RING, True)
     browser.click("#tour-close")
     eventually(browser, "without the tour there is no ring", "return document.getElementById('tour-ring').hidden", True)
     browser.go("about:blank")
@@ -349,38 +349,38 @@ def check_first_visit(browser, page):
 
 
 # The element inside the tour's ring.
-RING = """
+DESCRIBE_TOUR_RING = """
 const ring = document.getElementById('tour-ring');
 if (ring.hidden) return '';
 const box = ring.getBoundingClientRect();
 const within = document.elementFromPoint(box.left + box.width / 2, box.top + box.height / 2);
 const button = within && within.closest('button');
 return button ? button.id || button.className : ''"""
-SEEN_RAM = """
+MEASURE_RAM_IN_RING = """
 const ring = document.getElementById('tour-ring').getBoundingClientRect();
 const cell = document.querySelector('#banks .ram button').getBoundingClientRect();
 return Math.abs(ring.left + 4 - cell.left) < 2 && Math.abs(ring.top + 4 - cell.top) < 2 && cell.bottom <= innerHeight && cell.top >= 0"""
-TO_DO = "return [...document.querySelectorAll('#examples li .grow')].filter((each) => each.textContent.split('. ').length < 2).length"
+COUNT_EXAMPLES_TO_DO = "return [...document.querySelectorAll('#examples li .grow')].filter((each) => each.textContent.split('. ').length < 2).length"
 
 
-EMPTY = "return isShown(document.querySelector('#watched-list + .empty'))"
+IS_EMPTY_NOTE_SHOWN = "return isShown(document.querySelector('#watched-list + .empty'))"
 
 
 def check_empty(browser):
     """Checks that an empty panel has a button that adds to it, and that the button disappears when the panel has contents."""
     choose_example(browser, "three lamps")
-    eventually(browser, "an empty watch says what it is for", EMPTY, True)
+    eventually(browser, "an empty watch says what it is for", IS_EMPTY_NOTE_SHOWN, True)
     browser.click("#watched-list + .empty button")
-    eventually(browser, "and its button enters the field", FOCUS, "watched-field")
+    eventually(browser, "and its button enters the field", GET_FOCUSED_ID, "watched-field")
     browser.type_into("#watched-field", "R5" + ENTER)
-    eventually(browser, "which fills it", EMPTY, False)
+    eventually(browser, "which fills it", IS_EMPTY_NOTE_SHOWN, False)
     words = "return [...document.querySelectorAll('.empty')].filter((each) => each.querySelectorAll('button').length !== 1).length"
     verdict("each empty panel offers one action", browser.script(words), 0)
 
 
 def check_examples(browser):
     browser.click("#sessions-button")
-    eventually(browser, "each example says what to do with it", TO_DO, 0)
+    eventually(browser, "each example says what to do with it", COUNT_EXAMPLES_TO_DO, 0)
     first = "return document.querySelector('#examples li:nth-child(2) button').getAttribute('aria-label')"
     verdict("the short ones stand first", browser.script(first), "new session: three lamps")
     browser.click("#close-sessions")

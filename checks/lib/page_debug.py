@@ -7,8 +7,8 @@ An earlier version moved breakpoints of this program away from their lines. The 
 import re
 import time
 
-from page_in_browser import ENTER, ESCAPE, NOTICE, TAB, STATUS, WHOLE_STATUS, choose_example, lines_answered, until_ready
-from page_names import CLICK_MARGIN, MARGIN
+from page_in_browser import ENTER, ESCAPE, GET_NOTICE, GET_STATUS, GET_WHOLE_STATUS, TAB, choose_example, lines_answered, until_ready
+from page_names import CLICK_MARGIN, GET_BREAKPOINT_LINES
 from page_texts import UNDO
 from verdicts import eventually, verdict
 
@@ -31,28 +31,28 @@ wait:   INC R9
 LINES = PROGRAM.split("\n")
 JUN, WMP, INC = (LINES.index(next(line for line in LINES if text in line)) + 1 for text in ("JUN loop", "WMP", "INC R9"))
 
-SHOW_PROGRAM = """
+SET_PROGRAM = """
 document.querySelector("#program-editor .cm-editor").lineEditor.setValue(arguments[0])"""
 # Inserts a line before another line, like an edit from the keyboard.
-INSERT = """
+INSERT_LINE = """
 const editor = document.querySelector("#program-editor .cm-editor").lineEditor;
 editor.replaceRange(`        ${arguments[1]}\\n`, { line: arguments[0] - 1, ch: 0 }, undefined, "paste")"""
-LISTED = """
+GET_BREAKPOINTS = """
 return [...document.querySelectorAll("#breakpoint-list li")].map((row) =>
   `${row.querySelector("i").textContent} ${row.querySelector(".place").textContent}`).join("; ")"""
-HITS = "return [...document.querySelectorAll('#breakpoint-list .hits')].map((each) => each.textContent).join('; ')"
-FAULTS = "return [...document.querySelectorAll('#breakpoint-list .fault')].map((each) => each.textContent).join('')"
-NOTES = "return [...document.querySelectorAll('#breakpoint-notes p')].map((each) => each.textContent).slice(0, 3).join('; ')"
-WORDS = 'return [...document.querySelectorAll("#breakpoint-list .words")].map((each) => each.textContent).join("; ")'
+GET_HITS = "return [...document.querySelectorAll('#breakpoint-list .hits')].map((each) => each.textContent).join('; ')"
+GET_FAULTS = "return [...document.querySelectorAll('#breakpoint-list .fault')].map((each) => each.textContent).join('')"
+GET_NOTES = "return [...document.querySelectorAll('#breakpoint-notes p')].map((each) => each.textContent).slice(0, 3).join('; ')"
+GET_BREAKPOINT_WORDS = 'return [...document.querySelectorAll("#breakpoint-list .words")].map((each) => each.textContent).join("; ")'
 # The source lines that have a breakpoint in the margin, including lines that are out of view.
-LINES_IN_MARGIN = """
+GET_LINES_IN_MARGIN = """
 return document.querySelector("#program-editor .cm-editor").lineEditor.marksIn("breakpoints").map((line) => line + 1).join(" ")"""
 UNDO_EDIT = "document.querySelector('#program-editor .cm-editor').lineEditor.undo()"
 # The form below a line that edits its breakpoint: its error and its contents.
-ROW_FAULT = "const shown = document.querySelector('.breakpoint-row .fault'); return shown ? shown.textContent : 'no row'"
-ROW_VALUES = "return [...document.querySelectorAll('.breakpoint-row input')].map((each) => each.value).join('; ')"
+GET_ROW_FAULT = "const shown = document.querySelector('.breakpoint-row .fault'); return shown ? shown.textContent : 'no row'"
+GET_ROW_VALUES = "return [...document.querySelectorAll('.breakpoint-row input')].map((each) => each.value).join('; ')"
 # Fills in a field of the first breakpoint in the list: its condition, hit count or log message.
-FILL = """
+FILL_ROW = """
 document.querySelector("#breakpoint-list .edit").click();
 const row = document.querySelector(".breakpoint-row");
 row.querySelectorAll("input")[arguments[0]].value = arguments[1];
@@ -67,24 +67,24 @@ for (const words of arguments) {
 }
 document.getElementById("run").click()"""
 # Presses Shift+F9 at a source line.
-ASK_FOR_WORDS = """
+OPEN_CONDITION_ROW = """
 const editor = document.querySelector("#program-editor .cm-editor").lineEditor;
 editor.setCursor({ line: arguments[0], ch: 0 });
 editor.getInputField().dispatchEvent(new KeyboardEvent("keydown", { key: "F9", keyCode: 120, shiftKey: true, bubbles: true }))"""
-ASKED = "const row = document.activeElement.closest('.breakpoint-row'); return row ? row.previousElementSibling.textContent : ''"
+GET_LINE_ABOVE_FOCUSED_ROW = "const row = document.activeElement.closest('.breakpoint-row'); return row ? row.previousElementSibling.textContent : ''"
 ROW_LINE = re.compile("INC R9")
 # The line above the breakpoint form.
-ROW_AFTER = "const row = document.querySelector('.breakpoint-row'); return row ? row.previousElementSibling.textContent : ''"
-IN_SOURCE = "return document.activeElement.closest('#program-editor .cm-content') !== null"
-FOCUSED = "return document.activeElement.textContent"
+GET_LINE_ABOVE_ROW = "const row = document.querySelector('.breakpoint-row'); return row ? row.previousElementSibling.textContent : ''"
+IS_FOCUS_IN_SOURCE = "return document.activeElement.closest('#program-editor .cm-content') !== null"
+GET_FOCUSED_TEXT = "return document.activeElement.textContent"
 # Clicks the margin of a line with the secondary mouse button.
-MARGIN_MENU = """
+OPEN_MARGIN_MENU = """
 const number = [...document.querySelectorAll("#program-editor .cm-lineNumbers .cm-gutterElement")].find((each) => each.textContent === String(arguments[0]));
 const { x, y } = number.getBoundingClientRect();
 number.dispatchEvent(new MouseEvent("contextmenu", { bubbles: true, cancelable: true, clientX: x + 4, clientY: y + 4 }))"""
 BACKSPACE, UP, DOWN, SHIFT, F9, F10 = "\ue003", "\ue013", "\ue015", "\ue008", "\ue039", "\ue03a"
-RUN_WORD = "return document.getElementById('run').textContent"
-POPUP = "return document.querySelector('.popup-message').textContent"
+GET_RUN_WORD = "return document.getElementById('run').textContent"
+GET_POPUP = "return document.querySelector('.popup-message').textContent"
 SEND = "#program-editor .send"
 
 
@@ -93,52 +93,52 @@ def begin(browser):
     choose_example(browser, "empty bench")
     browser.click("#first-board")
     browser.until("return document.querySelectorAll('#keys button').length", 2)
-    browser.script(SHOW_PROGRAM, PROGRAM)
+    browser.script(SET_PROGRAM, PROGRAM)
     browser.click(SEND)
-    browser.until(STATUS, re.compile("^Running"))
+    browser.until(GET_STATUS, re.compile("^Running"))
     browser.click("#run")
-    browser.until(RUN_WORD, "Continue")
+    browser.until(GET_RUN_WORD, "Continue")
 
 
 def check_holds(browser):
     """Checks that a breakpoint stays at its line when one or two bytes are inserted before it, and that time stops there after each assembly."""
     browser.script(CLICK_MARGIN, JUN)
-    eventually(browser, "a breakpoint in the margin", MARGIN, str(JUN))
-    browser.script(INSERT, 2, "NOP")
-    eventually(browser, "it moves with its line", MARGIN, str(JUN + 1))
+    eventually(browser, "a breakpoint in the margin", GET_BREAKPOINT_LINES, str(JUN))
+    browser.script(INSERT_LINE, 2, "NOP")
+    eventually(browser, "it moves with its line", GET_BREAKPOINT_LINES, str(JUN + 1))
     browser.click(SEND)
-    eventually(browser, "assembled anew it stops there, reported by name and line", WHOLE_STATUS,
+    eventually(browser, "assembled anew it stops there, reported by name and line", GET_WHOLE_STATUS,
                f"Paused at 010 (loop + 7, line {JUN + 1}), at a breakpoint.")
     verdict("and is no other one", lines_answered(browser, "breaks"), re.compile("breaks 010$"))
     browser.script(CLICK_MARGIN, WMP + 1)
     browser.script(CLICK_MARGIN, JUN + 1)
-    eventually(browser, "another one in its place", MARGIN, str(WMP + 1))
-    browser.script(INSERT, 3, "FIM P2, 0")
+    eventually(browser, "another one in its place", GET_BREAKPOINT_LINES, str(WMP + 1))
+    browser.script(INSERT_LINE, 3, "FIM P2, 0")
     browser.click(SEND)
-    eventually(browser, "two bytes more before it: it stays at WMP", WHOLE_STATUS, f"Paused at 00F (loop + 4, line {WMP + 2}), at a breakpoint.")
-    verdict("the list has it by name and line", browser.script(LISTED), f"\u25cf 00F (loop + 4, line {WMP + 2})")
-    browser.script(INSERT, 1, "")
-    eventually(browser, "while the source differs from ROM its mark stays", MARGIN, str(WMP + 3))
+    eventually(browser, "two bytes more before it: it stays at WMP", GET_WHOLE_STATUS, f"Paused at 00F (loop + 4, line {WMP + 2}), at a breakpoint.")
+    verdict("the list has it by name and line", browser.script(GET_BREAKPOINTS), f"\u25cf 00F (loop + 4, line {WMP + 2})")
+    browser.script(INSERT_LINE, 1, "")
+    eventually(browser, "while the source differs from ROM its mark stays", GET_BREAKPOINT_LINES, str(WMP + 3))
     browser.script(UNDO_EDIT)
-    eventually(browser, "undone it is where it was", MARGIN, str(WMP + 2))
+    eventually(browser, "undone it is where it was", GET_BREAKPOINT_LINES, str(WMP + 2))
 
 
 def check_no_instruction(browser):
     """Checks that a breakpoint at a line without bytes, or inside an instruction, moves to the next instruction, and that a message says so."""
     begin(browser)
-    browser.script(INSERT, JUN, "; what comes next")
+    browser.script(INSERT_LINE, JUN, "; what comes next")
     browser.click(SEND)
-    browser.until(STATUS, re.compile("^Running"))
+    browser.until(GET_STATUS, re.compile("^Running"))
     browser.script(CLICK_MARGIN, JUN)
-    eventually(browser, "a line without bytes", POPUP,
+    eventually(browser, "a line without bytes", GET_POPUP,
                f"Line {JUN} puts no bytes into ROM: its breakpoint is at the next instruction, line {JUN + 1}.")
-    eventually(browser, "it is at the next instruction", MARGIN, str(JUN + 1))
-    eventually(browser, "which stops the time that runs", STATUS, "Paused at 00F, at a breakpoint.")
+    eventually(browser, "it is at the next instruction", GET_BREAKPOINT_LINES, str(JUN + 1))
+    eventually(browser, "which stops the time that runs", GET_STATUS, "Paused at 00F, at a breakpoint.")
     browser.click("#breakpoint-list .bar button[title='removes it']")
-    eventually(browser, "it is taken away in the list", MARGIN, "")
+    eventually(browser, "it is taken away in the list", GET_BREAKPOINT_LINES, "")
     lines_answered(browser, "break 0x010")
-    eventually(browser, "one inside an instruction goes to the next one", MARGIN, str(JUN + 2))
-    verdict("and says so", browser.script(POPUP),
+    eventually(browser, "one inside an instruction goes to the next one", GET_BREAKPOINT_LINES, str(JUN + 2))
+    verdict("and says so", browser.script(GET_POPUP),
             f"010 is inside the instruction of line {JUN + 1}: its breakpoint is at the next one, line {JUN + 2}.")
     eventually(browser, "in the bench, too", "return [...document.querySelectorAll('#breakpoint-list .place')].map((each) => each.textContent).join()",
                f"011 (wait, line {JUN + 2})")
@@ -147,60 +147,60 @@ def check_no_instruction(browser):
 def check_condition(browser):
     """Checks a condition, a hit count, a log message, a breakpoint with an error, and a disabled breakpoint."""
     begin(browser)
-    browser.script(ASK_FOR_WORDS, INC - 1)
-    eventually(browser, "Shift and F9 sets one, and the caret is in its condition, below the line", ASKED, ROW_LINE)
-    verdict("at its line", browser.script(MARGIN), str(INC))
+    browser.script(OPEN_CONDITION_ROW, INC - 1)
+    eventually(browser, "Shift and F9 sets one, and the caret is in its condition, below the line", GET_LINE_ABOVE_FOCUSED_ROW, ROW_LINE)
+    verdict("at its line", browser.script(GET_BREAKPOINT_LINES), str(INC))
     browser.keys([*"r9 = 9", ENTER])
-    eventually(browser, "one with a condition has a mark of its own", LISTED, re.compile("^\u25c6 "))
+    eventually(browser, "one with a condition has a mark of its own", GET_BREAKPOINTS, re.compile("^\u25c6 "))
     browser.click("#run")
-    eventually(browser, "it stops where its condition holds", STATUS, "Paused at 011, at a breakpoint, when r9 = 9.")
+    eventually(browser, "it stops where its condition holds", GET_STATUS, "Paused at 011, at a breakpoint, when r9 = 9.")
     verdict("as the bench says", lines_answered(browser, "regs"), re.compile(" r .{9}9.{6} "))
     check_back(browser)
     verdict("it is none of the session's file", lines_answered(browser, "breaks"), re.compile("breaks -$"))
     check_typed(browser)
-    browser.script(FILL, CONDITION, "r44 = 9")
-    eventually(browser, "a condition that cannot be read says why, in its place", FAULTS,
+    browser.script(FILL_ROW, CONDITION, "r44 = 9")
+    eventually(browser, "a condition that cannot be read says why, in its place", GET_FAULTS,
                "It stops every time, because of an error: r44: no such place; the registers are r0 to r15 (column 1).")
     browser.click("#run")
-    eventually(browser, "and stops every time", STATUS,
+    eventually(browser, "and stops every time", GET_STATUS,
                "Paused at 011, at a breakpoint that has an error, r44: no such place; the registers are r0 to r15 (column 1).")
-    browser.script(FILL, CONDITION, "R9 == 3 || (r9 >= 0xF && lamp 1 on)")
-    eventually(browser, "once it is mended it is as any other", FAULTS, "")
-    browser.script(FILL, CONDITION, "rom3 in 1")
-    eventually(browser, "one that names what the board lacks", FAULTS,
+    browser.script(FILL_ROW, CONDITION, "R9 == 3 || (r9 >= 0xF && lamp 1 on)")
+    eventually(browser, "once it is mended it is as any other", GET_FAULTS, "")
+    browser.script(FILL_ROW, CONDITION, "rom3 in 1")
+    eventually(browser, "one that names what the board lacks", GET_FAULTS,
                "It stops every time, because of an error: the board has no ROM 3 (column 1).")
     browser.script(CHANGE_AND_RUN, "r9 = 7", "", "r9 = 5")
-    eventually(browser, "a run right after a change goes by the new condition", STATUS, "Paused at 011, at a breakpoint, when r9 = 5.")
-    browser.script(FILL, CONDITION, "")
-    eventually(browser, "none: it is a plain one again", LISTED, re.compile("^\u25cf "))
+    eventually(browser, "a run right after a change goes by the new condition", GET_STATUS, "Paused at 011, at a breakpoint, when r9 = 5.")
+    browser.script(FILL_ROW, CONDITION, "")
+    eventually(browser, "none: it is a plain one again", GET_BREAKPOINTS, re.compile("^\u25cf "))
     browser.click("#breakpoints-hits")
-    browser.script(FILL, FROM, "50")
+    browser.script(FILL_ROW, FROM, "50")
     browser.click("#reset")
-    browser.until(STATUS, re.compile("^The board was reset"))
+    browser.until(GET_STATUS, re.compile("^The board was reset"))
     browser.click("#run")
-    eventually(browser, "from the fiftieth hit on", HITS, "50 hits")
-    eventually(browser, "it stops", STATUS, "Paused at 011, at a breakpoint, at hit 50.")
+    eventually(browser, "from the fiftieth hit on", GET_HITS, "50 hits")
+    eventually(browser, "it stops", GET_STATUS, "Paused at 011, at a breakpoint, at hit 50.")
     verdict("R9 was counted on 49 times", lines_answered(browser, "regs"), re.compile(" r .{9}1.{6} "))
-    browser.script(FILL, FROM, "")
-    browser.script(FILL, NOTE, "R9 is {r9}, {lamps}")
-    eventually(browser, "one with a note has a mark of its own", LISTED, re.compile("^\u25b8 "))
+    browser.script(FILL_ROW, FROM, "")
+    browser.script(FILL_ROW, NOTE, "R9 is {r9}, {lamps}")
+    eventually(browser, "one with a note has a mark of its own", GET_BREAKPOINTS, re.compile("^\u25b8 "))
     browser.click("#reset")
-    browser.until(STATUS, re.compile("^The board was reset"))
+    browser.until(GET_STATUS, re.compile("^The board was reset"))
     browser.click("#run")
-    eventually(browser, "the note is logged in place of a stop", NOTES, re.compile(r"^011 \(wait, line \d+\) R9 is [0-9A-F], [*.]{4}; "))
-    verdict("time runs", browser.script(RUN_WORD), "Pause")
+    eventually(browser, "the note is logged in place of a stop", GET_NOTES, re.compile(r"^011 \(wait, line \d+\) R9 is [0-9A-F], [*.]{4}; "))
+    verdict("time runs", browser.script(GET_RUN_WORD), "Pause")
     browser.click("#breakpoints-off")
-    eventually(browser, "switched off it is kept", LISTED, re.compile("^\u25cb "))
+    eventually(browser, "switched off it is kept", GET_BREAKPOINTS, re.compile("^\u25cb "))
     browser.click("#run")
-    browser.until(RUN_WORD, "Continue")
+    browser.until(GET_RUN_WORD, "Continue")
 
 
 def check_typed(browser):
     """Checks that a typed run also stops at a breakpoint, with a message."""
-    browser.script(FILL, CONDITION, "r9 = 9")
+    browser.script(FILL_ROW, CONDITION, "r9 = 9")
     lines_answered(browser, "reset")
     verdict("a line's run ends where the condition holds", lines_answered(browser, "run 100000"), re.compile(r"run (\d+)ok \d+ ran \1 end$"))
-    eventually(browser, "and the status says so", WHOLE_STATUS,
+    eventually(browser, "and the status says so", GET_WHOLE_STATUS,
                "Paused at 011 (wait, line 14), at a breakpoint, when r9 = 9. The line run 100000 ended there.")
     verdict("the bench stands there", lines_answered(browser, "regs"), re.compile(" r .{9}9.{6} "))
 
@@ -211,143 +211,143 @@ def check_back(browser):
     for cycles in (150, 26, 77):
         lines_answered(browser, f"run {cycles}")
     browser.click("#back-breakpoint")
-    eventually(browser, "back to the arrival where its condition holds", STATUS,
+    eventually(browser, "back to the arrival where its condition holds", GET_STATUS,
                re.compile(r"^Back at 011, 77 cycles, .* earlier, at a breakpoint, when r9 = 9\.$"))
     verdict("R9 is what it was", lines_answered(browser, "regs"), re.compile(" r .{9}9.{6} "))
     browser.click("#forward")
-    browser.until(STATUS, re.compile("^Forward again"))
+    browser.until(GET_STATUS, re.compile("^Forward again"))
     browser.click("#back-breakpoint")
-    browser.until(STATUS, re.compile("at a breakpoint, when r9 = 9"))
+    browser.until(GET_STATUS, re.compile("at a breakpoint, when r9 = 9"))
     browser.click("#back-breakpoint")
-    eventually(browser, "and to the one before it", STATUS, re.compile("^Back at 011, 176 cycles, "))
-    browser.script(FILL, CONDITION, "r9 = 9 and r9 = 8")
+    eventually(browser, "and to the one before it", GET_STATUS, re.compile("^Back at 011, 176 cycles, "))
+    browser.script(FILL_ROW, CONDITION, "r9 = 9 and r9 = 8")
     browser.click("#back-breakpoint")
-    eventually(browser, "there is none where it never holds", STATUS,
+    eventually(browser, "there is none where it never holds", GET_STATUS,
                re.compile("^Back at ..., .* at the beginning of the remembered past: no breakpoint was passed since then"))
     browser.click("#forward")
-    eventually(browser, "and forward again", STATUS, re.compile("^Forward again to 011"))
+    eventually(browser, "and forward again", GET_STATUS, re.compile("^Forward again to 011"))
 
 
 def check_kept(browser):
     """Checks that a reload keeps all breakpoints with their details."""
-    listed = browser.script(LISTED)
-    browser.script(FILL, CONDITION, "at wait")
+    listed = browser.script(GET_BREAKPOINTS)
+    browser.script(FILL_ROW, CONDITION, "at wait")
     time.sleep(0.3)
     browser.reload()
     until_ready(browser)
-    eventually(browser, "a reload keeps the list", LISTED, listed)
-    verdict("and their words", browser.script(WORDS), 'if at wait: logs "R9 is {r9}, {lamps}" and continues')
+    eventually(browser, "a reload keeps the list", GET_BREAKPOINTS, listed)
+    verdict("and their words", browser.script(GET_BREAKPOINT_WORDS), 'if at wait: logs "R9 is {r9}, {lamps}" and continues')
     browser.click("#breakpoint-list .edit")
     browser.keys([*"r9 ="])
-    browser.until(ROW_VALUES, "r9 =; ; R9 is {r9}, {lamps}")
+    browser.until(GET_ROW_VALUES, "r9 =; ; R9 is {r9}, {lamps}")
     browser.reload()
     until_ready(browser)
-    eventually(browser, "and a condition that is typed and not entered", WORDS, re.compile('^if r9 =: logs "R9 is'))
+    eventually(browser, "and a condition that is typed and not entered", GET_BREAKPOINT_WORDS, re.compile('^if r9 =: logs "R9 is'))
     browser.click("#breakpoints-remove")
-    eventually(browser, "all are taken away", MARGIN, "")
+    eventually(browser, "all are taken away", GET_BREAKPOINT_LINES, "")
 
 
 def check_replaced(browser, folder):
     """Checks that restoring a replaced source also restores its breakpoints with their details, through the notice and through Ctrl+Z."""
     begin(browser)
-    browser.script(ASK_FOR_WORDS, INC - 1)
-    browser.until(ASKED, ROW_LINE)
+    browser.script(OPEN_CONDITION_ROW, INC - 1)
+    browser.until(GET_LINE_ABOVE_FOCUSED_ROW, ROW_LINE)
     browser.keys([*"r9 = 9", ENTER])
     browser.script(CLICK_MARGIN, WMP)
     both = f"{WMP} {INC}"
-    browser.until(LINES_IN_MARGIN, both)
-    listed = browser.script(LISTED), browser.script(WORDS)
+    browser.until(GET_LINES_IN_MARGIN, both)
+    listed = browser.script(GET_BREAKPOINTS), browser.script(GET_BREAKPOINT_WORDS)
     for length, text in (("short", "; a\n NOP\n"), ("long", "; a\n" + " NOP\n" * 40)):
         other = folder / f"{length}.asm"
         other.write_text(text)
         for what, undo in (("Undo", lambda: browser.click(UNDO)), ("Control and Z", lambda: browser.script(UNDO_EDIT))):
             browser.type_into("#file", str(other))
-            browser.until(NOTICE, re.compile(f"{length}.asm"))
-            eventually(browser, f"a {length} source has none of the breakpoints of the one before it", LINES_IN_MARGIN, "")
+            browser.until(GET_NOTICE, re.compile(f"{length}.asm"))
+            eventually(browser, f"a {length} source has none of the breakpoints of the one before it", GET_LINES_IN_MARGIN, "")
             undo()
-            eventually(browser, f"{what} brings back the lines of the breakpoints", LINES_IN_MARGIN, both)
-            eventually(browser, "and the list", LISTED, listed[0])
-            verdict("with its words", browser.script(WORDS), listed[1])
+            eventually(browser, f"{what} brings back the lines of the breakpoints", GET_LINES_IN_MARGIN, both)
+            eventually(browser, "and the list", GET_BREAKPOINTS, listed[0])
+            verdict("with its words", browser.script(GET_BREAKPOINT_WORDS), listed[1])
     browser.script("for (const each of document.querySelectorAll('#notice .dismiss')) each.click()")
     browser.script(CLICK_MARGIN, WMP)
-    browser.until(LINES_IN_MARGIN, str(INC))
+    browser.until(GET_LINES_IN_MARGIN, str(INC))
     browser.click("#reset")
-    browser.until(STATUS, re.compile("^The board was reset"))
+    browser.until(GET_STATUS, re.compile("^The board was reset"))
     browser.click("#run")
-    eventually(browser, "it stops where its condition holds", STATUS, "Paused at 011, at a breakpoint, when r9 = 9.")
+    eventually(browser, "it stops where its condition holds", GET_STATUS, "Paused at 011, at a breakpoint, when r9 = 9.")
     time.sleep(1)
     browser.reload()
     until_ready(browser)
-    eventually(browser, "a reload keeps it", WORDS, "if r9 = 9")
+    eventually(browser, "a reload keeps it", GET_BREAKPOINT_WORDS, "if r9 = 9")
 
 
 def check_row(browser):
     """Checks that a breakpoint's details are edited below its line. Enter applies them, Escape cancels, and an error stays at its field."""
     begin(browser)
-    browser.script(ASK_FOR_WORDS, INC - 1)
-    browser.until(ASKED, ROW_LINE)
+    browser.script(OPEN_CONDITION_ROW, INC - 1)
+    browser.until(GET_LINE_ABOVE_FOCUSED_ROW, ROW_LINE)
     browser.keys([*"r44 = 9", ENTER])
-    eventually(browser, "an error is said in the row, in the words of conditions", ROW_FAULT,
+    eventually(browser, "an error is said in the row, in the words of conditions", GET_ROW_FAULT,
                "It stops every time, because of an error: r44: no such place; the registers are r0 to r15 (column 1).")
-    verdict("where the caret stays", browser.script(ASKED), ROW_LINE)
+    verdict("where the caret stays", browser.script(GET_LINE_ABOVE_FOCUSED_ROW), ROW_LINE)
     browser.keys([*[BACKSPACE] * 7, *"r9 = 9", TAB, *"0", ENTER])
     eventually(browser, "a count that is none is marked", "return document.activeElement.getAttribute('aria-invalid')", "true")
-    verdict("and nothing is applied", browser.script(WORDS), "if r44 = 9")
+    verdict("and nothing is applied", browser.script(GET_BREAKPOINT_WORDS), "if r44 = 9")
     browser.keys([BACKSPACE, "2", ENTER])
-    eventually(browser, "Enter applies all that is typed", WORDS, "if r9 = 9 from hit 2 on")
-    verdict("the row goes", browser.script(ROW_VALUES), "")
-    verdict("the keyboard is the text's again", browser.script(IN_SOURCE), True)
+    eventually(browser, "Enter applies all that is typed", GET_BREAKPOINT_WORDS, "if r9 = 9 from hit 2 on")
+    verdict("the row goes", browser.script(GET_ROW_VALUES), "")
+    verdict("the keyboard is the text's again", browser.script(IS_FOCUS_IN_SOURCE), True)
     browser.chord(SHIFT, F9)
-    eventually(browser, "with the caret in the line that it had", ROW_VALUES, "r9 = 9; 2; ")
+    eventually(browser, "with the caret in the line that it had", GET_ROW_VALUES, "r9 = 9; 2; ")
     browser.keys([*"at loop", TAB, TAB, *"seen"])
-    verdict("a field that is left counts for itself not yet", browser.script(WORDS), "if r9 = 9 from hit 2 on")
+    verdict("a field that is left counts for itself not yet", browser.script(GET_BREAKPOINT_WORDS), "if r9 = 9 from hit 2 on")
     browser.keys([F10, F10])
-    eventually(browser, "steps leave the caret where it is", ROW_VALUES, "at loop; 2; seen")
-    verdict("in the row", browser.script(ASKED), ROW_LINE)
+    eventually(browser, "steps leave the caret where it is", GET_ROW_VALUES, "at loop; 2; seen")
+    verdict("in the row", browser.script(GET_LINE_ABOVE_FOCUSED_ROW), ROW_LINE)
     browser.keys([ESCAPE])
-    eventually(browser, "Escape leaves it", ROW_VALUES, "")
-    verdict("with the words that it had", browser.script(WORDS), "if r9 = 9 from hit 2 on")
-    browser.script(ASK_FOR_WORDS, INC - 1)
-    browser.until(ASKED, ROW_LINE)
+    eventually(browser, "Escape leaves it", GET_ROW_VALUES, "")
+    verdict("with the words that it had", browser.script(GET_BREAKPOINT_WORDS), "if r9 = 9 from hit 2 on")
+    browser.script(OPEN_CONDITION_ROW, INC - 1)
+    browser.until(GET_LINE_ABOVE_FOCUSED_ROW, ROW_LINE)
     browser.keys([*"at wait"])
     browser.click("#step")
-    eventually(browser, "what is typed counts where the row is left otherwise", WORDS, "if at wait from hit 2 on")
+    eventually(browser, "what is typed counts where the row is left otherwise", GET_BREAKPOINT_WORDS, "if at wait from hit 2 on")
     browser.script("document.querySelector('#program-editor .cm-editor').lineEditor.replaceRange('\\n NOP', { line: arguments[0], ch: Infinity })", INC - 1)
-    eventually(browser, "a line that begins at its end goes below the row", ROW_AFTER, ROW_LINE)
-    browser.script(INSERT, 1, "NOP")
-    eventually(browser, "and it goes with its line", ROW_AFTER, ROW_LINE)
+    eventually(browser, "a line that begins at its end goes below the row", GET_LINE_ABOVE_ROW, ROW_LINE)
+    browser.script(INSERT_LINE, 1, "NOP")
+    eventually(browser, "and it goes with its line", GET_LINE_ABOVE_ROW, ROW_LINE)
     browser.script("document.querySelector('#program-editor .cm-editor').lineEditor.replaceRange('', { line: arguments[0], ch: 0 }, { line: arguments[0] + 1, ch: 0 })", INC)
-    eventually(browser, "with its line it goes for good", ROW_AFTER, "")
+    eventually(browser, "with its line it goes for good", GET_LINE_ABOVE_ROW, "")
 
 
 def check_menu(browser):
     """Checks the margin menu of a line, and that a breakpoint without a line is edited in the list."""
     begin(browser)
-    browser.script(MARGIN_MENU, INC)
-    eventually(browser, "the menu of the margin has the keyboard", FOCUSED, "Add breakpointF9")
+    browser.script(OPEN_MARGIN_MENU, INC)
+    eventually(browser, "the menu of the margin has the keyboard", GET_FOCUSED_TEXT, "Add breakpointF9")
     browser.keys([DOWN, DOWN, DOWN, ENTER])
-    eventually(browser, "Log message sets a breakpoint and edits it", ASKED, ROW_LINE)
+    eventually(browser, "Log message sets a breakpoint and edits it", GET_LINE_ABOVE_FOCUSED_ROW, ROW_LINE)
     browser.keys([*"R9 is {r9}", ENTER])
-    eventually(browser, "it logs", WORDS, 'logs "R9 is {r9}" and continues')
-    browser.script(MARGIN_MENU, INC)
-    browser.until(FOCUSED, "Remove breakpointF9")
+    eventually(browser, "it logs", GET_BREAKPOINT_WORDS, 'logs "R9 is {r9}" and continues')
+    browser.script(OPEN_MARGIN_MENU, INC)
+    browser.until(GET_FOCUSED_TEXT, "Remove breakpointF9")
     browser.keys([UP, UP, ENTER])
-    eventually(browser, "Disable breakpoint keeps it", LISTED, re.compile("^\u25cb "))
+    eventually(browser, "Disable breakpoint keeps it", GET_BREAKPOINTS, re.compile("^\u25cb "))
     verdict("the menu is closed", browser.script("return document.getElementById('margin-menu').hidden"), True)
-    browser.script(MARGIN_MENU, INC)
-    browser.until(FOCUSED, "Remove breakpointF9")
+    browser.script(OPEN_MARGIN_MENU, INC)
+    browser.until(GET_FOCUSED_TEXT, "Remove breakpointF9")
     browser.keys([ESCAPE])
-    eventually(browser, "Escape leaves the menu, and the keyboard is the text's", IN_SOURCE, True)
+    eventually(browser, "Escape leaves the menu, and the keyboard is the text's", IS_FOCUS_IN_SOURCE, True)
     browser.click("#breakpoints-remove")
     lines_answered(browser, "break 0x200")
-    browser.until(LISTED, re.compile("200"))
+    browser.until(GET_BREAKPOINTS, re.compile("200"))
     browser.click("#breakpoint-list .edit")
     eventually(browser, "one without a line is edited in the list", "return document.activeElement.closest('#breakpoint-list .breakpoint-row') !== null", True)
     browser.keys([*"r9 = 1", ENTER])
-    eventually(browser, "and applied", WORDS, "if r9 = 1")
-    eventually(browser, "the keyboard is at its button", FOCUSED, "Edit")
+    eventually(browser, "and applied", GET_BREAKPOINT_WORDS, "if r9 = 1")
+    eventually(browser, "the keyboard is at its button", GET_FOCUSED_TEXT, "Edit")
     choose_example(browser, "three lamps")
-    eventually(browser, "another session has no row", ROW_VALUES, "")
+    eventually(browser, "another session has no row", GET_ROW_VALUES, "")
 
 
 def check(browser, page, folder, *_):

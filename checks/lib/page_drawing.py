@@ -4,31 +4,32 @@ the board's text and can be undone like any edit. Also checks the zoom of the pi
 import re
 import time
 
-from page_in_browser import ENTER, ESCAPE, NOTICE, PUT_INTO_EDITOR, STATUS, TAB, TEXT_OF_EDITOR, choose_example, focused, show_text, until_ready
+from page_in_browser import (ENTER, ESCAPE, GET_NOTICE, GET_STATUS, GET_TEXT_OF_EDITOR, PUT_INTO_EDITOR, TAB, choose_example, focused, show_text,
+                             until_ready)
 from verdicts import eventually, verdict
 
 CONTROL, SHIFT, DELETE, LEFT, UP, RIGHT, DOWN = "\ue009", "\ue008", "\ue017", "\ue012", "\ue013", "\ue014", "\ue015"
 BOARD = "#board-editor"
-DRAWING_STATUS = "return document.getElementById('drawing-status').textContent"
-STATE = "return document.getElementById('drawing-state').textContent"
-BULBS = "return [...document.querySelectorAll('#front .bulb')].map((bulb) => (bulb.classList.contains('lit') ? '*' : '.')).join('')"
-KEYS = "return document.querySelectorAll('#keys .key').length"
-HIGH = "return document.querySelectorAll('#wiring-picture .high').length"
+GET_DRAWING_STATUS = "return document.getElementById('drawing-status').textContent"
+GET_STATE = "return document.getElementById('drawing-state').textContent"
+GET_BULBS = "return [...document.querySelectorAll('#front .bulb')].map((bulb) => (bulb.classList.contains('lit') ? '*' : '.')).join('')"
+COUNT_KEYS = "return document.querySelectorAll('#keys .key').length"
+COUNT_HIGH = "return document.querySelectorAll('#wiring-picture .high').length"
 # The label of the buzzer's sound button, or "" if there is none.
-SOUND = "return document.getElementById('sound').hidden ? '' : document.getElementById('sound-button').textContent"
-FOCUS = "return document.activeElement.getAttribute('aria-label')"
-TITLE = "return document.querySelector('#chosen > b').textContent"
-OFFERED = "return [...document.querySelectorAll('#wiring-picture .can-end')].map((each) => each.getAttribute('aria-label'))"
+GET_SOUND_WORD = "return document.getElementById('sound').hidden ? '' : document.getElementById('sound-button').textContent"
+GET_FOCUSED_LABEL = "return document.activeElement.getAttribute('aria-label')"
+GET_TITLE = "return document.querySelector('#chosen > b').textContent"
+GET_OFFERED_ENDS = "return [...document.querySelectorAll('#wiring-picture .can-end')].map((each) => each.getAttribute('aria-label'))"
 INSERT = "Insert code that scans these keys"
-NUMBERS = "return [...document.querySelectorAll('#wiring-picture [aria-label^=\"ROM 0\"] .number')].map((each) => each.textContent).join(' ')"
-SOURCE = "return document.querySelector('#program-editor .cm-editor').lineEditor.getValue()"
-DISABLED = "return [...document.querySelectorAll('#shelf button:disabled')].map((each) => `${each.textContent}: ${each.title}`)"
-PLACE_OF_KEYS = """
+GET_PIN_NUMBERS = "return [...document.querySelectorAll('#wiring-picture [aria-label^=\"ROM 0\"] .number')].map((each) => each.textContent).join(' ')"
+GET_SOURCE = "return document.querySelector('#program-editor .cm-editor').lineEditor.getValue()"
+GET_DISABLED_BUTTONS = "return [...document.querySelectorAll('#shelf button:disabled')].map((each) => `${each.textContent}: ${each.title}`)"
+GET_PLACE_OF_KEYS = """
 const box = document.querySelector("#wiring-picture .of-keys rect");
 return [box.getAttribute("x"), box.getAttribute("y")].map(Number)"""
-MIDDLE = "const box = document.querySelector(arguments[0]).getBoundingClientRect(); return [box.x + box.width / 2, box.y + box.height / 2]"
+GET_MIDDLE = "const box = document.querySelector(arguments[0]).getBoundingClientRect(); return [box.x + box.width / 2, box.y + box.height / 2]"
 # The descriptions of the parts and wires in the picture.
-LINES = "return [...document.querySelectorAll('#wiring-words li')].map((each) => each.textContent).join(' ')"
+GET_WIRING_LINES = "return [...document.querySelectorAll('#wiring-words li')].map((each) => each.textContent).join(' ')"
 # A program whose lamps show which keys are down.
 PROGRAM = """        FIM P0, 0x00    ; ROM 0 and RAM chip 0
         FIM P1, 0x10    ; ROM 1
@@ -84,15 +85,15 @@ def pin(label):
 
 
 def text_of(browser):
-    return browser.script(TEXT_OF_EDITOR, BOARD)
+    return browser.script(GET_TEXT_OF_EDITOR, BOARD)
 
 
 def drag(browser, one, other, kind="mouse"):
     """Drags from the centre of one element to the centre of another, or by a distance in pixels."""
     browser.show("#wiring-picture")
     time.sleep(browser.settles)
-    begin = browser.script(MIDDLE, one)
-    end = browser.script(MIDDLE, other) if isinstance(other, str) else [begin[0] + other[0], begin[1] + other[1]]
+    begin = browser.script(GET_MIDDLE, one)
+    end = browser.script(GET_MIDDLE, other) if isinstance(other, str) else [begin[0] + other[0], begin[1] + other[1]]
     places = [[round(begin[each] + part * (end[each] - begin[each])) for each in (0, 1)] for part in (0, 0.5, 1)]
     first, *way = [{"type": "pointerMove", "duration": 80, "x": x, "y": y} for x, y in places]
     browser.actions({"type": "pointer", "id": f"drawing {kind}", "parameters": {"pointerType": kind}, "actions": [
@@ -109,30 +110,30 @@ def check_by_mouse(browser):
     choose_example(browser, "empty bench")
     browser.click("#first-drawing")
     eventually(browser, "an empty bench leads to the shelf", "return isShown(document.getElementById('shelf'))", True)
-    eventually(browser, "and all of it is offered", DISABLED, [])
+    eventually(browser, "and all of it is offered", GET_DISABLED_BUTTONS, [])
     browser.click("#shelf-keys")
-    eventually(browser, "keys come with what they need", DRAWING_STATUS, "The keys were added, with ROM 0, chain 0 and ROM 1.")
+    eventually(browser, "keys come with what they need", GET_DRAWING_STATUS, "The keys were added, with ROM 0, chain 0 and ROM 1.")
     for lamp in range(4):
         browser.click("#shelf-lamp")
-        eventually(browser, f"lamp {lamp} comes", DRAWING_STATUS, re.compile(f"^Lamp {lamp} was added"))
+        eventually(browser, f"lamp {lamp} comes", GET_DRAWING_STATUS, re.compile(f"^Lamp {lamp} was added"))
     verdict("the text is as one writes it", text_of(browser), DRAWN_BOARD)
-    verdict("a second matrix is not offered, and says why", browser.script(DISABLED),
+    verdict("a second matrix is not offered, and says why", browser.script(GET_DISABLED_BUTTONS),
             ["Keys: A board has one key matrix: give it more rows and columns."])
-    verdict("it is not wired yet, and says so", browser.script(STATE), re.compile("^Not applied yet"))
+    verdict("it is not wired yet, and says so", browser.script(GET_STATE), re.compile("^Not applied yet"))
     browser.type_into("#chosen [aria-label=name]", "fourth one" + ENTER)
-    eventually(browser, "a lamp is named", DRAWING_STATUS, "Lamp 3 is called fourth one.")
+    eventually(browser, "a lamp is named", GET_DRAWING_STATUS, "Lamp 3 is called fourth one.")
     browser.type_into("#chosen [aria-label=colour]", "green")
-    eventually(browser, "and coloured", DRAWING_STATUS, "Lamp 3 is green.")
+    eventually(browser, "and coloured", GET_DRAWING_STATUS, "Lamp 3 is green.")
     verdict("as the face has it", text_of(browser).split("\n")[:3], ["# lamp 3: fourth_one", "# colour 3: green", ""])
     browser.click("#drawing-wire")
-    eventually(browser, "it is wired", DRAWING_STATUS, "Board applied.")
-    eventually(browser, "four keys", KEYS, 4)
-    eventually(browser, "and four lamps", BULBS, "....")
-    verdict("which is said no more", browser.script(STATE), "")
+    eventually(browser, "it is wired", GET_DRAWING_STATUS, "Board applied.")
+    eventually(browser, "four keys", COUNT_KEYS, 4)
+    eventually(browser, "and four lamps", GET_BULBS, "....")
+    verdict("which is said no more", browser.script(GET_STATE), "")
     show_text(browser, "program")
     browser.script(PUT_INTO_EDITOR, "#program-editor", PROGRAM)
     browser.click("#program-editor .send")
-    eventually(browser, "the program runs", STATUS, re.compile("^Running"))
+    eventually(browser, "the program runs", GET_STATUS, re.compile("^Running"))
     time.sleep(0.3)
     browser.script("window.seen = new Set(); new MutationObserver(() => window.seen.add([...document.querySelectorAll('#front .bulb')]"
                    ".map((bulb) => (bulb.classList.contains('lit') ? '*' : '.')).join(''))).observe(document.getElementById('lamps'),"
@@ -148,28 +149,28 @@ def check_wires(browser):
     before = text_of(browser)
     eventually(browser, "lines at 1 are coloured", "return document.querySelectorAll('#wiring-picture .high').length > 0", True)
     drag(browser, f"{pin('ROM 0 · 4001, out 2')} circle", f"{pin('Lamps · 3, open')} circle")
-    eventually(browser, "a wire is dragged from pin to pin", DRAWING_STATUS, "Line rom0.2 is wired to lamp 1.")
+    eventually(browser, "a wire is dragged from pin to pin", GET_DRAWING_STATUS, "Line rom0.2 is wired to lamp 1.")
     verdict("it is one word of the text", text_of(browser), before.replace('"ram0.0.1"', '"rom0.2"'))
-    eventually(browser, "the picture has it", LINES, re.compile("open is at rom0.2"))
-    verdict("levels of a board that is not wired are not shown", browser.script(HIGH) <= 1, True)
+    eventually(browser, "the picture has it", GET_WIRING_LINES, re.compile("open is at rom0.2"))
+    verdict("levels of a board that is not wired are not shown", browser.script(COUNT_HIGH) <= 1, True)
     drag(browser, f"{pin('ROM 1 · 4001, in 0')} circle", f"{pin('Chain 0 · 1 × 4003, clock')} circle")
-    eventually(browser, "one from an input to a clock is none", DRAWING_STATUS, "No wire was drawn.")
+    eventually(browser, "one from an input to a clock is none", GET_DRAWING_STATUS, "No wire was drawn.")
     press(browser, f"{pin('ROM 1 · 4001, in 0')} circle")
-    eventually(browser, "nor is it offered", OFFERED, ["Keys · 4 × 3, column 1, at rom1.1", "Keys · 4 × 3, column 2, at rom1.2"])
+    eventually(browser, "nor is it offered", GET_OFFERED_ENDS, ["Keys · 4 × 3, column 1, at rom1.1", "Keys · 4 × 3, column 2, at rom1.2"])
     press(browser, f"{pin('Keys · 4 × 3, column 2')} circle")
-    eventually(browser, "a wire by one click after the other", DRAWING_STATUS, "Line rom1.0 is wired to column 2 of the keys.")
+    eventually(browser, "a wire by one click after the other", GET_DRAWING_STATUS, "Line rom1.0 is wired to column 2 of the keys.")
     browser.click("#drawing-undo")
-    eventually(browser, "it is undone", DRAWING_STATUS, "Undone.")
+    eventually(browser, "it is undone", GET_DRAWING_STATUS, "Undone.")
     browser.click("#drawing-undo")
-    eventually(browser, "and the one before it", LINES, re.compile("open is at ram0.0.1"))
+    eventually(browser, "and the one before it", GET_WIRING_LINES, re.compile("open is at ram0.0.1"))
     verdict("the text is as it was", text_of(browser), before)
     browser.click("#drawing-redo")
-    eventually(browser, "and done again", LINES, re.compile("open is at rom0.2"))
+    eventually(browser, "and done again", GET_WIRING_LINES, re.compile("open is at rom0.2"))
     browser.click("#shelf-ram")
-    eventually(browser, "after a click on the shelf", LINES, re.compile("RAM 0.1"))
+    eventually(browser, "after a click on the shelf", GET_WIRING_LINES, re.compile("RAM 0.1"))
     browser.chord(CONTROL, "z")
-    eventually(browser, "Ctrl Z undoes it, too", DRAWING_STATUS, "Undone.")
-    verdict("and nothing else", browser.script(LINES), re.compile("open is at rom0.2"))
+    eventually(browser, "Ctrl Z undoes it, too", GET_DRAWING_STATUS, "Undone.")
+    verdict("and nothing else", browser.script(GET_WIRING_LINES), re.compile("open is at rom0.2"))
     check_part_is_dragged(browser)
     check_chain_keeps_its_place(browser)
 
@@ -178,55 +179,55 @@ def check_buzzer(browser):
     """Checks that a buzzer can be added by mouse, wired, named, deleted and restored by undo, also by keyboard and by touch."""
     choose_example(browser, "empty bench")
     show_text(browser, "wiring")
-    verdict("a board without a buzzer has no sound", browser.script(SOUND), "")
+    verdict("a board without a buzzer has no sound", browser.script(GET_SOUND_WORD), "")
     browser.click("#shelf-buzzer")
-    eventually(browser, "a buzzer comes with what it needs", DRAWING_STATUS, "The buzzer was added, with ROM 0.")
+    eventually(browser, "a buzzer comes with what it needs", GET_DRAWING_STATUS, "The buzzer was added, with ROM 0.")
     verdict("as a line of the face", text_of(browser).split("\n")[0], "# buzzer rom0.0: buzzer")
-    verdict("a second one is not offered, and says why", browser.script(DISABLED), ["Buzzer: A board has one buzzer: delete that one first."])
+    verdict("a second one is not offered, and says why", browser.script(GET_DISABLED_BUTTONS), ["Buzzer: A board has one buzzer: delete that one first."])
     drag(browser, f"{pin('ROM 0 · 4001, out 3')} circle", f"{pin('Buzzer, buzzer')} circle")
-    eventually(browser, "a wire is dragged to it", DRAWING_STATUS, "Line rom0.3 is wired to the buzzer.")
-    eventually(browser, "the picture has it", LINES, re.compile("buzzer sounds the edges of rom0.3"))
+    eventually(browser, "a wire is dragged to it", GET_DRAWING_STATUS, "Line rom0.3 is wired to the buzzer.")
+    eventually(browser, "the picture has it", GET_WIRING_LINES, re.compile("buzzer sounds the edges of rom0.3"))
     browser.script("const name = document.querySelector('#chosen [aria-label=name]'); name.focus(); name.select()")
     browser.keys([*"the horn", ENTER], 10, 10)
-    eventually(browser, "it is named", DRAWING_STATUS, "The buzzer is called the horn.")
+    eventually(browser, "it is named", GET_DRAWING_STATUS, "The buzzer is called the horn.")
     verdict("in the same line", text_of(browser).split("\n")[0], "# buzzer rom0.3: the horn")
     browser.click("#drawing-wire")
-    eventually(browser, "it is wired, and can be heard", SOUND, "Sound of the horn")
-    browser.until(DRAWING_STATUS, "Board applied.")
+    eventually(browser, "it is wired, and can be heard", GET_SOUND_WORD, "Sound of the horn")
+    browser.until(GET_DRAWING_STATUS, "Board applied.")
     browser.script("document.querySelector('#wiring-picture .of-buzzer').focus()")
     browser.keys([DELETE])
-    eventually(browser, "the Delete key deletes it", DRAWING_STATUS, "The buzzer was deleted.")
+    eventually(browser, "the Delete key deletes it", GET_DRAWING_STATUS, "The buzzer was deleted.")
     browser.chord(CONTROL, "z")
-    eventually(browser, "Ctrl Z brings it back", LINES, re.compile("the horn sounds the edges of rom0.3"))
+    eventually(browser, "Ctrl Z brings it back", GET_WIRING_LINES, re.compile("the horn sounds the edges of rom0.3"))
     browser.script("document.querySelector(arguments[0]).focus()", pin("Buzzer, the horn"))
     browser.keys([ENTER])
-    eventually(browser, "Enter begins a wire at it", DRAWING_STATUS, "Wire from the buzzer: it can end at 3 pins.")
+    eventually(browser, "Enter begins a wire at it", GET_DRAWING_STATUS, "Wire from the buzzer: it can end at 3 pins.")
     browser.keys([UP, ENTER])
-    eventually(browser, "and ends it at another line", DRAWING_STATUS, "Line rom0.2 is wired to the buzzer.")
+    eventually(browser, "and ends it at another line", GET_DRAWING_STATUS, "Line rom0.2 is wired to the buzzer.")
     if browser.has_fingers:
         browser.fingers([f"{pin('ROM 0 · 4001, out 1')} circle"], 60)
         browser.fingers([f"{pin('Buzzer, the horn')} circle"], 60)
-        eventually(browser, "fingers wire it, too", DRAWING_STATUS, "Line rom0.1 is wired to the buzzer.")
+        eventually(browser, "fingers wire it, too", GET_DRAWING_STATUS, "Line rom0.1 is wired to the buzzer.")
 
 
 def check_part_is_dragged(browser):
-    before = browser.script(PLACE_OF_KEYS)
+    before = browser.script(GET_PLACE_OF_KEYS)
     drag(browser, "#wiring-picture .of-keys .title", (-30, 90))
-    eventually(browser, "a part is dragged", f"{PLACE_OF_KEYS}[1] > {before[1] + 40}", True)
-    there = browser.script(PLACE_OF_KEYS)
+    eventually(browser, "a part is dragged", f"{GET_PLACE_OF_KEYS}[1] > {before[1] + 40}", True)
+    there = browser.script(GET_PLACE_OF_KEYS)
     time.sleep(1)
     browser.reload()
     until_ready(browser)
-    eventually(browser, "and stands there after a reload", PLACE_OF_KEYS, there)
+    eventually(browser, "and stands there after a reload", GET_PLACE_OF_KEYS, there)
     browser.click("#drawing-tidy")
-    eventually(browser, "until it is tidied", PLACE_OF_KEYS, before)
+    eventually(browser, "until it is tidied", GET_PLACE_OF_KEYS, before)
 
 
 def check_chain_keeps_its_place(browser):
     """Checks that a chain gets another number when an earlier chain is deleted. Its position in the picture stays as long as its text is the same."""
     choose_example(browser, "calculator")
     show_text(browser, "wiring")
-    eventually(browser, "a board has two chains", LINES, re.compile("Chain 0 .*Chain 1 "))
+    eventually(browser, "a board has two chains", GET_WIRING_LINES, re.compile("Chain 0 .*Chain 1 "))
     chains = "return [...document.querySelectorAll('#wiring-picture .of-chain rect')].map((box) => Number(box.getAttribute('y')))"
     first, second = browser.script(chains)
     browser.script("document.querySelectorAll('#wiring-picture .of-chain')[1].focus()")
@@ -236,7 +237,7 @@ def check_chain_keeps_its_place(browser):
     _, moved = browser.script(chains)
     browser.script("document.querySelector('#wiring-picture .of-chain').focus()")
     browser.keys([DELETE])
-    eventually(browser, "the first one is deleted", DRAWING_STATUS, re.compile("^Chain 0 was deleted"))
+    eventually(browser, "the first one is deleted", GET_DRAWING_STATUS, re.compile("^Chain 0 was deleted"))
     eventually(browser, "and the second one stays where it is", chains, [moved])
     browser.click("#drawing-undo")
     eventually(browser, "undone, both stand where they stood", chains, [first, moved])
@@ -249,55 +250,55 @@ def check_by_keyboard(browser):
     before = text_of(browser)
     verdict("Tab comes to the shelf", focused(browser, TAB, "e.id === 'shelf-lamp'", 14), True)
     browser.keys([ENTER])
-    eventually(browser, "Enter adds a lamp", DRAWING_STATUS, "Lamp 3 was added.")
+    eventually(browser, "Enter adds a lamp", GET_DRAWING_STATUS, "Lamp 3 was added.")
     verdict("Tab comes to the picture", focused(browser, TAB, "e.closest('#wiring-picture') !== null", 20), True)
-    eventually(browser, "at the lamp that is chosen", FOCUS, re.compile("^Lamps · 4, lamp 3"))
+    eventually(browser, "at the lamp that is chosen", GET_FOCUSED_LABEL, re.compile("^Lamps · 4, lamp 3"))
     browser.keys([UP, UP, UP, UP])
-    eventually(browser, "arrows go from pin to part", FOCUS, re.compile("^Lamps · 4: locked is at"))
+    eventually(browser, "arrows go from pin to part", GET_FOCUSED_LABEL, re.compile("^Lamps · 4: locked is at"))
     browser.keys([LEFT, LEFT, LEFT])
-    eventually(browser, "and from part to part", FOCUS, re.compile("^RAM 0.0 · 4002: line"))
+    eventually(browser, "and from part to part", GET_FOCUSED_LABEL, re.compile("^RAM 0.0 · 4002: line"))
     browser.keys([RIGHT])
-    eventually(browser, "and back", FOCUS, re.compile("^Chain 0"))
+    eventually(browser, "and back", GET_FOCUSED_LABEL, re.compile("^Chain 0"))
     browser.keys([DOWN])
-    eventually(browser, "to its clock", FOCUS, re.compile("clock, at rom0.0$"))
+    eventually(browser, "to its clock", GET_FOCUSED_LABEL, re.compile("clock, at rom0.0$"))
     browser.keys([ENTER])
-    eventually(browser, "Enter begins a wire", DRAWING_STATUS, re.compile("^Wire from the clock of chain 0: it can end at 8 pins"))
+    eventually(browser, "Enter begins a wire", GET_DRAWING_STATUS, re.compile("^Wire from the clock of chain 0: it can end at 8 pins"))
     browser.keys([UP])
-    eventually(browser, "arrows go to where it can end", FOCUS, "RAM 0.0 · 4002, out 3, wired to lamp 3")
+    eventually(browser, "arrows go to where it can end", GET_FOCUSED_LABEL, "RAM 0.0 · 4002, out 3, wired to lamp 3")
     browser.keys([ENTER])
-    eventually(browser, "Enter ends it", DRAWING_STATUS, "Line ram0.0.3 is wired to the clock of chain 0.")
-    eventually(browser, "the focus stays", FOCUS, "RAM 0.0 · 4002, out 3, wired to clock 0 and lamp 3")
+    eventually(browser, "Enter ends it", GET_DRAWING_STATUS, "Line ram0.0.3 is wired to the clock of chain 0.")
+    eventually(browser, "the focus stays", GET_FOCUSED_LABEL, "RAM 0.0 · 4002, out 3, wired to clock 0 and lamp 3")
     browser.keys([ENTER])
-    eventually(browser, "another one is begun", DRAWING_STATUS, re.compile("^Wire from"))
+    eventually(browser, "another one is begun", GET_DRAWING_STATUS, re.compile("^Wire from"))
     browser.keys([ESCAPE])
-    eventually(browser, "and left by Escape", DRAWING_STATUS, "No wire was drawn.")
+    eventually(browser, "and left by Escape", GET_DRAWING_STATUS, "No wire was drawn.")
     browser.keys([DELETE])
-    eventually(browser, "a line cannot be deleted", DRAWING_STATUS, re.compile("is deleted only with its chip"))
+    eventually(browser, "a line cannot be deleted", GET_DRAWING_STATUS, re.compile("is deleted only with its chip"))
     browser.chord(CONTROL, "z")
-    eventually(browser, "Ctrl Z takes the wire back", DRAWING_STATUS, "Undone.")
+    eventually(browser, "Ctrl Z takes the wire back", GET_DRAWING_STATUS, "Undone.")
     browser.chord(CONTROL, "z")
-    eventually(browser, "and the lamp", LINES, re.compile("Lamps · 3"))
+    eventually(browser, "and the lamp", GET_WIRING_LINES, re.compile("Lamps · 3"))
     verdict("the text is as it was", text_of(browser), before)
     browser.script("document.querySelector('#wiring-picture .of-chain').focus()")
     browser.keys([DELETE])
-    eventually(browser, "what hangs on a part goes with it", DRAWING_STATUS, "Chain 0 was deleted, and with it the keys.")
+    eventually(browser, "what hangs on a part goes with it", GET_DRAWING_STATUS, "Chain 0 was deleted, and with it the keys.")
     browser.chord(CONTROL, "z")
-    eventually(browser, "and comes back with it", LINES, re.compile("Keys · 4 × 3"))
+    eventually(browser, "and comes back with it", GET_WIRING_LINES, re.compile("Keys · 4 × 3"))
     verdict("nothing is lost", text_of(browser), before)
 
 
-WIDTH = "return Math.round(document.querySelector('#wiring-picture svg').getBoundingClientRect().width)"
-BOUNDS = "return ['picture-smaller', 'picture-larger'].map((id) => document.getElementById(id).getAttribute('aria-disabled'))"
-ALL_SEEN = """
+GET_WIDTH = "return Math.round(document.querySelector('#wiring-picture svg').getBoundingClientRect().width)"
+GET_ZOOM_BOUNDS = "return ['picture-smaller', 'picture-larger'].map((id) => document.getElementById(id).getAttribute('aria-disabled'))"
+IS_ALL_IN_VIEW = """
 const root = document.getElementById("wiring-picture");
 return root.scrollWidth <= root.clientWidth && root.scrollHeight <= root.clientHeight"""
-TURN = """
+TURN_WHEEL = """
 const picture = document.getElementById("wiring-picture");
 const { left, top } = picture.getBoundingClientRect();
 const turn = { ctrlKey: arguments[1], deltaY: arguments[0], clientX: left + 50, clientY: top + 40, bubbles: true, cancelable: true };
 return picture.dispatchEvent(new WheelEvent("wheel", turn))"""
 # The part at a point of the panel.
-AT_PLACE = """
+GET_PART_AT_PLACE = """
 const { left, top } = document.getElementById("wiring-picture").getBoundingClientRect();
 const found = document.elementFromPoint(left + arguments[0], top + arguments[1]).closest(".part");
 return found && found.getAttribute("class")"""
@@ -309,73 +310,73 @@ def check_zoom(browser):
     choose_example(browser, "lock")
     browser.script("document.getElementById('wiring-tab').click()")
     browser.show("#wiring-picture")
-    before = browser.script(WIDTH)
+    before = browser.script(GET_WIDTH)
     browser.click("#picture-larger")
-    verdict("a button makes it larger", abs(browser.script(WIDTH) - before * 1.25) <= 1, True)
+    verdict("a button makes it larger", abs(browser.script(GET_WIDTH) - before * 1.25) <= 1, True)
     for _ in range(30):
         browser.click("#picture-larger")
-    largest = browser.script(WIDTH)
+    largest = browser.script(GET_WIDTH)
     browser.click("#picture-larger")
-    verdict("up to a size", (browser.script(WIDTH), largest > before * 2), (largest, True))
-    verdict("which the button says", browser.script(BOUNDS), ["false", "true"])
+    verdict("up to a size", (browser.script(GET_WIDTH), largest > before * 2), (largest, True))
+    verdict("which the button says", browser.script(GET_ZOOM_BOUNDS), ["false", "true"])
     browser.click("#picture-fit")
-    verdict("and as it was", browser.script(WIDTH), before)
+    verdict("and as it was", browser.script(GET_WIDTH), before)
     browser.script("document.querySelector('#wiring-picture .of-rom').focus()")
     browser.keys("--")
-    verdict("keys make it smaller", abs(browser.script(WIDTH) - before / 1.25 ** 2) <= 1, True)
+    verdict("keys make it smaller", abs(browser.script(GET_WIDTH) - before / 1.25 ** 2) <= 1, True)
     drag(browser, f"{pin('RAM 0.0 · 4002, out 3')} circle", f"{pin('Lamps · 3, alarm')} circle")
-    eventually(browser, "a wire is drawn all the same", DRAWING_STATUS, "Line ram0.0.3 is wired to lamp 2.")
+    eventually(browser, "a wire is drawn all the same", GET_DRAWING_STATUS, "Line ram0.0.3 is wired to lamp 2.")
     browser.click("#drawing-undo")
-    eventually(browser, "and undone", DRAWING_STATUS, "Undone.")
+    eventually(browser, "and undone", GET_DRAWING_STATUS, "Undone.")
     browser.script("document.querySelector('#wiring-picture .of-rom').focus()")
     browser.keys("-" * 20, 2, 2)
-    smallest = browser.script(WIDTH)
+    smallest = browser.script(GET_WIDTH)
     browser.keys("-", 2, 2)
-    verdict("down to a size", (browser.script(WIDTH), browser.script(BOUNDS)), (smallest, ["true", "false"]))
-    verdict("at which all of it is seen, and can be read", (browser.script(ALL_SEEN), smallest >= before / 3), (True, True))
+    verdict("down to a size", (browser.script(GET_WIDTH), browser.script(GET_ZOOM_BOUNDS)), (smallest, ["true", "false"]))
+    verdict("at which all of it is seen, and can be read", (browser.script(IS_ALL_IN_VIEW), smallest >= before / 3), (True, True))
     browser.script("document.getElementById('picture-smaller').focus()")
     browser.keys([ENTER])
-    verdict("nor does the button, which keeps the focus", (browser.script(WIDTH), browser.script("return document.activeElement.id")),
+    verdict("nor does the button, which keeps the focus", (browser.script(GET_WIDTH), browser.script("return document.activeElement.id")),
             (smallest, "picture-smaller"))
     browser.script("document.querySelector('#wiring-picture .of-rom').focus()")
     browser.keys("+" * 20, 2, 2)
-    verdict("keys make it larger up to the same size", browser.script(WIDTH), largest)
+    verdict("keys make it larger up to the same size", browser.script(GET_WIDTH), largest)
     browser.keys("0")
-    verdict("and 0 as it was", browser.script(WIDTH), before)
+    verdict("and 0 as it was", browser.script(GET_WIDTH), before)
     browser.script("document.getElementById('picture-fit').click()")
-    seen = browser.script(AT_PLACE, 50, 40)
-    verdict("the wheel alone scrolls", browser.script(TURN, -100, False), True)
-    verdict("with Ctrl it zooms, and the page does not", browser.script(TURN, -100, True), False)
-    verdict("where the pointer is", (browser.script(WIDTH) > before, browser.script(AT_PLACE, 50, 40)), (True, seen))
+    seen = browser.script(GET_PART_AT_PLACE, 50, 40)
+    verdict("the wheel alone scrolls", browser.script(TURN_WHEEL, -100, False), True)
+    verdict("with Ctrl it zooms, and the page does not", browser.script(TURN_WHEEL, -100, True), False)
+    verdict("where the pointer is", (browser.script(GET_WIDTH) > before, browser.script(GET_PART_AT_PLACE, 50, 40)), (True, seen))
     browser.click("#picture-fit")
 
 
 def check_by_fingers(browser):
     """Checks that touching one pin and then another draws a wire."""
     browser.fingers([f"{pin('RAM 0.0 · 4002, out 3')} circle"], 60)
-    eventually(browser, "a finger begins a wire", DRAWING_STATUS, re.compile("^Wire from line ram0.0.3"))
+    eventually(browser, "a finger begins a wire", GET_DRAWING_STATUS, re.compile("^Wire from line ram0.0.3"))
     browser.fingers([f"{pin('Lamps · 3, alarm')} circle"], 60)
-    eventually(browser, "and another touch ends it", DRAWING_STATUS, "Line ram0.0.3 is wired to lamp 2.")
+    eventually(browser, "and another touch ends it", GET_DRAWING_STATUS, "Line ram0.0.3 is wired to lamp 2.")
     browser.fingers(["#drawing-undo"], 60)
-    eventually(browser, "a button undoes it", DRAWING_STATUS, "Undone.")
+    eventually(browser, "a button undoes it", GET_DRAWING_STATUS, "Undone.")
 
 
-# Converts a screen point to sheet coordinates. HEAD_OF returns the centre of a part's head in sheet coordinates.
-ON_SHEET = """
+# Converts a screen point to sheet coordinates. GET_HEAD_PLACE returns the centre of a part's head in sheet coordinates.
+GET_PLACE_ON_SHEET = """
 const [x, y] = arguments;
 const at = new DOMPoint(x, y).matrixTransform(document.querySelector("#wiring-picture svg").getScreenCTM().inverse());
 return [at.x, at.y]"""
-HEAD_OF = """
+GET_HEAD_PLACE = """
 const box = document.querySelector(`#wiring-picture .part[aria-label^='${arguments[0]}'] rect`);
 if (!box) return null;
 const [x, y, width] = ["x", "y", "width"].map((name) => Number(box.getAttribute(name)));
 return [x + width / 2, y + 13]"""
-SHEET = "const { left, top } = document.getElementById('wiring-picture').getBoundingClientRect(); return [Math.round(left), Math.round(top)]"
+GET_SHEET_CORNER = "const { left, top } = document.getElementById('wiring-picture').getBoundingClientRect(); return [Math.round(left), Math.round(top)]"
 
 
 def pull(browser, part, place, kind="mouse", key=""):
     """Drags a part from the shelf to a point of the window. Can press a key before the drop."""
-    begin = [round(each) for each in browser.script(MIDDLE, f"#shelf-{part}")]
+    begin = [round(each) for each in browser.script(GET_MIDDLE, f"#shelf-{part}")]
     places = [[round(begin[each] + step * (place[each] - begin[each])) for each in (0, 1)] for step in (0, 0.3, 0.7, 1)]
     first, *way = [{"type": "pointerMove", "duration": 60, "x": x, "y": y} for x, y in places]
     pause = {"type": "pause", "duration": 60}
@@ -392,27 +393,27 @@ def is_near(one, other):
 def check_pulled(browser, kind):
     choose_example(browser, "empty bench")
     show_text(browser, "wiring")
-    eventually(browser, "the shelf offers all", DISABLED, [])
-    left, top = browser.script(SHEET)
+    eventually(browser, "the shelf offers all", GET_DISABLED_BUTTONS, [])
+    left, top = browser.script(GET_SHEET_CORNER)
     place = [left + 330, top + 20]
-    wanted = browser.script(ON_SHEET, *place)
+    wanted = browser.script(GET_PLACE_ON_SHEET, *place)
     pull(browser, "rom", place, kind)
-    eventually(browser, f"a {kind} drags a chip onto the sheet", DRAWING_STATUS, "ROM 0 was added.")
-    verdict("where it was dropped", is_near(browser.script(HEAD_OF, "ROM 0"), wanted), True)
+    eventually(browser, f"a {kind} drags a chip onto the sheet", GET_DRAWING_STATUS, "ROM 0 was added.")
+    verdict("where it was dropped", is_near(browser.script(GET_HEAD_PLACE, "ROM 0"), wanted), True)
     verdict("once", text_of(browser), '[[rom]]\nchip = 0\nport = "0000"\n')
-    pull(browser, "lamp", [round(each) for each in browser.script(MIDDLE, f"{pin('ROM 0 · 4001, out 3')} circle")], kind)
-    eventually(browser, "a lamp that is dropped on a pin is wired to it", LINES, re.compile("lamp 0 is at rom0.3"))
+    pull(browser, "lamp", [round(each) for each in browser.script(GET_MIDDLE, f"{pin('ROM 0 · 4001, out 3')} circle")], kind)
+    eventually(browser, "a lamp that is dropped on a pin is wired to it", GET_WIRING_LINES, re.compile("lamp 0 is at rom0.3"))
     browser.click("#drawing-undo")
-    eventually(browser, "undone in one step", DRAWING_STATUS, "Undone.")
+    eventually(browser, "undone in one step", GET_DRAWING_STATUS, "Undone.")
     verdict("the chip is as before", text_of(browser), '[[rom]]\nchip = 0\nport = "0000"\n')
     if kind == "mouse":
         pull(browser, "ram", place, kind, ESCAPE)
         verdict("Escape drops nothing", "ram" in text_of(browser), False)
-    left, top = (round(each) for each in browser.script(MIDDLE, "#text-tabs"))
+    left, top = (round(each) for each in browser.script(GET_MIDDLE, "#text-tabs"))
     pull(browser, "ram", [left, top], kind)
     verdict("nor does one that is dropped elsewhere", "ram" in text_of(browser), False)
     browser.click("#shelf-ram")
-    eventually(browser, "a click adds one, as ever", DRAWING_STATUS, "RAM 0.0 was added.")
+    eventually(browser, "a click adds one, as ever", GET_DRAWING_STATUS, "RAM 0.0 was added.")
 
 
 def check_shelf(browser):
@@ -421,17 +422,17 @@ def check_shelf(browser):
         check_pulled(browser, kind)
     browser.script("document.getElementById('shelf-chain').focus()")
     browser.chord(SHIFT, ENTER)
-    eventually(browser, "Shift and Enter add a part", DRAWING_STATUS, re.compile("^Chain 0 was added"))
-    eventually(browser, "and go to it on the sheet", FOCUS, re.compile("^Chain 0"))
-    before = browser.script(HEAD_OF, "Chain 0")
+    eventually(browser, "Shift and Enter add a part", GET_DRAWING_STATUS, re.compile("^Chain 0 was added"))
+    eventually(browser, "and go to it on the sheet", GET_FOCUSED_LABEL, re.compile("^Chain 0"))
+    before = browser.script(GET_HEAD_PLACE, "Chain 0")
     browser.chord(SHIFT, DOWN)
-    eventually(browser, "where arrows move it", f"return ((...arguments) => {{{HEAD_OF}}})('Chain 0')[1] > {before[1] + 6}", True)
+    eventually(browser, "where arrows move it", f"return ((...arguments) => {{{GET_HEAD_PLACE}}})('Chain 0')[1] > {before[1] + 6}", True)
 
 
 def check_scan_at_caret(browser):
     """Checks that the key scan routine is inserted after the caret's line if the source has a caret, as one undo step."""
     choose_example(browser, "lock")
-    source = browser.script(SOURCE)
+    source = browser.script(GET_SOURCE)
     show_text(browser, "program")
     browser.script("document.querySelector('#program-editor .cm-editor').lineEditor.setCursor({ line: 1, ch: 0 })")
     browser.click("#program-editor .cm-line:nth-child(2)")
@@ -440,10 +441,10 @@ def check_scan_at_caret(browser):
     browser.click(f"#chosen [aria-label='{INSERT}']")
     eventually(browser, "the routine is behind the line of the caret", "return document.querySelector('#program-editor .status-text').textContent",
                "A routine that scans the keys is at line 4 of the source.")
-    lines = browser.script(SOURCE).split("\n")
+    lines = browser.script(GET_SOURCE).split("\n")
     verdict("between what was before and after it", lines[:3] + lines[-9:], [*source.split("\n")[:2], "", *source.split("\n")[-9:]])
     browser.chord(CONTROL, "z")
-    eventually(browser, "one step undoes it", SOURCE, source)
+    eventually(browser, "one step undoes it", GET_SOURCE, source)
 
 
 def check_scan(browser):
@@ -451,33 +452,33 @@ def check_scan(browser):
     choose_example(browser, "empty bench")
     show_text(browser, "wiring")
     browser.click("#shelf-keys")
-    eventually(browser, "the keys are chosen", TITLE, re.compile("^Keys"))
-    verdict("chips have the numbers of their pins", browser.script(NUMBERS), "16 15 14 13")
+    eventually(browser, "the keys are chosen", GET_TITLE, re.compile("^Keys"))
+    verdict("chips have the numbers of their pins", browser.script(GET_PIN_NUMBERS), "16 15 14 13")
     browser.click("#drawing-wire")
-    eventually(browser, "wired, there is a front with a key", KEYS, 4)
+    eventually(browser, "wired, there is a front with a key", COUNT_KEYS, 4)
     browser.click(f"#chosen [aria-label='{INSERT}']")
     eventually(browser, "the routine is in the source", "return document.querySelector('#program-editor .status-text').textContent",
                "A routine that scans the keys is at the end of the source.")
-    source = browser.script(TEXT_OF_EDITOR, "#program-editor")
+    source = browser.script(GET_TEXT_OF_EDITOR, "#program-editor")
     verdict("with a program that calls it", source.startswith("start:      JMS keys_scan"), True)
     browser.click("#program-editor .send")
-    eventually(browser, "it assembles and runs", STATUS, re.compile("^Running"))
+    eventually(browser, "it assembles and runs", GET_STATUS, re.compile("^Running"))
     press(browser, "#keys .key:nth-child(3)")
     show_text(browser, "wiring")
     browser.click("#wiring-picture .of-keys text")
     browser.click(f"#chosen [aria-label='{INSERT}']")
-    eventually(browser, "a second routine has labels of its own", SOURCE, re.compile("^keys1_scan:", re.M))
-    verdict("behind the first one", browser.script(SOURCE).startswith(source.rstrip()), True)
+    eventually(browser, "a second routine has labels of its own", GET_SOURCE, re.compile("^keys1_scan:", re.M))
+    verdict("behind the first one", browser.script(GET_SOURCE).startswith(source.rstrip()), True)
 
 
 def check_faults(browser):
     """Checks that a text with errors is not drawn: the picture stays, and is updated when the errors are corrected."""
     text = text_of(browser)
     browser.script(PUT_INTO_EDITOR, BOARD, f"{text}\n[[lamp]]\n")
-    eventually(browser, "a text with faults says so", STATE, re.compile("^The bench rejects the board's text"))
-    verdict("and nothing can be added", len(browser.script(DISABLED)), 12)
+    eventually(browser, "a text with faults says so", GET_STATE, re.compile("^The bench rejects the board's text"))
+    verdict("and nothing can be added", len(browser.script(GET_DISABLED_BUTTONS)), 12)
     browser.script(PUT_INTO_EDITOR, BOARD, text.replace("# title: Lock", "# title: Other"))
-    eventually(browser, "without them it goes on", STATE, "")
+    eventually(browser, "without them it goes on", GET_STATE, "")
     browser.script("document.querySelector('#wiring-picture [tabindex=\"0\"]').focus()")
     browser.keys([ESCAPE])
     eventually(browser, "what is typed in the text is drawn", "const field = document.querySelector('#chosen [aria-label=title]'); return field && field.value",
@@ -488,8 +489,8 @@ def check_other_boards(browser):
     """Checks that sessions with more or fewer chips can be opened while the picture is visible."""
     for example, parts in (("calculator", "ROM 3 · 4001"), ("die", "ROM 0 · 4001"), ("calculator", "ROM 3 · 4001"), ("lock", "Keys · 4 × 3")):
         choose_example(browser, example)
-        verdict(f"{example} is opened", "No session was made" in browser.script(NOTICE), False)
-        eventually(browser, f"the picture is that of {example}", LINES, re.compile(parts))
+        verdict(f"{example} is opened", "No session was made" in browser.script(GET_NOTICE), False)
+        eventually(browser, f"the picture is that of {example}", GET_WIRING_LINES, re.compile(parts))
 
 
 def check(browser, page, _folder, _mcs4):

@@ -3,7 +3,7 @@
 import re
 import time
 
-from page_in_browser import ALL_NOTICES, PUT_INTO_EDITOR, STATUS, STEPPED, TEXT_OF_EDITOR, choose_example, open_anew, show_text, stop_time
+from page_in_browser import GET_ALL_NOTICES, GET_STATUS, GET_TEXT_OF_EDITOR, PUT_INTO_EDITOR, STEPPED, choose_example, open_anew, show_text, stop_time
 from verdicts import eventually, verdict
 
 CONTROL, SHIFT, ALT, ENTER, ESCAPE, TAB = "\ue009", "\ue008", "\ue00a", "\ue007", "\ue00c", "\ue004"
@@ -12,18 +12,18 @@ PROGRAM, BOARD = "#program-editor", "#board-editor"
 # A text at the limit: 16,381 bytes without comments and indentation, 36,497 bytes with them.
 LONGEST = "; a line of a comment, with words in it, and then some more of them\n" * 240 + "\tNOP\n" * 4035 + ";\n"
 
-SCROLLED = "return document.querySelector('#program-editor .cm-editor').lineEditor.getScrollInfo().top"
-EDITOR = "const editor = document.querySelector(`${arguments[0]} .cm-editor`).lineEditor; "
-CARET = f"{EDITOR}const at = editor.getCursor(); return [at.line, at.ch, editor.getSelection()]"
-SET_CARET = f"{EDITOR}editor.setCursor({{ line: arguments[1], ch: arguments[2] }}); editor.focus()"
-FAULTS = "return [...document.querySelectorAll('{} .fault-list li')].map((each) => each.textContent).join('|')"
-UNDERLINED = "return [...document.querySelectorAll('{} .fault')].map((each) => each.textContent).join(' ')"
-STATUS_OF = "return document.querySelector('{} .status-text').textContent"
-MEANING = "return document.querySelector('{} .meaning').textContent"
-LISTING = "return document.querySelector('#lines-of-program').textContent"
-INSIDE = "return document.activeElement.closest('.paper') !== null"
+GET_SCROLL_TOP = "return document.querySelector('#program-editor .cm-editor').lineEditor.getScrollInfo().top"
+FIND_EDITOR = "const editor = document.querySelector(`${arguments[0]} .cm-editor`).lineEditor; "
+GET_CARET = f"{FIND_EDITOR}const at = editor.getCursor(); return [at.line, at.ch, editor.getSelection()]"
+SET_CARET = f"{FIND_EDITOR}editor.setCursor({{ line: arguments[1], ch: arguments[2] }}); editor.focus()"
+GET_FAULTS = "return [...document.querySelectorAll('{} .fault-list li')].map((each) => each.textContent).join('|')"
+GET_UNDERLINED = "return [...document.querySelectorAll('{} .fault')].map((each) => each.textContent).join(' ')"
+GET_STATUS_OF = "return document.querySelector('{} .status-text').textContent"
+GET_MEANING = "return document.querySelector('{} .meaning').textContent"
+GET_LISTING = "return document.querySelector('#lines-of-program').textContent"
+IS_FOCUS_IN_PAPER = "return document.activeElement.closest('.paper') !== null"
 # The distances between the visible line numbers and their lines, at the end of a text that is wider than its box.
-NUMBERS = f"""{EDITOR}
+GET_LINE_NUMBERS = f"""{FIND_EDITOR}
 editor.scrollTo(1e6);
 editor.view.scrollDOM.scrollLeft = 1000;
 const shown = (part) => [...editor.view.dom.querySelectorAll(part)].filter((each) => each.getBoundingClientRect().height > 0);
@@ -33,7 +33,7 @@ const apart = numbers.map((number) => Math.min(...lines.map((line) => Math.abs(n
 const last = numbers[numbers.length - 1].textContent;
 return [last, editor.getScrollInfo().width > editor.getScrollInfo().clientWidth, Math.max(...apart) < 2]"""
 # The time of a key, from the key event to the end of all its work. The result is the median of some keys.
-KEY_TIMES = f"""{EDITOR}
+MEASURE_KEY_TIMES = f"""{FIND_EDITOR}
 editor.setCursor({{ line: arguments[1], ch: 0 }});
 const times = [];
 for (let key = 0; key < 100; key++) {{
@@ -45,7 +45,7 @@ editor.undo();
 times.sort((one, other) => one - other);
 return times[50]"""
 # The factor by which other work slows the browser down: the mean time of many short loops, divided by the shortest time.
-SLOWNESS = """
+MEASURE_SLOWNESS = """
 const times = [];
 let sum = 0;
 for (let round = 0; round < 200; round++) {
@@ -54,7 +54,7 @@ for (let round = 0; round < 200; round++) {
   times.push(performance.now() - begun);
 }
 return times.reduce((all, time) => all + time, 0) / times.length / Math.max(0.1, Math.min(...times))"""
-PASTE = """
+PASTE_TEXT = """
 const data = new DataTransfer();
 data.setData("text/plain", arguments[1].repeat(arguments[2]));
 const input = document.querySelector(`${arguments[0]} .cm-editor`).lineEditor.getInputField();
@@ -84,23 +84,23 @@ def check_faults(browser):
     browser.script(SET_CARET, PROGRAM, 0, 0)
     put(browser, PROGRAM, FAULTY)
     browser.script(SET_CARET, PROGRAM, 1, 3)
-    eventually(browser, "all faults of a program, in words", FAULTS.format(PROGRAM), WORDS)
-    verdict("with the words at fault underlined", browser.script(UNDERLINED.format(PROGRAM)), "LDX R0 JMP LDM loop")
-    verdict("the caret stays, and nothing is selected", browser.script(CARET, PROGRAM), [1, 3, ""])
+    eventually(browser, "all faults of a program, in words", GET_FAULTS.format(PROGRAM), WORDS)
+    verdict("with the words at fault underlined", browser.script(GET_UNDERLINED.format(PROGRAM)), "LDX R0 JMP LDM loop")
+    verdict("the caret stays, and nothing is selected", browser.script(GET_CARET, PROGRAM), [1, 3, ""])
     verdict("each fault is in the margin of its line",
             browser.script("return document.querySelectorAll('#program-editor .mark-faults').length"), 5)
     verdict("the tab shows how many", browser.text("#program-tab"), re.compile("5 faults$"))
     browser.click(f"{PROGRAM} .send")
-    eventually(browser, "a program with faults is not assembled", STATUS_OF.format(PROGRAM), re.compile("^line 1: LDX is not an instruction.*4 more$"))
+    eventually(browser, "a program with faults is not assembled", GET_STATUS_OF.format(PROGRAM), re.compile("^line 1: LDX is not an instruction.*4 more$"))
     browser.click(f"{PROGRAM} .fault-list li:nth-child(3) button")
-    verdict("a fault in the list leads to its word", browser.script(CARET, PROGRAM), [2, 8, ""])
+    verdict("a fault in the list leads to its word", browser.script(GET_CARET, PROGRAM), [2, 8, ""])
     mended = FAULTY.replace("LDM\n", "LDM 1\t; caf\u00e9\n").replace("LDX", "LDM").replace("R0", "P0").replace("JMP", "JUN")
     mended = mended.replace("loop:   NOP\nloop:", "loop:   NOP\nmore:")
     put(browser, PROGRAM, mended.replace("start\n", "strat\n").replace("LDM 1\t", "LDM 16\t"))
-    eventually(browser, "errors of values come when each line has a form", FAULTS.format(PROGRAM),
+    eventually(browser, "errors of values come when each line has a form", GET_FAULTS.format(PROGRAM),
           "line 3: strat is not defined; start?|line 4: LDM takes a value, 0 to 15")
     put(browser, PROGRAM, mended)
-    eventually(browser, "mended, no fault is left", FAULTS.format(PROGRAM), "")
+    eventually(browser, "mended, no fault is left", GET_FAULTS.format(PROGRAM), "")
 
 
 def check_typing(browser):
@@ -116,23 +116,23 @@ def check_typing(browser):
     browser.chord(CONTROL, " ")
     browser.until("return document.querySelectorAll('.cm-tooltip-autocomplete li').length", 1)
     browser.keys([ENTER], 5, 5)
-    eventually(browser, "Tab indents, and what was chosen is there", TEXT_OF_EDITOR.replace("arguments[0]", f"'{PROGRAM}'"),
+    eventually(browser, "Tab indents, and what was chosen is there", GET_TEXT_OF_EDITOR.replace("arguments[0]", f"'{PROGRAM}'"),
                "loop:\tNOP\n\tLDM 5\n\tJUN loop")
     browser.script(SET_CARET, PROGRAM, 1, 2)
-    eventually(browser, "the instruction at the caret is explained", MEANING.format(PROGRAM),
+    eventually(browser, "the instruction at the caret is explained", GET_MEANING.format(PROGRAM),
                re.compile(r"^(acc 0, cy 0\. )?LDM d: 1 word, 1 cycle\. Load immediate: d into ACC\. The carry stays\.$"))
     browser.chord(CONTROL, "f")
     browser.keys([*"jun", ENTER, ESCAPE], 5, 5)
-    eventually(browser, "what is sought is selected", CARET.replace("arguments[0]", f"'{PROGRAM}'"), [2, 4, "JUN"])
+    eventually(browser, "what is sought is selected", GET_CARET.replace("arguments[0]", f"'{PROGRAM}'"), [2, 4, "JUN"])
     browser.keys([ESCAPE, TAB], 5, 5)
-    verdict("Escape, then Tab leaves the text", browser.script(INSIDE), False)
-    verdict("and the text stays", browser.script(TEXT_OF_EDITOR, PROGRAM), "loop:\tNOP\n\tLDM 5\n\tJUN loop")
+    verdict("Escape, then Tab leaves the text", browser.script(IS_FOCUS_IN_PAPER), False)
+    verdict("and the text stays", browser.script(GET_TEXT_OF_EDITOR, PROGRAM), "loop:\tNOP\n\tLDM 5\n\tJUN loop")
 
 
 def check_names(browser):
     """Checks going to a name's definition, finding its references, renaming, going to a line, replacing, and commenting."""
-    text = TEXT_OF_EDITOR.replace("arguments[0]", f"'{PROGRAM}'")
-    caret = CARET.replace("arguments[0]", f"'{PROGRAM}'")
+    text = GET_TEXT_OF_EDITOR.replace("arguments[0]", f"'{PROGRAM}'")
+    caret = GET_CARET.replace("arguments[0]", f"'{PROGRAM}'")
     put(browser, PROGRAM, "loop:\tNOP ; loop\n\tFIM P0, loop\n\tJUN loop")
     browser.script(SET_CARET, PROGRAM, 2, 7)
     browser.keys([F12], 5, 5)
@@ -164,7 +164,7 @@ def check_names(browser):
     browser.keys([ESCAPE], 5, 5)
 
 
-FOLDED = "return [...document.querySelectorAll('#program-editor .folded-lines')].map((each) => each.textContent).join()"
+GET_FOLDED = "return [...document.querySelectorAll('#program-editor .folded-lines')].map((each) => each.textContent).join()"
 FOLDING = """; two lines
 ; of comment
 
@@ -182,46 +182,46 @@ def check_folding(browser):
     put(browser, PROGRAM, FOLDING)
     browser.until("return document.querySelectorAll('#program-editor .fold-open').length", 4)
     browser.click(f"{PROGRAM} .fold-open")
-    eventually(browser, "a click in the margin folds lines", FOLDED, "\u2026 1 line")
+    eventually(browser, "a click in the margin folds lines", GET_FOLDED, "\u2026 1 line")
     verdict("and sets no breakpoint", browser.script(f"return document.querySelector('{PROGRAM} .mark-breakpoints') === null"), True)
     browser.script(SET_CARET, PROGRAM, 5, 8)
     keys = [CONTROL, SHIFT, "["]
     browser.actions({"type": "key", "id": "keyboard", "actions": [
         *[{"type": "keyDown", "value": key} for key in keys], *[{"type": "keyUp", "value": key} for key in reversed(keys)]]})
-    eventually(browser, "the keys fold the part that the caret is in", FOLDED, "\u2026 1 line,\u2026 1 line")
-    verdict("the innermost one, whose first line the caret is in", browser.script(CARET, PROGRAM)[:1], [4])
-    verdict("the text is what it was", browser.script(TEXT_OF_EDITOR, PROGRAM), FOLDING)
+    eventually(browser, "the keys fold the part that the caret is in", GET_FOLDED, "\u2026 1 line,\u2026 1 line")
+    verdict("the innermost one, whose first line the caret is in", browser.script(GET_CARET, PROGRAM)[:1], [4])
+    verdict("the text is what it was", browser.script(GET_TEXT_OF_EDITOR, PROGRAM), FOLDING)
     browser.script(SET_CARET, PROGRAM, 7, 2)
     keys = [CONTROL, SHIFT, ALT, "["]
     browser.actions({"type": "key", "id": "keyboard", "actions": [
         *[{"type": "keyDown", "value": key} for key in keys], *[{"type": "keyUp", "value": key} for key in reversed(keys)]]})
     browser.script(SET_CARET, PROGRAM, 7, 2)
-    eventually(browser, "all of it folds", FOLDED, "\u2026 1 line,\u2026 2 lines,\u2026 1 line")
+    eventually(browser, "all of it folds", GET_FOLDED, "\u2026 1 line,\u2026 2 lines,\u2026 1 line")
     browser.click(f"{PROGRAM} .send")
-    eventually(browser, "it is assembled as it is", STATUS, re.compile("^Running"))
+    eventually(browser, "it is assembled as it is", GET_STATUS, re.compile("^Running"))
     stop_time(browser)
     # On a busy machine, time can be paused before its first instruction, whose line is visible.
     browser.click("#step")
-    browser.until(STATUS, STEPPED)
+    browser.until(GET_STATUS, STEPPED)
     # Time is paused at the loop's label, where the line below stays folded, or at the next line.
-    eventually(browser, "and the line at which time stands still is unfolded", FOLDED, re.compile("^\u2026 1 line(,\u2026 1 line){1,2}$"))
+    eventually(browser, "and the line at which time stands still is unfolded", GET_FOLDED, re.compile("^\u2026 1 line(,\u2026 1 line){1,2}$"))
 
 
 def check_numbers(browser):
     put(browser, PROGRAM, "\tNOP\n" * 200 + "; " + "a long line " * 40 + "\n\tNOP")
     time.sleep(0.3)
-    browser.script(NUMBERS, PROGRAM)
+    browser.script(GET_LINE_NUMBERS, PROGRAM)
     time.sleep(0.3)
-    verdict("at the end of a wide text each number stands beside its line", browser.script(NUMBERS, PROGRAM), ["202", True, True])
+    verdict("at the end of a wide text each number stands beside its line", browser.script(GET_LINE_NUMBERS, PROGRAM), ["202", True, True])
 
 
 def check_hidden(browser):
-    browser.script(EDITOR + "editor.scrollTo(2500)", "#program-editor")
-    eventually(browser, "the source is scrolled", SCROLLED, 2500)
+    browser.script(FIND_EDITOR + "editor.scrollTo(2500)", "#program-editor")
+    eventually(browser, "the source is scrolled", GET_SCROLL_TOP, 2500)
     for name in ("board", "program"):
         show_text(browser, name)
         time.sleep(0.3)
-    verdict("a text that was hidden comes back where it was", browser.script(SCROLLED), 2500)
+    verdict("a text that was hidden comes back where it was", browser.script(GET_SCROLL_TOP), 2500)
 
 
 def check_opened(browser, page):
@@ -229,11 +229,11 @@ def check_opened(browser, page):
     open_anew(browser, page)
     choose_example(browser, "calculator")
     show_text(browser, "program")
-    browser.script(EDITOR + "editor.scrollTo(4000)", PROGRAM)
-    eventually(browser, "a text that is scrolled", SCROLLED, 4000)
+    browser.script(FIND_EDITOR + "editor.scrollTo(4000)", PROGRAM)
+    eventually(browser, "a text that is scrolled", GET_SCROLL_TOP, 4000)
     choose_example(browser, "calculator")
     time.sleep(0.5)
-    verdict("a text that is opened begins at its first line", browser.script(SCROLLED), 0)
+    verdict("a text that is opened begins at its first line", browser.script(GET_SCROLL_TOP), 0)
     coloured = """const lines = [...document.querySelectorAll('#program-editor .cm-line')].filter((line) => line.textContent.trim() !== "");
 return lines.length > 20 && lines.every((line) => line.querySelector('span') !== null)"""
     verdict("and its words have their colours", browser.script(coloured), True)
@@ -243,43 +243,43 @@ def check_limits(browser):
     """Checks the longest text: typing stays fast, and a longer text is rejected with a message."""
     put(browser, PROGRAM, LONGEST)
     eventually(browser, "the counter", f"return document.querySelector('{PROGRAM} .size').textContent", "16,381 of 16,384 bytes")
-    time_of_key, slowness = browser.script(KEY_TIMES, PROGRAM, 120), browser.script(SLOWNESS)
+    time_of_key, slowness = browser.script(MEASURE_KEY_TIMES, PROGRAM, 120), browser.script(MEASURE_SLOWNESS)
     print(f"a key at the longest text takes {time_of_key:.1f} ms in {browser.name}, which others make {slowness:.1f} times as slow meanwhile")
     verdict("a key takes less than 16 ms", time_of_key / slowness < 16, True)
     put(browser, PROGRAM, "\tNOP\n")
     browser.script(SET_CARET, PROGRAM, 1, 0)
-    browser.script(PASTE, PROGRAM, "\tNOP\n", 1_000_000)
-    eventually(browser, "5 MB pasted are refused in words", STATUS_OF.format(PROGRAM), re.compile("^It was not inserted: the text would have 5,000,005 characters"))
-    verdict("and the text is as it was", browser.script(TEXT_OF_EDITOR, PROGRAM), "\tNOP\n")
+    browser.script(PASTE_TEXT, PROGRAM, "\tNOP\n", 1_000_000)
+    eventually(browser, "5 MB pasted are refused in words", GET_STATUS_OF.format(PROGRAM), re.compile("^It was not inserted: the text would have 5,000,005 characters"))
+    verdict("and the text is as it was", browser.script(GET_TEXT_OF_EDITOR, PROGRAM), "\tNOP\n")
 
 
 def check_sessions(browser):
     """Checks that each session has its own undo history for its texts."""
     choose_example(browser, "die")
-    before = browser.script(TEXT_OF_EDITOR, PROGRAM)
+    before = browser.script(GET_TEXT_OF_EDITOR, PROGRAM)
     browser.click("#from-rom")
     browser.until("return document.getElementById('ask').open", True)
     browser.click("#ask .bar button:first-child")
     time.sleep(0.5)
     browser.script(SET_CARET, PROGRAM, 0, 0)
     browser.chord(CONTROL, "z")
-    eventually(browser, "what was taken from ROM is undone by one step", TEXT_OF_EDITOR.replace("arguments[0]", f"'{PROGRAM}'"), before)
+    eventually(browser, "what was taken from ROM is undone by one step", GET_TEXT_OF_EDITOR.replace("arguments[0]", f"'{PROGRAM}'"), before)
     browser.chord(CONTROL, "z")
-    verdict("and there is no step before that", browser.script(TEXT_OF_EDITOR, PROGRAM), before)
+    verdict("and there is no step before that", browser.script(GET_TEXT_OF_EDITOR, PROGRAM), before)
 
 
 def check_running(browser):
     """Checks that one button assembles and runs, and that the message of the other button says what stays unchanged."""
     choose_example(browser, "traffic light")
-    browser.until(STATUS, re.compile("^Running"))
+    browser.until(GET_STATUS, re.compile("^Running"))
     put(browser, PROGRAM, "\tLDM 7\nstop:\tJUN stop\n")
     browser.click("#assemble-only")
-    eventually(browser, "assembling alone says what it leaves", STATUS_OF.format(PROGRAM), re.compile(
+    eventually(browser, "assembling alone says what it leaves", GET_STATUS_OF.format(PROGRAM), re.compile(
         r"^3 bytes assembled\. \d+ bytes from before stay in ROM, from 0x0..?\. The counter stays at ..., nothing was reset\.$".replace(", n", "; n")))
     browser.script(SET_CARET, PROGRAM, 0, 0)
     browser.chord(CONTROL, ENTER)
-    eventually(browser, "Control and Enter assemble and run", STATUS_OF.format(PROGRAM), "Assembled 3 bytes; running from 000.")
-    eventually(browser, "time runs", STATUS, re.compile("^Running"))
+    eventually(browser, "Control and Enter assemble and run", GET_STATUS_OF.format(PROGRAM), "Assembled 3 bytes; running from 000.")
+    eventually(browser, "time runs", GET_STATUS, re.compile("^Running"))
     browser.until("return document.querySelector('#registers').textContent", re.compile("^acc7"))
     stop_time(browser)
     eventually(browser, "the machine is at the program's end", "return document.querySelector('#registers').textContent", re.compile("^acc7.*pc00[12]"))
@@ -295,14 +295,14 @@ def check_empty(browser):
     """Checks that an empty bench offers a board, and that a program without its ROM chip has an error at its line."""
     choose_example(browser, "empty bench")
     put(browser, PROGRAM, "; nothing yet\n\tLDM 1\n")
-    eventually(browser, "a ROM that is lacking is reported at its line", FAULTS.format(PROGRAM), re.compile(r"^line 2: this line is at 000, and the board has no ROM 0: wire a \[\[rom\]\]"))
+    eventually(browser, "a ROM that is lacking is reported at its line", GET_FAULTS.format(PROGRAM), re.compile(r"^line 2: this line is at 000, and the board has no ROM 0: wire a \[\[rom\]\]"))
     show_text(browser, "board")
     browser.click("#first-board")
-    eventually(browser, "an empty bench gets a board", STATUS_OF.format(BOARD), "Board applied.")
+    eventually(browser, "an empty bench gets a board", GET_STATUS_OF.format(BOARD), "Board applied.")
     verdict("with lamps", browser.script("return document.querySelectorAll('#lamps li').length"), 4)
     verdict("and it is not offered again", browser.script("return document.getElementById('board-offer').hidden"), True)
     show_text(browser, "program")
-    eventually(browser, "then the program has no fault", FAULTS.format(PROGRAM), "")
+    eventually(browser, "then the program has no fault", GET_FAULTS.format(PROGRAM), "")
 
 
 FAULTY_BOARD = """[[rom]]
@@ -325,11 +325,11 @@ def check_board(browser):
     text = FAULTY_BOARD
     for wrong, right, words, underlined in MENDED_BOARD:
         put(browser, BOARD, text)
-        eventually(browser, "the error of a board, in words", FAULTS.format(BOARD), words)
-        verdict("with what is wrong underlined", browser.script(UNDERLINED.format(BOARD)), underlined)
+        eventually(browser, "the error of a board, in words", GET_FAULTS.format(BOARD), words)
+        verdict("with what is wrong underlined", browser.script(GET_UNDERLINED.format(BOARD)), underlined)
         text = text.replace(wrong, right)
     put(browser, BOARD, text)
-    eventually(browser, "a lamp at a ROM that the board lacks", FAULTS.format(BOARD), "line 6: the board has no line rom0.0: no [[rom]] has chip = 0")
+    eventually(browser, "a lamp at a ROM that the board lacks", GET_FAULTS.format(BOARD), "line 6: the board has no line rom0.0: no [[rom]] has chip = 0")
     put(browser, BOARD, "")
     browser.script(SET_CARET, BOARD, 0, 0)
     for text in ("[[rom]]\nchip = 0\nport = \"0000\"", "[[lamp]]\nline = \"rom0.0\""):
@@ -338,11 +338,11 @@ def check_board(browser):
         browser.script("[...document.querySelectorAll('.cm-tooltip-autocomplete li')].find((each) => each.textContent.startsWith(arguments[0]))"
                        ".dispatchEvent(new MouseEvent('mousedown', { bubbles: true, cancelable: true }))",
                        text.split("\n")[0])
-        verdict("an empty line becomes a part", browser.script(TEXT_OF_EDITOR, BOARD).endswith(text), True)
+        verdict("an empty line becomes a part", browser.script(GET_TEXT_OF_EDITOR, BOARD).endswith(text), True)
         browser.keys([ENTER])
-    eventually(browser, "and a board of such parts has no fault", FAULTS.format(BOARD), "")
+    eventually(browser, "and a board of such parts has no fault", GET_FAULTS.format(BOARD), "")
     put(browser, BOARD, "[[rom]]\nchip = 0\nport = 0000\n")
-    eventually(browser, "what is no TOML", FAULTS.format(BOARD), 'line 3: a number has no leading zero; write a text in quotes: "0000"')
+    eventually(browser, "what is no TOML", GET_FAULTS.format(BOARD), 'line 3: a number has no leading zero; write a text in quotes: "0000"')
     show_text(browser, "program")
 
 
@@ -361,18 +361,18 @@ def check_phone(browser, page):
     open_anew(browser, page)
     choose_example(browser, "calculator")
     show_text(browser, "program")
-    text = TEXT_OF_EDITOR.replace("arguments[0]", f"'{PROGRAM}'")
+    text = GET_TEXT_OF_EDITOR.replace("arguments[0]", f"'{PROGRAM}'")
     put(browser, PROGRAM, "\tLDM \n\tJUN nowhere\n")
     browser.script(SET_CARET, PROGRAM, 0, 5)
     compose(browser, "w", "wo", "wor", "word")
     eventually(browser, "a word that is composed while faults are marked is there", text, "\tLDM word\n\tJUN nowhere\n")
-    eventually(browser, "with its fault", FAULTS.format(PROGRAM), re.compile("^line 1: .*word"))
+    eventually(browser, "with its fault", GET_FAULTS.format(PROGRAM), re.compile("^line 1: .*word"))
     put(browser, PROGRAM, "lable:\tNOP\n")
     browser.script(SET_CARET, PROGRAM, 0, 5)
     compose(browser, "label", replacing=(0, 5))
     eventually(browser, "a word that the keyboard puts right stands once", text, "label:\tNOP\n")
     put(browser, PROGRAM, "one:\tNOP\ntwo:\tNOP\n\tNOP\n")
-    browser.script(f"{EDITOR}editor.focus(); editor.setSelection({{ line: 0, ch: 5 }}, {{ line: 1, ch: 8 }})", PROGRAM)
+    browser.script(f"{FIND_EDITOR}editor.focus(); editor.setSelection({{ line: 0, ch: 5 }}, {{ line: 1, ch: 8 }})", PROGRAM)
     browser.command("Input.insertText", text="I")
     eventually(browser, "what is typed over lines takes their place", text, "one:\tI\n\tNOP\n")
 
@@ -381,7 +381,7 @@ def check_editor(browser, page, _folder, _mcs4):
     check_opened(browser, page)
     open_anew(browser, page)
     browser.script("for (const each of document.querySelectorAll('#notice .dismiss')) each.click()")
-    before = len(browser.script(ALL_NOTICES))
+    before = len(browser.script(GET_ALL_NOTICES))
     choose_example(browser, "calculator")
     show_text(browser, "program")
     check_faults(browser)
@@ -395,6 +395,6 @@ def check_editor(browser, page, _folder, _mcs4):
     check_running(browser)
     check_board(browser)
     check_empty(browser)
-    notices = browser.script(ALL_NOTICES)
+    notices = browser.script(GET_ALL_NOTICES)
     done = [words for words in notices[:len(notices) - before] if not words.endswith("is saved.")]
     verdict("no notice but what was done", done, ["The source was disassembled from ROM."])

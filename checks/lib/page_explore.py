@@ -8,25 +8,26 @@ import re
 import subprocess
 import time
 
-from page_in_browser import NOTICE, PUT_INTO_EDITOR, READY, TEXT_OF_EDITOR, TOP, choose_example, lines_answered, of_file_menu, open_anew, show_text
-from page_layout import SIDEWAYS, at_size
-from page_tests import FAULTS as TESTS_FAULTS
-from page_tests import TESTS_STATUS
-from page_tests import WRONG
-from page_texts import NAME, kept_download, rename
+from page_in_browser import (GET_NOTICE, GET_TEXT_OF_EDITOR, IS_READY, PUT_INTO_EDITOR, TOP, choose_example, lines_answered, of_file_menu,
+                             open_anew, show_text)
+from page_layout import MEASURE_OVERFLOW, at_size
+from page_tests import GET_FAULTS as GET_TESTS_FAULTS
+from page_tests import GET_TESTS_STATUS
+from page_tests import GET_WRONG
+from page_texts import GET_NAME, kept_download, rename
 from verdicts import eventually, verdict
 from web_driver import Chromium
 
 EDITOR = "#properties-editor"
-PROPERTIES_STATUS = "return document.querySelector('#properties-editor .status-text').textContent"
-BUTTON = "return document.getElementById('explore').textContent"
-ROWS = """return [...document.querySelectorAll('#property-list > li')].map((each) => [...each.querySelector('p').children]
+GET_PROPERTIES_STATUS = "return document.querySelector('#properties-editor .status-text').textContent"
+GET_BUTTON_WORD = "return document.getElementById('explore').textContent"
+GET_ROWS = """return [...document.querySelectorAll('#property-list > li')].map((each) => [...each.querySelector('p').children]
   .map((child) => child.textContent).filter(Boolean).join(' | '))"""
-MARK = "return document.querySelector('#properties-tab .mark').textContent"
-FAULTS = TESTS_FAULTS.replace("tests", "properties")
-FIGURES = "return document.getElementById('explore-figures').textContent"
-CYCLES = "return Number(document.getElementById('cycles').textContent.match(/[\\d,]+/)[0].replace(/,/g, ''))"
-TEST_OF_FIND = "return document.querySelector('#property-list pre').textContent"
+GET_MARK = "return document.querySelector('#properties-tab .mark').textContent"
+GET_FAULTS = GET_TESTS_FAULTS.replace("tests", "properties")
+GET_FIGURES = "return document.getElementById('explore-figures').textContent"
+GET_CYCLES = "return Number(document.getElementById('cycles').textContent.match(/[\\d,]+/)[0].replace(/,/g, ''))"
+GET_COUNTEREXAMPLE_TEST = "return document.querySelector('#property-list pre').textContent"
 CONTROL, ENTER = "\ue009", "\ue007"
 LOCK = TOP / "examples/lock"
 # The page gets the same time as the tool, because minimising a counterexample uses a fifth of it.
@@ -34,7 +35,7 @@ SECONDS = 10
 
 
 def text_of(browser, name):
-    return browser.script(TEXT_OF_EDITOR, f"#{name}-editor")
+    return browser.script(GET_TEXT_OF_EDITOR, f"#{name}-editor")
 
 
 def put(browser, name, text):
@@ -75,23 +76,23 @@ def check_found(browser, folder, mcs4):
     verdict("properties come with their example", text_of(browser, "properties"), (LOCK / "lock.props").read_text())
     put(browser, "program", program)
     explore(browser, SECONDS)
-    eventually(browser, "the button stops it", BUTTON, "Stop")
-    eventually(browser, "steps are counted", FIGURES, re.compile("^[1-9][0-9,]* steps"))
-    before = browser.script(CYCLES)
-    eventually(browser, "what is broken is reported while it looks on", PROPERTIES_STATUS, "1 property is broken so far.")
-    verdict("the tab says so", browser.script(MARK), "1 broken")
-    eventually(browser, "the session's time goes on meanwhile", f"{CYCLES.replace('return ', 'return (')}) > {before}", True)
-    eventually(browser, "it comes to its end", BUTTON, "Search", SECONDS + 30)
-    verdict("what was found is reported", browser.script(PROPERTIES_STATUS), "1 property is broken.")
+    eventually(browser, "the button stops it", GET_BUTTON_WORD, "Stop")
+    eventually(browser, "steps are counted", GET_FIGURES, re.compile("^[1-9][0-9,]* steps"))
+    before = browser.script(GET_CYCLES)
+    eventually(browser, "what is broken is reported while it looks on", GET_PROPERTIES_STATUS, "1 property is broken so far.")
+    verdict("the tab says so", browser.script(GET_MARK), "1 broken")
+    eventually(browser, "the session's time goes on meanwhile", f"{GET_CYCLES.replace('return ', 'return (')}) > {before}", True)
+    eventually(browser, "it comes to its end", GET_BUTTON_WORD, "Search", SECONDS + 30)
+    verdict("what was found is reported", browser.script(GET_PROPERTIES_STATUS), "1 property is broken.")
     tool = found_by_tool(folder, program, mcs4)
     output, _ = tool.communicate()
-    rows = browser.script(ROWS)
+    rows = browser.script(GET_ROWS)
     verdict("each property has its row", len(rows), 8)
     verdict("with how it is broken", rows[0], re.compile(r"^not ok \| lamp open on only after press 4, .* \| broken by \d+ steps?, [\d,]+ cycles"))
     verdict("the others hold", rows[1:3], ["ok | never lamp open on and lamp locked on", "ok | never lamp open on and lamp alarm on"])
     verdict("the tool has found the same one alone", re.findall("^not ok (.*) - ", output, re.M), ["1"])
     finds = (folder / "finds.test").read_text()
-    verdict("by the same test, with the same seed", browser.script(TEST_OF_FIND), finds[finds.index("\ntest ") + 1:].rstrip("\n"))
+    verdict("by the same test, with the same seed", browser.script(GET_COUNTEREXAMPLE_TEST), finds[finds.index("\ntest ") + 1:].rstrip("\n"))
     verdict("what was run is reported", browser.text("#explored-instructions"), re.compile(r"1\d\d of 125 instructions were run"))
 
 
@@ -109,24 +110,24 @@ def check_added(browser):
     """Checks that the counterexample's test is added to the tests once, that it fails there, and that it can be removed again."""
     add = "#property-list .bar button:nth-of-type(2)"
     before = text_of(browser, "tests")
-    test = browser.script(TEST_OF_FIND)
+    test = browser.script(GET_COUNTEREXAMPLE_TEST)
     browser.click(add)
-    verdict("the test is added", browser.script(PROPERTIES_STATUS), "It is at the end of Tests, where Run tests runs it.")
+    verdict("the test is added", browser.script(GET_PROPERTIES_STATUS), "It is at the end of Tests, where Run tests runs it.")
     verdict("behind those of before", text_of(browser, "tests"), f"{before.rstrip()}\n\n{test}\n")
     browser.click(add)
-    verdict("once", (browser.script(PROPERTIES_STATUS), text_of(browser, "tests").count(test)), ("Tests has it already.", 1))
+    verdict("once", (browser.script(GET_PROPERTIES_STATUS), text_of(browser, "tests").count(test)), ("Tests has it already.", 1))
     put(browser, "tests", test)
     show_text(browser, "tests")
     browser.click("#tests-editor .send")
-    eventually(browser, "it is run there", TESTS_STATUS, re.compile("failed|passed"))
-    verdict("and fails as it has to", browser.script(WRONG), re.compile(r"^\['line \d+ expect not lamp open on: [^']*'\]$"))
+    eventually(browser, "it is run there", GET_TESTS_STATUS, re.compile("failed|passed"))
+    verdict("and fails as it has to", browser.script(GET_WRONG), re.compile(r"^\['line \d+ expect not lamp open on: [^']*'\]$"))
     show_text(browser, "properties")
 
 
 def check_opened(browser):
     browser.click("#property-list .bar button:nth-of-type(1)")
-    eventually(browser, "the find is opened as a session", NAME, re.compile("^lamp open on only after press 4"))
-    eventually(browser, "the way back is offered", NOTICE, re.compile('"lock" is saved'))
+    eventually(browser, "the find is opened as a session", GET_NAME, re.compile("^lamp open on only after press 4"))
+    eventually(browser, "the way back is offered", GET_NOTICE, re.compile('"lock" is saved'))
     verdict("the lamp is lit there", "lamps .*." in lines_answered(browser, "lamps"), True)
     verdict("its texts are there", (text_of(browser, "properties"), text_of(browser, "program") == planted()),
             ((LOCK / "lock.props").read_text(), True))
@@ -134,27 +135,27 @@ def check_opened(browser):
     browser.click("#sessions-button")
     browser.until("return document.getElementById('sessions').open", True)
     browser.click("#kept button[aria-label='open lock']")
-    eventually(browser, "back in the session", NAME, "lock")
-    eventually(browser, "what was found in it is there", ROWS, re.compile("^.'not ok . lamp open on only after"))
+    eventually(browser, "back in the session", GET_NAME, "lock")
+    eventually(browser, "what was found in it is there", GET_ROWS, re.compile("^.'not ok . lamp open on only after"))
 
 
 def check_stopped(browser):
     """Checks that a search of ten minutes can be stopped immediately, also by keyboard."""
     explore(browser, 600)
     # The first tenth of the time is for a proof.
-    eventually(browser, "it looks", FIGURES, re.compile("^[1-9][0-9,]* steps"), 120)
+    eventually(browser, "it looks", GET_FIGURES, re.compile("^[1-9][0-9,]* steps"), 120)
     start = time.monotonic()
     browser.hold("#explore", 400)
-    eventually(browser, "it stops", BUTTON, "Search", 5)
+    eventually(browser, "it stops", GET_BUTTON_WORD, "Search", 5)
     verdict("at once", time.monotonic() - start < 3, True)
-    verdict("and says so", browser.script(PROPERTIES_STATUS), re.compile("^Stopped. "))
+    verdict("and says so", browser.script(GET_PROPERTIES_STATUS), re.compile("^Stopped. "))
     browser.script("document.querySelector('#properties-editor .cm-editor').lineEditor.focus()")
     browser.chord(CONTROL, ENTER)
-    eventually(browser, "Ctrl and Enter begins it", BUTTON, "Stop")
-    eventually(browser, "and it looks", FIGURES, re.compile("^[1-9][0-9,]* steps"), 120)
+    eventually(browser, "Ctrl and Enter begins it", GET_BUTTON_WORD, "Stop")
+    eventually(browser, "and it looks", GET_FIGURES, re.compile("^[1-9][0-9,]* steps"), 120)
     browser.script("document.getElementById('explore').focus()")
     browser.keys([ENTER])
-    eventually(browser, "Enter on the button stops it", BUTTON, "Search", 5)
+    eventually(browser, "Enter on the button stops it", GET_BUTTON_WORD, "Search", 5)
     verdict("and the button keeps the focus", browser.script("return document.activeElement.id"), "explore")
     browser.click("#clear-finds")
     verdict("what was found is cleared", browser.script("return isShown(document.getElementById('explore-results'))"), False)
@@ -163,27 +164,27 @@ def check_stopped(browser):
 def check_faults(browser):
     put(browser, "properties", "wait 0 to 5\nnever lamp purple on\npress A\n")
     show_text(browser, "properties")
-    eventually(browser, "faults are reported while one types", FAULTS,
+    eventually(browser, "faults are reported while one types", GET_FAULTS,
                ["line 1: write `wait TIME to TIME`, from 1 cycle to 100,000 (1.08 s), as in: wait 1 ms to 20 ms",
                 "line 2: the board has no lamp purple; it has: locked open alarm (column 7)",
                 "line 3: the board has no key A; it has: 1 2 3 4 5 6 7 8 9 * 0 #"])
-    verdict("the tab shows how many", browser.script(MARK), "3 faults")
+    verdict("the tab shows how many", browser.script(GET_MARK), "3 faults")
     browser.click("#explore")
-    eventually(browser, "nothing is looked for then", PROPERTIES_STATUS, re.compile("^Nothing was run: Properties, line 1: write .* and 2 more.$"))
+    eventually(browser, "nothing is looked for then", GET_PROPERTIES_STATUS, re.compile("^Nothing was run: Properties, line 1: write .* and 2 more.$"))
     for seconds, seed, words in ((0, 1, "Seconds must be a number from 1 to 86,400."), ("x", -1, re.compile("^Seconds .* The seed must be a number"))):
         explore(browser, seconds, seed)
-        verdict(f"{seconds} seconds are refused", browser.script(PROPERTIES_STATUS), words)
+        verdict(f"{seconds} seconds are refused", browser.script(GET_PROPERTIES_STATUS), words)
     board = text_of(browser, "board")
     put(browser, "board", f"{board}[rom]\n")
     explore(browser, 5)
-    eventually(browser, "a board that is refused is reported", PROPERTIES_STATUS, re.compile("^Nothing was run: Board: no 20: the text is not TOML"))
+    eventually(browser, "a board that is refused is reported", GET_PROPERTIES_STATUS, re.compile("^Nothing was run: Board: no 20: the text is not TOML"))
     put(browser, "board", board)
     put(browser, "properties", "")
     eventually(browser, "a text to begin with is offered", "return isShown(document.getElementById('first-properties'))", True)
     browser.click("#first-properties")
     explore(browser, 3)
-    eventually(browser, "its goals are reached", PROPERTIES_STATUS, "Nothing was found that breaks a property.", 20)
-    verdict("and say by what", browser.script(ROWS)[0], re.compile(r"^ok \| reach lamp locked on \| reached by \d+ steps?, "))
+    eventually(browser, "its goals are reached", GET_PROPERTIES_STATUS, "Nothing was found that breaks a property.", 20)
+    verdict("and say by what", browser.script(GET_ROWS)[0], re.compile(r"^ok \| reach lamp locked on \| reached by \d+ steps?, "))
 
 
 BOARD = 'lamp = [{ line = "ram0.0.0" }, { line = "ram0.0.1" }]\n[[rom]]\nchip = 0\nport = "0000"\n[[ram]]\nbank = 0\nchips = 1\n'
@@ -194,13 +195,13 @@ def check_proof_first(browser):
     """Checks a board and a program that reach few states: properties that hold in all of them are proved."""
     choose_example(browser, "empty bench")
     explore(browser, 5)
-    eventually(browser, "without a board nothing may change", PROPERTIES_STATUS, re.compile("^Nothing was run: Properties, line 1: nothing may change"))
+    eventually(browser, "without a board nothing may change", GET_PROPERTIES_STATUS, re.compile("^Nothing was run: Properties, line 1: nothing may change"))
     put(browser, "board", BOARD)
     put(browser, "program", PROGRAM)
     put(browser, "properties", "test\nwait 1 to 20\nnever lamp 1 on\nnever lamp 0 on\nreach lamp 1 on\n")
     explore(browser, 5)
-    eventually(browser, "it ends where nothing is left to be looked for", PROPERTIES_STATUS, "1 property is broken. 1 goal was not reached.", 20)
-    verdict("what is proved is reported", [row for row in browser.script(ROWS) if "states" in row][:2],
+    eventually(browser, "it ends where nothing is left to be looked for", GET_PROPERTIES_STATUS, "1 property is broken. 1 goal was not reached.", 20)
+    verdict("what is proved is reported", [row for row in browser.script(GET_ROWS) if "states" in row][:2],
             ["ok | never lamp 1 on | proved for all inputs (2 states)", "not ok | reach lamp 1 on | never reached, for all inputs (2 states)"])
 
 
@@ -209,24 +210,24 @@ def check_from_a_state(browser):
     put(browser, "tests", "test it is lit\n  set test 1\n  run 40\n  save lit\n")
     put(browser, "properties", "from lit\ntest\nwait 1 to 20\nnever lamp 0 on\nfrom dark\n")
     show_text(browser, "properties")
-    eventually(browser, "a second state is a fault", FAULTS, ["line 5: an earlier line already says from which state it begins"])
+    eventually(browser, "a second state is a fault", GET_FAULTS, ["line 5: an earlier line already says from which state it begins"])
     put(browser, "properties", "from dark\ntest\nnever lamp 0 on\n")
-    eventually(browser, "and one that no test saves", FAULTS, ["line 1: no test saves a state dark; there is: lit"])
+    eventually(browser, "and one that no test saves", GET_FAULTS, ["line 1: no test saves a state dark; there is: lit"])
     put(browser, "properties", "from lit\ntest\nwait 1 to 20\nnever lamp 0 on\n")
     explore(browser, 5)
-    eventually(browser, "a find from a state", PROPERTIES_STATUS, "1 property is broken.", 20)
-    verdict("has its lines", browser.script(TEST_OF_FIND), re.compile("^test never lamp 0 on\n  set test 1\n  run 40\n"))
+    eventually(browser, "a find from a state", GET_PROPERTIES_STATUS, "1 property is broken.", 20)
+    verdict("has its lines", browser.script(GET_COUNTEREXAMPLE_TEST), re.compile("^test never lamp 0 on\n  set test 1\n  run 40\n"))
 
 
 def check_phone(browser):
     at_size(browser, 390, 844, True)
-    verdict("on a phone nothing scrolls sideways", browser.script(SIDEWAYS), 0)
+    verdict("on a phone nothing scrolls sideways", browser.script(MEASURE_OVERFLOW), 0)
     explore(browser, 5)
-    eventually(browser, "it looks there, too", BUTTON, "Search", 20)
-    eventually(browser, "with its rows", ROWS, re.compile("never lamp 0 on"))
+    eventually(browser, "it looks there, too", GET_BUTTON_WORD, "Search", 20)
+    eventually(browser, "with its rows", GET_ROWS, re.compile("never lamp 0 on"))
     verdict("which fit into its width", browser.script("""return [...document.querySelectorAll('#explore-results *')]
       .filter((each) => isShown(each) && each.getBoundingClientRect().right > innerWidth).length"""), 0)
-    verdict("and nothing scrolls sideways", browser.script(SIDEWAYS), 0)
+    verdict("and nothing scrolls sideways", browser.script(MEASURE_OVERFLOW), 0)
     browser.resize_back()
 
 
@@ -235,9 +236,9 @@ def check_kept(browser, folder):
     put(browser, "properties", "never lamp 1 on")
     time.sleep(1)
     browser.reload()
-    browser.until(READY, True)
+    browser.until(IS_READY, True)
     show_text(browser, "properties")
-    eventually(browser, "the text is there after a reload", TEXT_OF_EDITOR.replace("arguments[0]", f"'{EDITOR}'"), "never lamp 1 on")
+    eventually(browser, "the text is there after a reload", GET_TEXT_OF_EDITOR.replace("arguments[0]", f"'{EDITOR}'"), "never lamp 1 on")
     rename(browser, "with properties")
     of_file_menu(browser, "#save-button")
     saved = kept_download(folder, "with properties.mcsp")
@@ -245,9 +246,9 @@ def check_kept(browser, folder):
     verdict("a project has it", "\nunended properties\n" in text and "\nproperties\nnever lamp 1 on\n.\n" in text, True)
     browser.click("#sessions-button")
     browser.type_into("#file", str(LOCK / "lock.props"))
-    eventually(browser, "a file of properties comes into its tab", TEXT_OF_EDITOR.replace("arguments[0]", f"'{EDITOR}'"),
+    eventually(browser, "a file of properties comes into its tab", GET_TEXT_OF_EDITOR.replace("arguments[0]", f"'{EDITOR}'"),
                (LOCK / "lock.props").read_text())
-    eventually(browser, "and says what to do with it", NOTICE, re.compile("lock.props is in Properties. Search looks for counterexamples"))
+    eventually(browser, "and says what to do with it", GET_NOTICE, re.compile("lock.props is in Properties. Search looks for counterexamples"))
 
 
 def check(browser, page, folder, mcs4):

@@ -5,26 +5,26 @@ import base64
 import re
 import time
 
-from page_in_browser import DIGITS, PUT_INTO_EDITOR, STATUS, TOP, choose_example, focused, key, show_text, status_of, until_ready
+from page_in_browser import GET_DIGITS, GET_STATUS, PUT_INTO_EDITOR, TOP, choose_example, focused, key, show_text, status_of, until_ready
 from picture import write_picture
 from verdicts import eventually, verdict
 
 TAB = "\ue004"
 # The heading also contains the panel's buttons.
-TITLE = """const heading = document.getElementById('front-title');
+GET_TITLE = """const heading = document.getElementById('front-title');
 return (heading.querySelector('.fold') || heading).textContent"""
-NAMES = "return [...document.querySelectorAll('#front .bulb')].map((bulb) => bulb.getAttribute('aria-label')).join('; ')"
-PRESSED = "return document.querySelector(arguments[0]).getAttribute('aria-pressed')"
+GET_NAMES = "return [...document.querySelectorAll('#front .bulb')].map((bulb) => bulb.getAttribute('aria-label')).join('; ')"
+IS_PRESSED = "return document.querySelector(arguments[0]).getAttribute('aria-pressed')"
 TEST_KEY = "#keys .at-test"
-TEST_PRESSED = f"return document.querySelector('{TEST_KEY}').getAttribute('aria-pressed')"
-FAULTS = "return [...document.querySelectorAll('#face-faults li')].map((line) => line.textContent).join('; ')"
+IS_TEST_PRESSED = f"return document.querySelector('{TEST_KEY}').getAttribute('aria-pressed')"
+GET_FAULTS = "return [...document.querySelectorAll('#face-faults li')].map((line) => line.textContent).join('; ')"
 # The error messages of the board's editor, each up to its first semicolon.
-AT_LINES = """
+GET_COLOUR_FAULTS = """
 return [...document.querySelectorAll("#board-editor .fault-list li")].map((line) => line.textContent.split(";")[0])
   .filter((words) => words.includes("colour")).join(" | ");
 """
 # The centre of each lamp by name, as distances from the left and top edges.
-PLACES = """
+GET_PLACES = """
 const places = {};
 for (const bulb of document.querySelectorAll("#front .bulb")) {
   const box = bulb.getBoundingClientRect();
@@ -32,9 +32,9 @@ for (const bulb of document.querySelectorAll("#front .bulb")) {
 }
 return places;
 """
-RINGS = "return [...document.querySelectorAll('#front .bulb')].map((bulb) => getComputedStyle(bulb).borderTopColor)"
-COLOURS = "return [...document.querySelectorAll('#front .bulb')].map((bulb) => getComputedStyle(bulb).getPropertyValue('--glow'))"
-FILLED = """
+GET_RINGS = "return [...document.querySelectorAll('#front .bulb')].map((bulb) => getComputedStyle(bulb).borderTopColor)"
+GET_COLOURS = "return [...document.querySelectorAll('#front .bulb')].map((bulb) => getComputedStyle(bulb).getPropertyValue('--glow'))"
+GET_FILLED = """
 return [...document.querySelectorAll("#front .bulb")].map((bulb) => {
   const fill = getComputedStyle(bulb, "::after");
   const filled = fill.opacity > 0.7 && !/rgba\\(.*, 0\\)|transparent/.test(fill.backgroundColor);
@@ -42,7 +42,7 @@ return [...document.querySelectorAll("#front .bulb")].map((bulb) => {
 }).every(Boolean)
 """
 # The text of the display, and the number of lit segments in each digit.
-SHOWN = """
+GET_DISPLAY = """
 return [document.getElementById("digits").textContent,
   [...document.querySelectorAll("#glass svg")].map((digit) => digit.querySelectorAll(".lit").length)];
 """
@@ -50,7 +50,7 @@ return [document.getElementById("digits").textContent,
 SEGMENTS_OF = {"0": 6, "1": 2, "2": 5, "3": 5, "4": 4, "5": 5, "6": 6, "7": 3, "8": 7, "9": 6}
 # Records the announcements, and separately the announcements less than half a second after a change of the display. The page announces a display that
 # has not changed for a second. On a busy machine, the digits can stay that long while the stopwatch is running.
-WATCH_SAID = """
+WATCH_ANNOUNCEMENTS = """
 const watch = (id, then) => new MutationObserver(then)
   .observe(document.getElementById(id), { childList: true, characterData: true, attributes: true, subtree: true });
 window.said = [];
@@ -63,8 +63,8 @@ watch("display-status", () => {
   if (performance.now() - changed < 500) window.saidEarly.push(text);
 });
 """
-SAID_IS_SHOWN = "return window.said.at(-1) === document.getElementById('digits').textContent"
-SAID_EARLY = "return window.saidEarly.join(' ')"
+IS_ANNOUNCEMENT_SHOWN = "return window.said.at(-1) === document.getElementById('digits').textContent"
+GET_EARLY_ANNOUNCEMENTS = "return window.saidEarly.join(' ')"
 
 
 def lamps_are(wanted):
@@ -74,18 +74,18 @@ def lamps_are(wanted):
 
 def check_traffic_light(browser):
     choose_example(browser, "traffic light")
-    eventually(browser, "the title", TITLE, "Traffic light")
-    eventually(browser, "the lamps have names and say whether they are lit", NAMES,
+    eventually(browser, "the title", GET_TITLE, "Traffic light")
+    eventually(browser, "the lamps have names and say whether they are lit", GET_NAMES,
                lamps_are("red, dark; amber, dark; stand, lit; green, lit; walk, dark"))
-    at = browser.script(PLACES)
+    at = browser.script(GET_PLACES)
     verdict("red, amber and green stand below each other", [at["red"][0], at["red"][0]], [at["amber"][0], at["green"][0]])
     verdict("from above to below", at["red"][1] < at["amber"][1] < at["green"][1], True)
     verdict("the pedestrians' lamps stand at the right of them",
             [at["stand"][1], at["walk"][1], at["stand"][0] > at["amber"][0]], [at["amber"][1], at["green"][1], True])
-    red, amber, stand, green, walk = browser.script(COLOURS)
+    red, amber, stand, green, walk = browser.script(GET_COLOURS)
     verdict("red, amber and green are three colours", len({red, amber, green}), 3)
     verdict("the pedestrians have the same red and green", [stand, walk], [red, green])
-    verdict("what is lit is full, what is dark is a ring", browser.script(FILLED), True)
+    verdict("what is lit is full, what is dark is a ring", browser.script(GET_FILLED), True)
     check_spring_button(browser)
 
 
@@ -97,8 +97,8 @@ def check_spring_button(browser):
                    "attributeFilter: ['aria-pressed'] })")
     browser.fingers([TEST_KEY], 300)
     eventually(browser, "it is down while a finger holds it, and springs back", "return window.presses.join(' ')", "true false")
-    eventually(browser, "the cars have to stop", NAMES, re.compile("red, lit.*stand, lit|amber, lit.*stand, lit"))
-    eventually(browser, "and those who walk may go", NAMES, re.compile("red, lit.*walk, lit"))
+    eventually(browser, "the cars have to stop", GET_NAMES, re.compile("red, lit.*stand, lit|amber, lit.*stand, lit"))
+    eventually(browser, "and those who walk may go", GET_NAMES, re.compile("red, lit.*walk, lit"))
     browser.keys(["w"], 100)
     eventually(browser, "by its letter", "return window.presses.join(' ')", "true false true false")
     browser.script("document.getElementById('run').focus()")
@@ -106,35 +106,35 @@ def check_spring_button(browser):
     browser.keys([" "], 100)
     eventually(browser, "by the space bar", "return window.presses.join(' ')", "true false true false true false")
     browser.click("#run")
-    eventually(browser, "time stands still", STATUS, re.compile("^Paused"))
+    eventually(browser, "time stands still", GET_STATUS, re.compile("^Paused"))
     browser.click(TEST_KEY)
-    eventually(browser, "while time stands still it stays as a click puts it", TEST_PRESSED, "true")
+    eventually(browser, "while time stands still it stays as a click puts it", IS_TEST_PRESSED, "true")
     browser.click(TEST_KEY)
-    eventually(browser, "up to the next one", TEST_PRESSED, "false")
+    eventually(browser, "up to the next one", IS_TEST_PRESSED, "false")
 
 
 def check_stopwatch(browser):
     choose_example(browser, "stopwatch")
-    eventually(browser, "a switch has its name", TITLE, "Stopwatch")
-    verdict("and is off", [browser.text(f"{TEST_KEY} b"), browser.script(TEST_PRESSED)], ["RUN", "false"])
-    eventually(browser, "the display begins with 0", DIGITS, "0")
-    browser.script(WATCH_SAID)
+    eventually(browser, "a switch has its name", GET_TITLE, "Stopwatch")
+    verdict("and is off", [browser.text(f"{TEST_KEY} b"), browser.script(IS_TEST_PRESSED)], ["RUN", "false"])
+    eventually(browser, "the display begins with 0", GET_DIGITS, "0")
+    browser.script(WATCH_ANNOUNCEMENTS)
     browser.fingers([TEST_KEY], 80)
-    eventually(browser, "a switch stays", TEST_PRESSED, "true")
-    eventually(browser, "and the digits count", DIGITS, re.compile("^[1-9][0-9][0-9]$"))
+    eventually(browser, "a switch stays", IS_TEST_PRESSED, "true")
+    eventually(browser, "and the digits count", GET_DIGITS, re.compile("^[1-9][0-9][0-9]$"))
     browser.fingers([TEST_KEY], 80)
-    eventually(browser, "until it is switched off", TEST_PRESSED, "false")
-    eventually(browser, "what stands still is announced", SAID_IS_SHOWN, True)
-    shown, segments = browser.script(SHOWN)
+    eventually(browser, "until it is switched off", IS_TEST_PRESSED, "false")
+    eventually(browser, "what stands still is announced", IS_ANNOUNCEMENT_SHOWN, True)
+    shown, segments = browser.script(GET_DISPLAY)
     lit = [SEGMENTS_OF[digit] for digit in shown]
     verdict("four digits are drawn, of seven segments each", segments, [0] * (4 - len(lit)) + lit)
-    verdict("digits that run are not announced", browser.script(SAID_EARLY), "")
+    verdict("digits that run are not announced", browser.script(GET_EARLY_ANNOUNCEMENTS), "")
 
 
 def check_die(browser):
     choose_example(browser, "die")
     eventually(browser, "a die has seven lamps", "return document.querySelectorAll('.die .bulb').length", 7)
-    places = browser.script(PLACES)
+    places = browser.script(GET_PLACES)
     names = browser.script("return [...document.querySelectorAll('.die .bulb')].map((bulb) => bulb.getAttribute('aria-label').split(',')[0])")
     at = [tuple(places[name]) for name in names]
     left, middle, right = sorted({x for x, _ in at})
@@ -162,7 +162,7 @@ def board_of_lamps(count):
 
 def check_ports(browser):
     choose_example(browser, "lock")
-    eventually(browser, "lamps in three colours", f"{COLOURS.replace('return', 'return new Set(')}).size", 3)
+    eventually(browser, "lamps in three colours", f"{GET_COLOURS.replace('return', 'return new Set(')}).size", 3)
     verdict("ports and chains have their names", browser.text("#ports-status"),
             re.compile("1columns of the keys0iii.*chain 0rows of the keys"))
 
@@ -170,9 +170,9 @@ def check_ports(browser):
 def check_no_face(browser):
     status_of(browser, "#board-editor", board_of_lamps(16))
     eventually(browser, "sixteen lamps without a face are no number", "return document.getElementById('display').hidden", True)
-    names = re.sub(", (lit|dark)", "", browser.script(NAMES))
+    names = re.sub(", (lit|dark)", "", browser.script(GET_NAMES))
     verdict("but have the names of their lines", names, "; ".join(f"chain0.{number}" for number in range(16)))
-    verdict("and a title like any", browser.script(TITLE), "Lamps and keys")
+    verdict("and a title like any", browser.script(GET_TITLE), "Lamps and keys")
     verdict("TEST is where it is without a face", browser.script("return document.getElementById('test').hidden"), False)
 
 
@@ -180,37 +180,37 @@ def check_bad_faces(browser):
     bad = "# title: Odd <b>one</b>\n# colour 0: pink\n# lamp 16: nobody\n# lamp 0: here <i>x</i>\n# display 15: 1 digit\n# grid 0: ghost\n"
     verdict("a board with a face that is none is wired", status_of(browser, "#board-editor", bad + board_of_lamps(16)),
             "Board applied.")
-    eventually(browser, "what is wrong with it is reported with its lines", FAULTS, "; ".join(f"line {line} of the board's text: {words}" for line, words in (
+    eventually(browser, "what is wrong with it is reported with its lines", GET_FAULTS, "; ".join(f"line {line} of the board's text: {words}" for line, words in (
         (2, "pink is not a colour; the colours are red, amber, yellow, green, blue and white"),
         (3, "the lamp nobody is number 16, but the board has 16"),
         (5, "the display needs lamps up to number 18, but the board has 16"),
         (6, "no lamp is named ghost"))))
-    eventually(browser, "what is not understood stands at its lines in the editor, too", AT_LINES, "line 2: pink is not a colour")
-    verdict("the rest of it is shown, as letters", [browser.script(TITLE), browser.script("return document.querySelector('#front i, #front h2 b')")],
+    eventually(browser, "what is not understood stands at its lines in the editor, too", GET_COLOUR_FAULTS, "line 2: pink is not a colour")
+    verdict("the rest of it is shown, as letters", [browser.script(GET_TITLE), browser.script("return document.querySelector('#front i, #front h2 b')")],
             ["Odd <b>one</b>", None])
-    verdict("the lamp has its name", browser.script(NAMES).split("; ")[0], re.compile("^here, (lit|dark)$"))
+    verdict("the lamp has its name", browser.script(GET_NAMES).split("; ")[0], re.compile("^here, (lit|dark)$"))
     show_text(browser, "board")
     browser.script(PUT_INTO_EDITOR, "#board-editor", "# title: Another\n" + board_of_lamps(16))
-    eventually(browser, "a face that is written is shown without wiring", TITLE, "Another")
-    eventually(browser, "and no fault is left", FAULTS, "")
+    eventually(browser, "a face that is written is shown without wiring", GET_TITLE, "Another")
+    eventually(browser, "and no fault is left", GET_FAULTS, "")
     # The page reads texts 600 ms after the last edit.
     for what, text in (("of another board", board_of_lamps(15)), ("with a fault", board_of_lamps(16) + "[[lamp\n")):
         browser.script(PUT_INTO_EDITOR, "#board-editor", "# title: Third\n# lamp 16: nobody\n" + text)
         time.sleep(1.5)
-        verdict(f"the face of a text {what} waits until that is wired", [browser.script(TITLE), browser.script(FAULTS)], ["Another", ""])
+        verdict(f"the face of a text {what} waits until that is wired", [browser.script(GET_TITLE), browser.script(GET_FAULTS)], ["Another", ""])
     browser.reload()
     until_ready(browser)
-    eventually(browser, "after a reload, too", TITLE, "Another")
+    eventually(browser, "after a reload, too", GET_TITLE, "Another")
     status_of(browser, "#board-editor", "# title: Third\n" + board_of_lamps(15))
-    eventually(browser, "it is shown then", TITLE, "Third")
+    eventually(browser, "it is shown then", GET_TITLE, "Third")
 
 
 def check_forced_colours(browser):
     choose_example(browser, "traffic light")
-    eventually(browser, "the traffic light again", NAMES, re.compile("green, lit"))
+    eventually(browser, "the traffic light again", GET_NAMES, re.compile("green, lit"))
     browser.command("Emulation.setEmulatedMedia", features=[{"name": "forced-colors", "value": "active"}])
-    verdict("in forced colours all lamps have one colour", len(set(browser.script(RINGS))), 1)
-    verdict("what is lit is full there, too", browser.script(FILLED), True)
+    verdict("in forced colours all lamps have one colour", len(set(browser.script(GET_RINGS))), 1)
+    verdict("what is lit is full there, too", browser.script(GET_FILLED), True)
     letters = "return [...document.querySelectorAll('#front .bulb')].map((bulb) => getComputedStyle(bulb, '::before').content).join(' ')"
     verdict("and letters show the colours", browser.script(letters), '"" "A" "" "G" "G"')
     browser.command("Emulation.setEmulatedMedia", features=[])
@@ -219,7 +219,7 @@ def check_forced_colours(browser):
 def check_three_lamps(browser):
     three = (TOP / "examples/three_lamps/board.toml").read_text()
     status_of(browser, "#board-editor", three)
-    eventually(browser, "lamps with names alone stand in a row", NAMES, re.compile("^left, (lit|dark); middle, (lit|dark); right, (lit|dark)$"))
+    eventually(browser, "lamps with names alone stand in a row", GET_NAMES, re.compile("^left, (lit|dark); middle, (lit|dark); right, (lit|dark)$"))
 
 
 def check(browser, page, _folder, _mcs4):

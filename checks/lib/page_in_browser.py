@@ -12,30 +12,30 @@ from picture import write_picture
 from verdicts import eventually, verdict
 
 TOP = pathlib.Path(__file__).resolve().parent.parent.parent
-DIGITS = "return document.getElementById('digits').textContent"
+GET_DIGITS = "return document.getElementById('digits').textContent"
 # The status text without the names after an address.
-STATUS = "return document.getElementById('status').textContent.replace(/ \\([^()]*line \\d+\\)/g, '')"
-WHOLE_STATUS = "return document.getElementById('status').textContent"
+GET_STATUS = "return document.getElementById('status').textContent.replace(/ \\([^()]*line \\d+\\)/g, '')"
+GET_WHOLE_STATUS = "return document.getElementById('status').textContent"
 STEPPED = re.compile("^At [0-9A-F]{3}, after [12] cycles?, ")
-NOTICE = "return [...document.querySelectorAll('#notice p')].map((shown) => shown.textContent).join(' ')"
+GET_NOTICE = "return [...document.querySelectorAll('#notice p')].map((shown) => shown.textContent).join(' ')"
 # All notices so far, newest first, as the list shows them.
-ALL_NOTICES = """
+GET_ALL_NOTICES = """
 document.getElementById("notices-button").click();
 const all = [...document.querySelectorAll("#notices li .grow")].map((shown) => shown.textContent);
 document.querySelector("#notices .bar button").click();
 return all"""
 # Closes the cards of a first visit, which cover everything else.
 CLOSE_CARDS = "const cards = document.getElementById('welcome'); if (cards && cards.open) cards.close()"
-READY = "return Boolean(document.body.dataset.ready)"
-KEYS_DOWN = "return document.querySelectorAll(\"#keys [aria-pressed='true']\").length"
-SPEED = """
+IS_READY = "return Boolean(document.body.dataset.ready)"
+COUNT_KEYS_DOWN = "return document.querySelectorAll(\"#keys [aria-pressed='true']\").length"
+SET_SPEED = """
 const field = document.getElementById("speed");
 field.value = arguments[0];
 field.dispatchEvent(new Event("change"))"""
 ENTER, ESCAPE, TAB, DOWN = "\ue007", "\ue00c", "\ue004", "\ue015"
 
 # The number of controls without an accessible name.
-WITHOUT_NAMES = """
+GET_CONTROLS_WITHOUT_NAMES = """
 return [...document.querySelectorAll("button, input, select, textarea")].filter((each) => !each.textContent.trim()
   && !each.getAttribute("aria-label") && !each.labels?.length && !each.getAttribute("aria-labelledby")).length"""
 
@@ -45,28 +45,28 @@ window.keptWhenHidden = [];
 const id = location.hash.slice("#session=".length);
 indexedDB.open("fethsaim", 1).onsuccess = (opened) => {
   const note = () => {
-    const asked = opened.target.result.transaction("sessions").objectStore("sessions").get(id);
-    asked.onsuccess = () => window.keptWhenHidden.push(`${asked.result.revision} ${asked.result.file.join("")}`);
+    const request = opened.target.result.transaction("sessions").objectStore("sessions").get(id);
+    request.onsuccess = () => window.keptWhenHidden.push(`${request.result.revision} ${request.result.file.join("")}`);
   };
   document.addEventListener("visibilitychange", () => (document.hidden ? setTimeout(note, 1000) : note()));
 }"""
-KEPT_WHEN_HIDDEN = "const kept = window.keptWhenHidden; return [kept.length, new Set(kept).size]"
+GET_KEPT_WHEN_HIDDEN = "const kept = window.keptWhenHidden; return [kept.length, new Set(kept).size]"
 
 # The text of an editor, and its replacement. Each editor's element has a LineEditor (js/page/text/line_editor.js).
-TEXT_OF_EDITOR = "return document.querySelector(`${arguments[0]} .cm-editor`).lineEditor.getValue()"
+GET_TEXT_OF_EDITOR = "return document.querySelector(`${arguments[0]} .cm-editor`).lineEditor.getValue()"
 PUT_INTO_EDITOR = "document.querySelector(`${arguments[0]} .cm-editor`).lineEditor.setValue(arguments[1])"
 
 # Blocks the page's thread for a number of milliseconds.
-BLOCK = "const end = performance.now() + arguments[0]; while (performance.now() < end);"
+BLOCK_PAGE = "const end = performance.now() + arguments[0]; while (performance.now() < end);"
 
 # True if the disassembly shows the counter. Its rows move with the counter, so an earlier click would hit another line.
-AT_COUNTER = """const next = document.querySelector('#lines-of-program .next');
+IS_AT_COUNTER = """const next = document.querySelector('#lines-of-program .next');
 return next !== null && next.textContent.includes(document.getElementById('value-pc').textContent)"""
 
-RATE = "return Number(document.getElementById('rate').textContent.replace(/\\D/g, ''))"
+GET_RATE = "return Number(document.getElementById('rate').textContent.replace(/\\D/g, ''))"
 
 # Tries the actions that the page's content security policy forbids. An event reports each of them.
-FORBIDDEN = """
+TRY_FORBIDDEN = """
 window.violations = new Set();
 document.addEventListener("securitypolicyviolation", (event) => window.violations.add(event.effectiveDirective));
 const add = (root, name, properties) => root.append(Object.assign(document.createElement(name), properties));
@@ -81,12 +81,12 @@ try {
   // Firefox throws, where Chromium only reports.
 }
 """
-VIOLATIONS = "return [...window.violations].sort().join(' ') + (window.injected ? ', but the script ran' : '')"
+GET_VIOLATIONS = "return [...window.violations].sort().join(' ') + (window.injected ? ', but the script ran' : '')"
 
 
 def until_ready(browser):
     """Waits until the page is ready, which can take much longer on a busy machine."""
-    eventually(browser, "the page is ready", READY, True, 90)
+    eventually(browser, "the page is ready", IS_READY, True, 90)
     browser.script(CLOSE_CARDS)
 
 
@@ -100,7 +100,7 @@ def open_anew(browser, page):
 def stop_time(browser):
     """Pauses time."""
     browser.click("#run")
-    browser.until(STATUS, re.compile("^Paused"))
+    browser.until(GET_STATUS, re.compile("^Paused"))
 
 
 def of_file_menu(browser, selector):
@@ -135,18 +135,18 @@ def check_calculator(browser):
     for legend in "12+30=":
         browser.fingers([key(legend)], 60)
         time.sleep(0.08)
-    eventually(browser, "1 2 + 3 0 = by the pointer", DIGITS, "42")
+    eventually(browser, "1 2 + 3 0 = by the pointer", GET_DIGITS, "42")
     browser.reload()
     until_ready(browser)
-    eventually(browser, "the display after a reload", DIGITS, "42")
+    eventually(browser, "the display after a reload", GET_DIGITS, "42")
     browser.keys([ESCAPE, "7", "-", "9", ENTER])
-    eventually(browser, "7 - 9 by the keyboard", DIGITS, "-2")
+    eventually(browser, "7 - 9 by the keyboard", GET_DIGITS, "-2")
     browser.keys([ESCAPE, "6", "*", "9", ENTER], 1, 1)
-    eventually(browser, "6 * 9, typed faster than a hand can", DIGITS, "54")
+    eventually(browser, "6 * 9, typed faster than a hand can", GET_DIGITS, "54")
     # Each key is pressed again before its release is reported in the next frame, 43 ms after the press.
     for down, up in ((20, 50), (50, 20), (90, 25)):
         browser.keys([ESCAPE, *"11111111"], down, up)
-        eventually(browser, f"one key eight times, {down} ms down and {up} ms up", DIGITS, "11111111")
+        eventually(browser, f"one key eight times, {down} ms down and {up} ms up", GET_DIGITS, "11111111")
 
 
 def check_two_keys(browser):
@@ -155,7 +155,7 @@ def check_two_keys(browser):
                    "{ subtree: true, attributes: true, attributeFilter: ['aria-pressed'] })")
     browser.fingers([key("C"), key("S"), key("0")], 400)
     eventually(browser, "three keys at once", "return window.both", 3)
-    eventually(browser, "and all up again", KEYS_DOWN, 0)
+    eventually(browser, "and all up again", COUNT_KEYS_DOWN, 0)
 
 
 def lamps_of(mcs4, file, keys):
@@ -178,9 +178,9 @@ def as_version_1(file):
 
 def check_files(browser, folder, mcs4):
     browser.keys([ESCAPE, "6", "*", "7", ENTER])
-    browser.until(DIGITS, "42")
+    browser.until(GET_DIGITS, "42")
     # A typed key stays down for a moment. A key that is down when time pauses is down in the file.
-    browser.until(KEYS_DOWN, 0)
+    browser.until(COUNT_KEYS_DOWN, 0)
     stop_time(browser)
     of_file_menu(browser, "#save-session-button")
     saved = folder / "downloads/calculator.mcs"
@@ -192,49 +192,49 @@ def check_files(browser, folder, mcs4):
     old.write_bytes(as_version_1(saved.read_bytes()))
     browser.type_into("#file", str(old))
     eventually(browser, "a file of version 1 is carried over", "return document.getElementById('name').value", "old")
-    verdict("and shows the same", browser.script(DIGITS), "42")
+    verdict("and shows the same", browser.script(GET_DIGITS), "42")
     verdict("the saved file, gone on with by the program", lamps_of(mcs4, saved, "/8="), "5.25")
     browser.type_into("#file", str(saved))
-    eventually(browser, "the program's file, opened by the page", DIGITS, "5.25")
+    eventually(browser, "the program's file, opened by the page", GET_DIGITS, "5.25")
     verdict("its keys have their names", browser.text("#keys"), "789/456*123-0.~+CCEcS=")
-    source = browser.script(TEXT_OF_EDITOR, "#program-editor")
+    source = browser.script(GET_TEXT_OF_EDITOR, "#program-editor")
     verdict("its program has its text", source, (TOP / "examples/calculator/calculator.asm").read_text())
     rubbish = folder / "rubbish.mcs"
     rubbish.write_bytes(b"no session")
     browser.type_into("#file", str(rubbish))
-    eventually(browser, "rubbish is refused in words", NOTICE, re.compile(r"Cannot open rubbish\.mcs: no 50: not a session file"))
+    eventually(browser, "rubbish is refused in words", GET_NOTICE, re.compile(r"Cannot open rubbish\.mcs: no 50: not a session file"))
     damaged = folder / "damaged.mcs"
     bytes_of = bytearray(saved.read_bytes())
     bytes_of[16:20] = b"\xff" * 4
     bytes_of[81936:81940] = b"\xff" * 4
     damaged.write_bytes(bytes_of)
     browser.type_into("#file", str(damaged))
-    eventually(browser, "a damaged file is refused in words", NOTICE, re.compile("no 51: the session file is damaged"))
-    verdict("the session is as it was", browser.script(DIGITS), "5.25")
+    eventually(browser, "a damaged file is refused in words", GET_NOTICE, re.compile("no 51: the session file is damaged"))
+    verdict("the session is as it was", browser.script(GET_DIGITS), "5.25")
     browser.click("#notice .dismiss")
 
 
 def check_stops(browser):
     browser.click("#step")
-    browser.until(STATUS, STEPPED)
+    browser.until(GET_STATUS, STEPPED)
     line = "#lines-of-program button.next"
-    eventually(browser, "the listing is at the counter", AT_COUNTER, True)
+    eventually(browser, "the listing is at the counter", IS_AT_COUNTER, True)
     address = browser.text(f"{line} span")[:3]
     browser.click_at_rest(line)
     eventually(browser, "a breakpoint by a click", f"return document.querySelector('{line}').getAttribute('aria-pressed')", "true")
     browser.click("#run")
-    eventually(browser, "the run stops there", STATUS, f"Paused at {address}, at a breakpoint.")
+    eventually(browser, "the run stops there", GET_STATUS, f"Paused at {address}, at a breakpoint.")
     eventually(browser, "the listing shows it", f"return document.querySelector('{line} span').textContent.slice(0, 3)", address)
     browser.click_at_rest(line)
     eventually(browser, "the breakpoint is gone", f"return document.querySelector('{line}').getAttribute('aria-pressed')", "false")
     browser.click(".ram button")
     eventually(browser, "a watch by a click", "return document.querySelector('.ram button').getAttribute('aria-pressed')", "true")
-    browser.script(SPEED, "full")
+    browser.script(SET_SPEED, "full")
     browser.click("#run")
     browser.fingers([key("C")], 60)
-    eventually(browser, "a run at full speed stops where the character changes", STATUS,
+    eventually(browser, "a run at full speed stops where the character changes", GET_STATUS,
                re.compile("^Paused at ..., after a watched nibble changed.$"))
-    browser.script(SPEED, "real")
+    browser.script(SET_SPEED, "real")
     verdict("and it is marked", "changed" in browser.script("return document.querySelector('.ram button').className"), True)
     browser.click(".ram button")
     browser.until("return document.querySelector('.ram button').getAttribute('aria-pressed')", "false")
@@ -254,13 +254,13 @@ def check_keyboard_alone(browser):
     browser.script("document.getElementById('name').focus()")
     verdict("Tab comes to Step", focused(browser, TAB, "e.id === 'step'"), True)
     browser.keys([ENTER])
-    eventually(browser, "Enter steps", STATUS, STEPPED)
+    eventually(browser, "Enter steps", GET_STATUS, STEPPED)
     verdict("Tab comes to the listing", focused(browser, TAB, "e.closest('#lines-of-program') !== null"), True)
     browser.keys([DOWN, DOWN, ENTER])
     eventually(browser, "arrows and Enter set a breakpoint", "return document.activeElement.getAttribute('aria-pressed')", "true")
     browser.keys([ENTER])
     eventually(browser, "and clear it", "return document.activeElement.getAttribute('aria-pressed')", "false")
-    verdict("all that can be used has a name", browser.script(WITHOUT_NAMES), 0)
+    verdict("all that can be used has a name", browser.script(GET_CONTROLS_WITHOUT_NAMES), 0)
 
 
 def check_narrow(browser):
@@ -279,29 +279,29 @@ def check_hidden(browser):
     browser.new_tab()
     time.sleep(2.5)
     browser.close_tab(shown)
-    eventually(browser, "a page that was hidden says for how long it stood still", STATUS,
+    eventually(browser, "a page that was hidden says for how long it stood still", GET_STATUS,
                re.compile(r"^Running\. Paused for \d+ seconds while the page was hidden\.$"))
-    eventually(browser, "what is kept did not change meanwhile", KEPT_WHEN_HIDDEN, [2, 1])
-    eventually(browser, "and it runs on as fast as it should", RATE, re.compile("^9[0-4]...$"))
-    browser.script(BLOCK, 1500)
-    eventually(browser, "the same where the browser did not run the page", STATUS,
+    eventually(browser, "what is kept did not change meanwhile", GET_KEPT_WHEN_HIDDEN, [2, 1])
+    eventually(browser, "and it runs on as fast as it should", GET_RATE, re.compile("^9[0-4]...$"))
+    browser.script(BLOCK_PAGE, 1500)
+    eventually(browser, "the same where the browser did not run the page", GET_STATUS,
                re.compile(r"Paused for \d+ seconds while the tab was busy\.$"))
     check_hidden_at_full_speed(browser)
 
 
 def check_hidden_at_full_speed(browser):
     """Checks that at full speed a hidden page keeps running and is saved."""
-    browser.script(SPEED, "full")
-    eventually(browser, "full speed is faster", RATE, re.compile("[1-9]......"))
+    browser.script(SET_SPEED, "full")
+    eventually(browser, "full speed is faster", GET_RATE, re.compile("[1-9]......"))
     browser.script("window.keptWhenHidden = []")
     shown = browser.tab()
     browser.new_tab()
     time.sleep(6)
     browser.close_tab(shown)
-    eventually(browser, "at full speed what is kept goes on while hidden", KEPT_WHEN_HIDDEN, [2, 2])
-    verdict("and nothing stood still", browser.script(STATUS), re.compile("^Running"))
-    browser.script(SPEED, "real")
-    eventually(browser, "and real time is held again", RATE, re.compile("^9[0-4]...$"))
+    eventually(browser, "at full speed what is kept goes on while hidden", GET_KEPT_WHEN_HIDDEN, [2, 2])
+    verdict("and nothing stood still", browser.script(GET_STATUS), re.compile("^Running"))
+    browser.script(SET_SPEED, "real")
+    eventually(browser, "and real time is held again", GET_RATE, re.compile("^9[0-4]...$"))
 
 
 def check_speed_field(browser):
@@ -316,8 +316,8 @@ def check_speed_field(browser):
         until_ready(browser)
         is_full = browser.until("const field = document.getElementById('speed'); return field ? field.value : ''", re.compile("^(full|real)$")) == "full"
         # The first rate reported at full speed can still be low.
-        eventually(browser, f"the speed after {what} is the one in its field", RATE, re.compile("^[2-9].{5}$|^.{7,}$" if is_full else "^[1-9].{4}$"))
-    browser.script(SPEED, "real")
+        eventually(browser, f"the speed after {what} is the one in its field", GET_RATE, re.compile("^[2-9].{5}$|^.{7,}$" if is_full else "^[1-9].{4}$"))
+    browser.script(SET_SPEED, "real")
 
 
 def show_text(browser, name):
@@ -350,7 +350,7 @@ def check_texts(browser):
             "line 4: size is not a key of rom, which has chip, port")
     verdict("a line that the board lacks", status_of(browser, "#board-editor", f'{rom}\n[[lamp]]\nline = "ram0.0.0"\n'),
             "line 6: the board has no line ram0.0.0: no [[ram]] has bank = 0")
-    verdict("the board is as it was", browser.script(DIGITS) != "", True)
+    verdict("the board is as it was", browser.script(GET_DIGITS) != "", True)
     verdict("lines and their answers", lines_answered(browser, "poke r5 9\nfoo\nseq"),
             re.compile(r"poke r5 9ok \d+foono 10: not a command.*seqseq \d+$"))
     three = (TOP / "examples/three_lamps/board.toml").read_text()
@@ -373,7 +373,7 @@ def check_two_tabs(browser):
     browser.new_tab()
     browser.go(address)
     until_ready(browser)
-    verdict("a second tab on the session is informed", browser.script(NOTICE), re.compile("open in another tab"))
+    verdict("a second tab on the session is informed", browser.script(GET_NOTICE), re.compile("open in another tab"))
     verdict("and shows another session", browser.script("return location.href") != address, True)
     name = browser.script("return document.getElementById('name').value")
     browser.click("#notice button[aria-label^='Open a copy']")
@@ -386,7 +386,7 @@ def check_use(browser, page, folder, mcs4):
     """Checks the page in a browser with all features."""
     browser.go(page.as_uri())
     until_ready(browser)
-    verdict("without a notice", browser.script(NOTICE), "")
+    verdict("without a notice", browser.script(GET_NOTICE), "")
     check_calculator(browser)
     if browser.has_fingers:
         check_two_keys(browser)
@@ -414,8 +414,8 @@ def check_by_chromium(browser, page):
 def check_policy(browser, page):
     browser.go(page.as_uri())
     until_ready(browser)
-    browser.script(FORBIDDEN)
-    eventually(browser, "what the policy forbids", VIOLATIONS, "base-uri form-action img-src script-src-elem style-src-elem")
+    browser.script(TRY_FORBIDDEN)
+    eventually(browser, "what the policy forbids", GET_VIOLATIONS, "base-uri form-action img-src script-src-elem style-src-elem")
 
 
 def figures(browser, page):
@@ -434,10 +434,10 @@ def take_picture(browser, page, path):
     for legend in "22/7=":
         browser.fingers([key(legend)], 60)
         time.sleep(0.1)
-    browser.until(DIGITS, "3.1428571")
+    browser.until(GET_DIGITS, "3.1428571")
     browser.click("#run")
     browser.click("#step")
-    browser.until(STATUS, STEPPED)
+    browser.until(GET_STATUS, STEPPED)
     browser.click_at_rest("#lines-of-program button.next + button")
     browser.click(".ram button")
     browser.until("return document.querySelectorAll('#lines-of-program [aria-pressed=true], .ram [aria-pressed=true]').length", 2)

@@ -3,9 +3,9 @@
 import re
 import time
 
-from page_altered import FAULT, FAULTS, SHOW_WORKER, altered
-from page_in_browser import (DIGITS, ENTER, ESCAPE, NOTICE, PUT_INTO_EDITOR, READY, STATUS, TEXT_OF_EDITOR, choose_example, lines_answered,
-                             open_anew, stop_time, until_ready)
+from page_altered import CAUSE_FAULT, EXPOSE_WORKER, INSTALL_FAULTS, altered
+from page_in_browser import (ENTER, ESCAPE, GET_DIGITS, GET_NOTICE, GET_STATUS, GET_TEXT_OF_EDITOR, IS_READY, PUT_INTO_EDITOR, choose_example,
+                             lines_answered, open_anew, stop_time, until_ready)
 from verdicts import eventually, verdict
 from web_driver import Chromium
 
@@ -19,18 +19,18 @@ NO_STORE = {
 NO_READING = "IDBObjectStore.prototype.getAll = () => { throw new DOMException('', 'UnknownError'); }"
 
 # Makes the browser's store full.
-FULL_STORE = """
+FILL_STORE = """
 window.put = IDBObjectStore.prototype.put;
 IDBObjectStore.prototype.put = () => { throw new DOMException("", "QuotaExceededError"); }"""
 
 # The visible buttons and fields.
-SHOWN_CONTROLS = """
+GET_SHOWN_CONTROLS = """
 return [...document.querySelectorAll("button, input, select, textarea")].filter(isShown)
   .map((each) => each.textContent)"""
 
 
 def fail(browser, fault):
-    browser.script(FAULT, fault)
+    browser.script(CAUSE_FAULT, fault)
 
 
 def dismiss(browser):
@@ -39,51 +39,51 @@ def dismiss(browser):
 
 def check_failures(browser, page, folder):
     """Checks a trap, a lack of memory, a worker that dies or hangs, and a full store. The session stays in each case."""
-    browser.go(altered(page, folder, SHOW_WORKER, FAULTS).as_uri())
+    browser.go(altered(page, folder, EXPOSE_WORKER, INSTALL_FAULTS).as_uri())
     until_ready(browser)
     choose_example(browser, "calculator")
     browser.keys([ESCAPE, "1", "2"])
-    browser.until(DIGITS, "12")
+    browser.until(GET_DIGITS, "12")
     fail(browser, "trap")
-    eventually(browser, "a trap is reported", NOTICE, re.compile("the module stopped inside a call .unreachable. and was started again"))
-    verdict("the session is as it was", browser.script(DIGITS), "12")
+    eventually(browser, "a trap is reported", GET_NOTICE, re.compile("the module stopped inside a call .unreachable. and was started again"))
+    verdict("the session is as it was", browser.script(GET_DIGITS), "12")
     dismiss(browser)
     browser.click("#run")
     browser.keys(["3"])
-    eventually(browser, "and goes on", DIGITS, "123")
+    eventually(browser, "and goes on", GET_DIGITS, "123")
     fail(browser, "no memory")
-    eventually(browser, "lack of memory is reported", NOTICE, re.compile("no 90: there was no memory"))
-    eventually(browser, "the session is as it was then, too", DIGITS, "123")
+    eventually(browser, "lack of memory is reported", GET_NOTICE, re.compile("no 90: there was no memory"))
+    eventually(browser, "the session is as it was then, too", GET_DIGITS, "123")
     dismiss(browser)
     check_full_store(browser)
     fail(browser, "trap without room")
     browser.click("#step")
-    eventually(browser, "no memory for the module after a trap is reported", NOTICE, re.compile("no 90: there was no memory"))
-    verdict("and the session is as it was", browser.script(DIGITS), "123")
+    eventually(browser, "no memory for the module after a trap is reported", GET_NOTICE, re.compile("no 90: there was no memory"))
+    verdict("and the session is as it was", browser.script(GET_DIGITS), "123")
     dismiss(browser)
     check_worker(browser)
 
 
 def check_full_store(browser):
-    browser.script(FULL_STORE)
+    browser.script(FILL_STORE)
     verdict("an answer that is not kept says so", lines_answered(browser, "poke r5 9"), re.compile("not kept: "))
-    verdict("a full store is reported", browser.script(NOTICE), re.compile("This session is not kept: the browser has no more space"))
+    verdict("a full store is reported", browser.script(GET_NOTICE), re.compile("This session is not kept: the browser has no more space"))
     browser.script("IDBObjectStore.prototype.put = window.put")
     lines_answered(browser, "seq")
-    verdict("once it is kept the notice goes", browser.script(NOTICE), "")
+    verdict("once it is kept the notice goes", browser.script(GET_NOTICE), "")
 
 
 def check_worker(browser):
     """Checks a worker that dies while time is running, and a worker that hangs when its work is cancelled."""
     browser.click("#run")
-    browser.until(STATUS, re.compile("^Running \""))
+    browser.until(GET_STATUS, re.compile("^Running \""))
     fail(browser, "die")
-    eventually(browser, "a worker that died is reported", NOTICE, re.compile("worker stopped and was restarted.*session is unchanged"), 40)
-    eventually(browser, "and the session is as it was", DIGITS, "123")
+    eventually(browser, "a worker that died is reported", GET_NOTICE, re.compile("worker stopped and was restarted.*session is unchanged"), 40)
+    eventually(browser, "and the session is as it was", GET_DIGITS, "123")
     dismiss(browser)
     browser.click("#run")
     browser.keys(["4"])
-    eventually(browser, "and goes on in another worker", DIGITS, "1234")
+    eventually(browser, "and goes on in another worker", GET_DIGITS, "1234")
     stop_time(browser)
     before = lines_answered(browser, "seq")
     fail(browser, "hang")
@@ -91,7 +91,7 @@ def check_worker(browser):
     browser.script("document.getElementById('send').click()")
     eventually(browser, "work that hangs can be cancelled", "return document.getElementById('work').hidden", False)
     browser.click("#cancel")
-    eventually(browser, "then its worker is ended", NOTICE, re.compile("worker stopped and was restarted"), 20)
+    eventually(browser, "then its worker is ended", GET_NOTICE, re.compile("worker stopped and was restarted"), 20)
     browser.script("document.getElementById('lines').value = ''")
     verdict("and the session is as it was then, too", lines_answered(browser, "seq"), before)
     dismiss(browser)
@@ -99,7 +99,7 @@ def check_worker(browser):
 
 # Fills in 20,000,000 bytes of lines, which take a while to serve. After a cancellation, none of them may be executed. The field is hidden,
 # because a browser would need minutes for its layout.
-LONG_WORK = """
+START_LONG_WORK = """
 document.getElementById("lines").style.display = "none";
 document.getElementById("lines").value = "run 100000".padEnd(249).concat("\\n").repeat(80000);
 window.longest = 0;
@@ -110,7 +110,7 @@ window.ticking = setInterval(() => {
 }, 20)"""
 # With `?hang`, the page never finishes opening a session, nor the work for leaving the page. With `?deaf=EVENT`, the page does not receive that
 # event.
-HANG = """
+MAKE_DEAF = """
 const deaf = (name) => addEventListener(name, (event) => event.stopImmediatePropagation(), true);
 if (location.search.startsWith("?deaf=")) deaf(location.search.slice(6));
 if (location.search === "?hang") {
@@ -122,14 +122,14 @@ if (location.search === "?hang") {
   deaf("beforeunload");
   deaf("pagehide");
 }"""
-FLAGS = "return Object.keys(localStorage).filter((key) => key.startsWith('fethsaim.opening')).length"
-LONG_AGO = "for (const key of Object.keys(localStorage)) if (key.startsWith('fethsaim.opening')) localStorage.setItem(key, '1')"
+COUNT_FLAGS = "return Object.keys(localStorage).filter((key) => key.startsWith('fethsaim.opening')).length"
+AGE_FLAGS = "for (const key of Object.keys(localStorage)) if (key.startsWith('fethsaim.opening')) localStorage.setItem(key, '1')"
 # Pages that the user left while they were busy can have left some flags.
-WITHOUT_FLAGS = "for (const key of Object.keys(localStorage)) if (key.startsWith('fethsaim.opening')) localStorage.removeItem(key)"
+REMOVE_FLAGS = "for (const key of Object.keys(localStorage)) if (key.startsWith('fethsaim.opening')) localStorage.removeItem(key)"
 UNENDED = 'The session "die" was not opened automatically: the last time, opening it did not finish.'
-LAST_ENTRY = "return document.getElementById('log').lastElementChild.textContent"
-PROGRESS = "return document.querySelector('#work progress').value > 0"
-LONGEST = "clearInterval(window.ticking); return window.longest"
+GET_LAST_ENTRY = "return document.getElementById('log').lastElementChild.textContent"
+HAS_PROGRESS = "return document.querySelector('#work progress').value > 0"
+GET_LONGEST = "clearInterval(window.ticking); return window.longest"
 
 
 def check_long_work(browser, page):
@@ -140,12 +140,12 @@ def check_long_work(browser, page):
     # The log gets an entry about runs before the first of the sent lines.
     lines_answered(browser, "seq")
     before = lines_answered(browser, "seq")
-    browser.script(LONG_WORK)
+    browser.script(START_LONG_WORK)
     browser.script("document.getElementById('send').click()")
-    eventually(browser, "long work shows how far it is", PROGRESS, True, 60)
+    eventually(browser, "long work shows how far it is", HAS_PROGRESS, True, 60)
     browser.click("#cancel")
-    eventually(browser, "it can be cancelled", NOTICE, re.compile("It was cancelled. The session is as it was before."), 30)
-    print(f"beside long work the page answers at least every {browser.script(LONGEST):.0f} ms in {browser.name}")
+    eventually(browser, "it can be cancelled", GET_NOTICE, re.compile("It was cancelled. The session is as it was before."), 30)
+    print(f"beside long work the page answers at least every {browser.script(GET_LONGEST):.0f} ms in {browser.name}")
     browser.script("const area = document.getElementById('lines'); area.value = ''; area.style.display = ''")
     verdict("and nothing of it is done", lines_answered(browser, "seq"), before)
     dismiss(browser)
@@ -153,10 +153,10 @@ def check_long_work(browser, page):
     browser.script("document.getElementById('send').click()")
     eventually(browser, "work in pieces is done whole", "return document.getElementById('lines').value", "", 60)
     lines_answered(browser, "seq")
-    verdict("each line of it once", browser.script(LAST_ENTRY), f"seqseq {int(before.rsplit(' ', 1)[1]) + 20000}")
+    verdict("each line of it once", browser.script(GET_LAST_ENTRY), f"seqseq {int(before.rsplit(' ', 1)[1]) + 20000}")
 
 
-SHORT_WAIT = """
+SHORTEN_WAIT = """
 const wait = setTimeout;
 window.setTimeout = (act, time, ...rest) => wait(act, time === 10000 ? 300 : time, ...rest);
 """
@@ -165,25 +165,25 @@ window.setTimeout = (act, time, ...rest) => wait(act, time === 10000 ? 300 : tim
 def poor(page, folder, code):
     """Returns a copy of the page for a browser that lacks something. This copy waits only briefly for a store, where the page would wait ten seconds.
     """
-    return altered(page, folder, f"{SHORT_WAIT}{code}")
+    return altered(page, folder, f"{SHORTEN_WAIT}{code}")
 
 
-def notice_at_start(browser, page, code=NOTICE, wanted=re.compile(".")):
+def notice_at_start(browser, page, code=GET_NOTICE, wanted=re.compile(".")):
     browser.go("about:blank")
     browser.go(page.as_uri())
     return browser.until(code, wanted)
 
 
 def works(browser, what):
-    eventually(browser, what, READY, True)
+    eventually(browser, what, IS_READY, True)
     browser.keys([ESCAPE, "6", "*", "7", ENTER])
-    eventually(browser, "and the bench works all the same", DIGITS, "42")
+    eventually(browser, "and the bench works all the same", GET_DIGITS, "42")
 
 
 def check_poor_browsers(browser, page, folder):
     verdict("no bulk memory", notice_at_start(browser, poor(page, folder, "WebAssembly.validate = () => false")),
             re.compile(r"This browser has no WebAssembly with bulk memory.*97.*102.*16"))
-    verdict("no button without a use", browser.script(SHOWN_CONTROLS), ["Dismiss"])
+    verdict("no button without a use", browser.script(GET_SHOWN_CONTROLS), ["Dismiss"])
     for lack, code in NO_STORE.items():
         verdict(lack, notice_at_start(browser, poor(page, folder, code)), re.compile("stores nothing"))
         works(browser, lack)
@@ -198,7 +198,7 @@ def check_poor_browsers(browser, page, folder):
 
 def check_no_locks(browser, page, folder):
     """Checks two tabs with the same session in a browser without locks: neither overwrites the other's changes."""
-    notice_at_start(browser, altered(page, folder, "Object.defineProperty(Navigator.prototype, 'locks', { value: undefined })"), READY, True)
+    notice_at_start(browser, altered(page, folder, "Object.defineProperty(Navigator.prototype, 'locks', { value: undefined })"), IS_READY, True)
     address = browser.script("return location.href")
     first = browser.tab()
     stop_time(browser)
@@ -235,7 +235,7 @@ def check_little_memory(page, folder):
         before = lines_answered(browser, "seq").split()[-1]
         browser.script("document.getElementById('lines').value = 'poke r5 9\\nasm\\n' + '; a comment of so many letters\\n'.repeat(150000)")
         browser.script("document.getElementById('send').click()")
-        eventually(browser, "lack of memory in the module is reported", NOTICE, re.compile("no 90: there was no memory.*The session is as it was"), 30)
+        eventually(browser, "lack of memory in the module is reported", GET_NOTICE, re.compile("no 90: there was no memory.*The session is as it was"), 30)
         browser.script("document.getElementById('lines').value = ''")
         verdict("and the session is as it was", lines_answered(browser, "seq").split()[-1], before)
     finally:
@@ -247,7 +247,7 @@ def reopen(browser, address):
     browser.go("about:blank")
     browser.go(address)
     until_ready(browser)
-    return browser.script(NOTICE)
+    return browser.script(GET_NOTICE)
 
 
 def hang(browser, address):
@@ -255,7 +255,7 @@ def hang(browser, address):
     browser.go("about:blank")
     browser.go(address.replace("html", "html?hang", 1))
     browser.until("return Boolean(window.hung)", True)
-    browser.script(LONG_AGO)
+    browser.script(AGE_FLAGS)
 
 
 def check_left_soon(browser, address, session):
@@ -271,36 +271,36 @@ def check_left_soon(browser, address, session):
         time.sleep(2.1)
         verdict(f"a session of a page that is left at once is opened by itself again ({query})",
                 [reopen(browser, address), browser.script("return location.hash")], ["", session])
-        verdict("with what was typed last", browser.script(TEXT_OF_EDITOR, "#program-editor"), text)
+        verdict("with what was typed last", browser.script(GET_TEXT_OF_EDITOR, "#program-editor"), text)
 
 
 def check_unended(browser, page, folder):
     """Checks that a session that has hung the page is not opened automatically again. A message reports that, and the session can be opened or
     deleted."""
-    hanging = altered(page, folder, HANG).as_uri()
+    hanging = altered(page, folder, MAKE_DEAF).as_uri()
     reopen(browser, hanging)
-    browser.script(WITHOUT_FLAGS)
+    browser.script(REMOVE_FLAGS)
     choose_example(browser, "die")
     browser.click("#step")
     session = browser.until("return location.hash", re.compile("^#session="))
-    eventually(browser, "an opening that came to an end leaves nothing", FLAGS, 0)
+    eventually(browser, "an opening that came to an end leaves nothing", COUNT_FLAGS, 0)
     verdict("the session is opened by itself", [reopen(browser, hanging), browser.script("return location.hash")], ["", session])
-    browser.until(FLAGS, 0)
+    browser.until(COUNT_FLAGS, 0)
     hang(browser, hanging + session)
     for address in (hanging, hanging + session):
         verdict("one whose opening did not is reported", reopen(browser, address), UNENDED)
         verdict("and is not opened by itself", browser.script("return location.hash") != session, True)
     browser.click("#notice button[aria-label^='Open it']")
     eventually(browser, "it can be opened", "return location.hash", session)
-    eventually(browser, "and is well again then", FLAGS, 0)
+    eventually(browser, "and is well again then", COUNT_FLAGS, 0)
     verdict("at the next start, too", [reopen(browser, hanging), browser.script("return location.hash")], ["", session])
-    browser.until(FLAGS, 0)
+    browser.until(COUNT_FLAGS, 0)
     check_left_soon(browser, hanging, session)
-    browser.until(FLAGS, 0)
+    browser.until(COUNT_FLAGS, 0)
     hang(browser, hanging + session)
     reopen(browser, hanging)
     browser.click("#notice button[aria-label^='Delete it']")
-    eventually(browser, "it can be deleted", NOTICE, 'Deleted "die".')
+    eventually(browser, "it can be deleted", GET_NOTICE, 'Deleted "die".')
     verdict("and is not reported any more", reopen(browser, hanging), "")
 
 

@@ -3,7 +3,7 @@
 import re
 import time
 
-from page_in_browser import (AT_COUNTER, ENTER, ESCAPE, STATUS, STEPPED, choose_example, key, lines_answered, open_anew, show_text,
+from page_in_browser import (ENTER, ESCAPE, GET_STATUS, IS_AT_COUNTER, STEPPED, choose_example, key, lines_answered, open_anew, show_text,
                              step_with_marks, stop_time, until_ready)
 from page_workbench import (check_arrangement, check_by_finger, check_first_glance, check_narrow_things, check_newcomer, check_shifts,
                             check_small_things)
@@ -47,22 +47,22 @@ def check(browser, page, _folder, _mcs4):
 
 # --- tabs and panels ---
 
-FRONT = "return document.querySelector('#text-tabs [aria-selected=true]').id"
-SHOWN = "return [...document.querySelectorAll('#texts [role=tabpanel]')].filter(isShown).map((each) => each.id).join(' ')"
+GET_FRONT_TAB = "return document.querySelector('#text-tabs [aria-selected=true]').id"
+GET_SHOWN_EDITOR = "return [...document.querySelectorAll('#texts [role=tabpanel]')].filter(isShown).map((each) => each.id).join(' ')"
 
 
 def check_tabs(browser):
     """Checks the tabs' ARIA pattern, and that no typed text is lost when another tab is selected."""
     show_text(browser, "board")
-    verdict("a click shows the board's text", browser.script(SHOWN), "board-editor")
+    verdict("a click shows the board's text", browser.script(GET_SHOWN_EDITOR), "board-editor")
     browser.script("document.getElementById('board-tab').focus()")
     browser.keys([HOME])
-    verdict("Home goes to the first tab", browser.script(FRONT), "program-tab")
+    verdict("Home goes to the first tab", browser.script(GET_FRONT_TAB), "program-tab")
     browser.keys([RIGHT])
-    verdict("an arrow shows the next one", (browser.script(FRONT), browser.script(SHOWN)), ("board-tab", "board-editor"))
+    verdict("an arrow shows the next one", (browser.script(GET_FRONT_TAB), browser.script(GET_SHOWN_EDITOR)), ("board-tab", "board-editor"))
     verdict("one tab is a stop of the Tab key", browser.script("return document.querySelectorAll('#text-tabs [tabindex=\"0\"]').length"), 1)
     browser.keys([LEFT])
-    verdict("and back", browser.script(SHOWN), "program-editor")
+    verdict("and back", browser.script(GET_SHOWN_EDITOR), "program-editor")
 
 
 def check_folds(browser):
@@ -74,7 +74,7 @@ def check_folds(browser):
     browser.reload()
     until_ready(browser)
     verdict("and is folded after a reload", browser.script(folded), "falsefalse")
-    verdict("the tab is kept, too", browser.script(FRONT), "board-tab")
+    verdict("the tab is kept, too", browser.script(GET_FRONT_TAB), "board-tab")
     verdict("and that of the dock", browser.script("return isShown(document.getElementById('talk'))"), True)
     browser.click("#memory .fold")
     verdict("it unfolds", browser.script(folded), "truetrue")
@@ -84,14 +84,14 @@ def check_folds(browser):
 
 # --- the disassembly ---
 
-ROWS = "return [...document.querySelectorAll('#lines-of-program button')].filter((each) => !each.hidden).map((each) => each.textContent)"
-FOCUSED = "return document.activeElement.closest('#lines-of-program') ? document.activeElement.textContent.replace(/\\W/g, '').slice(0, 3) : ''"
-LAST_ROW = ROWS.replace("return", "return (") + ").pop().replace(/\\W/g, '').slice(0, 3)"
-TOP = "return document.getElementById('lines-of-program').scrollTop"
+GET_ROWS = "return [...document.querySelectorAll('#lines-of-program button')].filter((each) => !each.hidden).map((each) => each.textContent)"
+GET_FOCUSED_ROW = "return document.activeElement.closest('#lines-of-program') ? document.activeElement.textContent.replace(/\\W/g, '').slice(0, 3) : ''"
+GET_LAST_ROW = GET_ROWS.replace("return", "return (") + ").pop().replace(/\\W/g, '').slice(0, 3)"
+GET_SCROLL_TOP = "return document.getElementById('lines-of-program').scrollTop"
 
 
 def addresses(browser):
-    return [re.sub(r"\W", "", line)[:3] for line in browser.script(ROWS)]
+    return [re.sub(r"\W", "", line)[:3] for line in browser.script(GET_ROWS)]
 
 
 def focus_row(browser, at):
@@ -103,19 +103,19 @@ def check_listing(browser):
     stop_time(browser)
     focus_row(browser, 3)
     browser.keys([HOME])
-    eventually(browser, "Home goes to 000", FOCUSED, "000")
+    eventually(browser, "Home goes to 000", GET_FOCUSED_ROW, "000")
     verdict("follow is off then", browser.script("return document.getElementById('follow').checked"), False)
     shown = addresses(browser)
     browser.keys([DOWN])
-    eventually(browser, "an arrow goes to the next line", FOCUSED, shown[1])
+    eventually(browser, "an arrow goes to the next line", GET_FOCUSED_ROW, shown[1])
     browser.keys([UP, UP])
-    eventually(browser, "and stays at the first one", FOCUSED, "000")
+    eventually(browser, "and stays at the first one", GET_FOCUSED_ROW, "000")
     seen = set(shown)
     for _ in range(200):
         before = addresses(browser)[-1]
         browser.keys([PAGE_DOWN], 1, 1)
-        browser.until(FOCUSED, re.compile("."))
-        browser.until(LAST_ROW, re.compile(f"^(?!{before})"), 5)
+        browser.until(GET_FOCUSED_ROW, re.compile("."))
+        browser.until(GET_LAST_ROW, re.compile(f"^(?!{before})"), 5)
         rows = addresses(browser)
         seen.update(rows)
         if before > "2FF":
@@ -123,10 +123,10 @@ def check_listing(browser):
     verdict("page by page each line of the program is shown", lines_of_program(browser) - seen, set())
     focus_row(browser, 3)
     browser.keys([END])
-    eventually(browser, "End goes to FFF", FOCUSED, re.compile("FF[EF]"))
+    eventually(browser, "End goes to FFF", GET_FOCUSED_ROW, re.compile("FF[EF]"))
     for _ in range(4):
         browser.keys([PAGE_DOWN], 1, 1)
-    verdict("and PageDown stays there", browser.script(FOCUSED)[:2], "FF")
+    verdict("and PageDown stays there", browser.script(GET_FOCUSED_ROW)[:2], "FF")
     browser.keys([PAGE_UP, PAGE_UP])
     eventually(browser, "PageUp goes back", "return Number(document.activeElement.textContent.slice(0, 4) < '\u25cfFF') && 1", re.compile("[01]"))
     check_scroll_bar(browser)
@@ -140,15 +140,15 @@ def lines_of_program(browser):
 
 def check_scroll_bar(browser):
     browser.script("document.getElementById('lines-of-program').scrollTop = arguments[0] * 24", 0x100)
-    eventually(browser, "the scroll bar goes to 100", ROWS, re.compile(r"^\['\W*10[0-3]"))
+    eventually(browser, "the scroll bar goes to 100", GET_ROWS, re.compile(r"^\['\W*10[0-3]"))
     browser.script("document.getElementById('lines-of-program').scrollTop = 1e9")
-    eventually(browser, "and to the end", ROWS, re.compile(r"FF[EF][^,]*\]$"))
+    eventually(browser, "and to the end", GET_ROWS, re.compile(r"FF[EF][^,]*\]$"))
     browser.type_into("#go-to", f"0x010{ENTER}")
-    eventually(browser, "go to brings an address to the top", ROWS, re.compile(r"^\['\W*010"))
-    eventually(browser, "and the box is scrolled there", TOP, 16 * 24)
+    eventually(browser, "go to brings an address to the top", GET_ROWS, re.compile(r"^\['\W*010"))
+    eventually(browser, "and the box is scrolled there", GET_SCROLL_TOP, 16 * 24)
 
 
-NEXT = "const next = document.querySelector('#lines-of-program .next'); return next ? next.textContent : ''"
+GET_NEXT_LINE = "const next = document.querySelector('#lines-of-program .next'); return next ? next.textContent : ''"
 
 
 def check_follow(browser):
@@ -157,14 +157,14 @@ def check_follow(browser):
     browser.click("#step")
     verdict("without follow the listing stays", addresses(browser), before)
     browser.click("#follow")
-    eventually(browser, "with follow it shows the counter", NEXT, re.compile("."))
+    eventually(browser, "with follow it shows the counter", GET_NEXT_LINE, re.compile("."))
     for _ in range(5):
         before = text_of(browser, "pc")
         browser.click("#step")
         eventually(browser, "a step goes on", f"return document.getElementById('value-pc').textContent !== '{before}'", True)
-        eventually(browser, "a line begins at the counter at each step", AT_COUNTER, True)
+        eventually(browser, "a line begins at the counter at each step", IS_AT_COUNTER, True)
     browser.click("#run")
-    eventually(browser, "while time runs it follows, too", NEXT, re.compile("."))
+    eventually(browser, "while time runs it follows, too", GET_NEXT_LINE, re.compile("."))
     stop_time(browser)
 
 
@@ -174,7 +174,7 @@ def text_of(browser, name):
 
 # --- marks and cells ---
 
-MARKED = "return [...document.querySelectorAll('#registers .changed')].map((each) => each.id.slice('value-'.length)).join(' ')"
+GET_MARKED_REGISTERS = "return [...document.querySelectorAll('#registers .changed')].map((each) => each.id.slice('value-'.length)).join(' ')"
 COUNT_MARKS = """
 window.marks = 0;
 new MutationObserver((all) => { window.marks += all.filter((each) => each.target.classList.contains("changed")).length; })
@@ -188,28 +188,28 @@ def check_marks(browser):
     choose_example(browser, "three lamps")
     stop_time(browser)
     lines_answered(browser, f"asm\n{SLOW}.\nreset\nbreak 12".replace("\\n", "\n"))
-    eventually(browser, "after a reset the status is true", STATUS, "The board was reset; it is at 000.")
+    eventually(browser, "after a reset the status is true", GET_STATUS, "The board was reset; it is at 000.")
     browser.script(COUNT_MARKS)
     browser.click("#run")
-    eventually(browser, "a long run ends at its breakpoint", STATUS, "Paused at 00C, at a breakpoint.", 40)
+    eventually(browser, "a long run ends at its breakpoint", GET_STATUS, "Paused at 00C, at a breakpoint.", 40)
     verdict("while it ran nothing was marked but at the stop", browser.script("return window.marks") < 12, True)
-    verdict("what changed at its start is marked", "R5" in browser.script(MARKED).split(), True)
-    verdict("what came back to what it was is not", "R0" in browser.script(MARKED).split(), False)
+    verdict("what changed at its start is marked", "R5" in browser.script(GET_MARKED_REGISTERS).split(), True)
+    verdict("what came back to what it was is not", "R0" in browser.script(GET_MARKED_REGISTERS).split(), False)
     browser.click("#step")
-    browser.until(STATUS, STEPPED)
-    verdict("the next stop marks what it changed alone", "R5" in browser.script(MARKED).split(), False)
+    browser.until(GET_STATUS, STEPPED)
+    verdict("the next stop marks what it changed alone", "R5" in browser.script(GET_MARKED_REGISTERS).split(), False)
     browser.click("#reset")
-    eventually(browser, "Reset says where the board stands", STATUS, "The board was reset; it is at 000.")
+    eventually(browser, "Reset says where the board stands", GET_STATUS, "The board was reset; it is at 000.")
 
 
-EDITED = "return document.getElementById('cell-editor').hidden ? '' : document.querySelector('#cell-editor label').textContent"
-CELL_STATUS = "return document.getElementById('cell-status').textContent"
+GET_EDITED_CELL = "return document.getElementById('cell-editor').hidden ? '' : document.querySelector('#cell-editor label').textContent"
+GET_CELL_STATUS = "return document.getElementById('cell-status').textContent"
 
 
 def edit(browser, cell, opening, typed):
     browser.script("document.querySelector(arguments[0]).focus()", cell)
     browser.keys([opening])
-    browser.until(EDITED, re.compile("."))
+    browser.until(GET_EDITED_CELL, re.compile("."))
     browser.keys([*typed])
 
 
@@ -227,17 +227,17 @@ def check_cells(browser):
     edit(browser, "#value-pc", ENTER, ["0", "1", "0", ENTER])
     eventually(browser, "the counter is written as it is shown", "return document.getElementById('value-pc').textContent", "010")
     edit(browser, "#value-cy", ENTER, ["2", ENTER])
-    eventually(browser, "a value out of range is refused at the cell", CELL_STATUS, re.compile("."))
-    verdict("in words of the bench", browser.script(CELL_STATUS), re.compile("value|range|number", re.I))
+    eventually(browser, "a value out of range is refused at the cell", GET_CELL_STATUS, re.compile("."))
+    verdict("in words of the bench", browser.script(GET_CELL_STATUS), re.compile("value|range|number", re.I))
     browser.keys([ESCAPE])
-    eventually(browser, "Escape leaves", EDITED, "")
+    eventually(browser, "Escape leaves", GET_EDITED_CELL, "")
     verdict("and the value is as it was", text_of(browser, "cy"), "0")
     edit(browser, "#value-acc", ENTER, ["x", ENTER])
-    eventually(browser, "what is no digit is refused", CELL_STATUS, re.compile("hexadecimal"))
+    eventually(browser, "what is no digit is refused", GET_CELL_STATUS, re.compile("hexadecimal"))
     browser.keys([ESCAPE])
     character = ".ram button:nth-child(3)"
     double_click(browser, character)
-    eventually(browser, "a double click opens a character of RAM", EDITED, re.compile(r"bank 0, chip 0, register 0, character 2: SRC byte 02"))
+    eventually(browser, "a double click opens a character of RAM", GET_EDITED_CELL, re.compile(r"bank 0, chip 0, register 0, character 2: SRC byte 02"))
     browser.keys(["9", ENTER])
     eventually(browser, "and Enter pokes it", f"return document.querySelector('{character}').textContent", "9")
     verdict("it is not watched", browser.script(f"return document.querySelector('{character}').getAttribute('aria-pressed')"), "false")
@@ -245,41 +245,41 @@ def check_cells(browser):
     edit(browser, ".ram button.status", F2, ["4", ENTER])
     eventually(browser, "a status character, too", "return document.querySelector('.ram button.status').textContent", "4")
     double_click(browser, ".ram .port span")
-    eventually(browser, "a port says why it cannot be poked", AT, re.compile("WMP"))
+    eventually(browser, "a port says why it cannot be poked", GET_POPUP, re.compile("WMP"))
 
 
 def check_pressed(browser):
     """Checks that a click on an element works even if its text changes during the click. (WebKit loses the click if the text node is replaced.)"""
-    browser.until(STATUS, re.compile("^Running"))
+    browser.until(GET_STATUS, re.compile("^Running"))
     browser.script("window.pressed = 0; document.getElementById('value-acc').addEventListener('click', () => { window.pressed++; })")
     browser.hold("#value-acc", 400)
     eventually(browser, "a value that changes is pressed while time runs", "return window.pressed", 1)
 
 
-AT = "const shown = document.querySelector('.popup-message'); return shown.hidden ? '' : shown.textContent"
+GET_POPUP = "const shown = document.querySelector('.popup-message'); return shown.hidden ? '' : shown.textContent"
 
 
 def check_refusals(browser):
     """Checks that the rejections of the ninth watch and the thirty-third breakpoint appear at the click."""
     lines_answered(browser, "\n".join(f"watch 7 {at}" for at in range(8)))
     browser.click(".ram button:nth-child(5)")
-    eventually(browser, "a watch too many is refused at its cell", AT, re.compile("8 characters"))
+    eventually(browser, "a watch too many is refused at its cell", GET_POPUP, re.compile("8 characters"))
     near = "const [a, b] = [arguments[0], '.popup-message'].map((each) => document.querySelector(each).getBoundingClientRect()); " \
         "return Math.abs(a.left - b.left) + Math.abs(a.bottom - b.top) < 260"
     verdict("near it", browser.script(near, ".ram button:nth-child(5)"), True)
     lines_answered(browser, "\n".join([*(f"unwatch 7 {at}" for at in range(8)), *(f"break {0x300 + at}" for at in range(32))]))
     browser.click("#lines-of-program button:nth-child(2)")
-    eventually(browser, "a breakpoint too many is refused at its line", AT, re.compile("32 breakpoints"))
+    eventually(browser, "a breakpoint too many is refused at its line", GET_POPUP, re.compile("32 breakpoints"))
     lines_answered(browser, "\n".join(f"unbreak {0x300 + at}" for at in range(32)))
 
 
 # --- accessibility ---
 
-NAMED = """
+GET_WRONGLY_NAMED_CELLS = """
 return [...document.querySelectorAll(".ram button")].filter((each) => !/^[0-9A-F]$/.test(each.textContent)
   || each.getAttribute("aria-label") || !/bank \\d, chip \\d, register \\d, (character \\d+: SRC byte [0-9A-F]{2}|status character \\d)/.test(each.title)).length"""
 # Counts the announcements while time is running: changes in live regions within a number of seconds.
-SAID = """
+COUNT_ANNOUNCEMENTS = """
 window.said = 0;
 const places = [...document.querySelectorAll("output, [aria-live], [role=status], [role=alert], [role=log]")];
 const observer = new MutationObserver((all) => { window.said += all.length; });
@@ -289,44 +289,44 @@ for (const each of places) {
 
 
 def check_names(browser):
-    verdict("each RAM character has its value as its name, and its address beside it", browser.script(NAMED), 0)
+    verdict("each RAM character has its value as its name, and its address beside it", browser.script(GET_WRONGLY_NAMED_CELLS), 0)
     verdict("the tab has the session's name", browser.script("return document.title"), re.compile("^three lamps"))
     choose_example(browser, "stopwatch")
     time.sleep(1)
-    browser.script(SAID)
+    browser.script(COUNT_ANNOUNCEMENTS)
     time.sleep(3)
     verdict("three seconds of running time are announced in a few words", browser.script("return window.said") <= 6, True)
 
 
-SWIPE = """
+SWIPE_KEY = """
 const key = document.querySelector(arguments[0]);
 const fire = (kind) => key.dispatchEvent(new PointerEvent(kind, { bubbles: true, cancelable: true, pointerId: 77, pointerType: "touch",
   isPrimary: true, button: kind === "pointerdown" ? 0 : -1 }));
 key.setPointerCapture = () => {};
 fire("pointerdown");
 setTimeout(() => fire("pointercancel"), arguments[1])"""
-DOWN_KEYS = "return document.querySelectorAll(\"#keys [aria-pressed='true']\").length"
+COUNT_KEYS_DOWN = "return document.querySelectorAll(\"#keys [aria-pressed='true']\").length"
 
 
 def check_swipe(browser):
     """Checks that a fast or slow swipe that begins on a key leaves no key down, while time is running and while it is paused."""
     choose_example(browser, "calculator")
-    browser.until(STATUS, re.compile("^Running"))
+    browser.until(GET_STATUS, re.compile("^Running"))
     before = lines_answered(browser, "seq")
     verdict("keys let a finger scroll", browser.script("return getComputedStyle(document.querySelector('.key')).touchAction"), "pan-y")
     for what, wait in (("quick", 20), ("slow", 200)):
-        browser.script(SWIPE, key("7"), wait)
+        browser.script(SWIPE_KEY, key("7"), wait)
         time.sleep(0.5)
-        eventually(browser, f"after a {what} swipe no key is down", DOWN_KEYS, 0)
+        eventually(browser, f"after a {what} swipe no key is down", COUNT_KEYS_DOWN, 0)
     stop_time(browser)
     for what, wait in (("quick", 20), ("slow", 200)):
-        browser.script(SWIPE, key("7"), wait)
+        browser.script(SWIPE_KEY, key("7"), wait)
         time.sleep(0.5)
-        eventually(browser, f"after a {what} swipe while time stands still no key is down", DOWN_KEYS, 0)
+        eventually(browser, f"after a {what} swipe while time stands still no key is down", COUNT_KEYS_DOWN, 0)
     verdict("the bench has served lines meanwhile", lines_answered(browser, "seq") != before, True)
 
 
-SMALL = """
+FIND_SMALL_TEXT = """
 const small = new Map();
 const walker = document.createTreeWalker(document.body, NodeFilter.SHOW_TEXT);
 for (let node = walker.nextNode(); node; node = walker.nextNode()) {
@@ -339,9 +339,9 @@ return [...small].join("; ")"""
 
 
 def check_letters(browser):
-    verdict("no letters below 11 pixels", browser.script(SMALL), "")
+    verdict("no letters below 11 pixels", browser.script(FIND_SMALL_TEXT), "")
     show_text(browser, "board")
-    verdict("nor with the board's text", browser.script(SMALL), "")
+    verdict("nor with the board's text", browser.script(FIND_SMALL_TEXT), "")
     show_text(browser, "program")
 
 
@@ -353,7 +353,7 @@ def at_size(browser, width, height, mobile=False):
     browser.script("scrollTo(0, 0)")
 
 
-BOXES = """
+GET_BOXES = """
 const ids = ["toolbar", "front", "keys", "texts", "program-editor", "dock", "side", "processor", "calls", "watched", "breakpoints", "memory",
   "statusbar", "regions"];
 return Object.fromEntries(ids.map((id) => {
@@ -362,22 +362,22 @@ return Object.fromEntries(ids.map((id) => {
   return [id, isShown(element) ? { left: box.left, right: box.right, top: box.top, bottom: box.bottom } : null];
 }))"""
 # The toolbar controls that overlap.
-COVERED = """
+FIND_COVERED = """
 const shown = [...document.querySelectorAll("#toolbar :is(button, input, select, h1):not([role=menu] *)")].filter(isShown);
 const boxes = shown.map((each) => [each.id, each.getBoundingClientRect()]);
 return boxes.flatMap(([id, a], k) => boxes.slice(k + 1)
   .filter(([, b]) => Math.min(a.right, b.right) - Math.max(a.left, b.left) > 1 && Math.min(a.bottom, b.bottom) - Math.max(a.top, b.top) > 1)
   .map(([other]) => `${id} ${other}`))"""
 # The controls of the toolbar and the status bar that are partly outside the window while there is a notice.
-OUTSIDE = """
+FIND_OUTSIDE = """
 document.getElementById("notices-button").hidden = false;
 return [...document.querySelectorAll("#toolbar :is(button, input, select):not([role=menu] *), #statusbar button")].filter(isShown).filter((each) => {
   const [{ left, right }, room] = [each, each.closest("#cycles, #toolbar, #statusbar")].map((node) => node.getBoundingClientRect());
   return left < Math.max(0, room.left) || right > Math.min(innerWidth, room.right);
 }).map(({ id }) => id)"""
-SIDEWAYS = "return document.documentElement.scrollWidth - document.documentElement.clientWidth"
+MEASURE_OVERFLOW = "return document.documentElement.scrollWidth - document.documentElement.clientWidth"
 # The distances by which the page itself can scroll, vertically and horizontally.
-SCROLLS = """
+TRY_TO_SCROLL = """
 const { scrollHeight, clientHeight, scrollWidth, clientWidth } = document.documentElement;
 scrollTo(1000, 1000);
 const moved = [scrollX, scrollY];
@@ -390,11 +390,11 @@ def check_sizes(browser):
     choose_example(browser, "traffic light")
     for width, height in ((1024, 640), (1200, 720), (1280, 720), (1440, 900), (1920, 1080)):
         at_size(browser, width, height)
-        boxes = browser.script(BOXES)
-        verdict(f"the page does not scroll at {width}", browser.script(SCROLLS), [0, 0, 0, 0])
+        boxes = browser.script(GET_BOXES)
+        verdict(f"the page does not scroll at {width}", browser.script(TRY_TO_SCROLL), [0, 0, 0, 0])
         verdict(f"the toolbar is one row at {width}", boxes["toolbar"]["bottom"] - boxes["toolbar"]["top"], 44)
-        verdict(f"no control of the toolbar covers another one at {width}", browser.script(COVERED), [])
-        verdict(f"and each one is whole at {width}", browser.script(OUTSIDE), [])
+        verdict(f"no control of the toolbar covers another one at {width}", browser.script(FIND_COVERED), [])
+        verdict(f"and each one is whole at {width}", browser.script(FIND_OUTSIDE), [])
         verdict(f"three columns are side by side at {width}",
                 boxes["front"]["right"] <= boxes["texts"]["left"] and boxes["texts"]["right"] <= boxes["side"]["left"], True)
         verdict(f"the dock is below the texts at {width}", boxes["texts"]["bottom"] <= boxes["dock"]["top"], True)
@@ -416,13 +416,13 @@ def check_narrow_sizes(browser):
 def check_not_covered(browser, *widths):
     for width in widths:
         at_size(browser, width, 800)
-        verdict(f"the page does not scroll at {width}", browser.script(SCROLLS), [0, 0, 0, 0])
-        verdict(f"no control of the toolbar covers another one at {width}", browser.script(COVERED), [])
-        verdict(f"and each one is whole at {width}", browser.script(OUTSIDE), [])
+        verdict(f"the page does not scroll at {width}", browser.script(TRY_TO_SCROLL), [0, 0, 0, 0])
+        verdict(f"no control of the toolbar covers another one at {width}", browser.script(FIND_COVERED), [])
+        verdict(f"and each one is whole at {width}", browser.script(FIND_OUTSIDE), [])
 
 
 # Errors in the visible control rows: controls that are cut off or that overlap.
-WRONG_CONTROLS = """
+FIND_WRONG_CONTROLS = """
 const rows = [...document.querySelectorAll("#wave-bar, .editor > .bar, #wiring > .bar, #statusbar")].filter(isShown);
 return rows.flatMap((row) => {
   const room = row.getBoundingClientRect();
@@ -448,26 +448,26 @@ def check_controls(browser):
             if width < 700:
                 browser.click(f"#region-{'more' if tab == 'waves' else 'source'}")
             show_text(browser, tab)
-            verdict(f"the controls of {tab} are whole at {width}", browser.script(WRONG_CONTROLS), [])
+            verdict(f"the controls of {tab} are whole at {width}", browser.script(FIND_WRONG_CONTROLS), [])
     browser.command("Emulation.setTouchEmulationEnabled", enabled=False)
     browser.resize_back()
 
 
-DRAWER = "return isShown(document.getElementById('processor'))"
+IS_DRAWER_SHOWN = "return isShown(document.getElementById('processor'))"
 
 
 def check_drawer(browser):
     """Checks that in a narrow window the debugger's panels are a drawer."""
     at_size(browser, 820, 1180)
-    verdict("the drawer is shut", browser.script(DRAWER), False)
+    verdict("the drawer is shut", browser.script(IS_DRAWER_SHOWN), False)
     browser.click("#drawer-button")
-    verdict("its button opens it", browser.script(DRAWER), True)
+    verdict("its button opens it", browser.script(IS_DRAWER_SHOWN), True)
     browser.script("document.getElementById('value-acc').focus()")
     browser.keys([ESCAPE])
-    verdict("Escape shuts it", browser.script(DRAWER), False)
+    verdict("Escape shuts it", browser.script(IS_DRAWER_SHOWN), False)
 
 
-SEEN = """
+IS_IN_VIEW = """
 const box = document.querySelector(arguments[0]).getBoundingClientRect();
 return box.top >= -1 && box.bottom <= innerHeight + 1 && box.height > 0"""
 
@@ -479,22 +479,22 @@ def swipe_up(browser, x, y):
                      "actions": [moves[0], {"type": "pointerDown", "button": 0}, *moves[1:], {"type": "pointerUp", "button": 0}]})
 
 
-MENU = """
+GET_MENU_STATE = """
 const [word, item] = ["menu-button", "save-session-button"].map((id) => document.getElementById(id));
 return `${word.getAttribute("aria-expanded")} ${isShown(item)}`"""
 
 
 def check_menu(browser):
     """Checks that on a phone the session's buttons are in a menu, which a choice or Escape closes."""
-    verdict("the menu is shut", browser.script(MENU), "false false")
+    verdict("the menu is shut", browser.script(GET_MENU_STATE), "false false")
     browser.click("#menu-button")
-    verdict("it opens", browser.script(MENU), "true true")
+    verdict("it opens", browser.script(GET_MENU_STATE), "true true")
     browser.keys([ESCAPE])
-    verdict("Escape shuts it", browser.script(MENU), "false false")
+    verdict("Escape shuts it", browser.script(GET_MENU_STATE), "false false")
     browser.click("#menu-button")
     browser.click("#help-narrow")
     verdict("what is chosen is done", browser.script("return isShown(document.getElementById('help'))"), True)
-    verdict("and the menu is shut", browser.script(MENU), "false false")
+    verdict("and the menu is shut", browser.script(GET_MENU_STATE), "false false")
     browser.click("#help-close")
     browser.click("#menu-button")
     browser.click("#examples-narrow")
@@ -503,7 +503,7 @@ def check_menu(browser):
     browser.click("#close-sessions")
 
 
-PHONE_PANELS = "return ['front', 'texts', 'side', 'dock'].filter((id) => isShown(document.getElementById(id))).join(' ')"
+GET_PHONE_PANELS = "return ['front', 'texts', 'side', 'dock'].filter((id) => isShown(document.getElementById(id))).join(' ')"
 
 
 def check_phone(browser):
@@ -516,24 +516,24 @@ def check_phone(browser):
     check_menu(browser)
     for width, height in ((390, 844), (360, 640), (320, 640), (375, 667)):
         at_size(browser, width, height, True)
-        boxes = browser.script(BOXES)
-        verdict(f"at {width} a phone's page does not scroll", browser.script(SCROLLS), [0, 0, 0, 0])
+        boxes = browser.script(GET_BOXES)
+        verdict(f"at {width} a phone's page does not scroll", browser.script(TRY_TO_SCROLL), [0, 0, 0, 0])
         verdict(f"the tabs are at the bottom at {width}", boxes["regions"]["bottom"], height)
         verdict(f"and are large enough at {width}", boxes["regions"]["bottom"] - boxes["regions"]["top"] >= 44, True)
     for region, panel in (("source", "texts"), ("debug", "side"), ("more", "dock"), ("board", "front")):
         browser.click(f"#region-{region}")
-        verdict(f"{region} shows its panel alone", browser.script(PHONE_PANELS), panel)
+        verdict(f"{region} shows its panel alone", browser.script(GET_PHONE_PANELS), panel)
     browser.click("#region-debug")
     verdict("RAM does not scroll sideways", browser.script("const box = document.getElementById('banks'); return box.scrollWidth - box.clientWidth"), 0)
     browser.click("#region-board")
     for what in (".bulb", ".key", "#run"):
-        verdict(f"{what} is in view on a phone", browser.script(SEEN, what), True)
+        verdict(f"{what} is in view on a phone", browser.script(IS_IN_VIEW, what), True)
     stop_time(browser)
     at_size(browser, 375, 420, True)
     box = browser.script("const box = document.querySelector('.key').getBoundingClientRect(); return [box.x + 20, box.y + 15]")
     swipe_up(browser, *box)
     eventually(browser, "a swipe that begins on a key scrolls the front panel", "return document.getElementById('front').scrollTop > 50", True)
-    eventually(browser, "and presses nothing that stays down", DOWN_KEYS, 0)
+    eventually(browser, "and presses nothing that stays down", COUNT_KEYS_DOWN, 0)
     browser.command("Emulation.setTouchEmulationEnabled", enabled=False)
     browser.resize_back()
 
@@ -544,7 +544,7 @@ def emulate(browser, media="", **features):
     time.sleep(0.2)
 
 
-LAMP_LOOKS = """
+ARE_LAMPS_DISTINCT = """
 const look = (each) => { const style = getComputedStyle(each); return `${style.backgroundColor} ${style.borderTopColor}`; };
 const [lit, dark] = [".bulb.lit", ".bulb:not(.lit)"].map((each) => look(document.querySelector(each)));
 return lit !== dark && !lit.startsWith("rgba(0, 0, 0, 0)")"""
@@ -553,13 +553,13 @@ return lit !== dark && !lit.startsWith("rgba(0, 0, 0, 0)")"""
 def check_forced_colours(browser):
     step_with_marks(browser)
     emulate(browser, forced_colors="active")
-    verdict("where the system forces colours a lit lamp is full", browser.script(LAMP_LOOKS), True)
+    verdict("where the system forces colours a lit lamp is full", browser.script(ARE_LAMPS_DISTINCT), True)
     outlined = "return getComputedStyle(document.querySelector('.changed')).outlineStyle"
     verdict("and marks have a line", browser.script(outlined), "solid")
     emulate(browser)
 
 
-PRINTED = """
+COUNT_PRINTED_CONTROLS = """
 return [...document.querySelectorAll("#bench *")].filter((each) => isShown(each) && each.matches("button:not(.fold), select, #log, "
   + "textarea, .cm-editor")).length"""
 
@@ -572,6 +572,6 @@ def check_print(browser):
     verdict("the source whole", "JMS" in printed or "JUN" in printed, True)
     verdict("and the board", board and "lamp = [" in printed and "[[rom]]" in printed, True)
     verdict("lamps are printed", browser.script("return isShown(document.querySelector('.bulb'))"), True)
-    verdict("and no buttons, fields or editors", browser.script(PRINTED), 0)
+    verdict("and no buttons, fields or editors", browser.script(COUNT_PRINTED_CONTROLS), 0)
     emulate(browser)
     verdict("the page is as before", browser.script("return isShown(document.getElementById('texts'))"), True)

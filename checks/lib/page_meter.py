@@ -2,7 +2,7 @@
 
 # Runs before the page's script. `frames` gets the milliseconds of work in each real-time frame. A handler's work continues in its promises, so the
 # script waits for some of them.
-PAGE_METER = """
+INSTALL_PAGE_METER = """
 window.frames = [];
 let spent = 0;
 const measured = (act, done = () => {}) => function (...words) {
@@ -26,10 +26,10 @@ Worker.prototype.addEventListener = function (kind, act) {
     spent = 0;
   }));
 };"""
-FRAMES = "return window.frames"
+GET_FRAMES = "return window.frames"
 
 # Runs before the worker's script. Adds to each reply the milliseconds since its request.
-WORKER_METER = """
+INSTALL_WORKER_METER = """
 let begun = 0;
 addEventListener("message", () => { begun = performance.now(); });
 const post = postMessage.bind(self);
@@ -37,7 +37,7 @@ self.postMessage = (message, transfer) => post({ ...message, took: performance.n
 """
 
 # At full speed, the worker reports to the page twice a second which fraction of the time it has spent in the module.
-MODULE_METER = """
+INSTALL_MODULE_METER = """
 (() => {
   const made = WebAssembly.Instance;
   let [spent, since] = [0, performance.now()];
@@ -57,8 +57,8 @@ MODULE_METER = """
     return { exports: { ...exports, bench_serve_and_settle } };
   };
 })();"""
-# Runs before the page's script. `parts` gets the fractions that MODULE_METER reports.
-PARTS_METER = """
+# Runs before the page's script. `parts` gets the fractions that INSTALL_MODULE_METER reports.
+INSTALL_PARTS_METER = """
 window.parts = [];
 const listen = Worker.prototype.addEventListener;
 Worker.prototype.addEventListener = function (kind, act) {
@@ -67,10 +67,10 @@ Worker.prototype.addEventListener = function (kind, act) {
     else act(event);
   });
 };"""
-PARTS = "return window.parts"
+GET_PARTS = "return window.parts"
 
-# A separate worker with the page's module, for MODULE_ALONE.
-MODULE_BESIDE = """
+# A separate worker with the page's module, for RUN_MODULE_ALONE.
+RUN_MODULE_BESIDE = """
 const work = `
 let instance, file, size, input, room, answers, report;
 const serve = (lines) => {
@@ -111,20 +111,20 @@ Promise.all([unpacked("module").arrayBuffer(), unpacked("data").json()]).then(([
   window.serveAlone(true);
 });"""
 # Measures the cycles per second of one long call of the module in that worker. The result is in `alone`.
-MODULE_ALONE = "window.serveAlone(false)"
+RUN_MODULE_ALONE = "window.serveAlone(false)"
 
 # Measures the time between the next key press and the next change of the digits.
-TIME_OF_KEY = """
+MEASURE_KEY = """
 window.seen = 0;
 addEventListener("keydown", () => { window.went = performance.now(); }, { capture: true, once: true });
 new MutationObserver((_, own) => {
   own.disconnect();
   window.seen = performance.now() - window.went;
 }).observe(document.getElementById("digits"), { childList: true, characterData: true, subtree: true })"""
-KEY_TIME = "return window.seen"
+GET_KEY_TIME = "return window.seen"
 
 # Clicks a button that searches for a goal. For a change, the goal is a place that never changes. `searched` gets the cycles per second.
-SEARCH = """
+START_SEARCH = """
 window.searched = 0;
 document.getElementById("change-place").value = "st.0.3.3";
 const status = document.getElementById("status");
@@ -137,4 +137,4 @@ new MutationObserver((_, own) => {
   window.searched = (cycles / (performance.now() - begun)) * 1000;
 }).observe(status, { childList: true, characterData: true, subtree: true });
 document.getElementById(arguments[0]).click();"""
-SEARCHED = "return window.searched"
+GET_SEARCH_TIME = "return window.searched"

@@ -5,27 +5,27 @@ import pathlib
 import re
 import subprocess
 
-from page_in_browser import ENTER, NOTICE, PUT_INTO_EDITOR, STATUS, choose_example, lines_answered, show_text, stop_time, until_ready
+from page_in_browser import ENTER, GET_NOTICE, GET_STATUS, PUT_INTO_EDITOR, choose_example, lines_answered, show_text, stop_time, until_ready
 from verdicts import eventually, verdict
 
 TOP = pathlib.Path(__file__).resolve().parent.parent.parent
 PROGRAM = TOP / "examples/calculator/calculator.asm"
 STEPS = 60
 STEPS_AT_ONCE = 6
-SOURCE_STATUS = "return document.getElementById('source-status').textContent"
-POPUP = "const shown = document.querySelector('.popup-message'); return shown.hidden ? '' : shown.textContent"
-GO_TO_STATUS = "return document.getElementById('go-to-status').textContent"
-CHOSEN = "return document.getElementById('follow').checked"
-STACK = "return [...document.querySelectorAll('.stack button')].map((row) => [...row.children].map((part) => part.textContent).join(' '))"
+GET_SOURCE_STATUS = "return document.getElementById('source-status').textContent"
+GET_POPUP = "const shown = document.querySelector('.popup-message'); return shown.hidden ? '' : shown.textContent"
+GET_GO_TO_STATUS = "return document.getElementById('go-to-status').textContent"
+IS_FOLLOW_CHECKED = "return document.getElementById('follow').checked"
+GET_STACK = "return [...document.querySelectorAll('.stack button')].map((row) => [...row.children].map((part) => part.textContent).join(' '))"
 # The addresses in the disassembly, and the source lines with a breakpoint in the margin.
-ADDRESSES = "return [...document.querySelectorAll('#lines-of-program button:not([hidden])')].map((row) => row.textContent.match(/[0-9A-F]{3}/)[0])"
+GET_ADDRESSES = "return [...document.querySelectorAll('#lines-of-program button:not([hidden])')].map((row) => row.textContent.match(/[0-9A-F]{3}/)[0])"
 # The breakpoint marks in the source's margin and in the disassembly.
-MARKS = """
+GET_MARKS = """
 const marks = [...document.querySelectorAll(".mark-breakpoints")].map((mark) => `${mark.textContent} ${mark.title}`);
 const rows = [...document.querySelectorAll("#lines-of-program button[aria-pressed='true']")].filter((row) => !row.hidden);
 return [marks.join(), rows.map((row) => row.querySelector("i").textContent).join()]"""
-LABELS = "return [...document.querySelectorAll('#lines-of-program .labels')].map((label) => label.textContent).join('')"
-MARGIN = """
+GET_LABELS = "return [...document.querySelectorAll('#lines-of-program .labels')].map((label) => label.textContent).join('')"
+GET_BREAKPOINT_LINES = """
 return document.querySelector("#program-editor .cm-editor").lineEditor.marksIn("breakpoints").map((line) => line + 1).join(" ")"""
 
 # Steps several times. Returns for each step the counter, and the marked visible source line with its number.
@@ -74,7 +74,7 @@ const at = { clientX: left + width / 2, clientY: top + height / 2, button: 0, bu
 for (const kind of ["mousedown", "mouseup", "click"]) node.dispatchEvent(new MouseEvent(kind, at));"""
 
 # The screen position of a word in a line, after scrolling the line into view.
-WORD_PLACE = """
+SCROLL_TO_WORD = """
 const editor = document.querySelector("#program-editor .cm-editor").lineEditor;
 const [line, word] = arguments;
 editor.scrollIntoView({ line: line - 1, ch: 0 }, 60);
@@ -83,7 +83,7 @@ editor.getWrapperElement().scrollIntoView({ block: "center" });
 const at = editor.getLine(line - 1).indexOf(word);
 const { left, top, bottom } = editor.view.coordsAtPos(editor.offset({ line: line - 1, ch: at + 1 }));
 return [left, (top + bottom) / 2]"""
-MEANING = "return document.querySelector('#program-editor .meaning').textContent"
+GET_MEANING = "return document.querySelector('#program-editor .meaning').textContent"
 
 
 def listing_of(mcs4, *words):
@@ -125,36 +125,36 @@ def check_steps(browser, source):
 
 def check_breakpoint_at_name(browser, source, values, lines):
     go_to(browser, "scan")
-    eventually(browser, "go to a name", f"{ADDRESSES}.includes('{values['scan']}')", True)
-    verdict("and the listing follows no more", browser.script(CHOSEN), False)
+    eventually(browser, "go to a name", f"{GET_ADDRESSES}.includes('{values['scan']}')", True)
+    verdict("and the listing follows no more", browser.script(IS_FOLLOW_CHECKED), False)
     browser.click("#break-there")
     line = source[values["scan"]][0]
-    eventually(browser, "a breakpoint at a name stands in the source's margin", MARGIN, str(line))
+    eventually(browser, "a breakpoint at a name stands in the source's margin", GET_BREAKPOINT_LINES, str(line))
     browser.click("#run")
-    eventually(browser, "a run stops there", STATUS, f"Paused at {values['scan']}, at a breakpoint.")
+    eventually(browser, "a run stops there", GET_STATUS, f"Paused at {values['scan']}, at a breakpoint.")
     call = next(number for number, text in enumerate(lines, 1) if "JMS scan" in text.expandtabs(1))
-    eventually(browser, "the counter and the return addresses by name", STACK, re.compile(
+    eventually(browser, "the counter and the return addresses by name", GET_STACK, re.compile(
         rf"^\['pc {values['scan']} scan, line {line}', 'ret 1 {int(values['await'], 16) + 2:03X} await \+ 2, call in line {call}', "
         r"'ret 2 ... stale', 'ret 3 ... stale'\]$"))
     browser.click("#break-there")
-    eventually(browser, "the same button clears it", MARGIN, "")
+    eventually(browser, "the same button clears it", GET_BREAKPOINT_LINES, "")
 
 
 def check_margin(browser, source, values):
     show = source[values["show"]][0]
     browser.script(CLICK_MARGIN, show)
-    eventually(browser, "a breakpoint by a click in the margin", MARGIN, str(show))
+    eventually(browser, "a breakpoint by a click in the margin", GET_BREAKPOINT_LINES, str(show))
     browser.click("#reset")
     browser.click("#run")
-    eventually(browser, "a run stops at that line", STATUS, f"Paused at {values['show']}, at a breakpoint.")
+    eventually(browser, "a run stops at that line", GET_STATUS, f"Paused at {values['show']}, at a breakpoint.")
     browser.script(CLICK_MARGIN, show)
-    eventually(browser, "another click clears it", MARGIN, "")
+    eventually(browser, "another click clears it", GET_BREAKPOINT_LINES, "")
     browser.script(CLICK_MARGIN, 1)
-    eventually(browser, "at a line without bytes it goes to the next instruction, in words", POPUP,
+    eventually(browser, "at a line without bytes it goes to the next instruction, in words", GET_POPUP,
                re.compile("^Line 1 puts no bytes into ROM: its breakpoint is at the next instruction, line "))
-    first = browser.until(MARGIN, re.compile("[0-9]"))
+    first = browser.until(GET_BREAKPOINT_LINES, re.compile("[0-9]"))
     browser.script(CLICK_MARGIN, int(first))
-    eventually(browser, "which a click there takes away", MARGIN, "")
+    eventually(browser, "which a click there takes away", GET_BREAKPOINT_LINES, "")
 
 
 def check_inside(browser, source, values, lines):
@@ -165,21 +165,21 @@ def check_inside(browser, source, values, lines):
     go_to(browser, address)
     lines_answered(browser, f"break 0x{inside}")
     browser.script(SHOW_MARGIN, call)
-    eventually(browser, "a breakpoint inside an instruction goes to the next one", MARGIN, str(source[behind][0]))
-    eventually(browser, "in the listing, too", MARKS, ["\u25cf breakpoint", "\u25cf"])
+    eventually(browser, "a breakpoint inside an instruction goes to the next one", GET_BREAKPOINT_LINES, str(source[behind][0]))
+    eventually(browser, "in the listing, too", GET_MARKS, ["\u25cf breakpoint", "\u25cf"])
     verdict("and in the bench", lines_answered(browser, "breaks"), re.compile(f"breaks {behind}$"))
     browser.script(CLICK_MARGIN, source[behind][0])
-    eventually(browser, "a click in the margin clears it", MARGIN, "")
+    eventually(browser, "a click in the margin clears it", GET_BREAKPOINT_LINES, "")
     verdict("no breakpoint is left", lines_answered(browser, "breaks"), re.compile("breaks -$"))
     lines_answered(browser, f"break 0x{address}")
-    browser.until(MARGIN, str(call))
+    browser.until(GET_BREAKPOINT_LINES, str(call))
     browser.script("document.querySelector('#lines-of-program button[aria-pressed=true]').click()")
-    eventually(browser, "and so does one on its row of the listing", MARGIN, "")
+    eventually(browser, "and so does one on its row of the listing", GET_BREAKPOINT_LINES, "")
 
 
 def point_at(browser, line, word):
     """Moves the pointer to a word of the source and leaves it there."""
-    x, y = browser.script(WORD_PLACE, line, word)
+    x, y = browser.script(SCROLL_TO_WORD, line, word)
     browser.actions({"type": "pointer", "id": "mouse", "parameters": {"pointerType": "mouse"}, "actions": [
         {"type": "pointerMove", "duration": 0, "x": int(x) + shift, "y": int(y)} for shift in (1, 2)]})
 
@@ -195,26 +195,26 @@ def check_pointing(browser, source, values, lines):
         "P1": re.compile(r"^(?:P1 = ([0-9A-F])([0-9A-F]): R2 \1, R3 \2\. )?P1: the pair of R2 \(upper four bits\) and R3 \(lower four bits\)\.$"),
     }.items():
         point_at(browser, line_of[word], word)
-        eventually(browser, f"the pointer on {word} shows what it is", MEANING, words)
+        eventually(browser, f"the pointer on {word} shows what it is", GET_MEANING, words)
 
 
 def check_go_to(browser):
     for text, address in (("01E", "01E"), ("0x11E", "11E"), ("30", "01E"), ("100", "100")):
         go_to(browser, text)
-        eventually(browser, f"go to {text}", f"{ADDRESSES}.includes('{address}')", True)
+        eventually(browser, f"go to {text}", f"{GET_ADDRESSES}.includes('{address}')", True)
     for text, words in (("nosuch", "^nosuch is neither a name of the program nor an address"), ("4096", "^4096 is not an address")):
         go_to(browser, text)
-        eventually(browser, f"{text} is no address, in words", GO_TO_STATUS, re.compile(words))
+        eventually(browser, f"{text} is no address, in words", GET_GO_TO_STATUS, re.compile(words))
         verdict("and the field is marked", browser.script("return document.getElementById('go-to').getAttribute('aria-invalid')"), "true")
     go_to(browser, "scan")
-    eventually(browser, "an address takes the words away", GO_TO_STATUS, "")
+    eventually(browser, "an address takes the words away", GET_GO_TO_STATUS, "")
 
 
 def check_names_in_lines(browser, values):
     verdict("a name in a line", lines_answered(browser, "list @scan 1"), re.compile(rf"^list 0x{values['scan']} 1{values['scan']} "))
     show_text(browser, "console")
     browser.type_into("#lines", "break @nosuch" + ENTER)
-    eventually(browser, "one that the program lacks, in words", NOTICE, "@nosuch: the program has no such name.")
+    eventually(browser, "one that the program lacks, in words", GET_NOTICE, "@nosuch: the program has no such name.")
     verdict("and the line can be mended", browser.script("return document.getElementById('lines').value"), "break @nosuch")
     browser.script("document.getElementById('lines').value = ''")
     browser.click("#notice button")
@@ -231,23 +231,23 @@ def check_difference(browser, source, lines):
     changed = [*lines[:line - 1], "\tLDM 3", *lines[line:]]
     put(browser, "\n".join(["; one line more", *changed]) + "\n")
     differs = f"Source and ROM differ from line {line + 1} (0x106). Assemble to update."
-    eventually(browser, "a text that is not in ROM says where it differs", SOURCE_STATUS, differs)
-    eventually(browser, "and names nothing", LABELS, "")
+    eventually(browser, "a text that is not in ROM says where it differs", GET_SOURCE_STATUS, differs)
+    eventually(browser, "and names nothing", GET_LABELS, "")
     browser.script(CLICK_MARGIN, line)
-    eventually(browser, "a breakpoint in it stops nothing yet, in words", POPUP, f"{differs} Until then this breakpoint stops nothing.")
+    eventually(browser, "a breakpoint in it stops nothing yet, in words", GET_POPUP, f"{differs} Until then this breakpoint stops nothing.")
     browser.script(CLICK_MARGIN, line)
-    eventually(browser, "a second click takes it away", MARGIN, "")
+    eventually(browser, "a second click takes it away", GET_BREAKPOINT_LINES, "")
     put(browser, "\n".join(["; one line more", *lines]) + "\n")
-    eventually(browser, "another comment alone makes no difference", SOURCE_STATUS, "")
-    eventually(browser, "and names are there", LABELS, re.compile("scan:"))
+    eventually(browser, "another comment alone makes no difference", GET_SOURCE_STATUS, "")
+    eventually(browser, "and names are there", GET_LABELS, re.compile("scan:"))
     lines_answered(browser, "poke rom.0x106 0xD3")
-    eventually(browser, "nor is it in ROM where a byte was poked", SOURCE_STATUS, differs)
+    eventually(browser, "nor is it in ROM where a byte was poked", GET_SOURCE_STATUS, differs)
     lines_answered(browser, "poke rom.0x106 0xD2")
-    eventually(browser, "as long as it is there", SOURCE_STATUS, "")
+    eventually(browser, "as long as it is there", GET_SOURCE_STATUS, "")
     put(browser, "\tLDM 3\n\tJUN nowhere\n")
-    eventually(browser, "a text with a fault says so", SOURCE_STATUS, re.compile("^The source has an error in line 2: no 32"))
+    eventually(browser, "a text with a fault says so", GET_SOURCE_STATUS, re.compile("^The source has an error in line 2: no 32"))
     put(browser, "\tORG 0xF00\n\tNOP\n")
-    eventually(browser, "and one that has no ROM", SOURCE_STATUS, "The board has no ROM at 0xF00, where line 2 of the source goes.")
+    eventually(browser, "and one that has no ROM", GET_SOURCE_STATUS, "The board has no ROM at 0xF00, where line 2 of the source goes.")
 
 
 def check(browser, page, _folder, mcs4):

@@ -4,31 +4,32 @@ a reload right after an edit. None of the input may become an element or a scrip
 import base64
 import re
 
-from page_in_browser import ENTER, ESCAPE, NOTICE, PUT_INTO_EDITOR, STATUS, TEXT_OF_EDITOR, choose_example, open_anew, show_text, until_ready
+from page_in_browser import (ENTER, ESCAPE, GET_NOTICE, GET_STATUS, GET_TEXT_OF_EDITOR, PUT_INTO_EDITOR, choose_example, open_anew, show_text,
+                             until_ready)
 from verdicts import eventually, verdict
 
 MARKUP = "<img src=x onerror=\"window.injected=1\"><script>window.injected=1</script>"
 # Markup without spaces and quotes, for use as a name.
 NAME = "<img/src=x/onerror=injected=1>"
 # The editor's own images have no address.
-HARMLESS = "return !window.injected && document.querySelectorAll('img[src], body script[src], iframe, object').length === 0"
-ASKED = "const box = document.getElementById('ask'); return box !== null && box.open"
+IS_HARMLESS = "return !window.injected && document.querySelectorAll('img[src], body script[src], iframe, object').length === 0"
+IS_DIALOG_OPEN = "const box = document.getElementById('ask'); return box !== null && box.open"
 CLOSE_ALL = """
 for (const each of document.querySelectorAll("dialog[open]")) each.close("");
 for (const each of document.querySelectorAll("#notice .dismiss")) each.click()"""
-DROP = """
+DROP_FILES = """
 const data = new DataTransfer();
 for (const [name, bytes] of arguments[0]) data.items.add(new File([Uint8Array.from(atob(bytes), (each) => each.charCodeAt(0))], name));
 document.body.dispatchEvent(new DragEvent("drop", { dataTransfer: data, bubbles: true, cancelable: true }))"""
-LINES = """
+SEND_SEQ = """
 window.before = document.getElementById("log").textContent.length;
 document.getElementById("lines").value = "seq";
 document.getElementById("send").click()"""
 # Another session begins with an empty log.
-ANSWERED = """
+IS_SEQ_ANSWERED = """
 const text = document.getElementById("log").textContent;
 return /seq \\d+/.test(text.slice(window.before > text.length ? 0 : window.before))"""
-SET = """
+SET_FIELD = """
 const field = document.getElementById(arguments[0]);
 field.value = arguments[1];
 for (const kind of ["input", "change"]) field.dispatchEvent(new Event(kind, { bubbles: true }))"""
@@ -38,19 +39,19 @@ BOARD = '[[rom]]\nchip = 0\nport = "0000"\n'
 
 def check_alive(browser, what):
     """Checks that the bench answers, and that the input has not become an element or a script."""
-    if browser.script(ASKED):
+    if browser.script(IS_DIALOG_OPEN):
         browser.script("document.getElementById('ask').close('')")
     for _ in range(4):
-        browser.script(LINES)
-        if browser.until(ANSWERED, True, 10):
+        browser.script(SEND_SEQ)
+        if browser.until(IS_SEQ_ANSWERED, True, 10):
             break
-    verdict(f"the bench answers after {what}", browser.script(ANSWERED), True)
-    verdict(f"{what} makes no element and no script", browser.script(HARMLESS), True)
+    verdict(f"the bench answers after {what}", browser.script(IS_SEQ_ANSWERED), True)
+    verdict(f"{what} makes no element and no script", browser.script(IS_HARMLESS), True)
 
 
 def check_fields(browser):
     choose_example(browser, "empty bench")
-    browser.script(SET, "name", MARKUP)
+    browser.script(SET_FIELD, "name", MARKUP)
     face = f"# title: {MARKUP}\n# row 0: {NAME} b\n# lamp 0: {NAME}\n# port rom0: {MARKUP}\n# test: button {NAME}\n"
     browser.script(PUT_INTO_EDITOR, "#board-editor", face + BOARD)
     show_text(browser, "board")
@@ -65,15 +66,15 @@ def check_fields(browser):
         check_alive(browser, f"markup in {name}")
     show_text(browser, "program")
     for field in ("watched-field", "go-to", "change-place", "step-count"):
-        browser.script(SET, field, "")
+        browser.script(SET_FIELD, field, "")
         browser.script("document.getElementById(arguments[0]).closest('section, [role=tabpanel]').hidden = false", field)
     show_text(browser, "disassembly")
     for field in ("watched-field", "go-to", "change-place", "step-count"):
         browser.type_into(f"#{field}", MARKUP + ENTER)
         check_alive(browser, f"markup in {field}")
     show_text(browser, "waves")
-    browser.script(SET, "trigger", MARKUP)
-    browser.script(SET, "signal-search", MARKUP)
+    browser.script(SET_FIELD, "trigger", MARKUP)
+    browser.script(SET_FIELD, "signal-search", MARKUP)
     browser.click("#record")
     check_alive(browser, "markup in the trigger")
     show_text(browser, "console")
@@ -99,14 +100,14 @@ def check_files(browser):
     choose_example(browser, "three lamps")
     for each in files():
         browser.script(CLOSE_ALL)
-        browser.until(NOTICE, "")
-        browser.script(DROP, [[name, base64.b64encode(data).decode()] for name, data in each.items()])
+        browser.until(GET_NOTICE, "")
+        browser.script(DROP_FILES, [[name, base64.b64encode(data).decode()] for name, data in each.items()])
         what = " and ".join([*each][:2]) + (" .." if len(each) > 2 else "")
         eventually(browser, f"{what} is opened, asked for or refused in words",
-              f"{ASKED.replace('return', 'const asks =')}; {NOTICE.replace('return', 'const text =')}; return asks || text !== ''", True)
+              f"{IS_DIALOG_OPEN.replace('return', 'const asks =')}; {GET_NOTICE.replace('return', 'const text =')}; return asks || text !== ''", True)
         check_alive(browser, what)
     # The last drop has 60 programs, which the page reads one after another. The last text to arrive closes any dialog that is open by then.
-    browser.until(NOTICE, re.compile(r"^59\.asm is in Source"))
+    browser.until(GET_NOTICE, re.compile(r"^59\.asm is in Source"))
     until_ready(browser)
     browser.script(CLOSE_ALL)
 
@@ -114,40 +115,40 @@ def check_files(browser):
 def check_numbers(browser):
     choose_example(browser, "three lamps")
     browser.click("#run")
-    browser.until(STATUS, re.compile("^Paused"))
+    browser.until(GET_STATUS, re.compile("^Paused"))
     for number in ("-5", "1000000000", "99999999999999999999", "1e3", "abc"):
-        browser.script(SET, "step-count", number)
+        browser.script(SET_FIELD, "step-count", number)
         browser.script("document.getElementById('step-many').click()")
-        eventually(browser, f"{number} instructions are refused", STATUS, re.compile("^Nothing was done: give a number"))
+        eventually(browser, f"{number} instructions are refused", GET_STATUS, re.compile("^Nothing was done: give a number"))
     show_text(browser, "waves")
     browser.script("document.getElementById('record-where').value = 'after'")
     for number in ("-5", "99999999999999999999", "abc"):
-        browser.script(SET, "record-cycles", number)
+        browser.script(SET_FIELD, "record-cycles", number)
         browser.click("#record")
         eventually(browser, f"{number} cycles are refused", "return document.getElementById('scope-status').textContent", re.compile("^Enter a number of cycles"))
     show_text(browser, "properties")
-    browser.script(SET, "explore-seconds", "abc")
+    browser.script(SET_FIELD, "explore-seconds", "abc")
     browser.click("#explore")
     check_alive(browser, "numbers out of range")
     show_text(browser, "program")
 
 
-CLICKS = """
+CLICK_MANY = """
 for (let turn = 0; turn < 40; turn++) for (const id of arguments[0]) document.getElementById(id).click()"""
-EXAMPLES = "for (const each of [...document.querySelectorAll('#examples .card, #examples button')].slice(0, 12)) each.click()"
-SAME = """
+CLICK_EXAMPLES = "for (const each of [...document.querySelectorAll('#examples .card, #examples button')].slice(0, 12)) each.click()"
+IS_SAME_SESSION = """
 return document.getElementById("name").value !== "" && document.title.startsWith(document.getElementById("name").value)
   && document.getElementById("status").textContent !== "" """
 
 
 def check_clicks(browser):
     choose_example(browser, "calculator")
-    browser.script(CLICKS, ["run", "step", "reset", "back-stop", "forward", "test"])
+    browser.script(CLICK_MANY, ["run", "step", "reset", "back-stop", "forward", "test"])
     check_alive(browser, "240 clicks in one go")
     browser.click("#sessions-button")
-    browser.script(EXAMPLES)
+    browser.script(CLICK_EXAMPLES)
     browser.script("document.getElementById('sessions').close()")
-    eventually(browser, "after twelve examples at once one is shown", SAME, True)
+    eventually(browser, "after twelve examples at once one is shown", IS_SAME_SESSION, True)
     check_alive(browser, "twelve examples at once")
 
 
@@ -156,7 +157,7 @@ def check_reload(browser):
     browser.script(PUT_INTO_EDITOR, "#program-editor", PROGRAM)
     browser.reload()
     until_ready(browser)
-    eventually(browser, "what was typed right before a reload is kept", TEXT_OF_EDITOR.replace("arguments[0]", "'#program-editor'"), PROGRAM)
+    eventually(browser, "what was typed right before a reload is kept", GET_TEXT_OF_EDITOR.replace("arguments[0]", "'#program-editor'"), PROGRAM)
 
 
 def check(browser, page, _folder, _mcs4):

@@ -8,20 +8,20 @@ import subprocess
 import time
 
 from page_commands import chord
-from page_explore import MARK, PROPERTIES_STATUS, put, text_of
-from page_in_browser import NOTICE, STATUS, TOP, choose_example, lines_answered, open_anew, show_text
-from page_layout import SIDEWAYS, at_size
-from page_texts import NAME
+from page_explore import GET_MARK, GET_PROPERTIES_STATUS, put, text_of
+from page_in_browser import GET_NOTICE, GET_STATUS, TOP, choose_example, lines_answered, open_anew, show_text
+from page_layout import MEASURE_OVERFLOW, at_size
+from page_texts import GET_NAME
 from verdicts import eventually, verdict
 from web_driver import Chromium
 
-BUTTON = "return document.getElementById('prove').textContent"
-SO_FAR = "return document.getElementById('proof-progress').textContent.trim()"
-BAR = "const bar = document.querySelector('#proof-progress progress'); return [bar.value, bar.max]"
-ROWS = """return [...document.querySelectorAll('#proof-list > li')].map((each) => [...each.querySelector('p').children]
+GET_BUTTON_WORD = "return document.getElementById('prove').textContent"
+GET_PROGRESS = "return document.getElementById('proof-progress').textContent.trim()"
+GET_BAR = "const bar = document.querySelector('#proof-progress progress'); return [bar.value, bar.max]"
+GET_ROWS = """return [...document.querySelectorAll('#proof-list > li')].map((each) => [...each.querySelector('p').children]
   .map((child) => child.textContent).filter(Boolean).join(' | '))"""
-LAMPS_LIT = "return document.querySelectorAll('.bulb.lit').length"
-LIT = "return [...document.querySelectorAll('#proof-list .lit')].length"
+COUNT_LAMPS_LIT = "return document.querySelectorAll('.bulb.lit').length"
+COUNT_LIT_ROWS = "return [...document.querySelectorAll('#proof-list .lit')].length"
 CONTROL, SHIFT, ENTER = "\ue009", "\ue008", "\ue007"
 # The maximum time of a search in seconds, on a busy machine.
 LONG = 900
@@ -45,7 +45,7 @@ def prove(browser, states=1000000):
 def prove_to_end(browser, what, states=1000000):
     """Starts a proof and waits for its end, when the button has its first label again."""
     prove(browser, states)
-    eventually(browser, what, BUTTON, "Prove", LONG)
+    eventually(browser, what, GET_BUTTON_WORD, "Prove", LONG)
 
 
 def proved_by_tool(browser, folder, mcs4):
@@ -66,33 +66,33 @@ def check_example(browser, folder, mcs4):
     verdict("the tool proves its properties, and that no mistake is made", [text for text, _ in proved][: len(properties)], properties)
     verdict("of which there are seven", len(proved) - len(properties), MISTAKES)
     prove(browser)
-    eventually(browser, "the button cancels it", BUTTON, "Cancel")
-    eventually(browser, "it is said how many states were searched", SO_FAR, f"Property 1 of {len(proved)}: more than 10,000 states so far", LONG)
-    verdict("as the bar shows", browser.script(BAR), [10000, 1000000])
-    eventually(browser, "it comes to its end", BUTTON, "Prove", LONG)
-    verdict("each property is proved, with as many states as the tool has", browser.script(ROWS),
+    eventually(browser, "the button cancels it", GET_BUTTON_WORD, "Cancel")
+    eventually(browser, "it is said how many states were searched", GET_PROGRESS, f"Property 1 of {len(proved)}: more than 10,000 states so far", LONG)
+    verdict("as the bar shows", browser.script(GET_BAR), [10000, 1000000])
+    eventually(browser, "it comes to its end", GET_BUTTON_WORD, "Prove", LONG)
+    verdict("each property is proved, with as many states as the tool has", browser.script(GET_ROWS),
             [f"proved | {text} | for all inputs: {states}" for text, states in proved])
-    verdict("with a lit mark", browser.script(LIT), len(proved))
-    verdict("what came of all is said", browser.script(PROPERTIES_STATUS), f"{len(proved)} proved.")
-    verdict("also on the tab", browser.script(MARK), f"{len(proved)} proved")
+    verdict("with a lit mark", browser.script(COUNT_LIT_ROWS), len(proved))
+    verdict("what came of all is said", browser.script(GET_PROPERTIES_STATUS), f"{len(proved)} proved.")
+    verdict("also on the tab", browser.script(GET_MARK), f"{len(proved)} proved")
 
 
 def check_edits(browser):
     """Checks that an edit of the program, the board or the property removes a mark, and that undoing the edit restores it."""
-    count = browser.script(LIT)
+    count = browser.script(COUNT_LIT_ROWS)
     for name, mark in (("program", ";"), ("board", "#")):
         text = text_of(browser, name)
         put(browser, name, f"{text}{mark} another one\n")
-        eventually(browser, f"an edit of the {name} takes the marks away", LIT, 0)
-        verdict("and says why", {row.split(" | ")[-1] for row in browser.script(ROWS)}, {CHANGED})
-        verdict("the tab says nothing then", browser.script(MARK), "")
+        eventually(browser, f"an edit of the {name} takes the marks away", COUNT_LIT_ROWS, 0)
+        verdict("and says why", {row.split(" | ")[-1] for row in browser.script(GET_ROWS)}, {CHANGED})
+        verdict("the tab says nothing then", browser.script(GET_MARK), "")
         put(browser, name, text)
-        eventually(browser, "undone, they are there again", LIT, count)
+        eventually(browser, "undone, they are there again", COUNT_LIT_ROWS, count)
     properties = text_of(browser, "properties")
-    first, second = [row.split(" | ")[1] for row in browser.script(ROWS)][:2]
+    first, second = [row.split(" | ")[1] for row in browser.script(GET_ROWS)][:2]
     put(browser, "properties", f"# one more\nnever r0 = 1 and r0 = 2\n{properties.replace(first, first.replace('9', '8'))}")
-    eventually(browser, "a property that is another one loses its mark alone", LIT, count - 1)
-    verdict("and the next one keeps its verdict", [row.split(" | ")[0] for row in browser.script(ROWS)][:2], [first, "proved"])
+    eventually(browser, "a property that is another one loses its mark alone", COUNT_LIT_ROWS, count - 1)
+    verdict("and the next one keeps its verdict", [row.split(" | ")[0] for row in browser.script(GET_ROWS)][:2], [first, "proved"])
     browser.click("#proof-list li:nth-of-type(2) .name")
     verdict("a click on it shows its line", browser.script("""
 const editor = document.querySelector('#properties-editor .cm-editor').lineEditor;
@@ -104,20 +104,20 @@ def check_counterexample(browser):
     before = text_of(browser, "tests")
     row = "#proof-list li:nth-of-type(2) .bar button"
     browser.click(f"{row}:nth-of-type(2)")
-    eventually(browser, "its test goes to the tests", PROPERTIES_STATUS, "It is at the end of Tests, where Run tests runs it.")
+    eventually(browser, "its test goes to the tests", GET_PROPERTIES_STATUS, "It is at the end of Tests, where Run tests runs it.")
     verdict("as it is shown", text_of(browser, "tests"),
             f"{before}{browser.script('return document.querySelector(`#proof-list li:nth-of-type(2) pre`).textContent')}\n")
     browser.click(row)
-    eventually(browser, "it is opened", NAME, "never lamp lit on")
-    eventually(browser, "before the step that breaks it", STATUS, "The next step breaks: never lamp lit on")
-    eventually(browser, "the way back to the session is offered", NOTICE, re.compile('"empty bench" is saved'))
+    eventually(browser, "it is opened", GET_NAME, "never lamp lit on")
+    eventually(browser, "before the step that breaks it", GET_STATUS, "The next step breaks: never lamp lit on")
+    eventually(browser, "the way back to the session is offered", GET_NOTICE, re.compile('"empty bench" is saved'))
     verdict("with the source in front", browser.script("return document.getElementById('program-tab').getAttribute('aria-selected')"), "true")
     verdict("the lamp is off there", lines_answered(browser, "lamps").endswith("lamps .."), True)
     browser.click("#step")
-    eventually(browser, "the step lights it", LAMPS_LIT, 1)
+    eventually(browser, "the step lights it", COUNT_LAMPS_LIT, 1)
     verdict("by the bench's word", lines_answered(browser, "lamps").endswith("lamps *."), True)
     browser.click("#back-instruction")
-    eventually(browser, "time goes back", LAMPS_LIT, 0)
+    eventually(browser, "time goes back", COUNT_LAMPS_LIT, 0)
     counter = "return document.getElementById('cycles').textContent.match(/[\\d,]+ cycle/)[0]"
     eventually(browser, "to where it was opened", counter, "3 cycle")
     browser.click("#back-instruction")
@@ -132,22 +132,22 @@ def check_kinds(browser):
     put(browser, "properties", "test\nnever lamp 1 on\nnever lamp lit on\nreach lamp lit on\nreach lamp 1 on\nevery 1 ms @look\n"
         "lamp lit on only after press WALK\n")
     prove_to_end(browser, "it comes to its end")
-    verdict("what came of all is said", browser.script(PROPERTIES_STATUS), f"{2 + MISTAKES} proved, 1 can fail, 1 reached, 1 never reached, 1 not decided.")
-    rows = browser.script(ROWS)
+    verdict("what came of all is said", browser.script(GET_PROPERTIES_STATUS), f"{2 + MISTAKES} proved, 1 can fail, 1 reached, 1 never reached, 1 not decided.")
+    rows = browser.script(GET_ROWS)
     verdict("each verdict", rows[:5], [
         "proved | never lamp 1 on | for all inputs: 32 states", "can fail | never lamp lit on | broken by 1 step, 4 cycles",
         "reached | reach lamp lit on | reached by 1 step, 4 cycles", "never reached | reach lamp 1 on | for all inputs: 32 states",
         "proved | every 1 ms @look | for all inputs: 33 states"])
     verdict("and a form that is not decided", rows[5:6], re.compile(r"^\['not decided \| lamp lit on only after press WALK \| WALK is at the TEST pin"))
     verdict("no mistake is made", [row.split(" | ")[0] for row in rows[6:]], ["proved"] * MISTAKES)
-    verdict("what is proved is lit", browser.script(LIT), 2 + MISTAKES)
+    verdict("what is proved is lit", browser.script(COUNT_LIT_ROWS), 2 + MISTAKES)
     check_counterexample(browser)
     browser.click("#sessions-button")
     browser.until("return document.getElementById('sessions').open", True)
     browser.click("#kept button[aria-label='open empty bench']")
-    eventually(browser, "back in the session, its verdicts are there", LIT, 2 + MISTAKES)
+    eventually(browser, "back in the session, its verdicts are there", COUNT_LIT_ROWS, 2 + MISTAKES)
     prove_to_end(browser, "20 states are soon searched", 20)
-    verdict("too many states decide nothing", browser.script(ROWS), re.compile("'not decided . never lamp 1 on . more than 20 states; enter a larger number"))
+    verdict("too many states decide nothing", browser.script(GET_ROWS), re.compile("'not decided . never lamp 1 on . more than 20 states; enter a larger number"))
     browser.click("#clear-finds")
     verdict("what was proved is cleared", browser.script("return isShown(document.getElementById('proof-results'))"), False)
 
@@ -155,17 +155,17 @@ def check_kinds(browser):
 def check_wrong(browser):
     for states in ("0", "x", ""):
         prove(browser, states)
-        verdict(f"{states or 'no'} states are refused", browser.script(PROPERTIES_STATUS), "The number of states must be 1 to 999,999,999.")
+        verdict(f"{states or 'no'} states are refused", browser.script(GET_PROPERTIES_STATUS), "The number of states must be 1 to 999,999,999.")
     put(browser, "properties", "never lamp purple on\n")
     prove_to_end(browser, "nothing is proved of a text with an error")
-    verdict("which is reported", browser.script(PROPERTIES_STATUS), re.compile("^Nothing was run: Properties, line 1: the board has no lamp purple"))
+    verdict("which is reported", browser.script(GET_PROPERTIES_STATUS), re.compile("^Nothing was run: Properties, line 1: the board has no lamp purple"))
     put(browser, "properties", "test\n")
     prove_to_end(browser, "without a property the mistakes are asked for")
-    verdict("and nothing else", browser.script(PROPERTIES_STATUS), f"{MISTAKES} proved.")
+    verdict("and nothing else", browser.script(GET_PROPERTIES_STATUS), f"{MISTAKES} proved.")
     put(browser, "program", "        JUN 256\n")
     prove_to_end(browser, "a program can make one")
-    verdict("which is reported", browser.script(PROPERTIES_STATUS), f"{MISTAKES - 1} proved, 1 can fail.")
-    verdict("as one", [row for row in browser.script(ROWS) if not row.startswith("proved")], ["can fail | no ROM that is absent | broken by 0 steps, 2 cycles"])
+    verdict("which is reported", browser.script(GET_PROPERTIES_STATUS), f"{MISTAKES - 1} proved, 1 can fail.")
+    verdict("as one", [row for row in browser.script(GET_ROWS) if not row.startswith("proved")], ["can fail | no ROM that is absent | broken by 0 steps, 2 cycles"])
 
 
 def check_cancelled(browser):
@@ -173,19 +173,19 @@ def check_cancelled(browser):
     put(browser, "program", COUNTING)
     put(browser, "properties", "never lamp 1 on\n")
     prove(browser, 999999999)
-    eventually(browser, "it searches", SO_FAR, re.compile("more than .* states so far"), LONG)
+    eventually(browser, "it searches", GET_PROGRESS, re.compile("more than .* states so far"), LONG)
     start = time.monotonic()
     browser.hold("#prove", 300)
-    eventually(browser, "it stops", BUTTON, "Prove", 10)
+    eventually(browser, "it stops", GET_BUTTON_WORD, "Prove", 10)
     verdict("at once", time.monotonic() - start < 8, True)
-    verdict("and says so", browser.script(PROPERTIES_STATUS), "It was cancelled before anything was proved.")
+    verdict("and says so", browser.script(GET_PROPERTIES_STATUS), "It was cancelled before anything was proved.")
     verdict("with nothing left of it", browser.script("return isShown(document.getElementById('proof-results'))"), False)
     browser.script("document.querySelector('#properties-editor .cm-editor').lineEditor.focus()")
     chord(browser, CONTROL, SHIFT, ENTER)
-    eventually(browser, "Ctrl, Shift and Enter begin it", BUTTON, "Cancel")
+    eventually(browser, "Ctrl, Shift and Enter begin it", GET_BUTTON_WORD, "Cancel")
     browser.script("document.getElementById('prove').focus()")
     browser.keys([ENTER])
-    eventually(browser, "Enter on the button cancels it", BUTTON, "Prove", 10)
+    eventually(browser, "Enter on the button cancels it", GET_BUTTON_WORD, "Prove", 10)
     choose_example(browser, "three lamps")
     show_text(browser, "properties")
     verdict("another session has none of it", browser.script("return isShown(document.getElementById('proof-results'))"), False)
@@ -198,10 +198,10 @@ def check_phone(browser):
     put(browser, "properties", "never lamp lit on\nnever lamp 1 on\n")
     at_size(browser, 390, 844, True)
     prove_to_end(browser, "on a phone it proves, too")
-    verdict("with its verdicts", browser.script(PROPERTIES_STATUS), f"{1 + MISTAKES} proved, 1 can fail.")
+    verdict("with its verdicts", browser.script(GET_PROPERTIES_STATUS), f"{1 + MISTAKES} proved, 1 can fail.")
     verdict("its rows fit into the width", browser.script("""return [...document.querySelectorAll('#proof-results *')]
       .filter((each) => isShown(each) && each.getBoundingClientRect().right > innerWidth).length"""), 0)
-    verdict("and nothing scrolls sideways", browser.script(SIDEWAYS), 0)
+    verdict("and nothing scrolls sideways", browser.script(MEASURE_OVERFLOW), 0)
     browser.resize_back()
 
 

@@ -4,7 +4,7 @@ that is shifted in after a key shows its number when the shifting is complete.""
 
 import re
 
-from page_in_browser import DIGITS, SPEED, STATUS, TOP, choose_example, lines_answered, status_of, until_ready
+from page_in_browser import GET_DIGITS, GET_STATUS, SET_SPEED, TOP, choose_example, lines_answered, status_of, until_ready
 from verdicts import eventually, verdict
 
 ROM = '[[rom]]\nchip = 0\nport = "0000"\n'
@@ -13,9 +13,9 @@ PULSES_BOARD = ROM + "".join(f'[[lamp]]\nline = "rom0.{line}"\n' for line in ran
 PULSES = "FIM P0, 0\nSRC P0\nloop: LDM 5\nWRR\nNOP\nLDM 6\nWRR\nFIM P1, 0\nwait: ISZ R2, wait\nJUN loop\n"
 # A program that shifts out 42 all the time, segment by segment.
 REFRESHED_BOARD, REFRESHED = ((TOP / f"js/test/two_digits.{kind}").read_text() for kind in ("toml", "asm"))
-BRIGHTNESS_STATUS = "return document.getElementById('brightness-status').textContent"
+GET_BRIGHTNESS_STATUS = "return document.getElementById('brightness-status').textContent"
 # Records in each frame the brightness of each lamp and the text of the display.
-WATCH = """
+WATCH_SHINES = """
 window.shines = [];
 window.numbers = [];
 const begun = performance.now();
@@ -28,7 +28,7 @@ const look = () => {
 window.watched = false;
 requestAnimationFrame(look);
 """
-SHINES = "return [...document.querySelectorAll('#front .bulb')].map((bulb) => Number(bulb.style.getPropertyValue('--shine')))"
+GET_SHINES = "return [...document.querySelectorAll('#front .bulb')].map((bulb) => Number(bulb.style.getPropertyValue('--shine')))"
 
 
 def parts_lit(answer):
@@ -44,7 +44,7 @@ def parts_lit(answer):
 
 
 def watched(browser, milliseconds):
-    browser.script(WATCH, milliseconds)
+    browser.script(WATCH_SHINES, milliseconds)
     browser.until("return window.watched", True)
 
 
@@ -55,8 +55,8 @@ def parts_seen(browser):
 
 
 def check_pulses(browser, speed):
-    browser.script(SPEED, speed)
-    eventually(browser, f"at {speed} speed lamps are as an eye sees them", BRIGHTNESS_STATUS, re.compile("averaged over 30 ms"))
+    browser.script(SET_SPEED, speed)
+    eventually(browser, f"at {speed} speed lamps are as an eye sees them", GET_BRIGHTNESS_STATUS, re.compile("averaged over 30 ms"))
     watched(browser, 500)
     watched(browser, 1500)
     seen = parts_seen(browser)
@@ -67,17 +67,17 @@ def check_pulses(browser, speed):
 
 def check_instant(browser):
     browser.click("#run")
-    eventually(browser, "time stands still", STATUS, re.compile("^Paused"))
+    eventually(browser, "time stands still", GET_STATUS, re.compile("^Paused"))
     marks = re.search(r"lamps ([.*]+)", lines_answered(browser, "lamps")).group(1)
-    verdict("then lamps are as they are at this instant", browser.script(SHINES), [1 if mark == "*" else 0 for mark in marks])
-    verdict("and that is reported", browser.script(BRIGHTNESS_STATUS), "Paused: lamps show this instant.")
+    verdict("then lamps are as they are at this instant", browser.script(GET_SHINES), [1 if mark == "*" else 0 for mark in marks])
+    verdict("and that is reported", browser.script(GET_BRIGHTNESS_STATUS), "Paused: lamps show this instant.")
     browser.click("#run")
 
 
 def check_refreshed(browser):
     status_of(browser, "#board-editor", REFRESHED_BOARD)
     status_of(browser, "#program-editor", REFRESHED)
-    eventually(browser, "a display that is written anew all the time shows its number", DIGITS, "42")
+    eventually(browser, "a display that is written anew all the time shows its number", GET_DIGITS, "42")
     watched(browser, 2000)
     verdict("in each frame", browser.script("return [...new Set(window.numbers)].join(' ')"), "42")
     lit = "return [...document.querySelectorAll('#glass svg')].map((digit) => digit.querySelectorAll('.lit').length).join(' ')"
@@ -87,8 +87,8 @@ def check_refreshed(browser):
 
 def check_shifted(browser):
     choose_example(browser, "calculator")
-    eventually(browser, "a calculator shows 0", DIGITS, "0")
-    browser.script(WATCH, 2000)
+    eventually(browser, "a calculator shows 0", GET_DIGITS, "0")
+    browser.script(WATCH_SHINES, 2000)
     browser.keys(["1", "2", "3"], 40, 60)
     browser.until("return window.watched", True)
     verdict("digits that are shifted in are shown when they stand, and nothing between",
@@ -97,14 +97,14 @@ def check_shifted(browser):
 
 def check_clock(browser):
     choose_example(browser, "clock")
-    eventually(browser, "four digits that are lit by turns show a time", DIGITS, re.compile(r"^12\.?00$"))
+    eventually(browser, "four digits that are lit by turns show a time", GET_DIGITS, re.compile(r"^12\.?00$"))
     watched(browser, 1500)
     verdict("in each frame, with its point or without", browser.script("return [...new Set(window.numbers)].sort().join(' ')"), "12.00 1200")
-    browser.script(SPEED, "full")
-    eventually(browser, "at full speed, too", DIGITS, re.compile(r"^(1[2-9]|[02][0-9])\.?[0-5][0-9]$"))
-    browser.script(SPEED, "real")
+    browser.script(SET_SPEED, "full")
+    eventually(browser, "at full speed, too", GET_DIGITS, re.compile(r"^(1[2-9]|[02][0-9])\.?[0-5][0-9]$"))
+    browser.script(SET_SPEED, "real")
     browser.click("#run")
-    eventually(browser, "time stands still", STATUS, re.compile("^Paused"))
+    eventually(browser, "time stands still", GET_STATUS, re.compile("^Paused"))
     digits = "return [...document.querySelectorAll('#glass svg')].filter((digit) => digit.querySelector('.lit')).length"
     verdict("at an instant at most one digit is lit", browser.script(digits) <= 1, True)
 
@@ -120,7 +120,7 @@ def check_pictures(browser):
     browser.keys(["n"], 100)
     eventually(browser, "NEXT brings another picture", rows, "..****.. .*....*. *.*..*.* *......* *.*..*.* *..**..* .*....*. ..****..")
     browser.click("#run")
-    eventually(browser, "time stands still", STATUS, re.compile("^Paused"))
+    eventually(browser, "time stands still", GET_STATUS, re.compile("^Paused"))
     verdict("at an instant at most one row is lit", sum("*" in row for row in browser.script(rows).split()) <= 1, True)
 
 
@@ -131,7 +131,7 @@ def check(browser, page, _folder, _mcs4):
     status_of(browser, "#program-editor", PULSES)
     for speed in ("real", "tenth", "full"):
         check_pulses(browser, speed)
-    browser.script(SPEED, "real")
+    browser.script(SET_SPEED, "real")
     check_instant(browser)
     check_refreshed(browser)
     check_shifted(browser)

@@ -4,7 +4,7 @@ Web Audio."""
 import re
 import time
 
-from page_in_browser import SPEED, choose_example, status_of, until_ready
+from page_in_browser import SET_SPEED, choose_example, status_of, until_ready
 from verdicts import eventually, verdict
 
 BOARD = '# buzzer rom0.0: the buzzer\n[[rom]]\nchip = 0\nport = "0000"\n'
@@ -27,7 +27,7 @@ wait:   ISZ R3, wait
 # was too busy.
 HELD_UP = 0.1
 # Records the blocks that are played: their start and arrival by the audio clock and by the page's clock.
-WATCH = """
+WATCH_SOUND = """
 window.played = [];
 const start = AudioBufferSourceNode.prototype.start;
 AudioBufferSourceNode.prototype.start = function (when) {
@@ -44,10 +44,10 @@ CLOCK = """
 const begun = performance.now();
 Object.defineProperty(BaseAudioContext.prototype, "currentTime", { get: () => (performance.now() - begun) / 1000 });
 """
-STANDS = "return window.played.every(({ now }) => now === 0)"
-PRESSED = "return document.getElementById('sound-button').getAttribute('aria-pressed')"
-SOUND_STATUS = "return document.getElementById('sound-status').textContent"
-PLAYED = "return window.played.length"
+IS_TIME_PAUSED = "return window.played.every(({ now }) => now === 0)"
+IS_SOUND_PRESSED = "return document.getElementById('sound-button').getAttribute('aria-pressed')"
+GET_SOUND_STATUS = "return document.getElementById('sound-status').textContent"
+COUNT_PLAYED = "return window.played.length"
 # The time in seconds before it is heard at which the first block must be sent, in at least one of some attempts.
 EARLY, TRIES = 0.08, 5
 
@@ -60,7 +60,7 @@ def begins_later(browser, first):
         browser.click("#sound-button")
         browser.script("window.played = []")
         browser.click("#sound-button")
-        browser.until(PLAYED, re.compile("^[1-9]"))
+        browser.until(COUNT_PLAYED, re.compile("^[1-9]"))
         first = browser.script("return window.played[0]")
     return first["when"] - first["now"] > EARLY
 
@@ -69,15 +69,15 @@ def check_tone(browser):
     status_of(browser, "#board-editor", BOARD)
     status_of(browser, "#program-editor", TONE)
     eventually(browser, "a board with a buzzer has a button for it", "return document.getElementById('sound').hidden", False)
-    verdict("with its name, and it is muted", [browser.text("#sound-button"), browser.script(PRESSED)], ["Sound of the buzzer", "false"])
-    browser.script(WATCH)
+    verdict("with its name, and it is muted", [browser.text("#sound-button"), browser.script(IS_SOUND_PRESSED)], ["Sound of the buzzer", "false"])
+    browser.script(WATCH_SOUND)
     browser.click("#sound-button")
-    eventually(browser, "it is heard once that is asked for", PLAYED, re.compile("^[5-9]$|^..$"))
-    if browser.script(STANDS):
+    eventually(browser, "it is heard once that is asked for", COUNT_PLAYED, re.compile("^[5-9]$|^..$"))
+    if browser.script(IS_TIME_PAUSED):
         browser.click("#sound-button")
         browser.script(CLOCK + "window.played = [];")
         browser.click("#sound-button")
-        eventually(browser, "with a clock it is heard, too", PLAYED, re.compile("^[5-9]$|^..$"))
+        eventually(browser, "with a clock it is heard, too", COUNT_PLAYED, re.compile("^[5-9]$|^..$"))
     time.sleep(1)
     played = browser.script("return window.played")
     lengths = [each["count"] / each["rate"] for each in played]
@@ -94,15 +94,15 @@ def check_tone(browser):
 
 
 def check_speeds(browser):
-    browser.script(SPEED, "tenth")
-    eventually(browser, "at other speeds it is silent, which is reported", SOUND_STATUS, "silent: there is sound only in real time")
+    browser.script(SET_SPEED, "tenth")
+    eventually(browser, "at other speeds it is silent, which is reported", GET_SOUND_STATUS, "silent: there is sound only in real time")
     browser.script("window.played = []")
-    eventually(browser, "and stays on", PRESSED, "true")
-    browser.script(SPEED, "real")
-    eventually(browser, "in real time it is heard again", PLAYED, re.compile("^[1-9]"))
-    verdict("and nothing is reported", browser.script(SOUND_STATUS), "")
+    eventually(browser, "and stays on", IS_SOUND_PRESSED, "true")
+    browser.script(SET_SPEED, "real")
+    eventually(browser, "in real time it is heard again", COUNT_PLAYED, re.compile("^[1-9]"))
+    verdict("and nothing is reported", browser.script(GET_SOUND_STATUS), "")
     browser.click("#sound-button")
-    verdict("a second press mutes it", browser.script(PRESSED), "false")
+    verdict("a second press mutes it", browser.script(IS_SOUND_PRESSED), "false")
 
 
 def check(browser, page, _folder, _mcs4):
@@ -115,5 +115,5 @@ def check(browser, page, _folder, _mcs4):
     eventually(browser, "a music box has a buzzer", "return document.getElementById('sound').hidden", False)
     browser.script("window.AudioContext = undefined")
     browser.click("#sound-button")
-    verdict("without Web Audio it is reported where else it is heard", browser.script(SOUND_STATUS), re.compile("no sound .Web Audio.*mcs4 wave --wav"))
-    verdict("and nothing is pressed", browser.script(PRESSED), "false")
+    verdict("without Web Audio it is reported where else it is heard", browser.script(GET_SOUND_STATUS), re.compile("no sound .Web Audio.*mcs4 wave --wav"))
+    verdict("and nothing is pressed", browser.script(IS_SOUND_PRESSED), "false")

@@ -5,24 +5,24 @@ state that its texts describe."""
 import re
 import time
 
-from page_editor import CARET, FAULTS, PROGRAM, SET_CARET, STATUS_OF
-from page_in_browser import DOWN, ENTER, ESCAPE, NOTICE, STATUS, STEPPED, TAB, TEXT_OF_EDITOR, focused, lines_answered, until_ready
-from page_names import MARGIN, SOURCE_STATUS
-from page_texts import ASKED, NAME, PROGRAM_TEXT, TEXTS, kept_download
+from page_editor import GET_CARET, GET_FAULTS, GET_STATUS_OF, PROGRAM, SET_CARET
+from page_in_browser import DOWN, ENTER, ESCAPE, GET_NOTICE, GET_STATUS, GET_TEXT_OF_EDITOR, STEPPED, TAB, focused, lines_answered, until_ready
+from page_names import GET_BREAKPOINT_LINES, GET_SOURCE_STATUS
+from page_texts import GET_NAME, GET_PROGRAM_TEXT, GET_QUESTION, GET_TEXTS, kept_download
 from verdicts import eventually, verdict
 
 CONTROL, BACKSPACE, END, HOME, UP = "\ue009", "\ue003", "\ue010", "\ue011", "\ue013"
 F8, F9, F11 = "\ue038", "\ue039", "\ue03b"
-LAMPS = "return [...document.querySelectorAll('.bulb')].map((each) => (each.classList.contains('lit') ? '*' : '.')).join('')"
-KEYS_DOWN = "return [...document.querySelectorAll(\"#keys [aria-pressed='true']\")].map((each) => each.textContent).join(' ')"
-OFFERED = "return document.getElementById('board-offer').checkVisibility()"
-OPEN = "return document.getElementById('sessions').open"
+GET_LAMPS = "return [...document.querySelectorAll('.bulb')].map((each) => (each.classList.contains('lit') ? '*' : '.')).join('')"
+GET_KEYS_DOWN = "return [...document.querySelectorAll(\"#keys [aria-pressed='true']\")].map((each) => each.textContent).join(' ')"
+IS_BOARD_OFFERED = "return document.getElementById('board-offer').checkVisibility()"
+IS_SESSIONS_OPEN = "return document.getElementById('sessions').open"
 IN_SOURCE = "e.closest('#program-editor .cm-editor') !== null"
-REGISTERS = "return document.getElementById('registers').textContent"
+GET_REGISTERS = "return document.getElementById('registers').textContent"
 # A program whose lamps show which keys are down. A source disassembled from ROM would lack its comment.
 TYPED = ["; my first program", "LDM 3", "WRR", "read: RDR", "WMQ", "JUN read"]
 FAULT = "line 5: WMQ is not an instruction; WMP?"
-DROP = """
+DROP_FILE = """
 const data = new DataTransfer();
 data.items.add(new File([arguments[1]], arguments[0]));
 document.body.dispatchEvent(new DragEvent("drop", { dataTransfer: data, bubbles: true, cancelable: true }))"""
@@ -41,11 +41,11 @@ def choose_by_keyboard(browser, name):
     browser.script("document.getElementById('name').focus()")
     focused(browser, TAB, "e.id === 'sessions-button'", 5)
     browser.keys([ENTER])
-    browser.until(OPEN, True)
+    browser.until(IS_SESSIONS_OPEN, True)
     go_by_tab(browser, f"the example {name}", f"e.getAttribute('aria-label') === 'new session: {name}'")
     browser.keys([ENTER])
-    eventually(browser, f"Enter opens {name}", NAME, name)
-    browser.until(OPEN, False)
+    eventually(browser, f"Enter opens {name}", GET_NAME, name)
+    browser.until(IS_SESSIONS_OPEN, False)
 
 
 def go_to_source(browser):
@@ -57,11 +57,11 @@ def go_to_source(browser):
 def check_board(browser):
     """Checks that an empty bench shows how to begin."""
     choose_by_keyboard(browser, "empty bench")
-    verdict("an empty bench offers a beginning", browser.script(OFFERED), True)
+    verdict("an empty bench offers a beginning", browser.script(IS_BOARD_OFFERED), True)
     go_by_tab(browser, "a board to begin with", "e.id === 'first-board'")
     browser.keys([ENTER])
-    eventually(browser, "it has four lamps", LAMPS, "....")
-    verdict("and is offered no more", browser.script(OFFERED), False)
+    eventually(browser, "it has four lamps", GET_LAMPS, "....")
+    verdict("and is offered no more", browser.script(IS_BOARD_OFFERED), False)
     verdict("the keyboard goes on in that panel", browser.script("return document.activeElement.closest('#front') !== null"), True)
 
 
@@ -71,23 +71,23 @@ def check_program(browser):
     for line in TYPED:
         type_keys(browser, line)
         browser.keys([ENTER], 2, 2)
-    eventually(browser, "a fault is reported while one types", FAULTS.format(PROGRAM), FAULT)
-    before = browser.script(CARET, PROGRAM)
+    eventually(browser, "a fault is reported while one types", GET_FAULTS.format(PROGRAM), FAULT)
+    before = browser.script(GET_CARET, PROGRAM)
     browser.chord(CONTROL, ENTER)
-    eventually(browser, "Control and Enter assemble nothing then", STATUS_OF.format(PROGRAM), FAULT)
-    verdict("and the caret stays", browser.script(CARET, PROGRAM), before)
+    eventually(browser, "Control and Enter assemble nothing then", GET_STATUS_OF.format(PROGRAM), FAULT)
+    verdict("and the caret stays", browser.script(GET_CARET, PROGRAM), before)
     browser.keys([UP, UP, END, BACKSPACE, "P"], 5, 5)
-    eventually(browser, "mended, it has no fault", FAULTS.format(PROGRAM), "")
+    eventually(browser, "mended, it has no fault", GET_FAULTS.format(PROGRAM), "")
     browser.chord(CONTROL, ENTER)
-    eventually(browser, "and is assembled and run", STATUS_OF.format(PROGRAM), "Assembled 6 bytes; running from 000.")
-    eventually(browser, "time runs", STATUS, re.compile("^Running"))
-    eventually(browser, "the source is what is in ROM", SOURCE_STATUS, "")
+    eventually(browser, "and is assembled and run", GET_STATUS_OF.format(PROGRAM), "Assembled 6 bytes; running from 000.")
+    eventually(browser, "time runs", GET_STATUS, re.compile("^Running"))
+    eventually(browser, "the source is what is in ROM", GET_SOURCE_STATUS, "")
 
 
 def check_keys(browser):
     """Checks the board's keys through the keyboard. The lamps show the keys."""
     browser.keys([ESCAPE, TAB], 5, 5)
-    shown = browser.script(LAMPS)
+    shown = browser.script(GET_LAMPS)
     browser.script("window.shown = new Set()")
     browser.script("new MutationObserver(() => window.shown.add([...document.querySelectorAll('.bulb')].map((each) => "
                    "(each.classList.contains('lit') ? '*' : '.')).join(''))).observe(document.getElementById('lamps'), "
@@ -96,39 +96,39 @@ def check_keys(browser):
     browser.keys([letter], 300, 100)
     eventually(browser, "a key lights a lamp", "return window.shown.size > 0 && [...window.shown].some((each) => each !== arguments[0])"
                .replace("arguments[0]", f"'{shown}'"), True)
-    eventually(browser, "and is up again", KEYS_DOWN, "")
+    eventually(browser, "and is up again", GET_KEYS_DOWN, "")
 
 
 def check_stop(browser):
     """Checks a pause at a breakpoint in the source, and a step."""
     browser.keys([F8])
-    browser.until(STATUS, re.compile("^Paused"))
+    browser.until(GET_STATUS, re.compile("^Paused"))
     go_to_source(browser)
     browser.script(SET_CARET, PROGRAM, 3, 0)
     browser.keys([F9])
-    eventually(browser, "F9 sets a breakpoint", MARGIN, "4")
+    eventually(browser, "F9 sets a breakpoint", GET_BREAKPOINT_LINES, "4")
     browser.keys([F8])
-    eventually(browser, "a run stops there", STATUS, re.compile("^Paused at 002, at a breakpoint"))
+    eventually(browser, "a run stops there", GET_STATUS, re.compile("^Paused at 002, at a breakpoint"))
     browser.keys([F11])
-    eventually(browser, "F11 does one instruction", STATUS, STEPPED)
-    verdict("the next one is WMP", browser.script(REGISTERS), re.compile("pc003"))
+    eventually(browser, "F11 does one instruction", GET_STATUS, STEPPED)
+    verdict("the next one is WMP", browser.script(GET_REGISTERS), re.compile("pc003"))
     browser.keys([F9])
-    eventually(browser, "F9 clears it", MARGIN, "")
+    eventually(browser, "F9 clears it", GET_BREAKPOINT_LINES, "")
 
 
 def check_loss(browser):
     """Checks that a lost text can be restored."""
-    mine = browser.script(PROGRAM_TEXT)
+    mine = browser.script(GET_PROGRAM_TEXT)
     browser.script("document.getElementById('from-rom').focus()")
     browser.keys([ENTER])
-    browser.until(ASKED, "Replace the source?")
+    browser.until(GET_QUESTION, "Replace the source?")
     verdict("the keyboard is at the answer", browser.script("return document.activeElement.textContent"), "Replace it")
     browser.keys([ENTER])
-    browser.until(ASKED, "")
-    eventually(browser, "a source of the ROM has no comment", PROGRAM_TEXT, re.compile(r"^\s*LDM 3\s+WRR\s+RDR\s+WMP\s+JUN 0x002\s*$"))
+    browser.until(GET_QUESTION, "")
+    eventually(browser, "a source of the ROM has no comment", GET_PROGRAM_TEXT, re.compile(r"^\s*LDM 3\s+WRR\s+RDR\s+WMP\s+JUN 0x002\s*$"))
     go_to_source(browser)
     browser.chord(CONTROL, "z")
-    eventually(browser, "Control and Z bring the text back", PROGRAM_TEXT, mine)
+    eventually(browser, "Control and Z bring the text back", GET_PROGRAM_TEXT, mine)
 
 
 def save_by_keyboard(browser):
@@ -141,49 +141,49 @@ def save_by_keyboard(browser):
 
 def check_file(browser, folder):
     """Checks that a file is saved, that a wrong file is rejected, and that the saved file opens with the same bytes."""
-    texts = browser.script(TEXTS)
+    texts = browser.script(GET_TEXTS)
     save_by_keyboard(browser)
     saved = kept_download(folder, "My first board.mcsp")
     whole = saved.read_bytes()
     saved.unlink()
     verdict("a project has the text as it is", all(line in whole.decode() for line in ("; my first program", "read: RDR")), True)
-    browser.script(DROP, "holiday.jpg", "no session at all")
-    eventually(browser, "a wrong file that is dropped is refused in words", NOTICE,
+    browser.script(DROP_FILE, "holiday.jpg", "no session at all")
+    eventually(browser, "a wrong file that is dropped is refused in words", GET_NOTICE,
                re.compile(r"Cannot open holiday\.jpg: not a kind of text that the bench has; supported are projects .*The session shown is unchanged"))
-    verdict("and the texts are as they were", browser.script(TEXTS), texts)
+    verdict("and the texts are as they were", browser.script(GET_TEXTS), texts)
     go_to_source(browser)
     browser.script(SET_CARET, PROGRAM, 0, 0)
     type_keys(browser, "; not this")
-    eventually(browser, "something else is typed", TEXT_OF_EDITOR.replace("arguments[0]", f"'{PROGRAM}'"), re.compile("^; not this"))
-    browser.script(DROP, "mine.mcsp", whole.decode())
-    eventually(browser, "the project is opened again", TEXTS, texts)
-    eventually(browser, "what was left for it can be come back to", NOTICE, re.compile('"My first board" is saved'))
+    eventually(browser, "something else is typed", GET_TEXT_OF_EDITOR.replace("arguments[0]", f"'{PROGRAM}'"), re.compile("^; not this"))
+    browser.script(DROP_FILE, "mine.mcsp", whole.decode())
+    eventually(browser, "the project is opened again", GET_TEXTS, texts)
+    eventually(browser, "what was left for it can be come back to", GET_NOTICE, re.compile('"My first board" is saved'))
     save_by_keyboard(browser)
     verdict("and saved again it is the same, to the byte", kept_download(folder, "My first board.mcsp").read_bytes() == whole, True)
     browser.script("document.querySelector(\"#notice button[aria-label^='Reopen']\").focus()")
     browser.keys([ENTER])
-    eventually(browser, "back to the other one", PROGRAM_TEXT, re.compile("^; not this"))
+    eventually(browser, "back to the other one", GET_PROGRAM_TEXT, re.compile("^; not this"))
 
 
 def check_example(browser):
     """Checks a project example: its texts have their comments, and its session is in the state that they describe."""
     browser.script("for (const each of document.querySelectorAll('#notice .dismiss')) each.click()")
     choose_by_keyboard(browser, "a fault to find")
-    verdict("its source has its comments", browser.script(PROGRAM_TEXT), re.compile("^; Four lamps should count from 0 to 9"))
-    eventually(browser, "it is what is in ROM", SOURCE_STATUS, "")
-    eventually(browser, "its breakpoint is there", MARGIN, re.compile(r"^\d+$"))
-    eventually(browser, "it shows a 9", LAMPS, "*..*")
-    verdict("and its count has just become ten", browser.script(REGISTERS), re.compile("R5A"))
+    verdict("its source has its comments", browser.script(GET_PROGRAM_TEXT), re.compile("^; Four lamps should count from 0 to 9"))
+    eventually(browser, "it is what is in ROM", GET_SOURCE_STATUS, "")
+    eventually(browser, "its breakpoint is there", GET_BREAKPOINT_LINES, re.compile(r"^\d+$"))
+    eventually(browser, "it shows a 9", GET_LAMPS, "*..*")
+    verdict("and its count has just become ten", browser.script(GET_REGISTERS), re.compile("R5A"))
     verdict("time stands still", browser.script("return document.getElementById('run').textContent"), "Continue")
     eventually(browser, "no session is made before something is done", "return location.hash", "#example=a%20fault%20to%20find")
-    source = browser.script(PROGRAM_TEXT)
+    source = browser.script(GET_PROGRAM_TEXT)
     at = source.split("\n").index("        SUB R4")
     go_to_source(browser)
     browser.script(SET_CARET, PROGRAM, at, len("        SUB R4"))
     browser.keys([BACKSPACE, "5"], 5, 5)
     browser.chord(CONTROL, ENTER)
-    eventually(browser, "mended, it is assembled and run", STATUS_OF.format(PROGRAM), re.compile("^Assembled .* bytes; running from 000"))
-    browser.until(STATUS, re.compile("at a breakpoint"))
+    eventually(browser, "mended, it is assembled and run", GET_STATUS_OF.format(PROGRAM), re.compile("^Assembled .* bytes; running from 000"))
+    browser.until(GET_STATUS, re.compile("at a breakpoint"))
     script = "\n".join(["unbreak 8", "reset", *["run 91000"] * 10, "lamps", "run 97000", "lamps"])
     verdict("and counts to 9, and then from 0 on", lines_answered(browser, script), re.compile(r"lamps \*\.\.\*.*lamps \.\.\.\."))
 

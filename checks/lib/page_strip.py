@@ -4,16 +4,16 @@ clearing. Also errors in the description of a printer."""
 import re
 import time
 
-from page_in_browser import DIGITS, ENTER, PUT_INTO_EDITOR, SPEED, STATUS, choose_example, key, status_of, until_ready
+from page_in_browser import ENTER, GET_DIGITS, GET_STATUS, PUT_INTO_EDITOR, SET_SPEED, choose_example, key, status_of, until_ready
 from verdicts import eventually, verdict
 
-STRIP = """
+GET_PRINTER_TAPE = """
 const lines = [...document.querySelectorAll("#paper div")].map((line) => line.textContent);
 return document.getElementById("strip").hidden ? "-" : lines.join(" ")"""
-HEIGHT = "return document.getElementById('strip').offsetHeight"
-BOARD_TEXT = "return document.querySelector('#board-editor .cm-editor').lineEditor.getValue()"
-FAULTS = "return [...document.querySelectorAll('#face-faults li')].map((each) => each.textContent).join(' ')"
-AT_END = "const paper = document.getElementById('paper'); return paper.scrollHeight - paper.scrollTop - paper.clientHeight < 4"
+GET_TAPE_HEIGHT = "return document.getElementById('strip').offsetHeight"
+GET_BOARD_TEXT = "return document.querySelector('#board-editor .cm-editor').lineEditor.getValue()"
+GET_FAULTS = "return [...document.querySelectorAll('#face-faults li')].map((each) => each.textContent).join(' ')"
+IS_AT_END = "const paper = document.getElementById('paper'); return paper.scrollHeight - paper.scrollTop - paper.clientHeight < 4"
 BOARD = """# printer rom0.3: ram0.0 a CE b_c
 [[rom]]
 chip = 0
@@ -45,67 +45,67 @@ def press(browser, legends):
 
 def check_calculator(browser):
     choose_example(browser, "printing calculator")
-    eventually(browser, "a board with a printer has a strip without a line", STRIP, "")
-    height = browser.script(HEIGHT)
+    eventually(browser, "a board with a printer has a strip without a line", GET_PRINTER_TAPE, "")
+    height = browser.script(GET_TAPE_HEIGHT)
     press(browser, "12+30=")
-    eventually(browser, "what is keyed and what comes is printed", STRIP, "12+ 30= 42")
-    eventually(browser, "and shown", DIGITS, "42")
+    eventually(browser, "what is keyed and what comes is printed", GET_PRINTER_TAPE, "12+ 30= 42")
+    eventually(browser, "and shown", GET_DIGITS, "42")
     browser.keys(["-", "5", "8", ENTER], 60, 120)
-    eventually(browser, "by the keyboard, too", STRIP, "12+ 30= 42 42- 58= -16")
+    eventually(browser, "by the keyboard, too", GET_PRINTER_TAPE, "12+ 30= 42 42- 58= -16")
     browser.reload()
     until_ready(browser)
-    eventually(browser, "a reload keeps it", STRIP, "12+ 30= 42 42- 58= -16")
-    browser.script(SPEED, "full")
+    eventually(browser, "a reload keeps it", GET_PRINTER_TAPE, "12+ 30= 42 42- 58= -16")
+    browser.script(SET_SPEED, "full")
     press(browser, "*3=")
-    eventually(browser, "at full speed it prints", STRIP, "12+ 30= 42 42- 58= -16 -16* 3= -48")
-    verdict("the end of the paper is in view", browser.script(AT_END), True)
-    verdict("the paper takes no more room, so the keys stay where they are", browser.script(HEIGHT), height)
-    browser.script(SPEED, "real")
+    eventually(browser, "at full speed it prints", GET_PRINTER_TAPE, "12+ 30= 42 42- 58= -16 -16* 3= -48")
+    verdict("the end of the paper is in view", browser.script(IS_AT_END), True)
+    verdict("the paper takes no more room, so the keys stay where they are", browser.script(GET_TAPE_HEIGHT), height)
+    browser.script(SET_SPEED, "real")
 
 
 def check_editing(browser):
     """Checks the tape while the board's text is edited but not applied."""
-    text = browser.script(BOARD_TEXT)
+    text = browser.script(GET_BOARD_TEXT)
     browser.script(PUT_INTO_EDITOR, "#board-editor", text.replace("printer rom0.2", "printer rom5.2"))
-    eventually(browser, "a printer that cannot be is reported", FAULTS, re.compile("the board has no output line rom5.2"))
+    eventually(browser, "a printer that cannot be is reported", GET_FAULTS, re.compile("the board has no output line rom5.2"))
     browser.script(PUT_INTO_EDITOR, "#board-editor", text)
-    eventually(browser, "until it is right again", FAULTS, "")
-    verdict("the paper keeps its lines", browser.script(STRIP), "12+ 30= 42 42- 58= -16 -16* 3= -48")
+    eventually(browser, "until it is right again", GET_FAULTS, "")
+    verdict("the paper keeps its lines", browser.script(GET_PRINTER_TAPE), "12+ 30= 42 42- 58= -16 -16* 3= -48")
 
 
 def check_back(browser):
     browser.click("#run")
-    eventually(browser, "time stands still", STATUS, re.compile("^Paused"))
+    eventually(browser, "time stands still", GET_STATUS, re.compile("^Paused"))
     browser.click("#run")
     press(browser, "C7=")
-    eventually(browser, "more is printed", STRIP, re.compile("-48 C 7= 7$"))
+    eventually(browser, "more is printed", GET_PRINTER_TAPE, re.compile("-48 C 7= 7$"))
     browser.click("#run")
-    eventually(browser, "time stands still again", STATUS, re.compile("^Paused"))
+    eventually(browser, "time stands still again", GET_STATUS, re.compile("^Paused"))
     browser.click("#back-stop")
-    eventually(browser, "going back takes it back", STRIP, re.compile("-48$"))
+    eventually(browser, "going back takes it back", GET_PRINTER_TAPE, re.compile("-48$"))
     browser.click("#forward")
-    eventually(browser, "forward brings it again", STRIP, re.compile("-48 C 7= 7$"))
+    eventually(browser, "forward brings it again", GET_PRINTER_TAPE, re.compile("-48 C 7= 7$"))
     browser.click("#clear-printout")
-    eventually(browser, "the paper is torn off", STRIP, "")
+    eventually(browser, "the paper is torn off", GET_PRINTER_TAPE, "")
     browser.click("#run")
     press(browser, "9=")
-    eventually(browser, "and the next line begins a new one", STRIP, "9= 9")
+    eventually(browser, "and the next line begins a new one", GET_PRINTER_TAPE, "9= 9")
 
 
 def check_lines(browser):
     status_of(browser, "#board-editor", BOARD)
-    eventually(browser, "a printer of another board has a strip of its own", STRIP, "")
+    eventually(browser, "a printer of another board has a strip of its own", GET_PRINTER_TAPE, "")
     status_of(browser, "#program-editor", SENDER)
-    eventually(browser, "codes without words are ?", STRIP, f"aCEb c{'?' * 13}")
+    eventually(browser, "codes without words are ?", GET_PRINTER_TAPE, f"aCEb c{'?' * 13}")
     status_of(browser, "#board-editor", BOARD.replace("rom0.3", "rom0.0"))
-    eventually(browser, "a strobe at an input line is reported", FAULTS, "line 1 of the board's text: the board has no output line rom0.0")
-    verdict("and prints nothing", browser.script(STRIP), "-")
+    eventually(browser, "a strobe at an input line is reported", GET_FAULTS, "line 1 of the board's text: the board has no output line rom0.0")
+    verdict("and prints nothing", browser.script(GET_PRINTER_TAPE), "-")
 
 
 def check(browser, page, _folder, _mcs4):
     browser.go(page.as_uri() + "#example=empty%20bench")
     until_ready(browser)
-    verdict("a board without a printer has no strip", browser.script(STRIP), "-")
+    verdict("a board without a printer has no strip", browser.script(GET_PRINTER_TAPE), "-")
     check_calculator(browser)
     check_editing(browser)
     check_back(browser)

@@ -5,22 +5,22 @@ text with the session and in a project."""
 import re
 import time
 
-from page_in_browser import (PUT_INTO_EDITOR, STATUS, TEXT_OF_EDITOR, choose_example, lines_answered, of_file_menu, open_anew,
-                             show_text, until_ready)
-from page_texts import NAME, kept_download, rename
+from page_in_browser import (GET_STATUS, GET_TEXT_OF_EDITOR, PUT_INTO_EDITOR, choose_example, lines_answered, of_file_menu, open_anew, show_text,
+                             until_ready)
+from page_texts import GET_NAME, kept_download, rename
 from verdicts import eventually, verdict
 
 EDITOR = "#tests-editor"
-TESTS_STATUS = "return document.querySelector('#tests-editor .status-text').textContent"
-RESULTS = """return [...document.querySelectorAll('#test-list > li > p:first-child')]
+GET_TESTS_STATUS = "return document.querySelector('#tests-editor .status-text').textContent"
+GET_RESULTS = """return [...document.querySelectorAll('#test-list > li > p:first-child')]
   .map((each) => each.textContent.split(' ').slice(0, 4).join(' '))"""
-WRONG = "return [...document.querySelectorAll('#test-list .wrong')].map((each) => each.textContent)"
-COUNTS = "return [...document.querySelectorAll('#program-editor .mark-counts')].map((each) => each.textContent).filter(Boolean)"
-LABELS = """return [...document.querySelectorAll('#profile-labels tr')]
+GET_WRONG = "return [...document.querySelectorAll('#test-list .wrong')].map((each) => each.textContent)"
+GET_COUNTS = "return [...document.querySelectorAll('#program-editor .mark-counts')].map((each) => each.textContent).filter(Boolean)"
+GET_LABELS = """return [...document.querySelectorAll('#profile-labels tr')]
   .map((row) => [...row.cells].map((cell) => cell.textContent).join(' ').trim())"""
-MARK = "return document.querySelector('#tests-tab .mark').textContent"
-FAULTS = "return [...document.querySelectorAll('#tests-editor .fault-list li')].map((each) => each.textContent)"
-SELECTED = "return document.querySelector('#tests-editor .cm-editor').lineEditor.getSelection()"
+GET_MARK = "return document.querySelector('#tests-tab .mark').textContent"
+GET_FAULTS = "return [...document.querySelectorAll('#tests-editor .fault-list li')].map((each) => each.textContent)"
+GET_SELECTED = "return document.querySelector('#tests-editor .cm-editor').lineEditor.getSelection()"
 
 
 def run_tests(browser):
@@ -31,64 +31,64 @@ def run_tests(browser):
 def check_passing(browser):
     choose_example(browser, "three lamps")
     run_tests(browser)
-    eventually(browser, "the tests of an example pass", TESTS_STATUS, "All 2 tests passed.")
-    verdict("each has its row", browser.script(RESULTS), ["ok the light goes", "ok each lamp is"])
-    verdict("the tab says so", browser.script(MARK), "passed")
-    verdict("time stands still", browser.script(STATUS), re.compile("^Paused"))
+    eventually(browser, "the tests of an example pass", GET_TESTS_STATUS, "All 2 tests passed.")
+    verdict("each has its row", browser.script(GET_RESULTS), ["ok the light goes", "ok each lamp is"])
+    verdict("the tab says so", browser.script(GET_MARK), "passed")
+    verdict("time stands still", browser.script(GET_STATUS), re.compile("^Paused"))
     verdict("what was run is reported", browser.text("#coverage-status"),
             "20 of 20 instructions were run (100.0 %), 6 of 6 branch directions (100.0 %). Counts are in the margin.")
     browser.click("#profile summary")
-    verdict("the cycles by label", browser.script(LABELS),
+    verdict("the cycles by label", browser.script(GET_LABELS),
             ["turn 016 2,084 96.5", "next 005 60 2.8", "wait 014 8 0.4 4 2,092 523", "first 003 4 0.2", "(no label)  3 0.1"])
     show_text(browser, "program")
-    eventually(browser, "counts stand beside the source", f"{COUNTS}.slice(-5).join(' ')", "3 4 976 912/64 64 60/4 4")
+    eventually(browser, "counts stand beside the source", f"{GET_COUNTS}.slice(-5).join(' ')", "3 4 976 912/64 64 60/4 4")
 
 
 def check_failing(browser):
     """Checks a delay that is one turn too short. The session opens at the failure with the texts of the test."""
-    program = browser.script(TEXT_OF_EDITOR, "#program-editor")
+    program = browser.script(GET_TEXT_OF_EDITOR, "#program-editor")
     browser.script(PUT_INTO_EDITOR, "#program-editor", program.replace("0x0C", "0x0D"))
-    verdict("an edit takes the counts away", browser.script(COUNTS), [])
+    verdict("an edit takes the counts away", browser.script(GET_COUNTS), [])
     run_tests(browser)
-    eventually(browser, "a test fails", TESTS_STATUS, "1 of 2 tests failed.")
-    verdict("the tab says so", browser.script(MARK), "1 failed")
-    verdict("with its line, and what is wrong", browser.script(WRONG), ["line 14 expect cycles 538: cycles are 536, but must be 538"])
+    eventually(browser, "a test fails", GET_TESTS_STATUS, "1 of 2 tests failed.")
+    verdict("the tab says so", browser.script(GET_MARK), "1 failed")
+    verdict("with its line, and what is wrong", browser.script(GET_WRONG), ["line 14 expect cycles 538: cycles are 536, but must be 538"])
     browser.click("#test-list .wrong button")
-    verdict("the line is shown", browser.script(SELECTED), "  expect cycles 538")
+    verdict("the line is shown", browser.script(GET_SELECTED), "  expect cycles 538")
     browser.click("#test-list details summary")
     last = browser.text("#test-list pre").split("\n")
     verdict("the trace ends there", (last[0], last[-1]), ("lamps .*.", "     536  007 50 14 JMS wait         comes next"))
     browser.click("#test-list .bar button")
-    eventually(browser, "the session is opened as it is there", NAME, "each lamp is lit for 538 cycles, line 14")
+    eventually(browser, "the session is opened as it is there", GET_NAME, "each lamp is lit for 538 cycles, line 14")
     verdict("at the cycle of the failure", "pc 007 owed 0" in lines_answered(browser, "regs"), True)
-    verdict("its text of tests is there, too", browser.script(TEXT_OF_EDITOR, EDITOR).count("\ntest "), 2)
-    verdict("and nothing was run in it yet", browser.script(RESULTS), [])
+    verdict("its text of tests is there, too", browser.script(GET_TEXT_OF_EDITOR, EDITOR).count("\ntest "), 2)
+    verdict("and nothing was run in it yet", browser.script(GET_RESULTS), [])
 
 
 def check_faults(browser):
     browser.script(PUT_INTO_EDITOR, EDITOR, "test a\n  until lamps green within 10 ms\n  press x\n")
     show_text(browser, "tests")
-    eventually(browser, "faults are reported while one types", FAULTS,
+    eventually(browser, "faults are reported while one types", GET_FAULTS,
                ["line 2: the board has no lamp green; it has: left middle right (column 9)",
                 "line 3: the board has no key x; its text names no keys (`# row 0: NAME ..`)"])
-    verdict("the tab shows how many", browser.script(MARK), "2 faults")
+    verdict("the tab shows how many", browser.script(GET_MARK), "2 faults")
     browser.click(f"{EDITOR} .send")
-    eventually(browser, "nothing is run then", TESTS_STATUS,
+    eventually(browser, "nothing is run then", GET_TESTS_STATUS,
                "Nothing was run: Tests, line 2: the board has no lamp green; it has: left middle right (column 9), and 1 more.")
     browser.script(PUT_INTO_EDITOR, EDITOR, "")
     eventually(browser, "a text to begin with is offered", "return isShown(document.getElementById('first-test'))", True)
     insert_sample(browser)
     browser.click(f"{EDITOR} .send")
-    eventually(browser, "and passes", TESTS_STATUS, "The test passed.")
+    eventually(browser, "and passes", GET_TESTS_STATUS, "The test passed.")
     for example, lines in (("calculator", ["press 7", "run 50 ms", "expect display 7"]),
                            ("lock", ["press 1", "run 50 ms", "expect lamp locked on"])):
         choose_example(browser, example)
         show_text(browser, "tests")
         insert_sample(browser)
-        text = browser.script(TEXT_OF_EDITOR, EDITOR)
+        text = browser.script(GET_TEXT_OF_EDITOR, EDITOR)
         verdict(f"that of the {example} presses its first key", [line.strip() for line in text.split("\n")[3:-1]], lines)
         browser.click(f"{EDITOR} .send")
-        eventually(browser, "and passes, too", TESTS_STATUS, "The test passed.")
+        eventually(browser, "and passes, too", GET_TESTS_STATUS, "The test passed.")
     choose_example(browser, "three lamps")
     show_text(browser, "tests")
 
@@ -97,27 +97,27 @@ def insert_sample(browser):
     """Inserts the board's sample test into an empty editor."""
     browser.script(PUT_INTO_EDITOR, EDITOR, "")
     browser.click("#first-test")
-    browser.until(f"{TEXT_OF_EDITOR.replace('arguments[0]', repr(EDITOR))}.includes('expect')", True)
+    browser.until(f"{GET_TEXT_OF_EDITOR.replace('arguments[0]', repr(EDITOR))}.includes('expect')", True)
 
 
-EXAMPLES = """return [...document.querySelectorAll("#examples button[aria-label^='new session: ']")]
+GET_EXAMPLES = """return [...document.querySelectorAll("#examples button[aria-label^='new session: ']")]
   .map((each) => each.getAttribute("aria-label").slice("new session: ".length))"""
 PASSED = re.compile(r"^(The test|All \d+ tests) passed\.$")
 
 
 def check_examples(browser):
     """Checks that each example's tests pass, and so does the sample test of its board."""
-    examples = browser.script(EXAMPLES)
+    examples = browser.script(GET_EXAMPLES)
     verdict("the page has its examples", len(examples) >= 17, True)
     for example in examples:
         choose_example(browser, example)
         show_text(browser, "tests")
-        if browser.script(TEXT_OF_EDITOR, EDITOR).strip():
+        if browser.script(GET_TEXT_OF_EDITOR, EDITOR).strip():
             browser.click(f"{EDITOR} .send")
-            eventually(browser, f"the tests of {example} pass", TESTS_STATUS, PASSED, 180)
+            eventually(browser, f"the tests of {example} pass", GET_TESTS_STATUS, PASSED, 180)
         insert_sample(browser)
         browser.click(f"{EDITOR} .send")
-        eventually(browser, f"the sample test of {example} passes", TESTS_STATUS, "The test passed.", 180)
+        eventually(browser, f"the sample test of {example} passes", GET_TESTS_STATUS, "The test passed.", 180)
 
 
 def check_cancel(browser):
@@ -125,7 +125,7 @@ def check_cancel(browser):
     browser.click(f"{EDITOR} .send")
     browser.until("return isShown(document.getElementById('work'))", True)
     browser.click("#cancel")
-    eventually(browser, "a test that does not end is cancelled", TESTS_STATUS, "It was cancelled; the results shown are from before.")
+    eventually(browser, "a test that does not end is cancelled", GET_TESTS_STATUS, "It was cancelled; the results shown are from before.")
 
 
 def check_kept(browser, folder):
@@ -135,7 +135,7 @@ def check_kept(browser, folder):
     browser.reload()
     until_ready(browser)
     show_text(browser, "tests")
-    eventually(browser, "the text is there after a reload", TEXT_OF_EDITOR.replace("arguments[0]", f"'{EDITOR}'"), "test mine\n  run 5")
+    eventually(browser, "the text is there after a reload", GET_TEXT_OF_EDITOR.replace("arguments[0]", f"'{EDITOR}'"), "test mine\n  run 5")
     rename(browser, "with tests")
     of_file_menu(browser, "#save-button")
     saved = kept_download(folder, "with tests.mcsp").read_text()

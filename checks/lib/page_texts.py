@@ -7,24 +7,24 @@ import subprocess
 import time
 import zlib
 
-from page_in_browser import (ALL_NOTICES, ESCAPE, NOTICE, STATUS, choose_example, lines_answered, of_file_menu, open_anew, show_text,
-                             stop_time, status_of, until_ready)
+from page_in_browser import (ESCAPE, GET_ALL_NOTICES, GET_NOTICE, GET_STATUS, choose_example, lines_answered, of_file_menu, open_anew, show_text,
+                             status_of, stop_time, until_ready)
 from verdicts import eventually, verdict
 
 TOP = pathlib.Path(__file__).resolve().parent.parent.parent
-NAME = "return document.getElementById('name').value"
-WATCHED = "return [...document.querySelectorAll('#watched-list li')].map((row) => row.title)"
+GET_NAME = "return document.getElementById('name').value"
+GET_WATCHES = "return [...document.querySelectorAll('#watched-list li')].map((row) => row.title)"
 ENTER = "\ue007"
 # True if the page handles Ctrl+S instead of the browser.
-CONTROL_S = """
+PRESS_CONTROL_S = """
 const event = new KeyboardEvent("keydown", { key: "s", ctrlKey: true, bubbles: true, cancelable: true });
 document.body.dispatchEvent(event);
 return event.defaultPrevented"""
-TEXTS = "return ['board', 'program'].map((name) => document.querySelector(`#${name}-editor .cm-editor`).lineEditor.getValue())"
-PROGRAM_TEXT = "return document.querySelector('#program-editor .cm-editor').lineEditor.getValue()"
-LINES = "return document.getElementById('lines').value"
-ASKED = "return document.getElementById('ask').open ? document.getElementById('ask-title').textContent : ''"
-KEPT = "return document.querySelectorAll('#kept li').length"
+GET_TEXTS = "return ['board', 'program'].map((name) => document.querySelector(`#${name}-editor .cm-editor`).lineEditor.getValue())"
+GET_PROGRAM_TEXT = "return document.querySelector('#program-editor .cm-editor').lineEditor.getValue()"
+GET_LINES = "return document.getElementById('lines').value"
+GET_QUESTION = "return document.getElementById('ask').open ? document.getElementById('ask-title').textContent : ''"
+COUNT_KEPT = "return document.querySelectorAll('#kept li').length"
 UNDO = "#notice button:not(.dismiss)"
 
 # A board and a program with comments, names and non-ASCII letters, which only a saved text preserves.
@@ -63,17 +63,17 @@ def check_project(browser, folder):
     rename(browser, "another one")
     status_of(browser, "#program-editor", "\tNOP\n")
     browser.type_into("#file", str(project))
-    eventually(browser, "a project is opened", NAME, "my light")
-    verdict("with its texts", browser.script(TEXTS), [BOARD, PROGRAM])
-    verdict("and its values", browser.script(WATCHED), ["count = R5"])
-    verdict("Control and S are the page's", browser.script(CONTROL_S), True)
+    eventually(browser, "a project is opened", GET_NAME, "my light")
+    verdict("with its texts", browser.script(GET_TEXTS), [BOARD, PROGRAM])
+    verdict("and its values", browser.script(GET_WATCHES), ["count = R5"])
+    verdict("Control and S are the page's", browser.script(PRESS_CONTROL_S), True)
     verdict("and saved again it is the same, to the byte", kept_download(folder, "my light.mcsp").read_bytes() == before, True)
     return project
 
 
 def check_damaged(browser, folder, whole):
     """Checks that incomplete, damaged and foreign files are rejected with a message, and that the current session stays."""
-    shown = browser.script(TEXTS)
+    shown = browser.script(GET_TEXTS)
     cut = folder / "cut.mcsp"
     cut.write_bytes(whole[:-700])
     changed = folder / "changed.mcsp"
@@ -85,53 +85,53 @@ def check_damaged(browser, folder, whole):
     for path, words in ((cut, "cut off: its last line"), (changed, "damaged or was edited"), (newer, "of version 2"),
                         (foreign, "not a text, a session or a project; supported are projects")):
         browser.type_into("#file", str(path))
-        eventually(browser, f"{path.name} is refused in words", NOTICE,
+        eventually(browser, f"{path.name} is refused in words", GET_NOTICE,
                    re.compile(f"Cannot open {path.name}: .*{words}.*The session shown is unchanged"))
     plain = folder / "plain"
     plain.write_text("hello")
     browser.type_into("#file", str(plain))
-    eventually(browser, "a text with an error in each line is no program unasked", ASKED, "Replace the source by plain?")
+    eventually(browser, "a text with an error in each line is no program unasked", GET_QUESTION, "Replace the source by plain?")
     browser.keys([ESCAPE])
-    eventually(browser, "the question is left", ASKED, "")
-    verdict("and the texts are as they were", browser.script(TEXTS), shown)
+    eventually(browser, "the question is left", GET_QUESTION, "")
+    verdict("and the texts are as they were", browser.script(GET_TEXTS), shown)
 
 
 def check_undo(browser):
     """Checks that the page asks before it replaces a text, and that replacing can be undone."""
     mine, of_rom = "; mine\n\tLDM 5\n\tJUN 0\n", "\tLDM 5\n\tJUN 0x000\n"
     status_of(browser, "#program-editor", mine)
-    taken = browser.script(TEXTS)
+    taken = browser.script(GET_TEXTS)
     show_text(browser, "program")
     browser.click("#from-rom")
-    eventually(browser, "to replace a source is asked for", ASKED, "Replace the source?")
+    eventually(browser, "to replace a source is asked for", GET_QUESTION, "Replace the source?")
     browser.click("#ask .bar button:last-child")
-    verdict("what is refused is not done", browser.script(TEXTS), taken)
+    verdict("what is refused is not done", browser.script(GET_TEXTS), taken)
     browser.click("#from-rom")
-    browser.until(ASKED, re.compile("."))
+    browser.until(GET_QUESTION, re.compile("."))
     browser.click("#ask .bar button:first-child")
-    eventually(browser, "the source is that of the ROM", PROGRAM_TEXT, of_rom)
+    eventually(browser, "the source is that of the ROM", GET_PROGRAM_TEXT, of_rom)
     browser.click(UNDO)
-    eventually(browser, "and is brought back", PROGRAM_TEXT, mine)
+    eventually(browser, "and is brought back", GET_PROGRAM_TEXT, mine)
     browser.click(UNDO)
-    eventually(browser, "the undoing can be undone, too", PROGRAM_TEXT, of_rom)
+    eventually(browser, "the undoing can be undone, too", GET_PROGRAM_TEXT, of_rom)
     browser.click(UNDO)
-    browser.until(PROGRAM_TEXT, mine)
+    browser.until(GET_PROGRAM_TEXT, mine)
     browser.script("document.querySelector('#program-editor .cm-editor').lineEditor.undo()")
-    verdict("after Undo, as after Ctrl Z, another Ctrl Z undoes what was before", browser.script(PROGRAM_TEXT) in (mine, of_rom), False)
+    verdict("after Undo, as after Ctrl Z, another Ctrl Z undoes what was before", browser.script(GET_PROGRAM_TEXT) in (mine, of_rom), False)
     browser.script("document.querySelector('#program-editor .cm-editor').lineEditor.undoOrRedo('redo')")
-    browser.until(PROGRAM_TEXT, mine)
+    browser.until(GET_PROGRAM_TEXT, mine)
     browser.click("#notice .dismiss")
     time.sleep(1)
     browser.reload()
     until_ready(browser)
-    verdict("the texts are kept", browser.script(PROGRAM_TEXT), mine)
+    verdict("the texts are kept", browser.script(GET_PROGRAM_TEXT), mine)
 
 
 def count_kept(browser):
     """Returns the number of sessions in the dialog, and leaves the dialog open."""
     browser.click("#sessions-button")
     browser.until("return document.getElementById('sessions').open", True)
-    return browser.script(KEPT)
+    return browser.script(COUNT_KEPT)
 
 
 def check_examples(browser):
@@ -150,12 +150,12 @@ def check_examples(browser):
     rename(browser, "my die")
     verdict("its name stands in the tab", browser.script("return document.title"), "my die - Fethsaim")
     choose_example(browser, "lamps")
-    verdict("an example's lines wait to be sent", browser.script(LINES) != "", True)
+    verdict("an example's lines wait to be sent", browser.script(GET_LINES) != "", True)
     choose_example(browser, "die")
-    verdict("and go with it", browser.script(LINES), "")
+    verdict("and go with it", browser.script(GET_LINES), "")
     browser.script("document.getElementById('lines').value = 'poke r5 9'")
     choose_example(browser, "traffic light")
-    verdict("but not what was typed", browser.script(LINES), "poke r5 9")
+    verdict("but not what was typed", browser.script(GET_LINES), "poke r5 9")
     browser.script("document.getElementById('lines').value = ''")
     return before + 1
 
@@ -165,15 +165,15 @@ def check_deleting(browser, kept):
     verdict("examples alone have made no session", count_kept(browser), kept)
     browser.click("#choose-all")
     browser.click("#delete-chosen")
-    eventually(browser, "all are deleted at once", KEPT, 0)
+    eventually(browser, "all are deleted at once", COUNT_KEPT, 0)
     verdict("the keyboard goes on in the dialog", browser.script("return document.activeElement.closest('#sessions') !== null"), True)
     browser.click(UNDO)
-    eventually(browser, "and brought back", KEPT, kept)
+    eventually(browser, "and brought back", COUNT_KEPT, kept)
     browser.click("#kept li button[aria-label^='delete']")
-    eventually(browser, "one is deleted", KEPT, kept - 1)
+    eventually(browser, "one is deleted", COUNT_KEPT, kept - 1)
     browser.click("#notice .dismiss")
     browser.click("#deleted button")
-    eventually(browser, "what was deleted is listed, too", KEPT, kept)
+    eventually(browser, "what was deleted is listed, too", COUNT_KEPT, kept)
     browser.click("#close-sessions")
 
 
@@ -183,22 +183,22 @@ def check_notices(browser, folder):
     choose_example(browser, "calculator")
     stop_time(browser)
     browser.type_into("#file", str(folder / "cut.mcsp"))
-    browser.until(NOTICE, re.compile("cut off"))
+    browser.until(GET_NOTICE, re.compile("cut off"))
     status_of(browser, "#program-editor", "\tNOP\n")
     browser.click("#from-rom")
-    browser.until(ASKED, re.compile("."))
+    browser.until(GET_QUESTION, re.compile("."))
     browser.click("#ask .bar button:first-child")
-    eventually(browser, "a notice of another kind stands beside it", NOTICE, re.compile("disassembled from ROM.*cut off"))
+    eventually(browser, "a notice of another kind stands beside it", GET_NOTICE, re.compile("disassembled from ROM.*cut off"))
     browser.type_into("#file", str(folder / "changed.mcsp"))
-    eventually(browser, "one of the same kind takes its place", NOTICE, re.compile("^Cannot open changed.mcsp.*disassembled from ROM[^f]*$"))
+    eventually(browser, "one of the same kind takes its place", GET_NOTICE, re.compile("^Cannot open changed.mcsp.*disassembled from ROM[^f]*$"))
     browser.click("#notice .dismiss")
     browser.click("#notice .dismiss")
-    eventually(browser, "each can be dismissed", NOTICE, "")
+    eventually(browser, "each can be dismissed", GET_NOTICE, "")
     lines_answered(browser, "reset\nbreak 0x024")
     browser.click("#run")
-    browser.until(STATUS, re.compile("at a breakpoint"))
+    browser.until(GET_STATUS, re.compile("at a breakpoint"))
     browser.click("#reset")
-    eventually(browser, "the status after a reset", STATUS, "The board was reset; it is at 000.")
+    eventually(browser, "the status after a reset", GET_STATUS, "The board was reset; it is at 000.")
     check_many_notices(browser, folder)
 
 
@@ -210,14 +210,14 @@ def check_many_notices(browser, folder):
         text = folder / f"{number}.asm"
         text.write_text(f" LDM {number}\n")
         browser.type_into("#file", str(text))
-        browser.until(PROGRAM_TEXT, f" LDM {number}\n")
-    eventually(browser, "the newest three notices are seen", NOTICE, " ".join(reversed(words[1:])))
-    eventually(browser, "what went well leaves by itself", NOTICE, "", 30)
-    verdict("each notice can be read again", browser.script(ALL_NOTICES)[:4], words[::-1])
+        browser.until(GET_PROGRAM_TEXT, f" LDM {number}\n")
+    eventually(browser, "the newest three notices are seen", GET_NOTICE, " ".join(reversed(words[1:])))
+    eventually(browser, "what went well leaves by itself", GET_NOTICE, "", 30)
+    verdict("each notice can be read again", browser.script(GET_ALL_NOTICES)[:4], words[::-1])
     browser.click("#notices-button")
     browser.click("#notices li:nth-child(2) button")
-    eventually(browser, "and undone in the list", PROGRAM_TEXT, " LDM 1\n")
-    eventually(browser, "which has a notice, too", NOTICE, "The source is restored.")
+    eventually(browser, "and undone in the list", GET_PROGRAM_TEXT, " LDM 1\n")
+    eventually(browser, "which has a notice, too", GET_NOTICE, "The source is restored.")
 
 
 def open_link(browser, page, link):
@@ -235,7 +235,7 @@ def check_link(browser, page):
     rename(browser, "my light")
     browser.script("navigator.clipboard.writeText = async (text) => { window.copied = text; }")
     browser.click("#share-button")
-    eventually(browser, "a link is copied", NOTICE, re.compile("A link of [0-9,]+ characters was copied"))
+    eventually(browser, "a link is copied", GET_NOTICE, re.compile("A link of [0-9,]+ characters was copied"))
     link = browser.script("return window.copied").split("#")[1]
     verdict("it is compressed, for the address", link, re.compile(r"^link=1\.[\w-]+$"))
     browser.click("#notice .dismiss")
@@ -247,29 +247,29 @@ def check_link(browser, page):
     choose_example(browser, "die")
     stored_count = count_kept(browser)
     open_link(browser, page, link)
-    eventually(browser, "a link is shown before it is opened", ASKED, 'Open "my light" from a link?')
+    eventually(browser, "a link is shown before it is opened", GET_QUESTION, 'Open "my light" from a link?')
     verdict("with what it holds", browser.text("#ask"), re.compile("Three lamps.*text has 1[0-9] lines, the source 3 lines.*1 ROM, 1 RAM chip, 3 lamps"))
     browser.click("#ask .bar button:last-child")
     eventually(browser, "what is not wanted is not opened", "return location.hash", re.compile("^#(session|example)="))
     verdict("and nothing is made", count_kept(browser), stored_count)
     open_link(browser, page, link)
-    eventually(browser, "it is asked again", ASKED, re.compile("my light"))
+    eventually(browser, "it is asked again", GET_QUESTION, re.compile("my light"))
     browser.click("#ask .bar button:first-child")
-    eventually(browser, "it becomes a session", NAME, "my light")
-    verdict("with its texts", browser.script(TEXTS), [BOARD, PROGRAM])
+    eventually(browser, "it becomes a session", GET_NAME, "my light")
+    verdict("with its texts", browser.script(GET_TEXTS), [BOARD, PROGRAM])
     until_ready(browser)
     verdict("which is kept", count_kept(browser), stored_count + 1)
     browser.click("#close-sessions")
     open_link(browser, page, f"{link}%20")
-    eventually(browser, "a blank behind a link is passed over", ASKED, re.compile("my light"))
+    eventually(browser, "a blank behind a link is passed over", GET_QUESTION, re.compile("my light"))
     browser.click("#ask .bar button:last-child")
     open_link(browser, page, "lnk=1")
-    eventually(browser, "an address that names nothing says so", NOTICE, re.compile("^The address ends with #lnk=1, which names nothing here"))
+    eventually(browser, "an address that names nothing says so", GET_NOTICE, re.compile("^The address ends with #lnk=1, which names nothing here"))
     for what, made in (("a cut link", link[:-9]), ("a link that is made by hand", "link=1.aGVsbG8"), ("another one", "link=hello")):
-        before = browser.script(TEXTS)
+        before = browser.script(GET_TEXTS)
         open_link(browser, page, made)
-        eventually(browser, f"{what} is refused in words", NOTICE, re.compile("Cannot open the link: it is cut off or was changed"))
-        verdict("and the bench is as it was", browser.script(TEXTS), before)
+        eventually(browser, f"{what} is refused in words", GET_NOTICE, re.compile("Cannot open the link: it is cut off or was changed"))
+        verdict("and the bench is as it was", browser.script(GET_TEXTS), before)
 
 
 def link_of(name, board, program):
@@ -285,22 +285,22 @@ def check_foreign_links(browser, page):
     """Checks links that would hang the page or mislead the user."""
     names = [f"n{at}" for at in range(12000)]
     hanging = f"# lamp 0: {' '.join(names)}\n# grid 0: {' '.join(f'-{name}' for name in names)}\n"
-    shown = browser.script(TEXTS)
+    shown = browser.script(GET_TEXTS)
     open_link(browser, page, link_of("a clock", hanging, ""))
-    eventually(browser, "a link with a text that is too long is refused in words", NOTICE, re.compile(
+    eventually(browser, "a link with a text that is too long is refused in words", GET_NOTICE, re.compile(
         rf"^Cannot open the link: the board's text has {len(hanging):,} characters; at most 65,536 are accepted\. Nothing was changed\.$"))
-    verdict("and the bench is as it was", browser.script(TEXTS), shown)
+    verdict("and the bench is as it was", browser.script(GET_TEXTS), shown)
     board = f"# title: {'long words ' * 20}\n# lamp 0: {' '.join(names[:400])}\n# grid 0: {' '.join(f'-{at}' for at in range(600))}\n"
     open_link(browser, page, link_of("\u202etxe\u2066\t" + "name " * 900, board, ""))
-    eventually(browser, "a long name is cut, and no letter turns it round", ASKED, f'Open "txe {"name " * 10}name…" from a link?')
+    eventually(browser, "a long name is cut, and no letter turns it round", GET_QUESTION, f'Open "txe {"name " * 10}name…" from a link?')
     verdict("and so is the title", browser.text("#ask"), re.compile("link\\?(long words ){5}long…The board's text has 3 lines"))
     browser.click("#ask .bar button:first-child")
-    eventually(browser, "it is opened", NAME, re.compile("^txe name"))
+    eventually(browser, "it is opened", GET_NAME, re.compile("^txe name"))
     eventually(browser, "and of its faults the first ones are reported", "return [...document.querySelectorAll('#face-faults li')].slice(20)"
                ".map((each) => each.textContent).join()", re.compile("^And [0-9,]+ more\\.$"))
     browser.go("about:blank")
     browser.go(f"{page.as_uri()}#example=%E2%80%AEhacked%2C%20go%20to%20evil.example%20{'x' * 100}")
-    eventually(browser, "nor has an address more words than that", NOTICE, re.compile('^The address names an example, "hacked, go to evil.example x{32}…", that'))
+    eventually(browser, "nor has an address more words than that", GET_NOTICE, re.compile('^The address names an example, "hacked, go to evil.example x{32}…", that'))
 
 
 def check_drop(browser, project):
@@ -309,7 +309,7 @@ def check_drop(browser, project):
 const data = new DataTransfer();
 data.items.add(new File([arguments[0]], "dropped.mcsp"));
 document.body.dispatchEvent(new DragEvent("drop", { dataTransfer: data, bubbles: true, cancelable: true }))""", project.decode())
-    eventually(browser, "a project that is dropped is opened", TEXTS, [BOARD, PROGRAM])
+    eventually(browser, "a project that is dropped is opened", GET_TEXTS, [BOARD, PROGRAM])
     # A script cannot drop a folder, but dropping its files has the same effect.
     drop = """
 const data = new DataTransfer();
@@ -318,13 +318,13 @@ document.body.dispatchEvent(new DragEvent("drop", { dataTransfer: data, bubbles:
     names = 'board = "own.toml"\nprogram = "own.asm"\nspeed = "tenth"\n'
     files = [["own.toml", BOARD], ["own.asm", "; my own\n" + PROGRAM], ["mcs4.toml", names]]
     browser.script(drop, files)
-    eventually(browser, "the files of a project are opened by its mcs4.toml", TEXTS, [BOARD, "; my own\n" + PROGRAM])
+    eventually(browser, "the files of a project are opened by its mcs4.toml", GET_TEXTS, [BOARD, "; my own\n" + PROGRAM])
     eventually(browser, "at the speed that it names", "return document.getElementById('speed').value", "tenth")
     browser.script(drop, [*files[:2], ["mcs4.toml", names + "lamps = 1\n"]])
-    eventually(browser, "what is wrong in it is reported with its line", NOTICE, re.compile(
+    eventually(browser, "what is wrong in it is reported with its line", GET_NOTICE, re.compile(
         r"^Cannot open the folder: mcs4\.toml: line 4: a project has no key lamps; .*The session shown is unchanged"))
     browser.script(drop, files[2:])
-    eventually(browser, "alone it is refused", NOTICE, re.compile(r"^Cannot open mcs4\.toml: it names files of a project: drop its folder"))
+    eventually(browser, "alone it is refused", GET_NOTICE, re.compile(r"^Cannot open mcs4\.toml: it names files of a project: drop its folder"))
     browser.script("document.getElementById('speed').value = 'real'; document.getElementById('speed').dispatchEvent(new Event('change'))")
 
 
@@ -351,13 +351,13 @@ def check_files(browser, folder, mcs4):
     example = TOP / "examples/three_lamps"
     for name in ("board.toml", "three_lamps.asm"):
         browser.type_into("#file", str(example / name))
-        eventually(browser, f"{name} is opened", NOTICE, re.compile(f"^{name} is in (Board|Source)"))
+        eventually(browser, f"{name} is opened", GET_NOTICE, re.compile(f"^{name} is in (Board|Source)"))
     prose = folder / "notes"
     prose.write_text("hello there\nthis is no program\n")
     browser.type_into("#file", str(prose))
-    eventually(browser, "a text with an error in each line is asked for", ASKED, "Replace the source by notes?")
+    eventually(browser, "a text with an error in each line is asked for", GET_QUESTION, "Replace the source by notes?")
     browser.click("#ask .bar button:last-child")
-    eventually(browser, "their texts are in the editors", TEXTS, [(example / "board.toml").read_text(), (example / "three_lamps.asm").read_text()])
+    eventually(browser, "their texts are in the editors", GET_TEXTS, [(example / "board.toml").read_text(), (example / "three_lamps.asm").read_text()])
     browser.click("#board-tab")
     browser.click("#board-editor .send")
     browser.until("return document.querySelector('#board-editor .status-text').textContent", "Board applied.")
@@ -384,12 +384,12 @@ def check_image(browser, folder, image):
     other = folder / "other.bin"
     other.write_bytes(bytes(byte ^ 0x80 if at < 4 else byte for at, byte in enumerate(image)))
     browser.type_into("#file", str(other))
-    eventually(browser, "an image is opened", NOTICE, re.compile(f"^{len(image):,} bytes of other.bin are in ROM, from 000; nothing was reset\\."))
+    eventually(browser, "an image is opened", GET_NOTICE, re.compile(f"^{len(image):,} bytes of other.bin are in ROM, from 000; nothing was reset\\."))
     verdict("it stands in ROM", saved_as(browser, folder, ".bin"), other.read_bytes())
     large = folder / "large.hex"
     large.write_text(":010F0000D11F\n:00000001FF\n")
     browser.type_into("#file", str(large))
-    eventually(browser, "an image for a ROM that is not there is refused in words", NOTICE, re.compile("^Cannot open large.hex: the board has no ROM 15"))
+    eventually(browser, "an image for a ROM that is not there is refused in words", GET_NOTICE, re.compile("^Cannot open large.hex: the board has no ROM 15"))
     browser.script("for (const each of document.querySelectorAll('#notice .dismiss')) each.click()")
 
 

@@ -6,28 +6,28 @@ import pathlib
 import re
 import subprocess
 
-from page_in_browser import DIGITS, RATE, SPEED, STATUS, STEPPED, choose_example, key, lines_answered, stop_time, until_ready
+from page_in_browser import GET_DIGITS, GET_RATE, GET_STATUS, SET_SPEED, STEPPED, choose_example, key, lines_answered, stop_time, until_ready
 from verdicts import eventually, verdict
 
 TOP = pathlib.Path(__file__).resolve().parent.parent.parent
-MARKED = "return document.querySelector('#cycles span:last-child').textContent"
-SINCE_STOP = "return document.querySelector('#cycles span:nth-child(2) b').textContent"
-SINCE_RESET = "return document.querySelector('#cycles span:first-child b').textContent"
-CHANGE = """
+GET_MARKED = "return document.querySelector('#cycles span:last-child').textContent"
+GET_CYCLES_SINCE_STOP = "return document.querySelector('#cycles span:nth-child(2) b').textContent"
+GET_CYCLES_SINCE_RESET = "return document.querySelector('#cycles span:first-child b').textContent"
+CHANGE_FIELD = """
 const field = document.querySelector(arguments[0]);
 field.value = arguments[1];
 field.dispatchEvent(new Event("input"))"""
-PRESS = """
+PRESS_KEY = """
 document.body.dispatchEvent(new KeyboardEvent("keydown", { key: arguments[0], shiftKey: arguments[1], bubbles: true, cancelable: true }))"""
 # Reads the bytes of the saved session into `keptFile`.
-KEPT = """
+READ_KEPT_FILE = """
 window.keptFile = "";
 const id = location.hash.slice("#session=".length);
 indexedDB.open("fethsaim", 1).onsuccess = (opened) => {
-  const asked = opened.target.result.transaction("sessions").objectStore("sessions").get(id);
-  asked.onsuccess = () => { window.keptFile = asked.result.file.join(" "); };
+  const request = opened.target.result.transaction("sessions").objectStore("sessions").get(id);
+  request.onsuccess = () => { window.keptFile = request.result.file.join(" "); };
 }"""
-KEPT_FILE = "return window.keptFile"
+GET_KEPT_FILE = "return window.keptFile"
 ALL = "seq\nstate\nram 0\nbreaks\nwatches"
 
 
@@ -90,7 +90,7 @@ def at_rest(browser, name):
     browser.until("return document.getElementById('run').textContent", "Pause", 3)
     stand(browser)
     lines_answered(browser, "reset")
-    browser.until(SINCE_RESET, "0 cycles, 0.000 ms")
+    browser.until(GET_CYCLES_SINCE_RESET, "0 cycles, 0.000 ms")
 
 
 def state(browser):
@@ -105,35 +105,35 @@ def check_over(browser, program, name, example):
     at_rest(browser, name)
     lines_answered(browser, f"run {before}")
     browser.click("#over")
-    eventually(browser, f"{name}: Over comes back behind the JMS at {address}", STATUS, f"Returned to {behind}, after {counted(over)}.")
-    verdict("the counter has the cycles since the stop", browser.script(SINCE_STOP), counted(over))
-    verdict("and those since the reset", browser.script(SINCE_RESET), counted(before + over))
+    eventually(browser, f"{name}: Over comes back behind the JMS at {address}", GET_STATUS, f"Returned to {behind}, after {counted(over)}.")
+    verdict("the counter has the cycles since the stop", browser.script(GET_CYCLES_SINCE_STOP), counted(over))
+    verdict("and those since the reset", browser.script(GET_CYCLES_SINCE_RESET), counted(before + over))
     verdict("no breakpoint and no watch stays", state(browser)[-len("breaksbreaks -watcheswatches -"):], "breaksbreaks -watcheswatches -")
-    for what, again in {"by F10": lambda: browser.script(PRESS, "F10", False),
+    for what, again in {"by F10": lambda: browser.script(PRESS_KEY, "F10", False),
                         "into it by F11, and out by Shift and F11": lambda: into_and_out(browser)}.items():
         browser.click("#back-stop")
-        eventually(browser, f"{name}: back to the stop before", STATUS, re.compile(f"^Back at the stop at {address}"))
+        eventually(browser, f"{name}: back to the stop before", GET_STATUS, re.compile(f"^Back at the stop at {address}"))
         again()
-        eventually(browser, f"{name}: the same {what}", STATUS, re.compile(f"^Returned to {behind}, after "))
-        verdict("after as many cycles", browser.script(SINCE_RESET), counted(before + over))
+        eventually(browser, f"{name}: the same {what}", GET_STATUS, re.compile(f"^Returned to {behind}, after "))
+        verdict("after as many cycles", browser.script(GET_CYCLES_SINCE_RESET), counted(before + over))
 
 
 def into_and_out(browser):
-    browser.script(PRESS, "F11", False)
-    browser.until(STATUS, STEPPED)
-    browser.script(PRESS, "F11", True)
+    browser.script(PRESS_KEY, "F11", False)
+    browser.until(GET_STATUS, STEPPED)
+    browser.script(PRESS_KEY, "F11", True)
 
 
 def check_run_to(browser):
     """Checks a run to a line of the disassembly with Ctrl and a click."""
     browser.click("#back-stop")
-    browser.until(STATUS, re.compile("^Back at"))
+    browser.until(GET_STATUS, re.compile("^Back at"))
     address = browser.script("""
 const next = document.querySelector("#lines-of-program .next");
 const row = next.nextElementSibling;
 row.dispatchEvent(new MouseEvent("click", { ctrlKey: true, bubbles: true, cancelable: true }));
 return row.textContent.match(/[0-9A-F]{3}/)[0]""")
-    eventually(browser, "Control and a click run to a line", STATUS, re.compile(f"^Paused at {address}, as requested, after [0-9,]+ cycles?, "))
+    eventually(browser, "Control and a click run to a line", GET_STATUS, re.compile(f"^Paused at {address}, as requested, after [0-9,]+ cycles?, "))
     verdict("it has no breakpoint", browser.script("return document.querySelectorAll('#lines-of-program [aria-pressed=true]').length"), 0)
 
 
@@ -144,11 +144,11 @@ def check_run_to_source(browser):
 const editor = document.querySelector("#program-editor .cm-editor").lineEditor;
 editor.setCursor({ line: editor.getValue().split("\\n").findIndex((line) => line.startsWith("turn:")), ch: 0 });
 editor.getInputField().dispatchEvent(new KeyboardEvent("keydown", { key: "F10", ctrlKey: true, bubbles: true, cancelable: true }))""")
-    eventually(browser, "Control and F10 in the source run to the label turn", STATUS, re.compile("^Paused at 016, as requested, after 11 cycles, "))
+    eventually(browser, "Control and F10 in the source run to the label turn", GET_STATUS, re.compile("^Paused at 016, as requested, after 11 cycles, "))
     lines_answered(browser, "reset")
-    browser.script(CHANGE, "#change-place", "right")
+    browser.script(CHANGE_FIELD, "#change-place", "right")
     browser.click("#until-change")
-    eventually(browser, "to a change of a lamp by its name", STATUS, "Paused at 007, after lamp 2 changed, after 7 cycles, 0.076 ms.")
+    eventually(browser, "to a change of a lamp by its name", GET_STATUS, "Paused at 007, after lamp 2 changed, after 7 cycles, 0.076 ms.")
 
 
 def check_many(browser, program):
@@ -156,12 +156,12 @@ def check_many(browser, program):
     file, _ = program.session("many", texts_of("three_lamps"))
     lines = [line for line in program.tool("trace", file, 400).splitlines() if re.match(r" *\d+  [0-9A-F]{3} ", line)]
     at_rest(browser, "three lamps")
-    browser.script(CHANGE, "#step-count", "50")
+    browser.script(CHANGE_FIELD, "#step-count", "50")
     browser.click("#step-many")
-    eventually(browser, "50 instructions", STATUS, f"50 instructions were done, after {counted(int(lines[50].split()[0]))}.")
-    browser.script(CHANGE, "#step-count", "many")
+    eventually(browser, "50 instructions", GET_STATUS, f"50 instructions were done, after {counted(int(lines[50].split()[0]))}.")
+    browser.script(CHANGE_FIELD, "#step-count", "many")
     browser.click("#step-many")
-    eventually(browser, "what is no number is refused in words", STATUS, re.compile("^Nothing was done: give a number"))
+    eventually(browser, "what is no number is refused in words", GET_STATUS, re.compile("^Nothing was done: give a number"))
 
 
 def check_far(browser):
@@ -174,45 +174,45 @@ def check_far(browser):
     cycles = 0
     for _ in range(5):
         cycles = 16 * (cycles + 2)
-    browser.script(SPEED, "full")
+    browser.script(SET_SPEED, "full")
     browser.click("#over")
-    eventually(browser, "Over a delay", STATUS, f"Returned to 002, after {counted(cycles + 9)}.", 60)
-    browser.script(SPEED, "real")
-    browser.script(CHANGE, "#change-place", "r2")
+    eventually(browser, "Over a delay", GET_STATUS, f"Returned to 002, after {counted(cycles + 9)}.", 60)
+    browser.script(SET_SPEED, "real")
+    browser.script(CHANGE_FIELD, "#change-place", "r2")
     browser.click("#back-change")
-    eventually(browser, "back to the last change in it", STATUS, re.compile("^Back at .*: this instruction changes r2 from F to 0"), 60)
-    browser.script(CHANGE, "#change-place", "R2 == 0xF")
+    eventually(browser, "back to the last change in it", GET_STATUS, re.compile("^Back at .*: this instruction changes r2 from F to 0"), 60)
+    browser.script(CHANGE_FIELD, "#change-place", "R2 == 0xF")
     browser.click("#back-change")
-    eventually(browser, "back to where a condition became true", STATUS, re.compile("^Back at .*: this instruction makes R2 == 0xF true"), 60)
-    browser.script(CHANGE, "#change-place", "ram0.0")
+    eventually(browser, "back to where a condition became true", GET_STATUS, re.compile("^Back at .*: this instruction makes R2 == 0xF true"), 60)
+    browser.script(CHANGE_FIELD, "#change-place", "ram0.0")
     browser.click("#until-change")
-    eventually(browser, "what the board lacks", STATUS, "Nothing was done: this board has no ram0.0.")
+    eventually(browser, "what the board lacks", GET_STATUS, "Nothing was done: this board has no ram0.0.")
 
 
 def check_stopwatch(browser):
     """Checks that a hundredth of a second of the stopwatch is 926 cycles, measured between two markers."""
     at_rest(browser, "stopwatch")
     lines_answered(browser, "test 0")
-    browser.script(CHANGE, "#change-place", "lamps")
+    browser.script(CHANGE_FIELD, "#change-place", "lamps")
     for _ in range(2):
         browser.script("document.getElementById('status').firstChild.data = ''")
         browser.click("#until-change")
-        browser.until(STATUS, re.compile("after lamps changed, after"))
+        browser.until(GET_STATUS, re.compile("after lamps changed, after"))
         browser.click("#mark")
-    verdict("from one hundredth to the next", browser.script(MARKED), re.compile(r"Between the marks 926 cycles, 10\.001 ms$"))
+    verdict("from one hundredth to the next", browser.script(GET_MARKED), re.compile(r"Between the marks 926 cycles, 10\.001 ms$"))
     lamps = lines_answered(browser, "lamps")
     browser.click("#back-change")
-    eventually(browser, "back to the change of the lamps", STATUS, re.compile("^Back at ..., 1 cycle, 0.011 ms earlier: this instruction changes lamps"))
+    eventually(browser, "back to the change of the lamps", GET_STATUS, re.compile("^Back at ..., 1 cycle, 0.011 ms earlier: this instruction changes lamps"))
     verdict("it is not done yet", lines_answered(browser, "lamps") != lamps, True)
     browser.click("#step")
-    browser.until(STATUS, STEPPED)
+    browser.until(GET_STATUS, STEPPED)
     verdict("and it does it", lines_answered(browser, "lamps"), lamps)
-    browser.script(CHANGE, "#change-place", "chain2.0")
+    browser.script(CHANGE_FIELD, "#change-place", "chain2.0")
     browser.click("#until-change")
-    eventually(browser, "a line that the board lacks", STATUS, "Nothing was done: this board has no chain2.0.")
-    browser.script(CHANGE, "#change-place", "r99")
+    eventually(browser, "a line that the board lacks", GET_STATUS, "Nothing was done: this board has no chain2.0.")
+    browser.script(CHANGE_FIELD, "#change-place", "r99")
     browser.click("#back-change")
-    eventually(browser, "a name that is none", STATUS, "Nothing was done: r99: no such place; the registers are r0 to r15 (column 1).")
+    eventually(browser, "a name that is none", GET_STATUS, "Nothing was done: r99: no such place; the registers are r0 to r15 (column 1).")
 
 
 def check_back(browser):
@@ -221,23 +221,23 @@ def check_back(browser):
     browser.click("#run")
     for legend in "12":
         browser.fingers([key(legend)], 60)
-    browser.until(DIGITS, "12")
+    browser.until(GET_DIGITS, "12")
     stand(browser)
     there = state(browser)
-    browser.script(KEPT)
-    file = browser.until(KEPT_FILE, re.compile("."))
+    browser.script(READ_KEPT_FILE)
+    file = browser.until(GET_KEPT_FILE, re.compile("."))
     browser.click("#back-stop")
-    eventually(browser, "back before Run", STATUS, re.compile("^Back at the stop at 000, [0-9,]+ cycles"))
-    verdict("the display is that of then", browser.script(DIGITS), "0")
+    eventually(browser, "back before Run", GET_STATUS, re.compile("^Back at the stop at 000, [0-9,]+ cycles"))
+    verdict("the display is that of then", browser.script(GET_DIGITS), "0")
     browser.click("#forward")
-    eventually(browser, "forward again", STATUS, re.compile("^Forward again to ..., [0-9,]+ cycles"))
-    browser.script(KEPT)
-    verdict("the bytes that are kept are the same", browser.until(KEPT_FILE, re.compile(".")) == file, True)
+    eventually(browser, "forward again", GET_STATUS, re.compile("^Forward again to ..., [0-9,]+ cycles"))
+    browser.script(READ_KEPT_FILE)
+    verdict("the bytes that are kept are the same", browser.until(GET_KEPT_FILE, re.compile(".")) == file, True)
     verdict("and so are the answers", state(browser), there)
     for _ in range(3):
         browser.script("document.getElementById('status').firstChild.data = ''")
         browser.click("#back-instruction")
-        browser.until(STATUS, re.compile("^Back at ..., [12] cycles?, .* earlier: this instruction has not run yet.$"))
+        browser.until(GET_STATUS, re.compile("^Back at ..., [12] cycles?, .* earlier: this instruction has not run yet.$"))
     verdict("three instructions back it is another moment", state(browser) != there, True)
     verdict("Forward is possible", browser.script("return document.getElementById('forward').disabled"), False)
     for _ in range(3):
@@ -252,7 +252,7 @@ def check_back(browser):
     until_ready(browser)
     verdict("the present is what is kept", re.search("r [0-9A-F]{5}9", lines_answered(browser, "regs")) is not None, True)
     browser.click("#back-stop")
-    eventually(browser, "a page that was loaded anew goes back through the reload", STATUS, re.compile("^Back at the stop at 000"))
+    eventually(browser, "a page that was loaded anew goes back through the reload", GET_STATUS, re.compile("^Back at the stop at 000"))
     verdict("to what was then", re.search("r [0-9A-F]{5}9", lines_answered(browser, "regs")), None)
 
 
@@ -260,22 +260,22 @@ def check_never(browser):
     """Checks that a run to an unreachable goal can be ended with Stop, F8 and a reload, and that the session then has only its runs."""
     choose_example(browser, "empty bench")
     lines_answered(browser, 'wire\n[[rom]]\nchip = 0\nport = "0000"\n.\nasm\nJMS round\nround: JUN round\n.\nstep')
-    for what, stop in {"F8": lambda: browser.script(PRESS, "F8", False), "Stop": lambda: browser.click("#run")}.items():
+    for what, stop in {"F8": lambda: browser.script(PRESS_KEY, "F8", False), "Stop": lambda: browser.click("#run")}.items():
         browser.click("#out")
-        eventually(browser, f"what never comes is time that runs, before {what}", STATUS, "Running to the return from the subroutine.")
-        browser.until(RATE, re.compile("^[0-9,]+ cycles"))
+        eventually(browser, f"what never comes is time that runs, before {what}", GET_STATUS, "Running to the return from the subroutine.")
+        browser.until(GET_RATE, re.compile("^[0-9,]+ cycles"))
         stop()
-        eventually(browser, f"{what} ends it", STATUS,
+        eventually(browser, f"{what} ends it", GET_STATUS,
                    re.compile("^Paused at 002, after [0-9,]+ cycles, .*; the return from the subroutine was not reached.$"))
     browser.click("#out")
-    browser.until(STATUS, re.compile("^Running to"))
+    browser.until(GET_STATUS, re.compile("^Running to"))
     browser.reload()
     until_ready(browser)
-    eventually(browser, "a reload ends it, which is reported", STATUS, re.compile("^Paused at 002: the return from the subroutine was not reached, because "
+    eventually(browser, "a reload ends it, which is reported", GET_STATUS, re.compile("^Paused at 002: the return from the subroutine was not reached, because "
                                                                               "the page was reloaded"))
     browser.click("#back-stop")
     # The number of cycles before the last save depends on the browser.
-    eventually(browser, "and nothing is lost", STATUS, re.compile("^Back at the stop at 002"))
+    eventually(browser, "and nothing is lost", GET_STATUS, re.compile("^Back at the stop at 002"))
     verdict("no breakpoint and no watch is left", state(browser)[-len("breaksbreaks -watcheswatches -"):], "breaksbreaks -watcheswatches -")
 
 
@@ -305,16 +305,16 @@ def check_waiting(browser):
     browser.click("#first-board")
     browser.until("return document.querySelectorAll('#keys button').length", 2)
     lines_answered(browser, f"{WAITS}\nrun 8")
-    browser.script(PRESS, "F10", False)
-    eventually(browser, "Over a subroutine that waits for a key is time that runs", STATUS, "Running to the return from the subroutine.")
-    browser.until(RATE, re.compile("^9[0-4],"))
+    browser.script(PRESS_KEY, "F10", False)
+    eventually(browser, "Over a subroutine that waits for a key is time that runs", GET_STATUS, "Running to the return from the subroutine.")
+    browser.until(GET_RATE, re.compile("^9[0-4],"))
     browser.fingers([key("right")], 60)
-    eventually(browser, "it returns once the key is pressed", STATUS, re.compile("^Returned to 00A, after [0-9,]+ cycles, "))
+    eventually(browser, "it returns once the key is pressed", GET_STATUS, re.compile("^Returned to 00A, after [0-9,]+ cycles, "))
     verdict("no breakpoint and no watch stays", state(browser)[-len("breaksbreaks -watcheswatches -"):], "breaksbreaks -watcheswatches -")
-    browser.script(PRESS, "F10", False)
-    eventually(browser, "Over a plain instruction says where it is", STATUS, "At 00B, after 1 cycle, 0.011 ms.")
-    browser.script(PRESS, "F10", False)
-    eventually(browser, "and so at one that jumps to itself", STATUS, "At 00B, after 2 cycles, 0.022 ms.")
+    browser.script(PRESS_KEY, "F10", False)
+    eventually(browser, "Over a plain instruction says where it is", GET_STATUS, "At 00B, after 1 cycle, 0.011 ms.")
+    browser.script(PRESS_KEY, "F10", False)
+    eventually(browser, "and so at one that jumps to itself", GET_STATUS, "At 00B, after 2 cycles, 0.022 ms.")
     verdict("the lamps have what it gave", lines_answered(browser, "lamps"), re.compile(r"lamps \.\*\*\."))
 
 
@@ -325,20 +325,20 @@ def check_slow(browser):
             "real time, 1/10, 1/100, 1/1,000, an instruction a second, full speed")
     browser.click("#run")
     for speed, rate in {"tenth": "^9,?[12]..$", "hundredth": "^9[0-4].$", "thousandth": "^(8[89]|9[0-6])$"}.items():
-        browser.script(SPEED, speed)
-        eventually(browser, f"cycles a second at 1/{speed}", RATE, re.compile(rate.replace(",?", "")))
+        browser.script(SET_SPEED, speed)
+        eventually(browser, f"cycles a second at 1/{speed}", GET_RATE, re.compile(rate.replace(",?", "")))
     eventually(browser, "the line that runs is marked", "return document.querySelectorAll('#lines-of-program .next').length", 1)
     browser.script("window.firstLine = document.querySelector('#lines-of-program .next').textContent")
     eventually(browser, "and followed", "return document.querySelector('#lines-of-program .next').textContent !== window.firstLine", True)
     stand(browser)
-    browser.script(SPEED, "instruction")
+    browser.script(SET_SPEED, "instruction")
     browser.click("#run")
-    browser.until(SINCE_STOP, re.compile("^[3-9] cycles"))
+    browser.until(GET_CYCLES_SINCE_STOP, re.compile("^[3-9] cycles"))
     stand(browser)
     verdict("an instruction a second ends between instructions", re.search("owed 0", lines_answered(browser, "regs")) is not None, True)
-    browser.script(SPEED, "real")
+    browser.script(SET_SPEED, "real")
     browser.click("#run")
-    eventually(browser, "and real time is held again", RATE, re.compile("^9[0-4]...$"))
+    eventually(browser, "and real time is held again", GET_RATE, re.compile("^9[0-4]...$"))
     stand(browser)
 
 

@@ -4,11 +4,11 @@ on, time pauses before the mistake and can continue. A program without mistakes 
 import re
 import time
 
-from page_in_browser import STATUS, choose_example, open_anew, show_text, stop_time, status_of, until_ready
+from page_in_browser import GET_STATUS, choose_example, open_anew, show_text, status_of, stop_time, until_ready
 from verdicts import eventually, verdict
 
-ROWS = "return [...document.querySelectorAll('#usual-list li .words')].map((each) => each.textContent)"
-SHOWN = "return isShown(document.getElementById('usual'))"
+GET_ROWS = "return [...document.querySelectorAll('#usual-list li .words')].map((each) => each.textContent)"
+IS_PANEL_SHOWN = "return isShown(document.getElementById('usual'))"
 BOARD = """rom = [{ chip = 0, port = "0000" }, { chip = 1, port = "iiii" }]
 ram = [{ bank = 0, chips = 1 }]
 """
@@ -27,28 +27,28 @@ def check(browser, page, _folder, _mcs4):
     choose_example(browser, "calculator")
     show_text(browser, "problems")
     time.sleep(1)
-    verdict("nothing is reported of a program that is right", browser.script(SHOWN), False)
+    verdict("nothing is reported of a program that is right", browser.script(IS_PANEL_SHOWN), False)
     choose_example(browser, "empty bench")
     status_of(browser, "#board-editor", BOARD)
     status_of(browser, "#program-editor", PROGRAM)
-    eventually(browser, "a fault is reported with its line", ROWS, [f"004 (keys + 4, line 4) {WRITE}"])
+    eventually(browser, "a fault is reported with its line", GET_ROWS, [f"004 (keys + 4, line 4) {WRITE}"])
     verdict("the tab counts it", browser.text("#problems-tab .mark"), "1")
-    verdict("while time goes on", browser.script(STATUS), re.compile("^Running"))
+    verdict("while time goes on", browser.script(GET_STATUS), re.compile("^Running"))
     browser.click("#usual-list input")
     stop_time(browser)
     browser.click("#run")
-    eventually(browser, "with its switch time stops before it", STATUS, "Paused at 004, before a mistake that is reported.")
-    verdict("and it is reported again", browser.script(ROWS), [f"004 (keys + 4, line 4) {WRITE}"])
+    eventually(browser, "with its switch time stops before it", GET_STATUS, "Paused at 004, before a mistake that is reported.")
+    verdict("and it is reported again", browser.script(GET_ROWS), [f"004 (keys + 4, line 4) {WRITE}"])
     browser.click("#run")
-    eventually(browser, "it goes on with it, up to the next time", STATUS, re.compile("^Paused at 004"))
+    eventually(browser, "it goes on with it, up to the next time", GET_STATUS, re.compile("^Paused at 004"))
     browser.reload()
     until_ready(browser)
     browser.click("#run")
-    eventually(browser, "the switch is kept", STATUS, re.compile("^Paused at 004"))
+    eventually(browser, "the switch is kept", GET_STATUS, re.compile("^Paused at 004"))
     browser.click("#usual-list input")
     browser.click("#run")
-    eventually(browser, "and switched off again", STATUS, re.compile("^Running"))
-    eventually(browser, "it is reported once a run", ROWS, [f"004 (keys + 4, line 4) {WRITE}"])
+    eventually(browser, "and switched off again", GET_STATUS, re.compile("^Running"))
+    eventually(browser, "it is reported once a run", GET_ROWS, [f"004 (keys + 4, line 4) {WRITE}"])
     time.sleep(0.5)
-    verdict("and no more", len(browser.script(ROWS)), 1)
+    verdict("and no more", len(browser.script(GET_ROWS)), 1)
     browser.click("#run")

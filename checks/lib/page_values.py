@@ -5,8 +5,8 @@ bench's answers."""
 import re
 
 from driven import matches
-from page_in_browser import STATUS, WHOLE_STATUS, choose_example, lines_answered, open_anew, stop_time, status_of
-from page_names import MEANING, point_at
+from page_in_browser import GET_STATUS, GET_WHOLE_STATUS, choose_example, lines_answered, open_anew, status_of, stop_time
+from page_names import GET_MEANING, point_at
 from verdicts import eventually, verdict
 
 ENTER, ESCAPE = "\ue007", "\ue00c"
@@ -27,16 +27,16 @@ sum:    RDM
         BBL 0
 """
 LINES = PROGRAM.split("\n")
-TIP = "const tip = document.querySelector('.value-tip:not(#change-tip)'); return tip.hidden ? '' : tip.textContent"
-CARET = """
+GET_TIP = "const tip = document.querySelector('.value-tip:not(#change-tip)'); return tip.hidden ? '' : tip.textContent"
+SET_CARET = """
 const editor = document.querySelector("#program-editor .cm-editor").lineEditor;
 editor.focus();
 editor.setCursor({ line: arguments[0] - 1, ch: editor.getLine(arguments[0] - 1).indexOf(arguments[1]) })"""
-NEXT = "return document.querySelector('#program-editor .next').textContent"
+GET_NEXT_LINE = "return document.querySelector('#program-editor .next').textContent"
 # The instruction after each step from ADD, worked out manually.
 STEPS = ("BBL", "JUN turn", "turn:", "SRC", "LDM", "WRM", "INC", "JMS", "JUN turn")
-LINE_VALUES = "return [...document.querySelectorAll('#program-editor .line-values')].map((each) => each.textContent)"
-WATCHED = """return [...document.querySelectorAll("#watched-list li")].map((row) =>
+GET_LINE_VALUES = "return [...document.querySelectorAll('#program-editor .line-values')].map((each) => each.textContent)"
+GET_WATCHES = """return [...document.querySelectorAll("#watched-list li")].map((row) =>
   `${row.querySelector("b").textContent} ${row.querySelector(".values").textContent}`)"""
 CELL = "#program-editor .meaning button.value"
 
@@ -61,14 +61,14 @@ def begin(browser):
     status_of(browser, "#board-editor", BOARD)
     eventually(browser, "a board without a title is called so", "return document.getElementById('name').value", "my board")
     status_of(browser, "#program-editor", PROGRAM)
-    eventually(browser, "the status says what runs, and what stops it", STATUS, 'Running "my board". F5 pauses it.')
-    pointed(browser, line_of("INC R5"), "R5", MEANING, "R5: the lower half of P2.")
-    eventually(browser, "while time runs a register has no value", MEANING, "R5: the lower half of P2.")
+    eventually(browser, "the status says what runs, and what stops it", GET_STATUS, 'Running "my board". F5 pauses it.')
+    pointed(browser, line_of("INC R5"), "R5", GET_MEANING, "R5: the lower half of P2.")
+    eventually(browser, "while time runs a register has no value", GET_MEANING, "R5: the lower half of P2.")
     stop_time(browser)
     lines_answered(browser, "reset")
     lines_answered(browser, "poke ram.0.0x12 0")
     lines_answered(browser, "run 11")
-    browser.until(NEXT, re.compile("ADD R4"))
+    browser.until(GET_NEXT_LINE, re.compile("ADD R4"))
 
 
 def check_pointer(browser):
@@ -80,16 +80,16 @@ def check_pointer(browser):
             ("FIM P0", "digit", re.compile(r"^digit = 0x12, 18, 0001 0010; by SRC it selects ROM 1; bank 0, chip 0, register 1, char")),
             ("JUN turn", "turn", "turn: address 0x002, line 3"),
             ("LDM 7", "7", "7 = 0x7, 0111")):
-        pointed(browser, line_of(text), word, TIP, wanted)
-        eventually(browser, f"the pointer on {word} reports what it stands for", TIP, wanted)
+        pointed(browser, line_of(text), word, GET_TIP, wanted)
+        eventually(browser, f"the pointer on {word} reports what it stands for", GET_TIP, wanted)
     point_at(browser, line_of("INC R5"), "INC")
-    eventually(browser, "an instruction that uses nothing else has no value", TIP, "")
+    eventually(browser, "an instruction that uses nothing else has no value", GET_TIP, "")
 
 
 def check_edit(browser):
     """Checks that the value of R5 is shown below the text when the caret is there, and that it can be edited there."""
-    browser.script(CARET, line_of("INC R5"), "R5")
-    eventually(browser, "the caret, too", MEANING, "R5 = 1. R5: the lower half of P2.")
+    browser.script(SET_CARET, line_of("INC R5"), "R5")
+    eventually(browser, "the caret, too", GET_MEANING, "R5 = 1. R5: the lower half of P2.")
     browser.script(f"document.querySelector('{CELL}').focus()")
     browser.keys([ENTER])
     browser.type_into("#cell-editor input", "g" + ENTER)
@@ -97,7 +97,7 @@ def check_edit(browser):
     browser.type_into("#cell-editor input", ESCAPE)
     browser.keys([ENTER])
     browser.type_into("#cell-editor input", "c" + ENTER)
-    eventually(browser, "the value is the new one", MEANING, "R5 = C. R5: the lower half of P2.")
+    eventually(browser, "the value is the new one", GET_MEANING, "R5 = C. R5: the lower half of P2.")
     verdict("and the focus is at the value", browser.script(f"return document.activeElement.matches('{CELL}')"), True)
     verdict("in the bench, too", lines_answered(browser, "regs"), re.compile(" r 12006C"))
 
@@ -106,10 +106,10 @@ def check_lines(browser):
     """Checks that the last lines that ran end with their changes, and that a call ends with all changes of its subroutine."""
     for step in range(9):
         browser.click("#over")
-        browser.until(NEXT, re.compile(STEPS[step]))
-    eventually(browser, "behind the lines that were done stands what they changed", LINE_VALUES, ["acc 7", "R5 D", "acc 0", "acc 0"])
+        browser.until(GET_NEXT_LINE, re.compile(STEPS[step]))
+    eventually(browser, "behind the lines that were done stands what they changed", GET_LINE_VALUES, ["acc 7", "R5 D", "acc 0", "acc 0"])
     browser.click("#run")
-    eventually(browser, "none while time runs", LINE_VALUES, [])
+    eventually(browser, "none while time runs", GET_LINE_VALUES, [])
 
 
 def check_watched(browser):
@@ -119,18 +119,18 @@ def check_watched(browser):
                "R16: no such place; the registers are r0 to r15 (column 9)")
     browser.script("document.querySelector('#watched-field').value = ''")
     browser.type_into("#watched-field", "digit = ram 0 0x12" + ENTER)
-    eventually(browser, "a value with a name", WATCHED, ["digit 7"])
+    eventually(browser, "a value with a name", GET_WATCHES, ["digit 7"])
     lines_answered(browser, "poke ram.0.0x12 9")
-    eventually(browser, "it is what the bench has", WATCHED, ["digit 9"])
+    eventually(browser, "it is what the bench has", GET_WATCHES, ["digit 9"])
     browser.type_into("#watched-field", "next = digit + 1" + ENTER)
-    eventually(browser, "an expression with the name of another one", WATCHED, ["digit 9", "next 10 (0xA)"])
+    eventually(browser, "an expression with the name of another one", GET_WATCHES, ["digit 9", "next 10 (0xA)"])
     browser.type_into("#watched-field", "digit >= 9 and not digit = 8" + ENTER)
-    eventually(browser, "a condition", WATCHED, ["digit 9", "next 10 (0xA)", "digit >= 9 and not digit = 8 true"])
+    eventually(browser, "a condition", GET_WATCHES, ["digit 9", "next 10 (0xA)", "digit >= 9 and not digit = 8 true"])
     lines_answered(browser, "poke ram.0.0x12 7")
 
 
-CHANGE_TIP = "const tip = document.getElementById('change-tip'); return tip.hidden ? '' : tip.textContent"
-FOCUS = "document.activeElement.blur(); document.querySelector(arguments[0]).focus()"
+GET_CHANGE_TIP = "const tip = document.getElementById('change-tip'); return tip.hidden ? '' : tip.textContent"
+MOVE_FOCUS = "document.activeElement.blur(); document.querySelector(arguments[0]).focus()"
 
 
 def check_last_change(browser):
@@ -138,28 +138,28 @@ def check_last_change(browser):
     if browser.script("return document.getElementById('run').textContent") == "Pause":
         stop_time(browser)
     lines_answered(browser, "run 100\npoke ram.0.0x13 5\nrun 7")
-    browser.script(FOCUS, ".ram button[title$='SRC byte 13']")
-    eventually(browser, "a cell reports the line that changed it last", CHANGE_TIP,
+    browser.script(MOVE_FOCUS, ".ram button[title$='SRC byte 13']")
+    eventually(browser, "a cell reports the line that changed it last", GET_CHANGE_TIP,
                re.compile(r"register 1, character 3: SRC byte 13: from 0 to 5 by the line poke ram\.0\.0x13 5, 7 cycles, 0\.076 ms ago\.$"))
     browser.script("document.activeElement.blur()")
-    eventually(browser, "and no more once the focus is elsewhere", CHANGE_TIP, "")
-    browser.script(FOCUS, "#value-R5")
+    eventually(browser, "and no more once the focus is elsewhere", GET_CHANGE_TIP, "")
+    browser.script(MOVE_FOCUS, "#value-R5")
     instruction = re.compile(r"^R5: from . to . by ([0-9A-F]{3}) \(.*line \d+\), (.*) ago\.$")
-    tip = browser.until(CHANGE_TIP, instruction)
+    tip = browser.until(GET_CHANGE_TIP, instruction)
     verdict("or the instruction", tip, instruction)
     browser.script("document.getElementById('change-place').value = 'r5'")
     browser.click("#back-change")
     address, cycles = instruction.search(tip).groups()
-    eventually(browser, "going back to the change leads there", WHOLE_STATUS, re.compile(f"^Back at {address} .*, {re.escape(cycles)} earlier"))
+    eventually(browser, "going back to the change leads there", GET_WHOLE_STATUS, re.compile(f"^Back at {address} .*, {re.escape(cycles)} earlier"))
     browser.click("#forward")
 
 
-HEAT = "return document.getElementById('heat-status').textContent"
-CHOOSE = """
+GET_HEAT_STATUS = "return document.getElementById('heat-status').textContent"
+CHOOSE_OPTION = """
 const field = document.getElementById(arguments[0]);
 field.value = arguments[1];
 field.dispatchEvent(new Event("change"))"""
-WARM = "return [...document.querySelectorAll('.ram [data-warmth]')].map((cell) => `${cell.dataset.warmth} ${cell.title}`)"
+GET_WARM_CELLS = "return [...document.querySelectorAll('.ram [data-warmth]')].map((cell) => `${cell.dataset.warmth} ${cell.title}`)"
 # Worked out manually: 6 of the 100 cycles precede the WRM at 006, which overwrites 3 with 7.
 HEATED = "once by 006 (turn + 4, line 6), 94 cycles, 1.015 ms ago"
 
@@ -171,27 +171,27 @@ def check_heat(browser):
     lines_answered(browser, "run 100")
     names = "return [...document.querySelectorAll('.cell-names:not([hidden])')].map((line) => line.textContent)"
     eventually(browser, "a character has the name that the source gives it", names, ["2 digit"])
-    browser.script(CHOOSE, "heat", "often")
-    browser.script(CHOOSE, "heat-cycles", "some")
-    eventually(browser, "a number of cycles is wanted", HEAT, re.compile("^Enter a number of cycles"))
-    browser.script(CHOOSE, "heat-cycles", "100")
-    eventually(browser, "what changed is reported", HEAT, f"In the last 100 cycles, 1.080 ms, one character has changed: digit, {HEATED}.")
+    browser.script(CHOOSE_OPTION, "heat", "often")
+    browser.script(CHOOSE_OPTION, "heat-cycles", "some")
+    eventually(browser, "a number of cycles is wanted", GET_HEAT_STATUS, re.compile("^Enter a number of cycles"))
+    browser.script(CHOOSE_OPTION, "heat-cycles", "100")
+    eventually(browser, "what changed is reported", GET_HEAT_STATUS, f"In the last 100 cycles, 1.080 ms, one character has changed: digit, {HEATED}.")
     cell = f"5 digit, bank 0, chip 0, register 1, character 2: SRC byte 12; changed {HEATED}"
-    eventually(browser, "and its cell is warm, and reports it", WARM, [cell])
+    eventually(browser, "and its cell is warm, and reports it", GET_WARM_CELLS, [cell])
     browser.click("#run")
-    eventually(browser, "what changes is counted while time runs", HEAT, "Counted while running.")
-    eventually(browser, "and is warm for as long as is wanted", WARM, [])
-    browser.script(CHOOSE, "heat-cycles", "1,000,000")
+    eventually(browser, "what changes is counted while time runs", GET_HEAT_STATUS, "Counted while running.")
+    eventually(browser, "and is warm for as long as is wanted", GET_WARM_CELLS, [])
+    browser.script(CHOOSE_OPTION, "heat-cycles", "1,000,000")
     lines_answered(browser, "poke ram.0.0x12 3")
-    eventually(browser, "a cell gets warm as it changes", WARM, re.compile(r"^\['5 digit, .* SRC byte 12; changed once as seen while running, last seen by 006 .*, line 6\)'\]$"))
-    browser.script(CHOOSE, "heat-cycles", "100")
-    eventually(browser, "and others where another stretch is chosen", WARM, [])
+    eventually(browser, "a cell gets warm as it changes", GET_WARM_CELLS, re.compile(r"^\['5 digit, .* SRC byte 12; changed once as seen while running, last seen by 006 .*, line 6\)'\]$"))
+    browser.script(CHOOSE_OPTION, "heat-cycles", "100")
+    eventually(browser, "and others where another stretch is chosen", GET_WARM_CELLS, [])
     browser.click("#run")
-    eventually(browser, "and it is counted anew once it stops", HEAT, re.compile("^In the last 100 cycles, 1.080 ms, no character"))
+    eventually(browser, "and it is counted anew once it stops", GET_HEAT_STATUS, re.compile("^In the last 100 cycles, 1.080 ms, no character"))
     lines_answered(browser, "poke st.0.1.2 4\nstep")
-    eventually(browser, "also what a line did", WARM, re.compile("status character 2; changed once by the line poke st.0.1.2 4"))
-    browser.script(CHOOSE, "heat", "")
-    eventually(browser, "and none where it is not wanted", WARM, [])
+    eventually(browser, "also what a line did", GET_WARM_CELLS, re.compile("status character 2; changed once by the line poke st.0.1.2 4"))
+    browser.script(CHOOSE_OPTION, "heat", "")
+    eventually(browser, "and none where it is not wanted", GET_WARM_CELLS, [])
 
 
 def check(browser, page, _folder, _mcs4):

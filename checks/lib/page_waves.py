@@ -8,28 +8,28 @@ import re
 import subprocess
 import time
 
-from page_in_browser import NOTICE, STATUS, choose_example, lines_answered, of_file_menu, show_text, stop_time, until_ready
+from page_in_browser import GET_NOTICE, GET_STATUS, choose_example, lines_answered, of_file_menu, show_text, stop_time, until_ready
 from picture import write_picture
 from verdicts import eventually, verdict
 
 TOP = pathlib.Path(__file__).resolve().parent.parent.parent
-SCOPE_STATUS = "return document.getElementById('scope-status').textContent"
-BETWEEN = "return document.getElementById('wave-between').textContent"
-FIRST = "return document.getElementById('wave-first').textContent"
-SPOKEN = "return document.getElementById('wave-canvas').getAttribute('aria-valuetext')"
-NAMES = "return [...document.querySelectorAll('#wave-table th')].map((each) => each.textContent).join(' ')"
+GET_SCOPE_STATUS = "return document.getElementById('scope-status').textContent"
+GET_SPAN = "return document.getElementById('wave-between').textContent"
+GET_FIRST_CYCLE = "return document.getElementById('wave-first').textContent"
+GET_SPOKEN = "return document.getElementById('wave-canvas').getAttribute('aria-valuetext')"
+GET_NAMES = "return [...document.querySelectorAll('#wave-table th')].map((each) => each.textContent).join(' ')"
 LEFT, RIGHT, DOWN, HOME, END, ENTER = "\ue012", "\ue014", "\ue015", "\ue011", "\ue010", "\ue007"
 
 # Selects only the given lines.
-CHOOSE = """
+CHOOSE_LINES = """
 document.getElementById("wave-choice").open = true;
 document.getElementById("wave-choice").dispatchEvent(new Event("toggle"));
 document.getElementById("waves-none").click();
 for (const box of document.querySelectorAll("#wave-boxes input")) if (arguments[0].includes(box.name)) box.click();
 document.getElementById("wave-choice").open = false;"""
-FOCUS = "document.getElementById('wave-canvas').focus({ preventScroll: true })"
+FOCUS_CANVAS = "document.getElementById('wave-canvas').focus({ preventScroll: true })"
 # The number of colours on the canvas, without transparent pixels.
-PAINTED = """
+COUNT_COLOURS = """
 const canvas = document.getElementById("wave-canvas");
 const { data } = canvas.getContext("2d").getImageData(0, 0, canvas.width, canvas.height);
 const found = new Set();
@@ -43,7 +43,7 @@ def record(browser, cycles, where="after"):
     browser.script("document.getElementById('record-cycles').value = arguments[0]; document.getElementById('scope-status').firstChild.data = ''",
                    str(cycles))
     browser.click("#record")
-    return browser.until(SCOPE_STATUS, re.compile("."), 60)
+    return browser.until(GET_SCOPE_STATUS, re.compile("."), 60)
 
 
 def look_for(browser, words):
@@ -82,21 +82,21 @@ def check_stopwatch(browser):
     lines_answered(browser, "test 0")
     verdict("a recording", record(browser, 30000), "30,000 cycles recorded, 324.000 ms.")
     verdict("time stands still then", browser.text("#run"), "Continue")
-    browser.script(CHOOSE, ["lamp15"])
-    eventually(browser, "the lamp of the last digit", NAMES, "lamp15")
-    browser.script(FOCUS)
+    browser.script(CHOOSE_LINES, ["lamp15"])
+    eventually(browser, "the lamp of the last digit", GET_NAMES, "lamp15")
+    browser.script(FOCUS_CANVAS)
     browser.keys(["n", "n", "b", HOME, "n"], 1, 1)
-    eventually(browser, "from edge to edge it takes 926 cycles", BETWEEN, "A to B: 926 cycles, 10.001 ms")
+    eventually(browser, "from edge to edge it takes 926 cycles", GET_SPAN, "A to B: 926 cycles, 10.001 ms")
     browser.keys(["n", "n", "p"], 1, 1)
-    eventually(browser, "edges forward and back", BETWEEN, "A to B: 0 cycles, 0.000 ms")
+    eventually(browser, "edges forward and back", GET_SPAN, "A to B: 0 cycles, 0.000 ms")
     browser.keys([*["n"] * 10], 1, 1)
-    eventually(browser, "ten of them", BETWEEN, "A to B: 9,260 cycles, 100.008 ms")
+    eventually(browser, "ten of them", GET_SPAN, "A to B: 9,260 cycles, 100.008 ms")
     browser.keys([LEFT], 1, 1)
-    eventually(browser, "the cursor by a cycle", BETWEEN, "A to B: 9,259 cycles, 99.997 ms")
-    eventually(browser, "the value in words", SPOKEN, re.compile(r"^lamp15 is [01], cycle [0-9,]+, [0-9A-F]{3} E1 WMP; line \d+ of the source: WMP"))
+    eventually(browser, "the cursor by a cycle", GET_SPAN, "A to B: 9,259 cycles, 99.997 ms")
+    eventually(browser, "the value in words", GET_SPOKEN, re.compile(r"^lamp15 is [01], cycle [0-9,]+, [0-9A-F]{3} E1 WMP; line \d+ of the source: WMP"))
     browser.keys([RIGHT, "0", "+", "+", END], 1, 1)
     eventually(browser, "the end of the recording", "return document.getElementById('wave-canvas').getAttribute('aria-valuenow')", "30000")
-    verdict("something is painted", browser.script(PAINTED) > 3, True)
+    verdict("something is painted", browser.script(COUNT_COLOURS) > 3, True)
     browser.click("#wave-values summary")
     eventually(browser, "the values at the cursors", "return document.getElementById('wave-table').textContent", re.compile("^lamp15[01][01]$"))
 
@@ -104,15 +104,15 @@ def check_stopwatch(browser):
 def check_long(browser):
     """Checks a recording of half a minute, whose last hundredth of a second is as long as the first."""
     verdict("a long recording", record(browser, 3000000), "3,000,000 cycles recorded, 32.400 s.")
-    browser.script(FOCUS)
+    browser.script(FOCUS_CANVAS)
     browser.keys(["a", END, "p", "b", END, "p", "p"], 1, 1)
-    eventually(browser, "its last hundredth of a second", BETWEEN, "A to B: 926 cycles, 10.001 ms")
-    eventually(browser, "stands where it has to", FIRST, re.compile("^A: cycle 2,999,[0-9]{3}, "))
+    eventually(browser, "its last hundredth of a second", GET_SPAN, "A to B: 926 cycles, 10.001 ms")
+    eventually(browser, "stands where it has to", GET_FIRST_CYCLE, re.compile("^A: cycle 2,999,[0-9]{3}, "))
 
 
 def check_click(browser):
     """Checks that a click on the waves moves the cursor there."""
-    browser.script(FOCUS)
+    browser.script(FOCUS_CANVAS)
     browser.keys(["a", HOME, "b", HOME, "0"], 1, 1)
     eventually(browser, "the cursor at the beginning", "return document.getElementById('wave-canvas').getAttribute('aria-valuenow')", "0")
     box = browser.script("const b = document.getElementById('wave-canvas').getBoundingClientRect(); return [b.width, b.height]")
@@ -126,7 +126,7 @@ def check_click(browser):
     eventually(browser, "and shows the instruction there", "return document.getElementById('wave-second').textContent",
                re.compile(rf"^B: cycle {found:,}, [0-9.]+ m?s: [0-9A-F]{{3}} .*line \d+ of the source: "))
     address = browser.text("#wave-second").split("s: ")[1][:3]
-    browser.script(FOCUS)
+    browser.script(FOCUS_CANVAS)
     browser.keys([ENTER], 1, 1)
     eventually(browser, "the listing shows it", "return document.getElementById('lines-of-program').textContent", re.compile(address))
 
@@ -139,9 +139,9 @@ def check_file(browser, folder, mcs4):
     session.write_bytes(saved(browser, folder, "#save-session-button", "calculator.mcs"))
     board, program = TOP / "examples/calculator/board.toml", TOP / "examples/calculator/calculator.asm"
     verdict("the calculator is recorded", record(browser, 3000), re.compile("^3,000 cycles recorded"))
-    verdict("the lines that change are shown, and the decoders", browser.script(NAMES),
+    verdict("the lines that change are shown, and the decoders", browser.script(GET_NAMES),
             re.compile(r"^rom0\.0 rom0\.1 chain0\.0 .*shift\.chain0 .*scan\.keys pc label$"))
-    browser.script(CHOOSE, ["acc", "cy", "r5", "p2", "dcl", "src"])
+    browser.script(CHOOSE_LINES, ["acc", "cy", "r5", "p2", "dcl", "src"])
     for name in ("ram 0 0x12", "st 0 1 2"):
         look_for(browser, name)
         browser.script("document.querySelector('#wave-boxes input').click()")
@@ -150,14 +150,14 @@ def check_file(browser, folder, mcs4):
                "acc, cy, r5 .. are recorded from the next recording on.")
     verdict("they are recorded", record(browser, 3000), re.compile("^3,000 cycles recorded"))
     browser.script("document.getElementById('waves-all').click()")
-    names = browser.script(NAMES).split(" ")
+    names = browser.script(GET_NAMES).split(" ")
     values = {"acc", "cy", "r5", "p2", "dcl", "src", "ram.0.0x12", "st.0.1.2", "rom0[3:0]", "ram0.0[3:0]", "chain1[39:0]"}
     verdict("values can be chosen", values <= set(names), True)
     verdict("all lines can be chosen", {"rom1.3", "ram0.0.3", "chain1.39", "lamp.minus", "lamp42", "key.CE", "key3.3", "test", "shift.chain1"} <= set(names), True)
     written = saved(browser, folder, "#save-waves", "calculator.vcd")
     verdict("the file has what mcs4 wave writes", written == wave(mcs4, "--board", board, "--names", program, session, "3000", *names), True)
     chosen = ["rom0.0", "chain0.4", "key.CE", "rom0[3:0]", "p2", "pc"]
-    browser.script(CHOOSE, chosen)
+    browser.script(CHOOSE_LINES, chosen)
     written = saved(browser, folder, "#save-waves", "calculator.vcd")
     verdict("the same for some lines", written == wave(mcs4, "--board", board, session, "3000", *chosen), True)
     verdict("the session is as it was", saved(browser, folder, "#save-session-button", "calculator.mcs") == session.read_bytes(), True)
@@ -169,21 +169,21 @@ def check_before(browser):
     stop_time(browser)
     lines_answered(browser, "run 300\npress 0 0\nrun 5000\nrelease 0 0\nrun 3000")
     verdict("what was before this stop", record(browser, 8200, "before"), "8,200 cycles recorded, 88.560 ms.")
-    browser.script(CHOOSE, ["key.7", "pc"])
-    browser.script(FOCUS)
+    browser.script(CHOOSE_LINES, ["key.7", "pc"])
+    browser.script(FOCUS_CANVAS)
     browser.keys(["a", HOME, "n"], 1, 1)
-    eventually(browser, "the key goes down", SPOKEN, re.compile("^key.7 is 1, cycle [1-9]"))
+    eventually(browser, "the key goes down", GET_SPOKEN, re.compile("^key.7 is 1, cycle [1-9]"))
     browser.keys(["b", HOME, "n", "n"], 1, 1)
-    eventually(browser, "and up again", SPOKEN, re.compile("^key.7 is 0, cycle [1-9]"))
-    verdict("after 5,000 cycles", browser.script(BETWEEN), "A to B: 5,000 cycles, 54.000 ms")
+    eventually(browser, "and up again", GET_SPOKEN, re.compile("^key.7 is 0, cycle [1-9]"))
+    verdict("after 5,000 cycles", browser.script(GET_SPAN), "A to B: 5,000 cycles, 54.000 ms")
     browser.keys([HOME], 1, 1)
     browser.script("const f = document.getElementById('wave-search'); f.value = 'key scan = 7'; document.getElementById('find-after').click()")
-    eventually(browser, "the key scan has found it", SPOKEN, re.compile(r"^scan\.keys is row 0: 7, cycle [1-9]"))
+    eventually(browser, "the key scan has found it", GET_SPOKEN, re.compile(r"^scan\.keys is row 0: 7, cycle [1-9]"))
 
 
 # Fills in fields of the waves, by id.
-FILL = "for (const [id, value] of Object.entries(arguments[0])) document.getElementById(id).value = value"
-COUNT = "return document.getElementById('scope-count').textContent"
+FILL_FIELDS = "for (const [id, value] of Object.entries(arguments[0])) document.getElementById(id).value = value"
+GET_COUNT = "return document.getElementById('scope-count').textContent"
 
 
 def check_live(browser, folder, mcs4):
@@ -192,29 +192,29 @@ def check_live(browser, folder, mcs4):
     stop_time(browser)
     session = folder / "live.mcs"
     session.write_bytes(saved(browser, folder, "#save-session-button", "calculator.mcs"))
-    browser.script(FILL, {"trigger": "", "behind": "500"})
+    browser.script(FILL_FIELDS, {"trigger": "", "behind": "500"})
     verdict("before time runs", record(browser, 1000000, "live"), "Records as soon as the machine runs.")
     browser.click("#run")
-    eventually(browser, "it records", SCOPE_STATUS, "Recording.")
-    eventually(browser, "and counts what it has", COUNT, re.compile(r"^[0-9,]{4,} cycles, [0-9.]+ m?s$"))
-    eventually(browser, "time runs on", STATUS, re.compile("^Running \""))
+    eventually(browser, "it records", GET_SCOPE_STATUS, "Recording.")
+    eventually(browser, "and counts what it has", GET_COUNT, re.compile(r"^[0-9,]{4,} cycles, [0-9.]+ m?s$"))
+    eventually(browser, "time runs on", GET_STATUS, re.compile("^Running \""))
     eventually(browser, "the tab says so", "return document.getElementById('waves-tab').textContent", "Wavesrecords")
     browser.click("#keys button")
     eventually(browser, "keys work", "return document.getElementById('digits').textContent", re.compile("7"))
     browser.click("#run")
-    eventually(browser, "so does Stop", STATUS, re.compile("^Paused"))
+    eventually(browser, "so does Stop", GET_STATUS, re.compile("^Paused"))
     browser.click("#record")
-    status = browser.until(SCOPE_STATUS, re.compile(r"^Recorded ([0-9,]+) cycles, .*\. Stopped by you\.$"))
+    status = browser.until(GET_SCOPE_STATUS, re.compile(r"^Recorded ([0-9,]+) cycles, .*\. Stopped by you\.$"))
     count = re.match(r"Recorded ([0-9,]+) ", status)[1].replace(",", "")
-    browser.script(CHOOSE, ["key.7"])
-    browser.script(FOCUS)
+    browser.script(CHOOSE_LINES, ["key.7"])
+    browser.script(FOCUS_CANVAS)
     browser.keys(["a", HOME, "n", "b", HOME, "n", "n"], 1, 1)
-    eventually(browser, "the key is there, down for 4,000 cycles at least", BETWEEN, re.compile(r"^A to B: ([4-9],|[0-9]+[0-9],)[0-9]{3} cycles"))
+    eventually(browser, "the key is there, down for 4,000 cycles at least", GET_SPAN, re.compile(r"^A to B: ([4-9],|[0-9]+[0-9],)[0-9]{3} cycles"))
     down, up = (int(browser.script(f"return document.getElementById('{id}').textContent").split("cycle ")[1].split(", ")[0].replace(",", ""))
                 for id in ("wave-first", "wave-second"))
     names = ["rom0.0", "rom0[3:0]", "chain0[9:0]", "chain1.39", "lamp.minus", "pc"]
-    browser.script(CHOOSE, names)
-    names = browser.script(NAMES).split(" ")
+    browser.script(CHOOSE_LINES, names)
+    names = browser.script(GET_NAMES).split(" ")
     written = saved(browser, folder, "#save-waves", "calculator.vcd")
     board = TOP / "examples/calculator/board.toml"
     begun = wave(mcs4, "--board", board, session, count, *names)
@@ -257,29 +257,29 @@ def check_triggers(browser):
     choose_example(browser, "stopwatch")
     lines_answered(browser, "test 0")
     stop_time(browser)
-    browser.script(FILL, {"trigger": "lamp15 rises", "behind": "1000"})
+    browser.script(FILL_FIELDS, {"trigger": "lamp15 rises", "behind": "1000"})
     browser.script("document.getElementById('stops-time').checked = true")
     verdict("it waits for its trigger", record(browser, 3000, "live"), "Records as soon as the machine runs. Waiting for lamp15 rises.")
     browser.click("#run")
-    status = browser.until(SCOPE_STATUS, re.compile(r"^Recorded [0-9,]+ cycles, .*\. The trigger was at cycle [0-9,]+\.$"))
-    eventually(browser, "time stops with it", STATUS, re.compile(r"^Paused at .*, because the waves after the trigger have been recorded\.$"))
-    browser.script(CHOOSE, ["lamp15"])
+    status = browser.until(GET_SCOPE_STATUS, re.compile(r"^Recorded [0-9,]+ cycles, .*\. The trigger was at cycle [0-9,]+\.$"))
+    eventually(browser, "time stops with it", GET_STATUS, re.compile(r"^Paused at .*, because the waves after the trigger have been recorded\.$"))
+    browser.script(CHOOSE_LINES, ["lamp15"])
     at = re.search(r"at cycle ([0-9,]+)", status)[1]
-    eventually(browser, "the cursor stands at the trigger", FIRST, re.compile(f"^A: cycle {at}, "))
-    eventually(browser, "where the lamp has become lit", SPOKEN, re.compile(f"^lamp15 is 1, cycle {at}, "))
-    browser.script(FOCUS)
+    eventually(browser, "the cursor stands at the trigger", GET_FIRST_CYCLE, re.compile(f"^A: cycle {at}, "))
+    eventually(browser, "where the lamp has become lit", GET_SPOKEN, re.compile(f"^lamp15 is 1, cycle {at}, "))
+    browser.script(FOCUS_CANVAS)
     browser.keys(["b", END], 1, 1)
-    eventually(browser, "a thousand cycles before the end", BETWEEN, "A to B: 1,000 cycles, 10.800 ms")
+    eventually(browser, "a thousand cycles before the end", GET_SPAN, "A to B: 1,000 cycles, 10.800 ms")
     browser.keys(["a", LEFT], 1, 1)
-    eventually(browser, "and was dark before", SPOKEN, re.compile("^lamp15 is 0, "))
+    eventually(browser, "and was dark before", GET_SPOKEN, re.compile("^lamp15 is 0, "))
     for words, fault in (("lamp77 rises", "The trigger is not understood: nothing here is called lamp77"),
                          ("r5 = 16", "The trigger is not understood: "), ("@nowhere", "The trigger is not understood: ")):
-        browser.script(FILL, {"trigger": words})
+        browser.script(FILL_FIELDS, {"trigger": words})
         verdict(f"the trigger {words} is reported", record(browser, 3000, "live"), re.compile(f"^{re.escape(fault)}"))
         verdict(f"at its field, {words}", browser.script("return document.getElementById('trigger').getAttribute('aria-invalid')"), "true")
-    browser.script(FILL, {"trigger": "lamp15 rises", "behind": "4000"})
+    browser.script(FILL_FIELDS, {"trigger": "lamp15 rises", "behind": "4000"})
     verdict("more behind than is kept", record(browser, 3000, "live"), "3,000 cycles are kept: at most that many can follow the trigger.")
-    browser.script(FILL, {"trigger": "", "behind": "500"})
+    browser.script(FILL_FIELDS, {"trigger": "", "behind": "500"})
     browser.script("document.getElementById('stops-time').checked = false")
 
 
@@ -288,54 +288,54 @@ def check_search(browser):
     found = "return document.getElementById('wave-search-status').textContent"
     choose_example(browser, "stopwatch")
     lines_answered(browser, "test 0")
-    browser.script(CHOOSE, ["r3"])
+    browser.script(CHOOSE_LINES, ["r3"])
     verdict("a register is recorded", record(browser, 30000), re.compile("^30,000 cycles recorded"))
-    browser.script(FOCUS)
+    browser.script(FOCUS_CANVAS)
     browser.keys(["a", HOME, "/"], 1, 1)
     eventually(browser, "a key goes to the search", "return document.activeElement.id", "wave-search")
-    browser.script(FILL, {"wave-search": ""})
+    browser.script(FILL_FIELDS, {"wave-search": ""})
     browser.type_into("#wave-search", "r3 = 9" + ENTER)
-    eventually(browser, "the value is found", SPOKEN, re.compile("^r3 is 9, cycle [1-9]"))
+    eventually(browser, "the value is found", GET_SPOKEN, re.compile("^r3 is 9, cycle [1-9]"))
     first = browser.text("#wave-first")
     browser.type_into("#wave-search", ENTER)
     eventually(browser, "the next one is another", f"return document.getElementById('wave-first').textContent === {first!r}", False)
     browser.click("#find-before")
-    eventually(browser, "and back to the first", FIRST, first)
+    eventually(browser, "and back to the first", GET_FIRST_CYCLE, first)
     for words, fault in (("r77 = 3", "Nothing that was recorded is called r77: select it and record again."),
                          ("r3 = 16", "r3 has 4 bits: its value is at most 15."), ("cy = 1", "Nothing that was recorded is called cy"),
                          ("@nowhere", "The program of this recording has no label nowhere.")):
-        browser.script(FILL, {"wave-search": words})
+        browser.script(FILL_FIELDS, {"wave-search": words})
         browser.click("#find-after")
         eventually(browser, f"{words} is reported", found, re.compile(f"^{re.escape(fault)}"))
-    browser.script(FILL, {"wave-search": "lamp0 = 1"})
-    browser.script(FOCUS)
+    browser.script(FILL_FIELDS, {"wave-search": "lamp0 = 1"})
+    browser.script(FOCUS_CANVAS)
     browser.keys([END], 1, 1)
     browser.click("#find-after")
     eventually(browser, "what does not come is reported", found, "lamp0 = 1: not after cycle 30,000 of this recording.")
 
 
 # The centre of a row, at a distance in pixels from its left end.
-PLACE = """
+GET_PLACE = """
 const { left, top } = document.getElementById("wave-canvas").getBoundingClientRect();
 return [Math.round(left + arguments[0]), Math.round(top + 26 * (1.35 + arguments[1]))]"""
 # The stored arrangement of the rows: their order, a title, a group, and the folded groups.
-STORED_ROWS = """
+READ_STORED_ROWS = """
 return new Promise((done) => {
   indexedDB.open("fethsaim", 1).onsuccess = ({ target: { result: database } }) => {
-    const asked = database.transaction("sessions").objectStore("sessions").get(location.hash.slice("#session=".length));
-    asked.onsuccess = () => {
-      const { order = [], looks = {}, folded = [] } = asked.result?.rows || {};
+    const request = database.transaction("sessions").objectStore("sessions").get(location.hash.slice("#session=".length));
+    request.onsuccess = () => {
+      const { order = [], looks = {}, folded = [] } = request.result?.rows || {};
       database.close();
       done([...order, looks.lamp13?.title, looks.lamp15?.group, ...folded]);
     };
   };
 })"""
-MEASURED = "const shown = document.getElementById('wave-measure'); return shown.hidden ? '' : shown.textContent"
+GET_MEASURED = "const shown = document.getElementById('wave-measure'); return shown.hidden ? '' : shown.textContent"
 
 
 def at(browser, x, row, *more, kind="mouse"):
     """Moves the pointer to a row and performs actions there."""
-    place = dict(zip(("x", "y"), browser.script(PLACE, x, row)))
+    place = dict(zip(("x", "y"), browser.script(GET_PLACE, x, row)))
     browser.actions({"type": "pointer", "id": f"waves-{kind}", "parameters": {"pointerType": kind},
                      "actions": [{"type": "pointerMove", "duration": 0, **place}, *more]})
 
@@ -345,16 +345,16 @@ CLICK = ({"type": "pointerDown", "button": 0}, {"type": "pointerUp", "button": 0
 
 def cycles_between(browser, one, other):
     """Returns the cycles between two points of the picture, measured with the cursors."""
-    browser.script(FOCUS)
+    browser.script(FOCUS_CANVAS)
     for key, x in (("a", one), ("b", other)):
         browser.keys([key], 1, 1)
         at(browser, x, -1, *CLICK)
     time.sleep(0.1)
-    return int(re.search("A to B: ([0-9,]+)", browser.script(BETWEEN))[1].replace(",", ""))
+    return int(re.search("A to B: ([0-9,]+)", browser.script(GET_SPAN))[1].replace(",", ""))
 
 
 def turn(browser, x, row, down, across=0):
-    x, y = browser.script(PLACE, x, row)
+    x, y = browser.script(GET_PLACE, x, row)
     browser.actions({"type": "wheel", "id": "wheel", "actions": [
         {"type": "scroll", "x": x, "y": y, "deltaX": across, "deltaY": down, "duration": 0, "origin": "viewport"}]})
 
@@ -365,14 +365,14 @@ def check_pointer(browser):
     choose_example(browser, "stopwatch")
     lines_answered(browser, "test 0")
     record(browser, 5000)
-    browser.script(CHOOSE, ["lamp13", "lamp14", "lamp15"])
-    eventually(browser, "three rows", NAMES, "lamp13 lamp14 lamp15")
+    browser.script(CHOOSE_LINES, ["lamp13", "lamp14", "lamp15"])
+    eventually(browser, "three rows", GET_NAMES, "lamp13 lamp14 lamp15")
     width = browser.script("return document.getElementById('wave-canvas').clientWidth")
     at(browser, 150 + (width - 150) * 0.5, 2)
-    eventually(browser, "what is under the pointer is measured", MEASURED,
+    eventually(browser, "what is under the pointer is measured", GET_MEASURED,
                re.compile(r"^[01] for 926 cycles, 10\.001 ms; period 1,852 cycles, 20\.002 ms, 50\.00 Hz$"))
     at(browser, 40, 2)
-    eventually(browser, "at the names nothing is", MEASURED, "")
+    eventually(browser, "at the names nothing is", GET_MEASURED, "")
     before = cycles_between(browser, 250, 350)
     turn(browser, 250, 2, -100)
     now = cycles_between(browser, 250, 350)
@@ -382,33 +382,33 @@ def check_pointer(browser):
     turn(browser, 250, 2, -100)
     browser.click("#zoom-all")
     verdict("Fit shows all again", abs(cycles_between(browser, 250, 350) - before) < 2, True)
-    there = dict(zip(("x", "y"), browser.script(PLACE, 40, 0)))
+    there = dict(zip(("x", "y"), browser.script(GET_PLACE, 40, 0)))
     at(browser, 40, 2, {"type": "pointerDown", "button": 0}, {"type": "pointerMove", "duration": 50, **there}, {"type": "pointerUp", "button": 0})
-    eventually(browser, "a row is dragged by its name", NAMES, "lamp15 lamp13 lamp14")
-    browser.click_secondary(*browser.script(PLACE, 40, 1))
+    eventually(browser, "a row is dragged by its name", GET_NAMES, "lamp15 lamp13 lamp14")
+    browser.click_secondary(*browser.script(GET_PLACE, 40, 1))
     eventually(browser, "a row has a menu", "return document.activeElement.textContent", "Rename")
     browser.keys([ENTER])
     browser.keys([*"tens", ENTER])
-    eventually(browser, "by which it is named", NAMES, "lamp15 tens lamp14")
+    eventually(browser, "by which it is named", GET_NAMES, "lamp15 tens lamp14")
     browser.chord("\ue00a", DOWN)
-    eventually(browser, "Alt and an arrow move the row that is marked", NAMES, "lamp15 lamp14 tens")
-    browser.click_secondary(*browser.script(PLACE, 40, 0))
+    eventually(browser, "Alt and an arrow move the row that is marked", GET_NAMES, "lamp15 lamp14 tens")
+    browser.click_secondary(*browser.script(GET_PLACE, 40, 0))
     browser.until("return document.activeElement.textContent", "Rename")
     browser.keys([DOWN, ENTER])
     browser.keys([*"digit", ENTER])
-    eventually(browser, "a group has a row of its own", SPOKEN, re.compile("^lamp15 is "))
+    eventually(browser, "a group has a row of its own", GET_SPOKEN, re.compile("^lamp15 is "))
     browser.keys(["\ue013"])
-    eventually(browser, "its heading", SPOKEN, re.compile("^group digit, cycle "))
+    eventually(browser, "its heading", GET_SPOKEN, re.compile("^group digit, cycle "))
     browser.keys([ENTER])
-    eventually(browser, "Enter folds it", NAMES, "lamp14 tens")
+    eventually(browser, "Enter folds it", GET_NAMES, "lamp14 tens")
     browser.keys([ENTER])
-    eventually(browser, "and unfolds it", NAMES, "lamp15 lamp14 tens")
-    eventually(browser, "the arrangement is stored", STORED_ROWS, ["lamp15", "lamp14", "lamp13", "tens", "digit"])
+    eventually(browser, "and unfolds it", GET_NAMES, "lamp15 lamp14 tens")
+    eventually(browser, "the arrangement is stored", READ_STORED_ROWS, ["lamp15", "lamp14", "lamp13", "tens", "digit"])
     browser.reload()
     until_ready(browser)
     record(browser, 5000)
-    browser.script(CHOOSE, ["lamp13", "lamp14", "lamp15"])
-    eventually(browser, "a reload keeps how rows are arranged", NAMES, "lamp15 lamp14 tens")
+    browser.script(CHOOSE_LINES, ["lamp13", "lamp14", "lamp15"])
+    eventually(browser, "a reload keeps how rows are arranged", GET_NAMES, "lamp15 lamp14 tens")
 
 
 def check_pictures(browser, folder):
@@ -426,18 +426,18 @@ def check_refusals(browser):
     browser.script("document.getElementById('waves-none').click()")
     browser.click("#wave-files summary")
     browser.click("#save-waves")
-    eventually(browser, "a file of no line is refused", SCOPE_STATUS, "No line is chosen: choose the lines for the file.")
+    eventually(browser, "a file of no line is refused", GET_SCOPE_STATUS, "No line is chosen: choose the lines for the file.")
     browser.script("document.getElementById('record-cycles').value = '10000000'; document.getElementById('scope-status').firstChild.data = ''")
     browser.script("document.getElementById('record-where').value = 'after'")
     browser.click("#record")
     browser.until("return document.getElementById('work').hidden", False)
     browser.script("document.getElementById('cancel').click()")
-    verdict("a recording is cancelled", browser.until(SCOPE_STATUS, re.compile(".")), re.compile("cancelled, and nothing was recorded|10,000,000 cycles recorded"))
+    verdict("a recording is cancelled", browser.until(GET_SCOPE_STATUS, re.compile(".")), re.compile("cancelled, and nothing was recorded|10,000,000 cycles recorded"))
     choose_example(browser, "empty bench")
     stop_time(browser)
     verdict("another session has no recording", browser.script("return document.getElementById('waves').hidden"), True)
     verdict("a bench without a program", record(browser, 10), re.compile("^10 cycles recorded"))
-    verdict("no notice", browser.script(NOTICE), "")
+    verdict("no notice", browser.script(GET_NOTICE), "")
 
 
 def check(browser, page, folder, mcs4):
@@ -465,11 +465,11 @@ def take_picture(browser, page, path):
     choose_example(browser, "stopwatch")
     lines_answered(browser, "test 0")
     record(browser, 5000)
-    browser.script(CHOOSE, ["lamp12", "lamp13", "lamp14", "lamp15", "label"])
+    browser.script(CHOOSE_LINES, ["lamp12", "lamp13", "lamp14", "lamp15", "label"])
     browser.script("document.getElementById('wave-choice').open = false")
-    browser.script(FOCUS)
+    browser.script(FOCUS_CANVAS)
     browser.keys(["0", "a", HOME, *[DOWN] * 3, "n", "n", "b", HOME, "n", "n", "n"], 1, 1)
-    browser.until(BETWEEN, re.compile("926 cycles"))
+    browser.until(GET_SPAN, re.compile("926 cycles"))
     browser.script("document.activeElement.blur()")
     box = browser.script("const b = document.getElementById('scope').getBoundingClientRect(); return [b.x + scrollX, b.y + scrollY, b.width, b.height]")
     clip = dict(zip(("x", "y", "width", "height", "scale"), [*box, 1]))

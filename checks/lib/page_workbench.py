@@ -3,21 +3,21 @@ page remembers the layout, and can reset it."""
 
 import re
 
-from page_in_browser import ENTER, ESCAPE, STATUS, choose_example, open_anew, show_text, stop_time, until_ready
+from page_in_browser import ENTER, ESCAPE, GET_STATUS, choose_example, open_anew, show_text, stop_time, until_ready
 from verdicts import eventually, verdict
 
 HOME, UP, RIGHT, LEFT, F1 = "\ue011", "\ue013", "\ue014", "\ue012", "\ue031"
 END, BACKSPACE, CONTROL = "\ue010", "\ue003", "\ue009"
-DRAWING_STATUS = "return document.getElementById('drawing-status').textContent"
-SOURCE = "return document.querySelector('#program-editor .cm-editor').lineEditor.getValue()"
-TESTS = "return document.querySelector('#tests-editor .cm-editor').lineEditor.getValue()"
-SIZE = """
+GET_DRAWING_STATUS = "return document.getElementById('drawing-status').textContent"
+GET_SOURCE = "return document.querySelector('#program-editor .cm-editor').lineEditor.getValue()"
+GET_TESTS = "return document.querySelector('#tests-editor .cm-editor').lineEditor.getValue()"
+MEASURE_PANEL = """
 const { width, height } = document.getElementById(arguments[0]).getBoundingClientRect();
 return Math.round(arguments[1] === "vertical" ? width : height)"""
-MIDDLE = """
+GET_MIDDLE = """
 const box = document.getElementById(arguments[0]).getBoundingClientRect();
 return [Math.round(box.x + box.width / 2), Math.round(box.y + box.height / 2)]"""
-SHOWN = "return arguments[0].filter((id) => isShown(document.getElementById(id)))"
+GET_SHOWN = "return arguments[0].filter((id) => isShown(document.getElementById(id)))"
 PANELS = ["front", "texts", "dock", "processor", "calls", "watched", "breakpoints", "memory", "ports", "history"]
 # Each splitter with the panel that it resizes, its direction, and the pointer movement that enlarges the panel.
 BORDERS = (("front-splitter", "front", "vertical", (40, 0)), ("side-splitter", "side", "vertical", (-40, 0)),
@@ -25,7 +25,7 @@ BORDERS = (("front-splitter", "front", "vertical", (40, 0)), ("side-splitter", "
 
 
 def drag_by(browser, border, move, kind):
-    x, y = browser.script(MIDDLE, border)
+    x, y = browser.script(GET_MIDDLE, border)
     steps = [{"type": "pointerMove", "duration": 20, "x": x + move[0] * part // 4, "y": y + move[1] * part // 4} for part in range(1, 5)]
     browser.actions({"type": "pointer", "id": f"drag-{kind}", "parameters": {"pointerType": kind}, "actions": [
         {"type": "pointerMove", "duration": 0, "x": x, "y": y}, {"type": "pointerDown", "button": 0}, *steps, {"type": "pointerUp", "button": 0}]})
@@ -33,23 +33,23 @@ def drag_by(browser, border, move, kind):
 
 def check_borders(browser):
     for border, panel, way, move in BORDERS:
-        before = browser.script(SIZE, panel, way)
+        before = browser.script(MEASURE_PANEL, panel, way)
         for kind in ("mouse", "touch") if browser.has_fingers else ("mouse",):
             drag_by(browser, border, move, kind)
-            verdict(f"{border}: a {kind} makes {panel} larger", browser.script(SIZE, panel, way), before + 40)
+            verdict(f"{border}: a {kind} makes {panel} larger", browser.script(MEASURE_PANEL, panel, way), before + 40)
             drag_by(browser, border, tuple(-each for each in move), kind)
-            verdict(f"{border}: and smaller", browser.script(SIZE, panel, way), before)
+            verdict(f"{border}: and smaller", browser.script(MEASURE_PANEL, panel, way), before)
         browser.script("document.getElementById(arguments[0]).focus()", border)
         larger = {"front": RIGHT, "side": LEFT, "dock": UP, "calls": "\ue015"}[panel]
         browser.keys([larger, larger])
-        verdict(f"{border}: an arrow makes it larger", browser.script(SIZE, panel, way), before + 40)
+        verdict(f"{border}: an arrow makes it larger", browser.script(MEASURE_PANEL, panel, way), before + 40)
         verdict(f"{border}: its value is the size", browser.script("return document.activeElement.getAttribute('aria-valuenow')"), str(before + 40))
         browser.reload()
         until_ready(browser)
-        verdict(f"{border}: which is remembered", browser.script(SIZE, panel, way), before + 40)
+        verdict(f"{border}: which is remembered", browser.script(MEASURE_PANEL, panel, way), before + 40)
         browser.script("document.getElementById(arguments[0]).focus()", border)
         browser.keys([HOME])
-        verdict(f"{border}: Home gives the usual size", browser.script(SIZE, panel, way), before)
+        verdict(f"{border}: Home gives the usual size", browser.script(MEASURE_PANEL, panel, way), before)
 
 
 def in_menu(browser, panel, what):
@@ -61,18 +61,18 @@ def in_menu(browser, panel, what):
 
 def check_panels(browser):
     """Checks that each panel can be closed, reopened and maximised, and that a new page has the layout of the last one."""
-    verdict("all panels are there", browser.script(SHOWN, PANELS), PANELS)
+    verdict("all panels are there", browser.script(GET_SHOWN, PANELS), PANELS)
     for panel in PANELS:
         in_menu(browser, panel, "input")
-        verdict(f"{panel} is closed", browser.script(SHOWN, PANELS), [each for each in PANELS if each != panel])
+        verdict(f"{panel} is closed", browser.script(GET_SHOWN, PANELS), [each for each in PANELS if each != panel])
         if panel in ("front", "memory"):
             browser.reload()
             until_ready(browser)
-            verdict(f"{panel} stays closed", browser.script(SHOWN, [panel]), [])
+            verdict(f"{panel} stays closed", browser.script(GET_SHOWN, [panel]), [])
         in_menu(browser, panel, "input")
-        verdict(f"{panel} is open again", browser.script(SHOWN, PANELS), PANELS)
+        verdict(f"{panel} is open again", browser.script(GET_SHOWN, PANELS), PANELS)
         in_menu(browser, panel, "button")
-        verdict(f"{panel} is full size", browser.script(SIZE, panel, "vertical"), browser.script("return innerWidth"))
+        verdict(f"{panel} is full size", browser.script(MEASURE_PANEL, panel, "vertical"), browser.script("return innerWidth"))
         verdict(f"and nothing else of the bench is seen beside {panel}", browser.script("""
             return [...document.querySelectorAll("#front, #texts, #dock, #side > section")]
               .filter((each) => each.id !== arguments[0] && getComputedStyle(each).visibility === "visible").length""", panel), 0)
@@ -82,17 +82,17 @@ def check_panels(browser):
 
 def check_reset(browser):
     drag_by(browser, "side-splitter", (-60, 0), "mouse")
-    before = browser.script(SIZE, "side", "vertical")
+    before = browser.script(MEASURE_PANEL, "side", "vertical")
     in_menu(browser, "ports", "input")
     browser.click("#memory .fold")
     browser.click("#view-button")
     browser.click("#view-menu > button")
-    verdict("a reset opens what was closed", browser.script(SHOWN, PANELS), PANELS)
+    verdict("a reset opens what was closed", browser.script(GET_SHOWN, PANELS), PANELS)
     verdict("unfolds what was folded", browser.script("return document.querySelector('#memory .fold').getAttribute('aria-expanded')"), "true")
-    verdict("and gives borders their place", browser.script(SIZE, "side", "vertical") <= before - 60, True)
+    verdict("and gives borders their place", browser.script(MEASURE_PANEL, "side", "vertical") <= before - 60, True)
     browser.reload()
     until_ready(browser)
-    verdict("also after a reload", (browser.script(SHOWN, PANELS), browser.script(SIZE, "side", "vertical") <= before - 60), (PANELS, True))
+    verdict("also after a reload", (browser.script(GET_SHOWN, PANELS), browser.script(MEASURE_PANEL, "side", "vertical") <= before - 60), (PANELS, True))
 
 
 def check_arrangement(browser):
@@ -104,7 +104,7 @@ def check_arrangement(browser):
 # --- the first impression
 
 # True if a part of an element is visible: the element is shown, and no scrolling box hides all of it.
-IN_VIEW = """
+FIND_IN_VIEW = """
 const inView = (element) => {
   if (!element.getClientRects().length || getComputedStyle(element).visibility !== "visible") return false;
   let { left, top, right, bottom } = element.getBoundingClientRect();
@@ -120,14 +120,14 @@ const controls = [...document.querySelectorAll("button, input, select, textarea,
 """
 # Blocks that count as one control, because each is one tab stop: the board's keys, the registers, a RAM bank, the rows of the disassembly.
 BLOCKS = "#keys, .ram, .cells, .stack, #lines-of-program"
-CONTROLS = IN_VIEW + f"return new Set(controls.map((each) => each.closest('{BLOCKS}') || each)).size"
+COUNT_CONTROLS = FIND_IN_VIEW + f"return new Set(controls.map((each) => each.closest('{BLOCKS}') || each)).size"
 # A checkbox is as large as its label.
-SMALL = IN_VIEW + """
+FIND_SMALL_CONTROLS = FIND_IN_VIEW + """
 const sizeOf = (each) => (each.type === "checkbox" && each.labels.length > 0 ? each.labels[0] : each).getBoundingClientRect();
 return controls.filter((each) => sizeOf(each).width < arguments[0] - 0.5 || sizeOf(each).height < arguments[0] - 0.5)
   .map((each) => `${each.id || each.textContent || each.localName} in ${each.closest("[id]").id}`)"""
 # The number of visible words with at least two letters, including words in the editor.
-WORDS = IN_VIEW + """
+COUNT_WORDS = FIND_IN_VIEW + """
 let words = 0;
 const walker = document.createTreeWalker(document.body, NodeFilter.SHOW_TEXT);
 for (let node = walker.nextNode(); node; node = walker.nextNode()) {
@@ -136,16 +136,16 @@ for (let node = walker.nextNode(); node; node = walker.nextNode()) {
   }
 }
 return words"""
-LINES = """
+COUNT_LINES = """
 const room = document.querySelector("#program-editor .cm-scroller").getBoundingClientRect();
 return [...document.querySelectorAll("#program-editor .cm-line")].map((line) => line.getBoundingClientRect())
   .filter(({ top, bottom }) => top >= room.top && bottom <= room.bottom).length"""
-WHOLE = """
+GET_WHOLE_PANELS = """
 return arguments[0].filter((id) => {
   const { top, bottom, left, right } = document.getElementById(id).getBoundingClientRect();
   return bottom - top > 20 && top >= 0 && left >= 0 && bottom <= innerHeight && right <= innerWidth;
 })"""
-TRACE = """
+IS_TRACE_LARGE = """
 const { width, height } = document.getElementById("wave-canvas").getBoundingClientRect();
 return width > 400 && height > 100"""
 TOGETHER = ["processor", "calls", "watched", "breakpoints", "memory"]
@@ -158,41 +158,41 @@ def check_first_glance(browser, page, at_size):
     at_size(browser, 1440, 900)
     open_anew(browser, page)
     choose_example(browser, "calculator")
-    verdict(f"at most {MAX_CONTROLS} controls are seen", browser.script(CONTROLS) <= MAX_CONTROLS, True)
+    verdict(f"at most {MAX_CONTROLS} controls are seen", browser.script(COUNT_CONTROLS) <= MAX_CONTROLS, True)
     # On a busy machine, the status first reports that the tab was busy.
-    eventually(browser, f"and at most {MAX_WORDS} words", WORDS.replace("return words", f"return words <= {MAX_WORDS}"), True)
-    verdict("no target is below 24 pixels", browser.script(SMALL, 24), [])
+    eventually(browser, f"and at most {MAX_WORDS} words", COUNT_WORDS.replace("return words", f"return words <= {MAX_WORDS}"), True)
+    verdict("no target is below 24 pixels", browser.script(FIND_SMALL_CONTROLS, 24), [])
     stop_time(browser)
     show_text(browser, "waves")
     browser.script("document.getElementById('record-where').value = 'before'")
     browser.click("#record")
-    eventually(browser, "a trace is seen", TRACE, True)
-    verdict(f"with {MIN_LINES} lines of the source", browser.script(LINES) >= MIN_LINES, True)
-    verdict("and these panels, whole", browser.script(WHOLE, TOGETHER), TOGETHER)
+    eventually(browser, "a trace is seen", IS_TRACE_LARGE, True)
+    verdict(f"with {MIN_LINES} lines of the source", browser.script(COUNT_LINES) >= MIN_LINES, True)
+    verdict("and these panels, whole", browser.script(GET_WHOLE_PANELS, TOGETHER), TOGETHER)
     show_text(browser, "disassembly")
     for text in ("board", "wiring", "tests", "properties", "program"):
         show_text(browser, text)
-        verdict(f"no target is below 24 pixels with {text}", browser.script(SMALL, 24), [])
+        verdict(f"no target is below 24 pixels with {text}", browser.script(FIND_SMALL_CONTROLS, 24), [])
 
 
 # --- details that get lost easily
 
-CHOSEN = """
+IS_FORM_IN_VIEW = """
 const { left, top, right, bottom } = document.getElementById("chosen").getBoundingClientRect();
 const isIn = (box) => box.left >= left && box.right <= right + 1 && box.top >= top && box.bottom <= bottom + 1;
 return [...document.querySelectorAll("#chosen :is(button, input, select)")].filter((each) => !isIn(each.getBoundingClientRect()))
   .map((each) => each.getAttribute("aria-label"))"""
-DIGITS_IN_GALLERY = """
+GET_DIGIT_FILL = """
 return getComputedStyle(document.querySelector(`#examples button[aria-label='new session: ${arguments[0]}'] .digits`)).fill"""
-OFFERS = """
+GET_OFFERS = """
 return ["board-offer", "hello"].filter((id) => isShown(document.getElementById(id)))"""
-NARROW = """
+FIND_NARROW = """
 const { left, right } = document.getElementById("history").getBoundingClientRect();
 return [...document.querySelectorAll("#history button")].map((each) => each.getBoundingClientRect())
   .filter((box) => box.left < left + 8 || box.right > right - 8).length"""
-TOP_OF = "return Math.round(document.querySelector(arguments[0]).getBoundingClientRect().top)"
-WATCHED = "return [...document.querySelectorAll('#watched-list .values')].filter((each) => each.querySelector('button')).length"
-WIDTH_OF_HELP = "return document.getElementById('help').getBoundingClientRect().width / innerWidth"
+GET_TOP = "return Math.round(document.querySelector(arguments[0]).getBoundingClientRect().top)"
+COUNT_WATCHES = "return [...document.querySelectorAll('#watched-list .values')].filter((each) => each.querySelector('button')).length"
+GET_HELP_WIDTH = "return document.getElementById('help').getBoundingClientRect().width / innerWidth"
 
 
 def check_small_things(browser, at_size):
@@ -205,35 +205,35 @@ def check_small_things(browser, at_size):
     browser.script("document.querySelector('#wiring-picture .of-keys').focus()")
     browser.keys([ENTER])
     eventually(browser, "keys are chosen", "return document.querySelectorAll('#chosen input').length", 20)
-    verdict("nothing of them is hidden behind the edge of their box", browser.script(CHOSEN), [])
+    verdict("nothing of them is hidden behind the edge of their box", browser.script(IS_FORM_IN_VIEW), [])
     show_text(browser, "program")
     browser.click("#sessions-button")
     browser.until("return document.getElementById('sessions').open", True)
-    verdict("the display of the calculator is not that of the counter", browser.script(DIGITS_IN_GALLERY, "calculator")
-            == browser.script(DIGITS_IN_GALLERY, "counter"), False)
+    verdict("the display of the calculator is not that of the counter", browser.script(GET_DIGIT_FILL, "calculator")
+            == browser.script(GET_DIGIT_FILL, "counter"), False)
     browser.click("#close-sessions")
     choose_example(browser, "empty bench")
-    verdict("an empty bench offers what it can begin with, and nothing else", browser.script(OFFERS), ["board-offer"])
+    verdict("an empty bench offers what it can begin with, and nothing else", browser.script(GET_OFFERS), ["board-offer"])
     choose_example(browser, "first")
-    verdict("lines alone are seen where they can be sent", browser.script(SHOWN, ["lines"]), ["lines"])
+    verdict("lines alone are seen where they can be sent", browser.script(GET_SHOWN, ["lines"]), ["lines"])
     choose_example(browser, "three lamps")
     show_text(browser, "disassembly")
-    before = browser.script(TOP_OF, "#program-editor .cm-scroller")
+    before = browser.script(GET_TOP, "#program-editor .cm-scroller")
     browser.click("#program-editor .send")
     eventually(browser, "what was assembled is said", "return document.querySelector('#program-editor .status-text').textContent", re.compile("ssembled"))
-    verdict("above the source, which does not move", browser.script(TOP_OF, "#program-editor .cm-scroller"), before)
+    verdict("above the source, which does not move", browser.script(GET_TOP, "#program-editor .cm-scroller"), before)
     browser.click("#program-editor .cm-content")
     browser.script("document.querySelector('#program-editor .cm-editor').lineEditor.setCursor(arguments[0])", first_word(browser, "SRC"))
     browser.keys([F1])
     eventually(browser, "F1 looks up the word at the caret", "return document.getElementById('help-search').value", "SRC")
-    verdict("beside most of the page", browser.script(WIDTH_OF_HELP) <= 0.34, True)
+    verdict("beside most of the page", browser.script(GET_HELP_WIDTH) <= 0.34, True)
     browser.keys([ESCAPE])
     check_watch_rows(browser)
     at_size(browser, 1920, 1080)
     choose_example(browser, "calculator")
-    found = browser.script(CONTROLS)
+    found = browser.script(COUNT_CONTROLS)
     verdict(f"a large window has at most {MAX_CONTROLS} controls, too", found <= MAX_CONTROLS or found, True)
-    verdict("and no log in front", browser.script(SHOWN, ["log"]), [])
+    verdict("and no log in front", browser.script(GET_SHOWN, ["log"]), [])
     browser.resize_back()
 
 
@@ -241,9 +241,9 @@ def check_narrow_things(browser, at_size):
     """Checks details on a phone."""
     at_size(browser, 390, 844, True)
     browser.click("#region-debug")
-    verdict("on a phone no button touches the edge of its panel", browser.script(NARROW), 0)
+    verdict("on a phone no button touches the edge of its panel", browser.script(FIND_NARROW), 0)
     browser.click("#region-source")
-    verdict("and the source begins in the upper quarter", browser.script(TOP_OF, "#program-editor .cm-scroller") < 844 / 4, True)
+    verdict("and the source begins in the upper quarter", browser.script(GET_TOP, "#program-editor .cm-scroller") < 844 / 4, True)
     browser.click("#region-board")
     browser.resize_back()
 
@@ -260,7 +260,7 @@ def check_watch_rows(browser):
     stop_time(browser)
     for words in ("count = R5", "R6", "acc", "P2"):
         browser.type_into("#watched-field", words + ENTER)
-    eventually(browser, "four values are watched", WATCHED, 4)
+    eventually(browser, "four values are watched", COUNT_WATCHES, 4)
     verdict("in rows of 24 pixels", browser.script("return Math.round(document.getElementById('watched-list').getBoundingClientRect().height)"), 96)
     for _ in range(4):
         browser.click("#watched-list .remove")
@@ -272,7 +272,7 @@ COUNT_CLICKS = """
 window.clicks = 0;
 if (!window.countsClicks) addEventListener("click", ({ isTrusted, detail }) => { window.clicks += Number(isTrusted && detail > 0); }, true);
 window.countsClicks = true"""
-COUNTED = "return [...new Set(window.counted)].sort().join(' ')"
+GET_COUNTED = "return [...new Set(window.counted)].sort().join(' ')"
 # Records which lamps are visibly on.
 COUNT_LAMPS = """
 window.counted = [];
@@ -295,35 +295,35 @@ def draw_board(browser):
     browser.click("#shelf-keys")
     eventually(browser, "keys are chosen", "return document.querySelectorAll('#chosen [aria-label=rows]').length", 1)
     browser.type_into("#chosen [aria-label=rows]", "4")
-    eventually(browser, "they have four rows", DRAWING_STATUS, re.compile("The keys have 4 rows"))
+    eventually(browser, "they have four rows", GET_DRAWING_STATUS, re.compile("The keys have 4 rows"))
     for lamp in range(4):
         browser.click("#shelf-lamp")
-        eventually(browser, f"lamp {lamp} comes", DRAWING_STATUS, re.compile(f"^Lamp {lamp} was added"))
+        eventually(browser, f"lamp {lamp} comes", GET_DRAWING_STATUS, re.compile(f"^Lamp {lamp} was added"))
     browser.click("#drawing-wire")
     eventually(browser, "there are sixteen keys", "return document.querySelectorAll('#keys .key').length", 16)
     browser.script("document.activeElement.blur()")
     browser.chord(CONTROL, "k")
     browser.until("return document.activeElement.getAttribute('role')", "combobox")
     browser.keys([*"scan", ENTER], 5, 5)
-    eventually(browser, "the source has a routine", SOURCE, re.compile("keys_scan"))
+    eventually(browser, "the source has a routine", GET_SOURCE, re.compile("keys_scan"))
     browser.click("#program-editor .send")
-    eventually(browser, "it runs", STATUS, re.compile("^Running"))
+    eventually(browser, "it runs", GET_STATUS, re.compile("^Running"))
 
 
 def mend_bug(browser):
     choose_example(browser, "a fault to find")
     eventually(browser, "it is paused at the breakpoint", "return document.querySelectorAll('#breakpoint-list li').length", 1)
     browser.click("#over")
-    eventually(browser, "a step is done", STATUS, re.compile("^At 009"))
+    eventually(browser, "a step is done", GET_STATUS, re.compile("^At 009"))
     browser.click("#program-editor .cm-line:nth-child(24)")
     browser.keys([END, BACKSPACE, "5"])
     browser.click("#breakpoint-list [aria-label^='remove']")
     browser.script(COUNT_LAMPS)
     browser.click("#program-editor .send")
     wanted = [f"{number:04b}" for number in range(10)]
-    eventually(browser, "lamps count from 0 to 9", COUNTED, re.compile("^" + " ".join(wanted)), 60)
+    eventually(browser, "lamps count from 0 to 9", GET_COUNTED, re.compile("^" + " ".join(wanted)), 60)
     eventually(browser, "and begin again", "return window.counted.lastIndexOf('0000') > window.counted.indexOf('1001')", True, 60)
-    verdict("and no further", browser.script(COUNTED), " ".join(wanted))
+    verdict("and no further", browser.script(GET_COUNTED), " ".join(wanted))
     browser.script("window.noting.disconnect()")
 
 
@@ -331,7 +331,7 @@ def run_test(browser):
     browser.click("#tests-tab")
     browser.click("#first-test")
     # Running the board creates the test, which takes a while on a busy machine.
-    eventually(browser, "there is a test", TESTS, re.compile("^ *expect", re.M))
+    eventually(browser, "there is a test", GET_TESTS, re.compile("^ *expect", re.M))
     browser.click("#tests-editor .send")
     eventually(browser, "the test was run", "return document.querySelectorAll('#test-list li').length", 1)
 
@@ -357,7 +357,7 @@ def check_newcomer(browser):
 
 
 # The elements that moved without user input, if the browser measures a layout shift above 0.005. A shift of 0 is none, 0.1 is much.
-SHIFTS = """
+MEASURE_SHIFTS = """
 return new Promise((done) => {
   let sum = 0;
   const moved = [];
@@ -379,8 +379,8 @@ def check_shifts(browser, page, at_size):
         browser.go("about:blank")
         browser.go(f"{page.as_uri()}#example=calculator")
         until_ready(browser)
-        eventually(browser, "the example runs", STATUS, re.compile("^Running"))
-        verdict(f"at {width} nothing moves after the first paint", browser.script(SHIFTS), [])
+        eventually(browser, "the example runs", GET_STATUS, re.compile("^Running"))
+        verdict(f"at {width} nothing moves after the first paint", browser.script(MEASURE_SHIFTS), [])
     browser.resize_back()
 
 
@@ -389,10 +389,10 @@ def check_by_finger(browser, at_size):
     browser.command("Emulation.setTouchEmulationEnabled", enabled=True)
     for width, height in ((390, 844), (820, 1180)):
         at_size(browser, width, height, True)
-        verdict(f"at {width} a finger meets nothing below 44 pixels", browser.script(SMALL, 44), [])
+        verdict(f"at {width} a finger meets nothing below 44 pixels", browser.script(FIND_SMALL_CONTROLS, 44), [])
         browser.script("document.getElementById('region-source').click(); document.getElementById('wiring-tab').click()")
         eventually(browser, f"at {width} the shelf is seen", "return isShown(document.getElementById('shelf'))", True)
-        verdict(f"at {width} nothing of Wiring is below 44 pixels", browser.script(SMALL, 44), [])
+        verdict(f"at {width} nothing of Wiring is below 44 pixels", browser.script(FIND_SMALL_CONTROLS, 44), [])
         browser.script("document.getElementById('program-tab').click(); document.getElementById('region-board').click()")
     browser.command("Emulation.setTouchEmulationEnabled", enabled=False)
     browser.resize_back()

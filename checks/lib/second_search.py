@@ -1,7 +1,8 @@
 """A second implementation of mcs4-prove over the board of board4004.py. It searches everything that a machine can do, breadth-first, with any
 keys and any TEST pin, and tests conditions at the same time. It shares no code with the program.
 
-A state is everything in a machine except its inputs, what its stopwatch shows, if it has one, and how many marks were seen, if it looks for some.
+A state is everything in a machine except its inputs. A state includes the reading of the stopwatch, if the question has a stopwatch, and the number
+of marks seen, if the question has marks.
 There is a state at power-on, before each cycle that reads an input (RDR, or JCN with TEST), and after a fixed number of cycles without such a read.
 The search continues from a state once for each value that the next cycle can read, with keys and TEST that give this value. It stops at the next
 state, or when the machine repeats an earlier state. Conditions are tested after each cycle.
@@ -108,7 +109,7 @@ OPEN_CALLS = 3
 FOR_RAM = {"WRM", "RDM", "ADM", "SBM", "WMP", *(f"{way}{k}" for way in ("WR", "RD") for k in range(4))}
 MISTAKES = ("code", "call", "return", "ram", "rom", "rdr", "wrr")
 # The attributes of a board with the number of its open calls, its stopwatch, what that shows, what it looks for, and the marks seen.
-CALLS, STOPWATCH, ELAPSED, LOOK, SEEN = "calls", "stopwatch", "elapsed", "look", "seen"
+CALLS, STOPWATCH, ELAPSED, MARK_SEQUENCE, SEEN = "calls", "stopwatch", "elapsed", "mark_sequence", "seen"
 
 
 def calls_of(board: Board) -> int:
@@ -155,25 +156,25 @@ def elapsed_after(board: Board) -> int:
 # ---- marks
 
 @dataclass
-class Look:
-    """Looks for marks, in order, from where a condition fails to where it holds."""
+class MarkSequence:
+    """The marks that must be seen, in order, from the cycle in which the condition `opens` fails to the cycle in which it holds."""
 
     opens: Condition
     marks: list[Mark]
 
 
-def look_of(board: Board) -> Look | None:
-    """Returns what is looked for on a board."""
-    return getattr(board, LOOK, None)
+def mark_sequence_of(board: Board) -> MarkSequence | None:
+    """Returns the marks that a board counts, or None."""
+    return getattr(board, MARK_SEQUENCE, None)
 
 
 def seen_of(board: Board) -> int:
-    """Returns how many marks were seen; one more than there are while the condition holds, and right after it."""
+    """Returns the number of marks seen. While the condition holds, and in the cycle after that, returns one more than there are."""
     return getattr(board, SEEN, 0)
 
 
 def set_seen(board: Board, seen: int) -> None:
-    """Sets how many marks were seen."""
+    """Sets the number of marks seen."""
     setattr(board, SEEN, seen)
 
 
@@ -208,19 +209,19 @@ def is_shown(board: Board, mark: Mark) -> bool:
 
 def seen_after(board: Board) -> int:
     """Returns how many marks were seen after the next cycle."""
-    look = look_of(board)
-    if not look:
+    sequence = mark_sequence_of(board)
+    if not sequence:
         return 0
-    if look.opens(board):
-        return len(look.marks) + 1
-    seen = seen_of(board) if seen_of(board) <= len(look.marks) else 0
-    return seen + int(seen < len(look.marks) and is_shown(board, look.marks[seen]))
+    if sequence.opens(board):
+        return len(sequence.marks) + 1
+    seen = seen_of(board) if seen_of(board) <= len(sequence.marks) else 0
+    return seen + int(seen < len(sequence.marks) and is_shown(board, sequence.marks[seen]))
 
 
 def is_early(board: Board) -> bool:
     """Returns true if the condition holds before all marks were seen."""
-    look = look_of(board)
-    return look is not None and seen_of(board) < len(look.marks) and look.opens(board)
+    sequence = mark_sequence_of(board)
+    return sequence is not None and seen_of(board) < len(sequence.marks) and sequence.opens(board)
 
 
 def read_by(board: Board, name: str) -> list[int]:
@@ -249,7 +250,7 @@ def mistakes(board: Board) -> set[str]:
 
 def cycle(board: Board) -> None:
     """Does one cycle, which can open or close a call. A fourth call replaces the first one. At a code outside the table, only the stopwatch
-    and the look for marks continue."""
+    and the search for marks continue."""
     elapsed, seen = elapsed_after(board), seen_after(board)
     if board.owed or not board.is_outside():
         name = "" if board.owed else CODES[board.rom[board.pc]][0]
@@ -360,7 +361,7 @@ def go_on(board: Board, levels: Levels, is_bad: Condition, pause: int) -> tuple[
     board.chips.down, board.test = set(levels[0]), levels[1]
     at, state = board.pc, saved(board)
     for cycles in range(1, pause + 2):
-        if not board.owed and board.is_outside() and not stopwatch_of(board) and not look_of(board):
+        if not board.owed and board.is_outside() and not stopwatch_of(board) and not mark_sequence_of(board):
             # The state repeats, so nothing changes any more.
             return cycles - 1, False
         cycle(board)
@@ -381,7 +382,7 @@ def power_on(question: Question) -> Board:
     if question.within is not None:
         setattr(board, STOPWATCH, Stopwatch(condition_of(question.begins), condition_of(question.ends)))
     if question.marks:
-        setattr(board, LOOK, Look(condition_of(question.opens), question.marks))
+        setattr(board, MARK_SEQUENCE, MarkSequence(condition_of(question.opens), question.marks))
     set_seen(board, 0)
     return board
 

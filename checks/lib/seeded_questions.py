@@ -33,7 +33,7 @@ class Asking(Program):
         self.free = set(range(0x1000))
         self.registers = chance.sample(range(16), 2)
         words = [word for _n in range(chance.randrange(0, 3)) for word in self.prepared()]
-        words += [word for _n in range(chance.randrange(2, 7)) for word in self.asked()]
+        words += [word for _n in range(chance.randrange(2, 7)) for word in self.loop_phrases()]
         ends = [["JUN"]] * 8 + [["BBL 3"], [f"DB 0x{chance.choice(OUTSIDE):02X}"], []]
         self.put(0, words + chance.choice(ends))
         self.begins = [at for at, statement in self.statements.items() if not statement.startswith("DB")]
@@ -61,7 +61,7 @@ class Asking(Program):
         inputs = [16 * int(line[3:].split(".")[0]) for line in self.wiring.inputs]
         return [f"FIM P{pair}, 0x{self.chance.choice(inputs) if inputs and self.chance.random() < 0.8 else self.selected():02X}", f"SRC P{pair}"]
 
-    def asked(self) -> list[str]:
+    def loop_phrases(self) -> list[str]:
         """Returns the phrases of the loop."""
         chance = self.chance
         register = chance.choice(self.registers)
@@ -110,11 +110,11 @@ class AskingKeys(Asking):
         """Returns phrases that drive rows."""
         return [phrase for _n in range(2) for phrase in self.pulses("rom0.0", "rom0.1")]
 
-    def asked(self) -> list[str]:
+    def loop_phrases(self) -> list[str]:
         """Returns the phrases of the loop."""
         if self.chance.random() < 0.6:
             return self.selected_by(self.chance.randrange(8)) + ["RDR"] + self.used(self.chance.choice(self.registers))
-        return super().asked()
+        return super().loop_phrases()
 
 
 def walked(question: Question, chance: random.Random) -> Iterator[Board]:

@@ -15,7 +15,7 @@ import urllib.request
 from driven import BEFORE_SCRIPTS, ELEMENT, Driven, Fault
 
 # The events of a touch, and of a click with the secondary mouse button.
-TOUCH = """
+TOUCH_ELEMENT = """
 const [selector, time] = arguments;
 const node = document.querySelector(selector);
 const send = (kind) => node.dispatchEvent(new PointerEvent(kind, { pointerType: "touch", bubbles: true, cancelable: true }));
@@ -153,9 +153,10 @@ class WebKit(WebDriver):
     """The MiniBrowser of Debian's WebKitGTK, or the one that MINIBROWSER names. It has no headless mode, so Xvfb is its display."""
 
     name = "WebKit"
-    # It has no setting that blocks site data.
+    # WebKit has no setting that blocks site data.
     blocks_data = None
-    # Its driver moves only one pointer, which is a mouse, and its tabs are windows that do not hide each other.
+    # The driver of WebKit has only a mouse pointer, no touch. It opens each tab as a separate window, so a tab in the background still counts as
+    # visible.
     has_fingers = False
     hides_tabs = False
     settles = 0.3
@@ -178,7 +179,7 @@ class WebKit(WebDriver):
         self.resize_back()
 
     def touch(self, selector, time_down):
-        self.script(TOUCH, selector, time_down)
+        self.script(TOUCH_ELEMENT, selector, time_down)
 
     def click_secondary(self, x, y):
         # After a press of this button, the driver would type every character without Shift.

@@ -16,7 +16,7 @@ const WRONG_ARGUMENTS_STATUS = 2;
 const HELP_OPTION = { type: "boolean", short: "h" };
 
 /**
- * Returns the words that are most similar to a mistyped word. (Loads the module only then.)
+ * Returns the words that are most similar to a mistyped word. Loads the module that finds them on the first call.
  * @param {string} word
  * @param {string[]} words
  */

@@ -34,7 +34,7 @@ const RUN_KINDS = ["done", "asked"];
 const MAX_DONE_STATUS = 1;
 
 /**
- * Returns the checksum of the concatenated contents of files. (Loads node:crypto only here, because it is slow to load.)
+ * Returns the checksum of the concatenated contents of files. Loads node:crypto here, because that module is slow to load and rarely needed.
  * @param {string[]} names
  */
 function hashFiles(names) {

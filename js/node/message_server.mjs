@@ -10,7 +10,7 @@ const MESSAGE_TIMEOUT = 10000;
 const STDIN = 0;
 
 /**
- * Explains to a user at a terminal that the command waits for an editor. (An editor starts the command without a terminal.)
+ * Explains to a user at a terminal that the command waits for an editor. An editor starts the command without a terminal.
  * @param {string} name the command's name
  */
 export function explainAtTerminal(name) {

@@ -100,7 +100,7 @@ export async function startEngine() {
   return engine;
 }
 
-/** Ends the native engine, if it was started, and removes its files. */
+/** Ends the native engine and removes its files. Does nothing if the engine was not started. */
 export function endEngine() {
   if (nativeEngine) nativeEngine.end();
   nativeEngine = null;
@@ -150,7 +150,7 @@ export async function openSession(engine, texts, session) {
 }
 
 /**
- * Returns the error for rejected texts. (Loads the modules with the messages only then.)
+ * Returns the error for rejected texts. Loads the modules with the messages on the first call.
  * @param {EngineHost} engine
  * @param {ConstructorParameters<typeof import("./rejected_texts.mjs").RejectedTexts>[1]} givenTexts
  * @param {import("../core/testing/test_preparation.js").TextFault[]} faults

@@ -117,7 +117,7 @@ export class SessionProcess {
 }
 
 /**
- * Returns an answer. A refusal is followed by its message. (Loads the messages only then.)
+ * Returns an answer. A refusal is followed by its message. Loads the messages at the first refusal.
  * @param {string} answer
  */
 async function addRefusalMessage(answer) {

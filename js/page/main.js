@@ -173,11 +173,11 @@ async function main() {
   }
   /** @type {Data} */
   const data = JSON.parse(new TextDecoder().decode(unpackedPart("data")));
-  const words = new ErrorMessages(data.refusals);
+  const errorMessages = new ErrorMessages(data.refusals);
   try {
-    await start(words, notice, shell, data);
+    await start(errorMessages, notice, shell, data);
   } catch (fault) {
-    notice.show(say.cannotStart(words.errorMessage(fault), partText("needs")));
+    notice.show(say.cannotStart(errorMessages.errorMessage(fault), partText("needs")));
   }
 }
 

@@ -157,8 +157,8 @@ test("scopes, variables, memory and disassembly", async () => {
   assert.deepEqual([...Buffer.from(data, "base64")], [0, 0, 0, 9]);
   await ask("writeMemory", { memoryReference: "0x0FE", data: "QUI=" });
   assert.match((await answer("writeMemory", { memoryReference: "0xFFF", data: "QUI=" })).message, /outside/);
-  const asked = { memoryReference: "0x02C", instructionOffset: -1, instructionCount: 3 };
-  const { instructions } = await ask("disassemble", asked);
+  const range = { memoryReference: "0x02C", instructionOffset: -1, instructionCount: 3 };
+  const { instructions } = await ask("disassemble", range);
   const listed = instructions.map((each) => [each.address, each.instruction, each.instructionBytes, each.line]);
   assert.deepEqual(listed, [["0x02B", "DB 0x0B", "0B", 24], ["0x02C", "LDM 13", "DD", 26], ["0x02D", "XCH R12", "BC", 27]]);
   assert.match((await answer("disassemble", { memoryReference: "0x1000", instructionCount: 4 })).message, /addresses are/);

@@ -264,16 +264,16 @@ test("what is asked while a stop is written to the session file is answered", as
   const { begin, ask, send, answerTo } = served(FILES, { "/s.mcs": file });
   await begin({ session: "/s.mcs" });
   const write = file.ask.bind(file);
-  let asked = 0;
+  let requestNumber = 0;
   file.ask = async (lines) => {
-    // It arrives while the stop is being written.
-    asked = asked || send("setExceptionBreakpoints", { filters: ["calls"] });
+    // The request arrives while the stop is being written.
+    requestNumber = requestNumber || send("setExceptionBreakpoints", { filters: ["calls"] });
     for (let turn = 0; turn < 20; turn++) await new Promise(setImmediate);
     return write(lines);
   };
   await ask("stepIn", { threadId: 1 });
-  for (let turn = 0; turn < 50 && asked === 0; turn++) await new Promise(setImmediate);
-  assert.ok((await answerTo(asked)).success);
+  for (let turn = 0; turn < 50 && requestNumber === 0; turn++) await new Promise(setImmediate);
+  assert.ok((await answerTo(requestNumber)).success);
 });
 
 test("of a message whose rest does not come the client gets the error", () => {

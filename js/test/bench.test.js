@@ -4,7 +4,7 @@ import { mock, test } from "node:test";
 import { Bench } from "../core/bench/bench_client.js";
 import { CancelledError, WorkerDiedError } from "../core/bench/bench_errors.js";
 
-/** Returns a bench over workers that behave as the test says. */
+/** Returns a bench with stand-ins for its workers, whose answers the test sets. */
 function begin() {
   mock.timers.enable({ apis: ["setInterval", "setTimeout"] });
   const workers = [];
@@ -95,22 +95,22 @@ test("a worker that owes something and gives no sign of life is ended; one that 
   const { bench, worker } = await started();
   mock.timers.tick(60000);
   assert.equal(worker.ended, false);
-  const asked = bench.call("ask", ["seq\n"]);
+  const answer = bench.call("ask", ["seq\n"]);
   for (let second = 0; second < 30; second++) {
     mock.timers.tick(1000);
     worker.deliver({ kind: "pong" });
   }
   assert.equal(worker.ended, false);
   mock.timers.tick(12000);
-  await assert.rejects(asked, WorkerDiedError);
+  await assert.rejects(answer, WorkerDiedError);
   assert.equal(worker.ended, true);
 });
 
 test("a script fault in the worker ends it, and another one can be started", async () => {
   const { bench, workers, worker } = await started();
-  const asked = bench.call("ask", ["seq\n"]);
+  const answer = bench.call("ask", ["seq\n"]);
   worker.listeners.error({ preventDefault: () => {} });
-  await assert.rejects(asked, WorkerDiedError);
+  await assert.rejects(answer, WorkerDiedError);
   await assert.rejects(bench.call("ask", ["seq\n"]), WorkerDiedError);
   const start = bench.start();
   workers[1].reply(5);

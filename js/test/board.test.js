@@ -77,9 +77,9 @@ test("what a board can have is what the bench takes, to each edge", async () => 
   };
   assert.deepEqual(Object.keys(boards), Object.keys(VALUE_RANGES));
   for (const [key, { from, to }] of Object.entries(VALUE_RANGES)) {
-    const numbers = [];
-    for (const value of [from - 1, from, to, to + 1]) numbers.push(await numberOf(boards[key](value)));
-    assert.deepEqual(numbers, [23, 0, 0, 23], key);
+    const refusalNumbers = [];
+    for (const value of [from - 1, from, to, to + 1]) refusalNumbers.push(await numberOf(boards[key](value)));
+    assert.deepEqual(refusalNumbers, [23, 0, 0, 23], key);
   }
   const counted = {
     rom: (count) => Array.from({ length: count }, (_, chip) => rom(Math.min(15, chip))).join(""),

@@ -1,4 +1,4 @@
-// The clock, over frames and a bench that behave as the test says.
+// Tests the clock with stand-ins for the frames and the bench, whose answers the test sets.
 import assert from "node:assert/strict";
 import { mock, test } from "node:test";
 import { Clock } from "../page/time/clock.js";

@@ -189,16 +189,16 @@ test("a model says what the display has to show, and what is wrong with it is re
   const shown = createSubject(engine, board, PROGRAM);
   const { campaign, faults } = readCampaign("press A B\npace 300 200\nmodel ./says\n", shown);
   assert.deepEqual(faults, []);
-  const asked = [];
+  const askedKeys = [];
   // The lamp stays on until B is pressed; this model forgets B.
   const says = (chains) => {
-    asked.push(...chains);
+    askedKeys.push(...chains);
     return { shown: chains.map((keys) => (keys.includes("A") ? "1" : "0")), fault: "" };
   };
   const run = new CampaignRun(shown, campaign, 1, () => true, PATIENCE, says);
   while (!run.counterexamples[0]) await run.runFor(20);
   assert.equal(run.counterexamples[0].test, "test model ./says\n  pace 300 200\n  keys A B\n  expect display 1\n");
-  assert.match(asked[0], /^[AB]( [AB])*$/);
+  assert.match(askedKeys[0], /^[AB]( [AB])*$/);
   const wrong = new CampaignRun(shown, campaign, 1, () => true, PATIENCE, () => ({ shown: [], fault: "it died" }));
   await wrong.runFor(20);
   assert.equal(wrong.fault, "it died");

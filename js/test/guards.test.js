@@ -162,7 +162,10 @@ function brokenBy(property, { c, g, acts }) {
   return broken;
 }
 
-/** Returns the cycles at which each guard is open, cycle by cycle; a cycle of a press or of a power cycle counts before it and after it. */
+/**
+ * Returns the instants of a run: each cycle, and whether all guards are open in it. A cycle with a key press or a power cycle gives two
+ * instants: one before the press or power cycle, and one after it.
+ */
 function instantsOf({ c, g, acts }, guards) {
   const instants = [];
   let once = false;

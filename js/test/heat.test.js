@@ -4,7 +4,7 @@ import { test } from "node:test";
 import { CancelledError } from "../core/bench/bench_errors.js";
 import { pinKey } from "../core/board/key_place.js";
 import {
-  PassingHeat, heatLevels, describeHeat, describeChanges, describeHeatStatus, describeSeenChanges,
+  RecentHeat, heatLevels, describeHeat, describeChanges, describeHeatStatus, describeSeenChanges,
 } from "../core/machine/heat_levels.js";
 import { namedSrcBytes, nibbleNames } from "../core/machine/ram_names.js";
 import { SourceMap } from "../core/machine/source_map.js";
@@ -57,7 +57,7 @@ test("while time runs the same is reported of the cycles that pass, frame by fra
   await calls.serve(`wire\n${BOARD.split("[[ram]]\nbank = 2")[0]}.\nasm\n${PROGRAM}.\nreset\n`);
   assert.equal(calls.advance(SETUP).warmed, null);
   calls.watchRam(true);
-  const passing = new PassingHeat();
+  const passing = new RecentHeat();
   for (let frame = 0; frame < 20; frame++) {
     if (frame === 5) calls.press(pinKey(1));
     const { warmed, cycles } = calls.advance(FRAME);

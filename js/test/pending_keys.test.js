@@ -12,16 +12,16 @@ const KEY = { key: matrixKey(0, 0), isSwitch: false };
 /** Fingers on a key while time runs: the worker has the requests once `arrive` is called, and reports them by `look`. */
 async function typing() {
   const calls = await begin("calculator");
-  const asked = new PendingKeys();
+  const pendingKeys = new PendingKeys();
   const words = [];
   let [isDown, onTheWay] = [false, []];
   const send = (word) => {
     words.push(word);
-    onTheWay.push([word, asked.send({ word, key: KEY.key })]);
+    onTheWay.push([word, pendingKeys.send({ word, key: KEY.key })]);
   };
   const pressing = new KeyPresser({
     isRunning: () => true,
-    isDown: (key) => asked.willBeDown(key, isDown),
+    isDown: (key) => pendingKeys.willBeDown(key, isDown),
     press: () => send("press"),
     release: () => send("release"),
     change: () => {},
@@ -29,7 +29,7 @@ async function typing() {
   });
   const arrive = () => {
     for (const [word, arrived] of onTheWay) {
-      asked.waitingChanges = structuredClone(calls[word](KEY.key));
+      pendingKeys.waitingChanges = structuredClone(calls[word](KEY.key));
       arrived();
     }
     onTheWay = [];
@@ -39,7 +39,7 @@ async function typing() {
     arrive();
     const frame = structuredClone(calls.advance(cycles));
     isDown = / keys [^ ]*\b0\.0\b/.test(frame.snapshot.join("\n"));
-    asked.waitingChanges = frame.waiting;
+    pendingKeys.waitingChanges = frame.waiting;
     return isDown;
   };
   return { pressing, words, arrive, look };
@@ -83,11 +83,11 @@ test("a key that stays down is let go by a press, also while that press waits", 
 });
 
 test("what is forgotten of a key leaves it as the bench reports it", () => {
-  const asked = new PendingKeys();
-  const arrived = asked.send({ word: "press", key: matrixKey(0, 0) });
-  assert.deepEqual([asked.willBeDown(matrixKey(0, 0), false), asked.willBeDown(matrixKey(0, 1), false)], [true, false]);
-  asked.send({ word: "forget", key: matrixKey(0, 0) });
-  assert.deepEqual([asked.willBeDown(matrixKey(0, 0), false), asked.willBeDown(matrixKey(0, 0), true)], [false, true]);
+  const pendingKeys = new PendingKeys();
+  const arrived = pendingKeys.send({ word: "press", key: matrixKey(0, 0) });
+  assert.deepEqual([pendingKeys.willBeDown(matrixKey(0, 0), false), pendingKeys.willBeDown(matrixKey(0, 1), false)], [true, false]);
+  pendingKeys.send({ word: "forget", key: matrixKey(0, 0) });
+  assert.deepEqual([pendingKeys.willBeDown(matrixKey(0, 0), false), pendingKeys.willBeDown(matrixKey(0, 0), true)], [false, true]);
   arrived();
-  assert.equal(asked.sent.length, 1);
+  assert.equal(pendingKeys.sent.length, 1);
 });

@@ -161,11 +161,11 @@ test("a project is files of a folder, and their texts are its parts again", () =
   assert.throws(() => parseWatchLines("a = R1\n \n"), /line 2 is empty/);
 });
 
-test("a text that is too long for the editors is read if that is asked for; zero bytes never are", () => {
+test("a text that is too long for the editors is read if that is asked for; a text with NUL bytes never is", () => {
   const long = projectText(project({ programText: "; a remark\n".repeat(7000) }));
   assert.throws(() => read(long), /the source has 77,000 characters/);
   assert.equal(readProject(encode(long), SIZE, true).programText.length, 77000);
-  assert.throws(() => read(projectText(project({ boardText: "\0" }))), /zero bytes/);
+  assert.throws(() => read(projectText(project({ boardText: "\0" }))), /NUL bytes/);
   const more = projectText(project()).replace(/cksum \d+\n/, "").replace("\nend\n", "\nmore\nend\n");
   assert.throws(() => read(more), new RegExp(`line ${more.split("\n").indexOf("more") + 1} of the project must be the end of the file`));
 });

@@ -105,7 +105,8 @@ const CONDITIONS = [
   "r5 - r7 = 0", "r5 & 3 = 1", "r5 >= 0",
 ];
 
-const asked = (text, own = subject) => createQuestion(readCampaign(`press A\n${text}`, own).campaign.properties[0], { from: null }, own);
+const questionOf = (text, own = subject) => (
+  createQuestion(readCampaign(`press A\n${text}`, own).campaign.properties[0], { from: null }, own));
 
 test("comparisons mean what their condition means", () => {
   const all = [...states()];
@@ -146,12 +147,12 @@ test("what a display shows is a question about its lamps", () => {
 });
 
 test("conditions that look at inputs, or at too much, are refused with the reason", () => {
-  assert.deepEqual(asked("never rom1 in 3"), { question: null, words: "its condition uses rom1, an input" });
-  assert.deepEqual(asked("never rom1.1 = 1 for 1 ms"), { question: null, words: "its condition uses rom1.1, an input" });
-  assert.match(asked("never r0 + r1 + r2 + r3 + r4 = 9").words, /uses too many places/);
-  assert.match(asked("after press A within 1 ms lamp on on").words, /of the form "after press" cannot be proved yet/);
-  assert.match(asked("@look at most once for each press").words, /of the form "once" cannot be proved yet/);
-  assert.equal(asked("while r0 = 2, never r1 = 1").question.nevers.length, 1);
+  assert.deepEqual(questionOf("never rom1 in 3"), { question: null, words: "its condition uses rom1, an input" });
+  assert.deepEqual(questionOf("never rom1.1 = 1 for 1 ms"), { question: null, words: "its condition uses rom1.1, an input" });
+  assert.match(questionOf("never r0 + r1 + r2 + r3 + r4 = 9").words, /uses too many places/);
+  assert.match(questionOf("after press A within 1 ms lamp on on").words, /of the form "after press" cannot be proved yet/);
+  assert.match(questionOf("@look at most once for each press").words, /of the form "once" cannot be proved yet/);
+  assert.equal(questionOf("while r0 = 2, never r1 = 1").question.nevers.length, 1);
 });
 
 const AT_START = ["in counter 3 whole 0 0", "in counter 4 whole 0 0", "in counter 5 whole 0 0"];
@@ -159,7 +160,7 @@ const AT_LOOK = [...AT_START.slice(0, 2), "in counter 5 whole 9 9"];
 const AT_LIT = [...AT_START.slice(0, 2), "in counter 5 whole 22 22"];
 
 test("a time is a question about a stopwatch, with exactly its limit in cycles", () => {
-  const stopwatch = (text) => asked(text).question.stopwatch;
+  const stopwatch = (text) => questionOf(text).question.stopwatch;
   const [on, off] = [[["in ramport 0 line0 1 1"]], [["in ramport 0 line0 0 0"]]];
   assert.deepEqual(stopwatch("never lamp on on for 93"), { begins: on, ends: off, within: 93 });
   assert.deepEqual(stopwatch("never lamp on on for 1 ms"), { begins: on, ends: off, within: 93 });
@@ -173,20 +174,20 @@ test("a time is a question about a stopwatch, with exactly its limit in cycles",
 });
 
 test("a condition for a time is judged between the two cycles of an instruction as after them", () => {
-  const { begins, ends } = asked("never @look for 9").question.stopwatch;
+  const { begins, ends } = questionOf("never @look for 9").question.stopwatch;
   assert.deepEqual(begins, [AT_LOOK.slice(1)]);
   assert.ok(ends.flat().every((comparison) => !comparison.startsWith("in counter 3 ")));
 });
 
 test("a condition that always holds, or never, has both lists, too", () => {
-  const { stopwatch: always } = asked("never r5 >= 0 for 9").question;
+  const { stopwatch: always } = questionOf("never r5 >= 0 for 9").question;
   assert.deepEqual(always, { begins: [[]], ends: [["in register 0 whole 1 0"]], within: 9 });
-  const { stopwatch: never } = asked("never r5 > 15 for 9").question;
+  const { stopwatch: never } = questionOf("never r5 > 15 for 9").question;
   assert.deepEqual(never, { begins: [["in register 0 whole 1 0"]], ends: [[]], within: 9 });
 });
 
 test("presses are a question about the keys of the matrix, by their rows and columns", () => {
-  const presses = (text) => asked(text).question.presses;
+  const presses = (text) => questionOf(text).question.presses;
   const on = [["in ramport 0 line0 1 1"]];
   const [a, c] = [{ kind: "matrix", row: 0, column: 0 }, { kind: "matrix", row: 0, column: 2 }];
   assert.deepEqual(presses("lamp on on only after press A, press C, press A"), { opens: on, keys: [a, c, a] });
@@ -198,23 +199,23 @@ test("presses are a question about the keys of the matrix, by their rows and col
 });
 
 test("presses that the prover cannot count are refused with the reason", () => {
-  const words = (text, own) => asked(text, own).words;
+  const words = (text, own) => questionOf(text, own).words;
   assert.match(words("lamp on on only after press A, press WALK"), /^WALK is at the TEST pin/);
   assert.match(words("rom1 in 3 only after press A"), /^its condition uses rom1, an input/);
-  const presses = (count) => asked(`lamp on on only after ${Array(count).fill("press A").join(", ")}`);
+  const presses = (count) => questionOf(`lamp on on only after ${Array(count).fill("press A").join(", ")}`);
   assert.equal(presses(MAX_PRESSES).question.presses.keys.length, 100);
   assert.match(presses(MAX_PRESSES + 1).words, /^it names more than 100 presses/);
   // At `same`, one instruction of one cycle leads to the next one that begins there.
   for (const [code, isAsked] of [["JIN P0", false], ["BBL 0", false], ["FIN P0", true], ["JUN same", true]]) {
     const own = createSubject(engine, BOARD, `        FIM P0, 2\nsame:   ${code}\n        NOP\n`);
-    assert.equal(asked("@same only after press A", own).question !== null, isAsked, code);
-    assert.notEqual(asked("@same or r5 = 1 only after press A", own).question, null, code);
+    assert.equal(questionOf("@same only after press A", own).question !== null, isAsked, code);
+    assert.notEqual(questionOf("@same or r5 = 1 only after press A", own).question, null, code);
   }
 });
 
 test("a time that the stopwatch cannot count is refused with the reason", () => {
-  assert.equal(asked(`every ${MAX_TIME} @look`).question.stopwatch.within, MAX_TIME);
-  assert.deepEqual(asked(`every ${MAX_TIME + 1} @look`), { question: null, words: "its time is longer than 16,777,214 cycles" });
+  assert.equal(questionOf(`every ${MAX_TIME} @look`).question.stopwatch.within, MAX_TIME);
+  assert.deepEqual(questionOf(`every ${MAX_TIME + 1} @look`), { question: null, words: "its time is longer than 16,777,214 cycles" });
 });
 
 test("a stopwatch has its lines after the texts", () => {

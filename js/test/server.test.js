@@ -51,8 +51,8 @@ test("what comes in one chunk with initialize, and with shutdown, is served in i
   const textDocument = { uri: "file:///a.asm", languageId: "asm", version: 1, text: "foo\n" };
   const hover = { textDocument, position: { line: 0, character: 0 } };
   const notes = [["initialized", {}], ["textDocument/didOpen", { textDocument }]].map(([method, params]) => ({ method, params }));
-  const asked = [{ id: 1, method: "initialize", params: {} }, ...notes, { id: 2, method: "textDocument/hover", params: hover }];
-  connection.take(new Uint8Array(asked.flatMap((each) => [...frameMessage({ jsonrpc: "2.0", ...each })])));
+  const messagesToServer = [{ id: 1, method: "initialize", params: {} }, ...notes, { id: 2, method: "textDocument/hover", params: hover }];
+  connection.take(new Uint8Array(messagesToServer.flatMap((each) => [...frameMessage({ jsonrpc: "2.0", ...each })])));
   const untilReported = async (count) => {
     for (let turns = 0; turns < 2000 && messages.length < count; turns++) await new Promise(setImmediate);
   };

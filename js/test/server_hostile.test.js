@@ -34,7 +34,7 @@ const spent = () => process.cpuUsage().user / 1000;
 async function askAll({ answer, at }, uri, lines) {
   const last = lines.length - 1;
   const middle = Math.floor(lines[0].length / 2);
-  const asked = [
+  const requests = [
     ...PLACES.flatMap((name) => [[0, middle], [last, lines[last].length]].map(([line, character]) => (
       [name, { ...at(uri, line, character), context: { includeDeclaration: true } }]))),
     ...WHOLES.map((name) => [name, { textDocument: { uri } }]),
@@ -44,7 +44,7 @@ async function askAll({ answer, at }, uri, lines) {
     ["selectionRange", { textDocument: { uri }, positions: [{ line: 0, character: middle }] }],
   ];
   const longest = { name: "", time: 0 };
-  for (const [name, params] of asked) {
+  for (const [name, params] of requests) {
     const begun = spent();
     const reply = await answer(`textDocument/${name}`, params);
     assert.ok(reply && ("result" in reply || "error" in reply), `${name} is answered`);

@@ -41,12 +41,12 @@ class FakeBase {
   }
 
   answer(find) {
-    const asked = {};
+    const request = {};
     setTimeout(() => {
-      asked.result = find();
-      asked.onsuccess();
+      request.result = find();
+      request.onsuccess();
     });
-    return asked;
+    return request;
   }
 }
 

@@ -1,7 +1,7 @@
 // The debug adapter's texts, which users see in their editor.
 
 // --- adapter/adapter_connection.js ---
-export const MESSAGE_FORM = "a message has a number seq, the type \"request\" and a command";
+export const MESSAGE_SYNTAX = "a message has a number seq, the type \"request\" and a command";
 /** @type {(command: string) => string} */
 export const noCommand = (command) => `unsupported request: ${command}`;
 
@@ -29,7 +29,7 @@ export const benchAnswered = (line, answer) => `${line}: the bench answered ${an
 export const BASE_64 = "data must be in base 64";
 
 // --- adapter/client_breakpoints.js ---
-export const HIT_COUNT_FORM = "a hit count is a number, as in 5: it stops from that hit on";
+export const HIT_COUNT_SYNTAX = "a hit count is a number, as in 5: it stops from that hit on";
 /** @type {(most: number) => string} */
 export const tooManyEnabled = (most) => `at most ${most} breakpoints can be on`;
 /** @type {(place: string) => string} */
@@ -51,14 +51,14 @@ export const tooLong = (most) => `a line has at most ${most} characters`;
 /** @type {(why: string) => string} */
 export const seeHelp = (why) => `${why}; help shows what a line can be`;
 /** @type {(word: string) => string} */
-export const keyForm = (word) => `write ${word} KEY`;
+export const keySyntax = (word) => `write ${word} KEY`;
 /** @type {(count: number) => string} */
 export const keysArePending = (count) => `${count} key${count === 1 ? " waits" : "s wait"} until the machine runs (continue)`;
 export const MACHINE_IS_RUNNING = "the machine is running: pause it first";
 /** @type {(form: string) => string} */
-export const placeForm = (form) => `write ${form}`;
-export const UNTIL_FORM = "until LABEL, until ADDRESS or until CONDITION";
-export const CHANGE_FORM = "change PLACE, as in change r4";
+export const placeSyntax = (syntax) => `write ${syntax}`;
+export const UNTIL_SYNTAX = "until LABEL, until ADDRESS or until CONDITION";
+export const CHANGE_SYNTAX = "change PLACE, as in change r4";
 /** @type {(most: number) => string} */
 export const tooManyLines = (most) => `at most ${most} lines are accepted at once`;
 /** @type {(word: string) => string} */

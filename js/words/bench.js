@@ -36,7 +36,7 @@ export const tooManyBytes = (bytes, room) => `it has ${bytes} bytes, and ROM has
 /** @type {(bytes: string, room: string, from: string) => string} */
 export const tooManyFrom = (bytes, room, from) => `it has ${bytes} bytes, and only ${room} fit from the address ${from}`;
 export const BEGINS_WITH_COLON = "a record of Intel HEX begins with `:`";
-export const RECORD_FORM = "a record has `:`, ten hexadecimal digits and two for each byte";
+export const RECORD_SYNTAX = "a record has `:`, ten hexadecimal digits and two for each byte";
 /** @type {(count: number, bytes: number) => string} */
 export const wrongByteCount = (count, bytes) => `it announces ${count} bytes and has ${bytes}`;
 /** @type {(sum: string, right: string) => string} */
@@ -56,12 +56,12 @@ export const imageLine = (line, fault) => `line ${line}: ${fault}`;
 export const NO_LAST_RECORD = "it has no last record (:00000001FF), so a part of it is missing";
 
 // --- bench/rom_formats.js ---
-export const S_RECORD_FORM = "a record of Motorola has `S`, a digit, and two hexadecimal digits for each byte";
+export const S_RECORD_SYNTAX = "a record of Motorola has `S`, a digit, and two hexadecimal digits for each byte";
 export const SHORT_RECORD = "too short for its address";
 export const AFTER_S9 = "a record after the last one (S9)";
 export const NO_S9 = "it has no last record (S9), so a part of it is missing";
 /** @type {(word: string) => string} */
-export const bnpfForm = (word) => `a word of BNPF is B, eight of P and N, and F, as BNNNPNPNNF; this is ${word}`;
+export const bnpfSyntax = (word) => `a word of BNPF is B, eight of P and N, and F, as BNNNPNPNNF; this is ${word}`;
 /** @type {(word: string) => string} */
 export const bnpfWithoutEnd = (word) => `a word without its end, \`F\`: ${word}`;
 

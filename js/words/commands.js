@@ -43,7 +43,7 @@ export const COMMAND_WORDS = {
   back: {
     summary: "undoes the last commands of a session",
     text: `
-      Undoes the last N accepted commands of SESSION, if its log still has them, and prints \`session M\` as \`mcs4 open\` does. Without
+      Undoes the last N accepted commands of SESSION if its log still has them. Prints \`session M\` as \`mcs4 open\` does. Without
       N, it only prints how far back it can go, and changes nothing. N is 1 to 99,999.
 
       The effects of the N commands are then lost: copy the file first if you want to keep them.
@@ -713,7 +713,7 @@ export const neitherSplitNorJoin = (word) => `'${word}' is neither split nor joi
 /** @type {(name: string, folder: string) => string} */
 export const leadsOutOf = (name, folder) => `${name} is a link that leads out of ${folder}`;
 /** @type {(name: string) => string} */
-export const zeroBytes = (name) => `${name} has zero bytes; it is not a text`;
+export const containsNul = (name) => `${name} contains NUL bytes, so it is not a text`;
 /** @type {(name: string) => string} */
 export const notUtf8 = (name) => `${name} is not a text in UTF-8`;
 /** @type {(file: string, count: number, kind: string) => string} */

@@ -8,17 +8,17 @@ export const NAMED_PLACES = "acc, cy, dcl, r0 to r15, ram.B.S, st.B.H.K, rom1.2,
 /** @type {(name: string, there: string) => string} */
 export const noLamp = (name, there) => (
   `the board has no lamp ${name}; ${there ? `it has: ${there}` : "its text names no lamps (`# lamp 0: NAME ..`)"}`);
-export const LAMPS_FORM = "write `lamps PATTERN`, or `lamps NAME ..`, or `lamps none`";
+export const LAMPS_SYNTAX = "write `lamps PATTERN`, or `lamps NAME ..`, or `lamps none`";
 /** @type {(wanted: number, count: number) => string} */
 export const wrongPatternLength = (wanted, count) => `a pattern of ${wanted} lamps; the board has ${count}`;
 /** @type {(names: string) => string} */
 export const litLamps = (names) => `; lit: ${names}`;
-export const LAMP_FORM = "write `lamp NAME on` or `lamp NAME off`";
+export const LAMP_SYNTAX = "write `lamp NAME on` or `lamp NAME off`";
 export const NO_DISPLAY = "the board's text names no display (`# display 0: 4 digits`)";
-export const DISPLAY_FORM = "write `display TEXT`, as in: display -18; it is compared as a text, not as a number";
+export const DISPLAY_SYNTAX = "write `display TEXT`, as in: display -18; it is compared as a text, not as a number";
 export const NO_PRINTER = "the board's text names no printer (`# printer rom0.2: ram0.2 0 1 2 + feed`)";
-export const PRINTED_FORM = "write `printed TEXT`, the last lines of the printout, as in: printed 12+ 30= 42";
-export const CYCLES_FORM = "write `cycles TIME`, `cycles at most TIME` or `cycles at least TIME`";
+export const PRINTED_SYNTAX = "write `printed TEXT`, the last lines of the printout, as in: printed 12+ 30= 42";
+export const CYCLES_SYNTAX = "write `cycles TIME`, `cycles at most TIME` or `cycles at least TIME`";
 export const WITHIN_INSTRUCTION = ", within an instruction";
 /** @type {(name: string) => string} */
 export const noLabel = (name) => `the program has no label ${name}`;
@@ -27,9 +27,9 @@ export const noRom = (chip) => `the board has no ROM ${chip}`;
 /** @type {(chain: number) => string} */
 export const noChain = (chain) => `the board has no chain ${chain}`;
 /** @type {(name: string) => string} */
-const romPortForm = (name) => `write \`${name} in VALUE\` or \`${name} out VALUE\`, 0 to 15`;
+const romPortSyntax = (name) => `write \`${name} in VALUE\` or \`${name} out VALUE\`, 0 to 15`;
 /** @type {(name: string) => string} */
-const ramPortForm = (name) => `write \`${name} out VALUE\`, 0 to 15`;
+const ramPortSyntax = (name) => `write \`${name} out VALUE\`, 0 to 15`;
 /** @type {(chain: string, bits: number) => string} */
 export const chainBits = (chain, bits) => `chain ${chain} has ${bits} bits, each 0, 1, or ? for any`;
 export const NO_RAM_FOR_LAST = "the board has no RAM chip for the last of these characters";
@@ -45,7 +45,7 @@ export const mustBe = (what, is, want, isMany, isNot) => (
   `${what} ${isMany ? "are" : "is"} ${is || "dark"}, but must ${isNot ? "not " : ""}be ${want}`);
 /** @type {(count: number, most: number) => string} */
 export const tooManyPlaces = (count, most) => `it reads ${count} places; at most ${most} are allowed`;
-export const AT_FORM = "write `at LABEL`";
+export const AT_SYNTAX = "write `at LABEL`";
 export const DIGITS_ARE_MULTIPLEXED = "the digits are multiplexed, so no instant shows a number: `display` is only for the lines of a test";
 export const LINE_BY_LINE = "printed text arrives line by line: `printed` is only for the lines of a test";
 /** @type {(what: string) => string} */
@@ -71,15 +71,15 @@ export const notExpected = (word) => `${word}: a condition ends before this; joi
 /** @type {(value: string) => string} */
 export const noComparison = (value) => `${value}: a comparison is missing, as in: ${value} = 4`;
 /** @type {(name: string) => string} */
-export const portForm = (name) => (/^rom/i.test(name) ? romPortForm(name) : ramPortForm(name));
+export const portSyntax = (name) => (/^rom/i.test(name) ? romPortSyntax(name) : ramPortSyntax(name));
 /** @type {(condition: string) => string} */
 export const noValue = (condition) => `${condition}: this is a condition, but a value is needed`;
 /** @type {(word: string) => string} */
 export const missingBefore = (word) => `a value is missing before ${word}`;
 /** @type {(sign: string) => string} */
 export const missingAfter = (sign) => `a value is missing after ${sign}`;
-export const SPACED_FORM = "write ram.BANK.SRC or st.BANK.REGISTER.NUMBER";
-export const KEY_FORM = "write `key NAME down` or `key NAME up`";
+export const SPACED_SYNTAX = "write ram.BANK.SRC or st.BANK.REGISTER.NUMBER";
+export const KEY_SYNTAX = "write `key NAME down` or `key NAME up`";
 
 // --- conditions/values.js ---
 /** @type {(name: string, there: string) => string} */
@@ -127,7 +127,7 @@ export const noConstant = (text) => `${text} is neither a number nor a name of t
 export const noNames = (text) => `${text} is not a number; names are known only while the source is the same as ROM`;
 
 // --- conditions/set_command.js ---
-export const SET_FORM = "write `set PLACE = VALUE`, as in: set r4 = 7, set test 0, set ram.0.0x12 = 7";
+export const SET_SYNTAX = "write `set PLACE = VALUE`, as in: set r4 = 7, set test 0, set ram.0.0x12 = 7";
 /** @type {(place: string) => string} */
 export const cannotBeSet = (place) => (
   `${place} cannot be set; places to set are acc, cy, pc, dcl, test, r0 to r15, p0 to p7, ram.B.S, st.B.H.K and rom.A`);

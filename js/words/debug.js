@@ -111,7 +111,7 @@ export const isNext = (words) => `${words}, and comes next`;
 export const outAndIn = (out, read) => `out ${out}, in ${read}`;
 /** @type {(most: number) => string} */
 export const tooLong = (most) => `It has more than ${most} characters.`;
-export const NAME_FORM = "A name has letters, digits and _, as in: count = R5.";
+export const NAME_SYNTAX = "A name has letters, digits and _, as in: count = R5.";
 export const EXPRESSION_MISSING = "An expression is missing, as in: count = R5, r4 + 1 > 9.";
 /** @type {(number: string, digits: string) => string} */
 export const withHex = (number, digits) => `${number} (0x${digits})`;

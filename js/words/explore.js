@@ -15,49 +15,49 @@ export const FORMS = "press, test, reset, together, wait, held, apart, from, beg
   + "reach, model, while, once, or are written as `C only after press K, press K ..`, `@LABEL at most once for each press` or "
   + "`@LABEL to @LABEL within TIME`";
 /** @type {(word: string) => string} */
-export const labelForm = (word) => `a label is written as @LABEL, not ${word}`;
-export const WAIT_FORM = "write `wait TIME to TIME`, from 1 cycle to 100,000 (1.08 s), as in: wait 1 ms to 20 ms";
-export const PRESS_FORM = "write `press KEY ..`: the keys that may go down";
-export const TEST_FORM = "`test` takes no argument: TEST may change";
-export const RESET_FORM = "`reset` takes no argument: the power may be cycled";
-export const TOGETHER_FORM = "write `together N`: at most N keys are down at a time";
-export const HELD_FORM = "write `held at most TIME`: no key is down for longer";
-export const APART_FORM = "write `apart at least TIME`: a key that went up stays up for that long";
-export const FROM_FORM = "write `from STATE` or `from STATE of FILE.test`: a state that a test saves, where everything begins";
+export const labelSyntax = (word) => `a label is written as @LABEL, not ${word}`;
+export const WAIT_SYNTAX = "write `wait TIME to TIME`, from 1 cycle to 100,000 (1.08 s), as in: wait 1 ms to 20 ms";
+export const PRESS_SYNTAX = "write `press KEY ..`: the keys that may go down";
+export const TEST_SYNTAX = "`test` takes no argument: TEST may change";
+export const RESET_SYNTAX = "`reset` takes no argument: the power may be cycled";
+export const TOGETHER_SYNTAX = "write `together N`: at most N keys are down at a time";
+export const HELD_SYNTAX = "write `held at most TIME`: no key is down for longer";
+export const APART_SYNTAX = "write `apart at least TIME`: a key that went up stays up for that long";
+export const FROM_SYNTAX = "write `from STATE` or `from STATE of FILE.test`: a state that a test saves, where everything begins";
 export const FROM_TWICE = "an earlier line already says from which state it begins";
-export const BEGIN_FORM = "write `begin after TIME`: nothing before that is checked";
-export const PACE_FORM = "write `pace TIME TIME`: how long a key is down for a model, and how long it is up";
-export const NOTE_FORM = "write `note PLACE ..`: what makes a state new, as in: note lamps r10 ram.0.0x12";
+export const BEGIN_SYNTAX = "write `begin after TIME`: nothing before that is checked";
+export const PACE_SYNTAX = "write `pace TIME TIME`: how long a key is down for a model, and how long it is up";
+export const NOTE_SYNTAX = "write `note PLACE ..`: what makes a state new, as in: note lamps r10 ram.0.0x12";
 /** @type {(most: number) => string} */
 export const mostNoted = (most) => `at most ${most} places are noted`;
 export const NOT_PC = "pc changes at each instruction, so it cannot make a state new";
 /** @type {(word: string) => string} */
 export const noTrace = (word) => `no trace shows ${word}`;
-export const NEVER_FORM = "write `never CONDITION` or `never CONDITION for TIME`";
-export const FOR_FORM = "it ends with `for TIME`, as in: for 20 ms";
-export const AT_FORM = "write `at @LABEL CONDITION`";
-export const AFTER_FORM = "write `after press KEY within TIME CONDITION`, as in: after press # within 50 ms lamp open on";
-export const GUARD_FORM = "a guard is written as `while CONDITION,`, `once CONDITION,`, `after press KEY,` or "
+export const NEVER_SYNTAX = "write `never CONDITION` or `never CONDITION for TIME`";
+export const FOR_SYNTAX = "it ends with `for TIME`, as in: for 20 ms";
+export const AT_SYNTAX = "write `at @LABEL CONDITION`";
+export const AFTER_SYNTAX = "write `after press KEY within TIME CONDITION`, as in: after press # within 50 ms lamp open on";
+export const GUARD_SYNTAX = "a guard is written as `while CONDITION,`, `once CONDITION,`, `after press KEY,` or "
   + "`after press KEY within TIME,` before never, always, at, after press or reach";
 /** @type {(most: number) => string} */
 export const mostGuards = (most) => `at most ${most} guards are before a property`;
-export const WITHIN_FORM = "write `@LABEL to @LABEL within TIME`, as in: @scan to @shown within 20 ms";
-export const EVERY_FORM = "write `every TIME @LABEL`, as in: every 20 ms @scan";
+export const WITHIN_SYNTAX = "write `@LABEL to @LABEL within TIME`, as in: @scan to @shown within 20 ms";
+export const EVERY_SYNTAX = "write `every TIME @LABEL`, as in: every 20 ms @scan";
 /** @type {(line: string) => string} */
 export const noInstructionIn = (line) => `line ${line} of the program has no instruction`;
 export const MODEL_TWICE = "an earlier line already has a model";
-export const MODEL_FORM = "write `model COMMAND`: the command gets keys, and prints what the display must show";
+export const MODEL_SYNTAX = "write `model COMMAND`: the command gets keys, and prints what the display must show";
 export const LIT_BY_TURNS = "the display's digits are multiplexed, but a model needs a display that shows its number at once";
-export const ONLY_AFTER_FORM = "write `CONDITION only after press KEY, press KEY ..`";
+export const ONLY_AFTER_SYNTAX = "write `CONDITION only after press KEY, press KEY ..`";
 /** @type {(word: string, forms: string) => string} */
-export const noForm = (word, forms) => `no line begins with \`${word}\`; they begin with ${forms}`;
+export const unknownFirstWord = (word, firstWords) => `no line begins with \`${word}\`; they begin with ${firstWords}`;
 export const NOTHING_CHANGES =
   "nothing may change: the board's text names no keys and no TEST; `test` lets TEST change, `reset` the power";
 export const MODEL_NEEDS_KEYS = "a model is asked about keys, but none may go down";
 
 // --- explore/explore_tab.js ---
-export const SECONDS_FORM = "Seconds must be a number from 1 to 86,400.";
-export const SEED_FORM = "The seed must be a number from 1 to 99,999,999.";
+export const SECONDS_RANGE = "Seconds must be a number from 1 to 86,400.";
+export const SEED_RANGE = "The seed must be a number from 1 to 99,999,999.";
 export const STOP = "Stop";
 export const EXPLORE = "Search";
 export const BEGINS = "Starting.";

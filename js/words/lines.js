@@ -51,7 +51,7 @@ const FORM_OF = new Map(LINES_BY_GROUPS.flatMap(({ lines }) => lines.map(([form]
 /** @type {(word: string, like: string[]) => string} */
 export const noLine = (word, like) => `${word} is not a command${didYouMean(like) || "; help shows the commands"}`;
 /** @type {(word: string) => string} */
-export const otherForm = (word) => `${word} is written as: ${FORM_OF.get(word)}`;
+export const lineSyntax = (word) => `${word} is written as: ${FORM_OF.get(word)}`;
 /** @type {(word: string, like: string[]) => string} */
 export const noPlace = (word, like) => `${word} is not a place${didYouMean(like) || "; help places shows the places"}`;
 /** @type {(word: string) => string} */

@@ -24,10 +24,10 @@ export const NOTHING_WATCHED = "nothing is watched";
 export const ifCondition = (condition) => (condition && ` if ${condition}`);
 /** @type {(note: string) => string} a breakpoint's log message as an argument of `break`; "" for none */
 export const logNote = (note) => (note && ` log "${note}"`);
-export const CONDITION_FORM = "write condition N CONDITION, as in condition 1 r4 = 7";
-export const IGNORE_FORM = "write ignore N COUNT, as in ignore 1 5";
-export const COMMANDS_FORM = "write commands N, and lines up to end";
-export const SAVE_FORM = "write save breakpoints FILE";
+export const CONDITION_SYNTAX = "write condition N CONDITION, as in condition 1 r4 = 7";
+export const IGNORE_SYNTAX = "write ignore N COUNT, as in ignore 1 5";
+export const COMMANDS_SYNTAX = "write commands N, and lines up to end";
+export const SAVE_SYNTAX = "write save breakpoints FILE";
 /** The first line of a breakpoints file. */
 export const SAVED_HEAD = "# Breakpoints of mcs4 debug";
 export const TEMPORARY = ", temporary";
@@ -58,7 +58,7 @@ export const noFormat = (format, formats) => `${format || "nothing"} is not a fo
 export const noNumberOf = (what) => `${what} is not a number, so it has no format`;
 
 // --- prompt/change_commands.js ---
-export const BENCH_FORM = "write bench LINE, as in bench state";
+export const BENCH_SYNTAX = "write bench LINE, as in bench state";
 export const NO_FILE = "there is no file of the source to read";
 export const SOURCE_IN_ROM = "The source is in ROM.";
 
@@ -76,14 +76,14 @@ export const NONE_DOWN = "none is down";
 /** @type {(keys: string) => string} */
 export const down = (keys) => `down: ${keys}`;
 /** @type {(command: string) => string} */
-export const keyForm = (command) => `write ${command} KEY; info keys shows their names`;
+export const keySyntax = (command) => `write ${command} KEY; info keys shows their names`;
 /** @type {(word: string, names: string) => string} */
 export const noKey = (word, names) => `the board has no key ${word}; it has: ${names}`;
 
 // --- prompt/inspect_commands.js ---
 export const NO_LAMPS = "the board has no lamps";
-export const PRINT_FORM = "write print WHAT, as in print r4";
-export const VIEW_FORM = "write view, view on or view off";
+export const PRINT_SYNTAX = "write print WHAT, as in print r4";
+export const VIEW_SYNTAX = "write view, view on or view off";
 export const VIEW_NEEDS_TERMINAL = "the view needs a terminal: it is above the commands that are typed there";
 export const NO_DISPLAY = "there is no such display; info display shows their numbers";
 /** @type {(place: string) => string} */
@@ -100,7 +100,7 @@ export const IN_MEMORY = "in memory: nothing is saved";
 export const infoShows = (kinds) => `info shows ${kinds}`;
 /** @type {(kind: string) => string} */
 export const infoTakesNoArgument = (kind) => `info ${kind} takes no argument`;
-export const SYMBOL_FORM = "write info symbol PLACE, as in info symbol 0x00F";
+export const SYMBOL_SYNTAX = "write info symbol PLACE, as in info symbol 0x00F";
 export const NO_LOCALS = "a 4004 has no local variables; info registers shows the registers, info names the names of the program";
 /** @type {(line: number, first: string, name: string, last: string) => string} */
 export const lineIs = (line, first, name, last) => (
@@ -117,10 +117,10 @@ export const noPlaceOfRam = (place) => `${place} is not a place of RAM such as r
 export const noRamAt = (place) => `the board has no RAM at ${place}`;
 
 // --- prompt/move_commands.js ---
-export const UNTIL_FORM = "write until PLACE or until CONDITION, as in until show or until r5 > 8";
-export const REVERSE_FORM = "reverse-continue takes no argument; reverse-step N goes back N instructions";
-export const FINISH_FORM = "finish takes no argument";
-export const CONTINUE_FORM = "continue takes no argument; run TIME runs for a time";
+export const UNTIL_SYNTAX = "write until PLACE or until CONDITION, as in until show or until r5 > 8";
+export const REVERSE_SYNTAX = "reverse-continue takes no argument; reverse-step N goes back N instructions";
+export const FINISH_SYNTAX = "finish takes no argument";
+export const CONTINUE_SYNTAX = "continue takes no argument; run TIME runs for a time";
 export const NOTHING_STOPS = "nothing would stop it: set a breakpoint, or run for a time, as in run 100 ms";
 /** @type {(words: string, left: string) => string} */
 export const notPressed = (words, left) => `${words} Not pressed: ${left}.`;
@@ -137,7 +137,7 @@ export const NOTHING_DONE = "Nothing was done";
 export const PAGE_REMEMBERS = "the page remembers";
 export const SESSION_REMEMBERS = "the session remembers";
 /** @type {(command: string) => string} */
-export const placeForm = (command) => `write ${command} PLACE, as in ${command} r4`;
+export const placeSyntax = (command) => `write ${command} PLACE, as in ${command} r4`;
 /** @type {(text: string, places: string) => string} */
 export const noPlace = (text, places) => `${text} is not a place; places are ${places}`;
 

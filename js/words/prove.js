@@ -7,7 +7,7 @@ export const looksAtInput = (place) => `its condition uses ${place}, an input`;
 
 // --- prove/question.js ---
 /** @type {(form: string) => string} */
-export const otherForm = (form) => `a property of the form "${form}" cannot be proved yet`;
+export const unprovableForm = (form) => `a property of the form "${form}" cannot be proved yet`;
 /** @type {(name: string) => string} */
 export const isNoMatrixKey = (name) => `${name} is at the TEST pin; only presses of keys of the matrix are counted`;
 /** @type {(most: number) => string} */
@@ -83,7 +83,7 @@ export const proverEnded = (words) => `the prover ended without an answer: ${wor
 // --- page/prove/proofs.js ---
 export const PROVE = "Prove";
 export const CANCEL = "Cancel";
-export const STATES_FORM = "The number of states must be 1 to 999,999,999.";
+export const STATES_RANGE = "The number of states must be 1 to 999,999,999.";
 export const CANCELLED_EARLY = "It was cancelled before anything was proved.";
 /** @type {(property: string) => string} */
 export const nextStepBreaks = (property) => `The next step breaks: ${property}`;

@@ -23,7 +23,7 @@ export const definedIn = (isChain, line) => `; its ${isChain ? "chain" : "chip"}
 /** @type {(bytes: number) => string} */
 export const messageTooLong = (bytes) => `a message of ${bytes} bytes was not read`;
 export const NOT_JSON = "a message is not JSON";
-export const MESSAGE_FORM = "a message has jsonrpc \"2.0\", a method, and an id if it is answered";
+export const MESSAGE_SYNTAX = "a message has jsonrpc \"2.0\", a method, and an id if it is answered";
 export const EXIT_AFTER_SHUTDOWN = "after shutdown only exit is accepted";
 export const INITIALIZE_FIRST = "send initialize first";
 export const INITIALIZE_ONCE = "initialize can be sent only once";
@@ -40,7 +40,7 @@ export const textTooLong = (most, size) => `a text has at most ${most} character
 export const write = (text) => `Write ${text}`;
 
 // --- server/framing.js ---
-export const HEAD_FORM = "a message begins with one line Content-Length: N, and an empty one after it";
+export const HEAD_SYNTAX = "a message begins with one line Content-Length: N, and an empty one after it";
 /** @type {(most: number) => string} */
 export const headTooLong = (most) => `the head of a message has more than ${most} bytes`;
 
@@ -116,10 +116,10 @@ export const testFailed = (name, line, words) => `The test ${name} failed in lin
 export const notRun = (file, line, words) => `Nothing was run: ${file}${line > 0 ? `:${line}` : ""}: ${words}.`;
 
 // --- project/project_folder.js ---
-export const EMPTY = "it is empty; it names the files of the project, as in board = \"board.toml\"";
+export const EMPTY = "it is empty; it should name the project's files, as in board = \"board.toml\"";
 /** @type {(size: number, most: number) => string} */
 export const tooLong = (size, most) => `it has ${size} bytes, more than a project file can have (${most})`;
-export const ZERO_BYTES = "it has zero bytes; it is not a text";
+export const CONTAINS_NUL = "it contains NUL bytes, so it is not a text";
 
 /** @type {(path: string) => string} */
 export const leadsOut = (path) => `${path} is a link that leads out of the project's folder`;

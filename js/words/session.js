@@ -113,7 +113,7 @@ export const TOO_MANY_BYTES = "the file has more bytes than a project can have";
 export const END_OF_FILE = "the end of the file";
 export const NOT_UTF8 = "the project is damaged: it is not a text in UTF-8";
 
-export const HAS_ZERO_BYTES = "the project has zero bytes; it is not a text";
+export const CONTAINS_NUL = "the project contains NUL bytes, so it is not a text";
 
 // --- session/project_parts.js ---
 /** The first line of the `mcs4.toml` file that `mcs4 project split` writes. */

@@ -21,7 +21,7 @@ export const textDropped = (word) => `the text of ${word} is dropped`;
 export const inFile = (name, line, words) => `${name}: line ${line}: ${words}`;
 /** @type {(name: string, line: number, words: string) => string} */
 export const inText = (name, line, words) => `${name && `${name}: `}${line > 0 ? `line ${line}: ` : ""}${words}`;
-export const SOURCE_FORM = "source is written as: source FILE";
+export const SOURCE_SYNTAX = "source is written as: source FILE";
 /** @type {(most: number) => string} */
 export const tooDeep = (most) => `source files can be nested at most ${most} deep`;
 /** @type {(name: string, dropped: string) => string} */

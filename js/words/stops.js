@@ -34,8 +34,8 @@ export const wordsOfLine = (line) => `line ${line}`;
 export function wordsOfAddress(address, map) {
   const number = parseInt(address, 16);
   const line = map ? map.lineOf(number) : 0;
-  const words = map && line > 0 ? [map.nameOf(number), wordsOfLine(line)].filter(Boolean).join(", ") : "";
-  return words ? `${address} (${words})` : address;
+  const description = map && line > 0 ? [map.nameOf(number), wordsOfLine(line)].filter(Boolean).join(", ") : "";
+  return description ? `${address} (${description})` : address;
 }
 
 /**

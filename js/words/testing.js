@@ -83,9 +83,9 @@ export const notReached = (cycles, message, passed) => `it did not become true w
 // --- testing/test_text.js ---
 /** @type {(word: string) => string} */
 export const noRomAt = (word) => `the board has no ROM at ${word}`;
-export const RUN_FORM = "write `run TIME`, as in: run 500, run 20 ms, run 1.5 s";
-export const REPEAT_FORM = "write `repeat COUNT`, 1 to 100,000: the lines down to its `end` are run COUNT times";
-export const CHOICE_FORM =
+export const RUN_SYNTAX = "write `run TIME`, as in: run 500, run 20 ms, run 1.5 s";
+export const REPEAT_SYNTAX = "write `repeat COUNT`, 1 to 100,000: the lines down to its `end` are run COUNT times";
+export const CHOICE_SYNTAX =
   "to choose a key by a value, write `{PLACE}` or `{PLACE:KEY,KEY}`; places are acc, cy, dcl, r0 to r15, ram.B.S and st.B.H.K";
 export const FIRST_WORDS = "test, steps, from, save, press, release, keys, pace, run, until, expect, mark, set, reset, do, repeat or end";
 export const NO_TEST = "there is no line `test NAME`";
@@ -97,10 +97,10 @@ export const STEPS_NAME = "shared steps have a name of one word: steps NAME";
 /** @type {(name: string, line: number, file: string) => string} */
 export const stepsDefinedTwice = (name, line, file) => `the steps ${name} are already at ${placeOf(line, file)}`;
 export const NO_END = "this `repeat` has no `end`";
-export const END_FORM = "`end` takes no argument";
+export const END_SYNTAX = "`end` takes no argument";
 export const NO_REPEAT = "there is no `repeat` for this `end`";
 export const TOO_MANY_LINES = "this repeats more than 1,000,000 lines";
-export const DO_FORM = "write `do STEPS`, the name of shared steps";
+export const DO_SYNTAX = "write `do STEPS`, the name of shared steps";
 /** @type {(name: string) => string} */
 export const stepsUseThemselves = (name) => `the steps ${name} cannot run themselves`;
 /** @type {(there: string, name: string) => string} */
@@ -110,31 +110,31 @@ export const noSteps = (name, there) => `there are no steps ${name} before this 
 /** @type {(word: string) => string} */
 export const takesNoArgument = (word) => `\`${word}\` takes no argument`;
 /** @type {(word: string, forms: string) => string} */
-export const noForm = (word, forms) => `no line of a test begins with \`${word}\`; they begin with ${forms}`;
+export const unknownFirstWord = (word, firstWords) => `no line of a test begins with \`${word}\`; they begin with ${firstWords}`;
 /** @type {(word: string) => string} */
-export const stateForm = (word) => `write \`${word} STATE\`, a word`;
+export const stateSyntax = (word) => `write \`${word} STATE\`, a word`;
 export const SAVED_ONCE = "a state is saved once: `save` cannot be in a `repeat`";
 /** @type {(word: string) => string} */
 export const noStates = (word) => `shared steps have no states: \`${word}\` belongs in a test`;
 /** @type {(state: string, test: string) => string} */
 export const savedBefore = (state, test) => `the state ${state} is already saved by an earlier test, \`${test}\``;
-export const FROM_FORM = "`from` must be right below `test`";
+export const FROM_POSITION = "`from` must be right below `test`";
 /** @type {(states: string) => string} */
 export const knownStates = (states) => `; there is: ${states}`;
 /** @type {(state: string, there: string) => string} */
 export const noSuchState = (state, there) => `no earlier test saves a state ${state}${there}`;
 export const OWN_STATE = "a test cannot begin with a state that it saves itself";
 /** @type {(word: string, areMany: boolean) => string} */
-export const keysForm = (word, areMany) => `write \`${word} ${areMany ? "KEYS" : "KEY .."}\``;
+export const keysSyntax = (word, areMany) => `write \`${word} ${areMany ? "KEYS" : "KEY .."}\``;
 /** @type {(name: string, word: string) => string} */
 export const nor = (name, word) => `${name}, nor ${word}`;
 /** @type {(what: string, there: string) => string} */
 export const noKey = (what, there) => (
   `the board has no key ${what}; ${there ? `it has: ${there}` : "its text names no keys (`# row 0: NAME ..`)"}`);
-export const UNTIL_FORM = "write `until CONDITION within TIME`";
-export const WITHIN_FORM = "it ends with `within TIME`, as in: within 500, within 20 ms, within 1.5 s";
+export const UNTIL_SYNTAX = "write `until CONDITION within TIME`";
+export const WITHIN_SYNTAX = "it ends with `within TIME`, as in: within 500, within 20 ms, within 1.5 s";
 export const NO_CYCLES = "`until` cannot ask for cycles; use `run` or `expect`";
-export const PACE_FORM = "write `pace TIME TIME`: how long a key is down, and how long it is up after it";
+export const PACE_SYNTAX = "write `pace TIME TIME`: how long a key is down, and how long it is up after it";
 
 // --- testing/tests_tab.js ---
 export const WAS_CANCELLED = "It was cancelled; the results shown are from before.";

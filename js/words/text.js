@@ -28,11 +28,11 @@ export const KEY_MATRIX = "the key matrix";
 export const A_LAMP = "a lamp";
 
 // --- text/board_reader.js ---
-export const TABLE_FORM = "a table's name is in brackets: [[rom]]";
+export const TABLE_SYNTAX = "a table's name is in brackets: [[rom]]";
 /** @type {(table: string) => string} */
 export const bracketMissing = (table) => `] is missing: ${table}`;
 export const LINE_ENDS = "the line must end here";
-export const KEY_FORM = "a key is missing before =";
+export const KEY_SYNTAX = "a key is missing before =";
 /** @type {(name: string) => string} */
 export const equalsMissing = (name) => `= is missing after ${name}`;
 /** @type {(key: string) => string} */
@@ -40,9 +40,9 @@ export const valueMissing = (key) => `the value of ${key} is missing`;
 /** @type {(text: string) => string} */
 export const noValue = (text) => `a value is needed here, not ${text}`;
 /** @type {(text: string) => string} */
-export const numberForm = (text) => `a number has no leading zero; write a text in quotes: "${text}"`;
+export const hasLeadingZero = (text) => `a number has no leading zero; write a text in quotes: "${text}"`;
 /** @type {(text: string) => string} */
-export const textForm = (text) => `${text} is a text: write it in quotes: "${text}"`;
+export const needsQuotes = (text) => `${text} is a text: write it in quotes: "${text}"`;
 /** @type {(most: number) => string} */
 export const tooDeep = (most) => `more than ${most} brackets and braces are open here`;
 export const NO_BRACKET = "the closing ] is missing";
@@ -134,7 +134,7 @@ export const CLOSE = "Close";
 export const UNFOLDS = "click to unfold them";
 
 // --- text/line_values.js ---
-export const LINE_CHANGED = "what this line has changed";
+export const CHANGES_BY_LINE = "what this line has changed";
 
 // --- text/meaning_view.js ---
 /** @type {(name: string) => string} */
@@ -190,10 +190,10 @@ export const withoutMark = (number) => `without #: ${number}`;
 export const NO_NEGATIVES = "there are no negative numbers";
 export const NO_EXPRESSIONS = "there are no expressions: write one number or one name";
 export const COMMA_OF_OPERANDS = "write a comma between two operands";
-export const NUMBER_FORM = "a number is decimal digits, or 0x and hexadecimal digits";
+export const NUMBER_SYNTAX = "a number is decimal digits, or 0x and hexadecimal digits";
 /** @type {(most: number, length: number) => string} */
 export const nameTooLong = (most, length) => `a name has at most ${most} characters; this has ${length}`;
-export const NAME_FORM = "a name has letters, digits and _, and does not begin with a digit";
+export const NAME_SYNTAX = "a name has letters, digits and _, and does not begin with a digit";
 /** @type {(name: string) => string} */
 export const isInstruction = (name) => `${name} is an instruction, so it cannot be a name`;
 /** @type {(name: string) => string} */
@@ -210,13 +210,13 @@ export const nameGetsNumber = (name, number) => `define a name with =: ${name} =
 /** @type {(name: string, question: string) => string} */
 export const noInstruction = (name, question) => `${name} is not an instruction${question}`;
 /** @type {(name: string) => string} */
-export const labelForm = (name) => `; a label has a colon: ${name}:`;
+export const labelSyntax = (name) => `; a label has a colon: ${name}:`;
 /** @type {(reason: string) => string} */
-export const orgForm = (reason) => `ORG takes one number, 0 to 4095 (0xFFF)${reason}`;
-export const DB_FORM = "DB takes bytes, 0 to 255, separated by commas";
+export const orgSyntax = (reason) => `ORG takes one number, 0 to 4095 (0xFFF)${reason}`;
+export const DB_SYNTAX = "DB takes bytes, 0 to 255, separated by commas";
 /** @type {(reason: string) => string} */
-export const equalsForm = (reason) => `write one number after =${reason}`;
-export const COLON_FORM = "a name is missing before the colon";
+export const equalsSyntax = (reason) => `write one number after =${reason}`;
+export const COLON_SYNTAX = "a name is missing before the colon";
 /** @type {(name: string) => string} */
 export const takesNothing = (name) => `${name} takes no operand`;
 export const AND_AFTER = ", and ";

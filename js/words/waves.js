@@ -41,11 +41,11 @@ export const NO_LINE_CHOSEN = "No line is chosen: choose the lines for the file.
 // --- waves/trigger.js ---
 /** @type {(name: string) => string} */
 export const noSuchName = (name) => `nothing here is called ${name}; Rows lists the names`;
-export const LABEL_FORM = "write a place of the program as @LABEL";
+export const LABEL_SYNTAX = "write a place of the program as @LABEL";
 /** @type {(name: string) => string} */
-export const decodedForm = (name) => `${name} is decoded from other lines: name one of those, as in: rom0.0 rises`;
+export const isDecodedLine = (name) => `${name} is decoded from other lines: name one of those, as in: rom0.0 rises`;
 /** @type {(name: string) => string} */
-export const numberForm = (name) => `${name} is a number: write ${name} changes, or as ${name} = 5`;
+export const numberConditionSyntax = (name) => `${name} is a number: write ${name} changes, or as ${name} = 5`;
 
 // --- waves/wave_view.js ---
 export const ROW = "Row";
@@ -152,7 +152,7 @@ export const cursorAt = (name, cycle, time, instruction) => `${name}: cycle ${cy
 /** @type {(name: string, value: string) => string} */
 export const valueIs = (name, value) => `${name} is ${value}, `;
 /** @type {(value: string, cycle: string, instruction: string) => string} */
-export const cycleAt = (value, cycle, instruction) => `${value}cycle ${cycle}, ${instruction}`;
+export const cursorDescription = (lineValue, cycle, instruction) => `${lineValue}cycle ${cycle}, ${instruction}`;
 export const NOTHING_BEFORE = "Nothing was recorded: no cycle was done since the session was opened or wired.";
 /** @type {(cycles: string, time: string) => string} */
 export const recordedSpan = (cycles, time) => `${cycles} recorded, ${time}.`;

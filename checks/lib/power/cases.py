@@ -147,7 +147,7 @@ WRONG = (
 
 
 def cases_of(kind: str) -> list[str]:
-    """Returns the short cases for a file system. FAT and exFAT have no links."""
+    """Returns the names of the short cases for a kind of file system. Kinds that show stale data have no case `new-link`; FAT has no links."""
     return [*NEW, *([] if KINDS[kind].shows_stale else ["new-link"]), *OPENED]
 
 

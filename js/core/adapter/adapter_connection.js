@@ -64,8 +64,8 @@ export class AdapterConnection extends MessageStream {
     if (type === "response" || type === "event") return;
     const number = Number.isSafeInteger(seq) ? seq : 0;
     if (type !== "request" || typeof command !== "string" || number !== seq) {
-      const words = say.MESSAGE_FORM;
-      this.rejectRequest(number, typeof command === "string" ? command : "", new AdapterError(words));
+      const errorText = say.MESSAGE_SYNTAX;
+      this.rejectRequest(number, typeof command === "string" ? command : "", new AdapterError(errorText));
       return;
     }
     const pending = { seq: number, command, hasBegun: false, isCancelled: false };
@@ -124,7 +124,7 @@ export class AdapterConnection extends MessageStream {
   }
 
   /**
-   * Serves the request `cancel`. Rejects a queued request at once. Sets the flag `isCancelled` of a running request. Does nothing if the
+   * Serves the `cancel` request. Rejects a queued request at once. Sets the flag `isCancelled` of a running request. Does nothing if the
    * request already has its response.
    * @param {any} args
    */
@@ -146,10 +146,10 @@ export class AdapterConnection extends MessageStream {
    * @param {unknown} thrown
    */
   rejectRequest(seq, command, thrown) {
-    const words = errorMessage(thrown);
+    const errorText = errorMessage(thrown);
     const showUser = thrown instanceof AdapterError && thrown.isShown;
-    const error = { id: 1, format: words.replace(/[{}]/g, "'"), showUser };
-    this.send({ type: "response", request_seq: seq, success: false, command, message: words, body: { error } });
+    const error = { id: 1, format: errorText.replace(/[{}]/g, "'"), showUser };
+    this.send({ type: "response", request_seq: seq, success: false, command, message: errorText, body: { error } });
   }
 
   /**

@@ -48,7 +48,7 @@ function parseHitCondition(text) {
   if (trimmed === "") return { from: 1, words: "" };
   const found = HIT_CONDITION.exec(trimmed);
   const from = found ? Number(found[1]) + (trimmed.startsWith(">") && !trimmed.startsWith(">=") ? 1 : 0) : 0;
-  return from >= 1 ? { from, words: "" } : { from: 1, words: say.HIT_COUNT_FORM };
+  return from >= 1 ? { from, words: "" } : { from: 1, words: say.HIT_COUNT_SYNTAX };
 }
 
 /**
@@ -134,10 +134,10 @@ export class ClientBreakpoints {
     return this.setRequested("labels", optionalList(args, "breakpoints").map((item) => {
       const name = needText(item, "name").trim();
       const found = map.names.get(name);
-      const words = found && found.isLabel ? "" : noLabel(name);
+      const message = found && found.isLabel ? "" : noLabel(name);
       const address = found && found.isLabel ? found.value : -1;
       const line = address < 0 ? 0 : map.lineOf(address);
-      return this.newBreakpoint({ ...readCommonFields(item), line, address, ...(words ? { words } : {}) });
+      return this.newBreakpoint({ ...readCommonFields(item), line, address, ...(message ? { words: message } : {}) });
     }));
   }
 

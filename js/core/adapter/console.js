@@ -108,7 +108,7 @@ export class Console {
    * @param {string[]} names
    */
   async moveKeys(word, names) {
-    if (names.length === 0) fail(say.keyForm(word));
+    if (names.length === 0) fail(say.keySyntax(word));
     const keys = names.map((name) => this.findKey(name));
     if (this.machine.isMoving && word === "press") return this.queue(keys);
     const lines = keys.map((key) => `${key[word]}\n`).join("");
@@ -149,7 +149,7 @@ export class Console {
       const goal = this.readGoal(target);
       return move(() => this.machine.goBack(goal));
     }
-    if (target === "") fail(say.placeForm(word === "until" ? say.UNTIL_FORM : say.CHANGE_FORM));
+    if (target === "") fail(say.placeSyntax(word === "until" ? say.UNTIL_SYNTAX : say.CHANGE_SYNTAX));
     if (word === "change") return move(() => this.machine.go({ kind: "change", place: target }));
     if (/[\s=<>!]/.test(target)) {
       const goal = this.readGoal(target);
@@ -196,15 +196,15 @@ export class Console {
     const { entries, touchesRom, tally, words: stopWords } = await this.session.serve(lines, mayContinue);
     if (touchesRom) this.calls.romChanged();
     const answers = entries.flatMap((entry) => entry.answers);
-    const words = answers.map((answer) => {
+    const texts = answers.map((answer) => {
       const refusal = parseRefusal(answer);
       return refusal ? `${answer}: ${this.words.refusalMeaning(refusal.number)}` : answer;
     });
     const isRejected = answers.every((answer) => parseRefusal(answer));
-    if (isRejected && answers.length > 0) throw new AdapterError(words.join("\n"));
+    if (isRejected && answers.length > 0) throw new AdapterError(texts.join("\n"));
     this.machine.reportTally(tally, tally.noted);
     if (answers.some((answer) => readRun(answer))) this.machine.reportFrontPanelText();
-    return { words: [...words, ...(stopWords ? [stopWords] : [])].join("\n"), changes: true, move: null };
+    return { words: [...texts, ...(stopWords ? [stopWords] : [])].join("\n"), changes: true, move: null };
   }
 }
 

@@ -145,9 +145,9 @@ export class DebugAdapter {
         this.leave().then(() => this.connection.sendEvent("terminated"));
       }),
       disconnect: async () => {
-        const words = await this.leave();
-        if (words) this.output(`${words}\n`, "stderr");
-        return new ResponseWithFollowUp(undefined, () => this.host.end(words ? 1 : 0));
+        const message = await this.leave();
+        if (message) this.output(`${message}\n`, "stderr");
+        return new ResponseWithFollowUp(undefined, () => this.host.end(message ? 1 : 0));
       },
     };
   }
@@ -194,12 +194,12 @@ export class DebugAdapter {
    * @param {LaunchResult} launchResult
    */
   reportRom({ session }) {
-    const words = describeDifference(session);
-    if (words) this.output(`${say.sourceDiffers(words)}\n`, "console");
+    const message = describeDifference(session);
+    if (message) this.output(`${say.sourceDiffers(message)}\n`, "console");
   }
 
   /**
-   * Serves the request `restart`. Resets a session that is saved in its file. Launches any other session again, from the current source
+   * Serves the `restart` request. Resets a session that is saved in its file. Launches any other session again, from the current source
    * files or session file.
    * @param {any} args
    */
@@ -239,10 +239,10 @@ export class DebugAdapter {
     this.open = null;
     const { writer, session } = open.launchResult;
     if (!writer) return "";
-    const words = await open.breakpoints.leave();
+    const message = await open.breakpoints.leave();
     try {
       await writer.write(session.debugger.session);
-      return words;
+      return message;
     } catch (thrown) {
       return thrown instanceof Error ? thrown.message : String(thrown);
     } finally {
@@ -308,9 +308,9 @@ export class DebugAdapter {
     const name = needText(args, "name");
     const reference = needNumber(args, "variablesReference", 0);
     const found = reference > 0 ? queryHandlers.findWatchPlace(reference, name) : name;
-    const data = describeDataBreakpoint(found, launchResult.session);
-    if (!data) return { dataId: null, description: say.notWatched(name) };
-    return { ...data, accessTypes: ["write"] };
+    const dataBreakpoint = describeDataBreakpoint(found, launchResult.session);
+    if (!dataBreakpoint) return { dataId: null, description: say.notWatched(name) };
+    return { ...dataBreakpoint, accessTypes: ["write"] };
   }
 
   /** @param {any} args */

@@ -154,8 +154,8 @@ export class Machine {
     } catch (thrown) {
       const isPause = thrown instanceof CancelledError;
       if (!isPause) this.calls.output(`${errorMessage(thrown)}\n`, "stderr");
-      const words = isPause ? stoppedAt(this.session.counterText) : errorMessage(thrown);
-      moveEnd = { reason: isPause ? "pause" : "exception", words, id: 0 };
+      const message = isPause ? stoppedAt(this.session.counterText) : errorMessage(thrown);
+      moveEnd = { reason: isPause ? "pause" : "exception", words: message, id: 0 };
     }
     this.acceptsWork = () => false;
     // Work can arrive during the save. It must be done now because nothing else runs it later.
@@ -244,8 +244,8 @@ export class Machine {
 
   reportFrontPanelText() {
     this.lastReportTime = performance.now();
-    const words = this.frontPanelText.take();
-    if (words) this.calls.output(`${words}\n`, "stdout");
+    const text = this.frontPanelText.take();
+    if (text) this.calls.output(`${text}\n`, "stdout");
     this.calls.stateChanged();
   }
 

@@ -97,7 +97,7 @@ function readRequestedPlace(args, session, addressOf) {
 }
 
 /**
- * Serves the request `readMemory`.
+ * Serves the `readMemory` request.
  * @param {any} args
  * @param {DebugSession} session
  * @param {(reference: string) => number} addressOf
@@ -114,7 +114,7 @@ export function readMemory(args, session, addressOf) {
 }
 
 /**
- * Serves the request `writeMemory`. Writes all bytes, or no byte if the bench rejects one of them. With `allowPartial`, skips the bytes
+ * Serves the `writeMemory` request. Writes all bytes, or no byte if the bench rejects one of them. With `allowPartial`, skips the bytes
  * outside the range.
  * @param {any} args
  * @param {DebugSession} session
@@ -123,11 +123,11 @@ export function readMemory(args, session, addressOf) {
  */
 export async function writeMemory(args, session, addressOf) {
   const { range: { bytes, place }, from } = readRequestedPlace(args, session, addressOf);
-  const data = decodeBase64(needText(args, "data"));
-  const [first, end] = [Math.max(0, from), Math.min(bytes.length, from + data.length)];
-  const isWhole = first === from && end === from + data.length;
+  const newBytes = decodeBase64(needText(args, "data"));
+  const [first, end] = [Math.max(0, from), Math.min(bytes.length, from + newBytes.length)];
+  const isWhole = first === from && end === from + newBytes.length;
   if (!isWhole && !optionalFlag(args, "allowPartial", false)) fail(say.OUTSIDE_OF_MEMORY);
-  const dataInRange = end > first ? data.subarray(first - from, end - from) : new Uint8Array(0);
+  const dataInRange = end > first ? newBytes.subarray(first - from, end - from) : new Uint8Array(0);
   const lines = [...dataInRange].map((byte, at) => `poke ${place(first + at)} ${byte}\n`).join("");
   const bench = session.debugger.session;
   // A copy of the session serves the lines first. If a line is rejected, nothing is written.

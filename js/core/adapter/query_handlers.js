@@ -110,7 +110,7 @@ export class QueryHandlers {
   }
 
   /**
-   * Serves the request `stepInTargets`: returns the calls that a step can enter from the program counter.
+   * Serves the `stepInTargets` request: returns the calls that a step can enter from the program counter.
    * @param {any} args
    */
   stepInTargets(args) {
@@ -121,8 +121,8 @@ export class QueryHandlers {
     return {
       targets: findCalls(this.session, frame.address).map(({ address, target }) => {
         const [line, name] = [map.lineOf(address), map.nameOf(target) || formatReference(target)];
-        const words = line > 0 ? `${name}, ${wordsOfLine(line)}` : name;
-        return { id: address, label: words, ...(line > 0 ? { line: line - 1 + this.firstLine, column: this.firstColumn } : {}) };
+        const description = line > 0 ? `${name}, ${wordsOfLine(line)}` : name;
+        return { id: address, label: description, ...(line > 0 ? { line: line - 1 + this.firstLine, column: this.firstColumn } : {}) };
       }),
     };
   }
@@ -187,12 +187,12 @@ export class QueryHandlers {
   completions(args) {
     const typedText = needText(args, "text");
     const lines = typedText.split("\n");
-    const at = needNumber(args, "line", this.firstLine) - this.firstLine;
-    const text = lines[at] ?? fail(say.NO_LINE);
+    const lineIndex = needNumber(args, "line", this.firstLine) - this.firstLine;
+    const text = lines[lineIndex] ?? fail(say.NO_LINE);
     const column = Math.min(text.length, Math.max(0, needNumber(args, "column", text.length + this.firstColumn) - this.firstColumn));
     const { words, word } = this.completionWords(text.slice(0, column));
     const targets = words.filter((each) => each.toLowerCase().startsWith(word.toLowerCase())).slice(0, MAX_COMPLETIONS);
-    const textLengthBefore = lines.slice(0, at).reduce((sum, line) => sum + line.length + 1, 0);
+    const textLengthBefore = lines.slice(0, lineIndex).reduce((sum, line) => sum + line.length + 1, 0);
     const start = textLengthBefore + column - word.length + this.firstColumn;
     return { targets: targets.map((label) => ({ label, start, length: word.length })) };
   }

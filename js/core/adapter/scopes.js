@@ -98,9 +98,11 @@ function listBankRegisters({ machineState }, bank) {
   const ram = machineState.ram.get(bank);
   return [...(ram ? ram.registers : [])].map(([name, { characters: digits, status }]) => {
     const [, chip, register] = name.split(".").map(Number);
-    const at = 4 * chip + register;
-    return { ...variable(say.chipRegister(chip, register), `${digits} ${status}`),
-      variablesReference: REGISTER_BASE + 16 * bank + at, count: 20, memory: placeReference(`ram.${bank}.${16 * at}`) };
+    const registerIndex = 4 * chip + register;
+    return {
+      ...variable(say.chipRegister(chip, register), `${digits} ${status}`), variablesReference: REGISTER_BASE + 16 * bank + registerIndex,
+      count: 20, memory: placeReference(`ram.${bank}.${16 * registerIndex}`),
+    };
   });
 }
 
@@ -235,8 +237,8 @@ export class Scopes {
     const { state } = this;
     if (Object.prototype.hasOwnProperty.call(SCOPES, reference)) return SCOPES[reference].listVariables(state);
     if (reference >= BANK_BASE && reference < BANK_BASE + 8) return listBankRegisters(state, reference - BANK_BASE);
-    const at = reference - REGISTER_BASE;
-    return at >= 0 && at < 128 ? characters(state, at >> 4, at & 15) : null;
+    const registerIndex = reference - REGISTER_BASE;
+    return registerIndex >= 0 && registerIndex < 128 ? characters(state, registerIndex >> 4, registerIndex & 15) : null;
   }
 
   /**

@@ -10,8 +10,9 @@ import * as say from "../../words/lines.js";
  * The error in a line: the refusal number, and a message that names the wrong word.
  * @typedef {{ number: number, words: string }} LineFault
  *
- * A kind of place: the pattern of its name, the maximum of each number in the name (`most`), and the maximum value of the place (`value`).
- * @typedef {{ form: RegExp, most: number[], value: number }} PlaceForm
+ * The syntax of a kind of place: the pattern of its name, the maximum of each number in the name (`most`), and the maximum value of the
+ * place (`value`).
+ * @typedef {{ pattern: RegExp, most: number[], value: number }} PlaceSyntax
  * @typedef {[number, number]} Range the first and the last number
  */
 
@@ -44,19 +45,21 @@ const NUMBER_RANGES = {
 };
 const NUMERAL = "(0x[0-9a-fA-F]+|[0-9]+)";
 
-/** @type {(form: string, most: number[], value?: number) => PlaceForm} creates a kind of place; each `N` in `form` stands for a number */
-const placeForm = (form, most, value = 0) => ({ form: new RegExp(`^${form.replace(/\./g, "\\.").replace(/N/g, NUMERAL)}$`), most, value });
+/** @type {(form: string, most: number[], value?: number) => PlaceSyntax} creates a syntax; each `N` in `form` stands for a number */
+const syntaxOf = (form, most, value = 0) => ({
+  pattern: new RegExp(`^${form.replace(/\./g, "\\.").replace(/N/g, NUMERAL)}$`), most, value,
+});
 /** The places that `poke` and `trace` accept. */
-const PLACE_FORMS = [
-  placeForm("acc", [], MAX_NIBBLE), placeForm("cy", [], MAX_BIT), placeForm("pc", [], MAX_ADDRESS), placeForm("dcl", [], MAX_BANK),
-  placeForm("rN", [MAX_NIBBLE], MAX_NIBBLE), placeForm("rom.N", [MAX_ADDRESS], MAX_BYTE),
-  placeForm("ram.N.N", [MAX_BANK, MAX_BYTE], MAX_NIBBLE), placeForm("st.N.N.N", [MAX_BANK, MAX_NIBBLE, 3], MAX_NIBBLE),
+const PLACE_SYNTAXES = [
+  syntaxOf("acc", [], MAX_NIBBLE), syntaxOf("cy", [], MAX_BIT), syntaxOf("pc", [], MAX_ADDRESS), syntaxOf("dcl", [], MAX_BANK),
+  syntaxOf("rN", [MAX_NIBBLE], MAX_NIBBLE), syntaxOf("rom.N", [MAX_ADDRESS], MAX_BYTE),
+  syntaxOf("ram.N.N", [MAX_BANK, MAX_BYTE], MAX_NIBBLE), syntaxOf("st.N.N.N", [MAX_BANK, MAX_NIBBLE, 3], MAX_NIBBLE),
 ];
 /** The places that only `trace` accepts. */
-const TRACE_ONLY_FORMS = [
-  placeForm("lamps", []), placeForm("ret", []), placeForm("src", []),
-  placeForm("romN", [MAX_NIBBLE]), placeForm("ramN.N", [MAX_BANK, 3]), placeForm("chainN", [3]),
-  placeForm("romN.N", [MAX_NIBBLE, 3]), placeForm("ramN.N.N", [MAX_BANK, 3, 3]), placeForm("chainN.N", [3, 79]),
+const TRACE_ONLY_SYNTAXES = [
+  syntaxOf("lamps", []), syntaxOf("ret", []), syntaxOf("src", []),
+  syntaxOf("romN", [MAX_NIBBLE]), syntaxOf("ramN.N", [MAX_BANK, 3]), syntaxOf("chainN", [3]),
+  syntaxOf("romN.N", [MAX_NIBBLE, 3]), syntaxOf("ramN.N.N", [MAX_BANK, 3, 3]), syntaxOf("chainN.N", [3, 79]),
 ];
 /** Place names for completion and suggestions. A name that ends with a dot is incomplete. */
 export const POKE_NAMES = ["acc", "cy", "pc", "dcl", ...indices(16).map((at) => `r${at}`), "rom.", "ram.", "st."];
@@ -79,20 +82,20 @@ function findNumberError(word, [first, last]) {
 /**
  * Returns the kind of a place; null if the word is not a place.
  * @param {string} word
- * @param {PlaceForm[]} places
+ * @param {PlaceSyntax[]} places
  */
-function findPlaceForm(word, places) {
-  return places.find(({ form }) => form.test(word)) || null;
+function findPlaceSyntax(word, places) {
+  return places.find(({ pattern }) => pattern.test(word)) || null;
 }
 
 /**
  * Returns whether the numbers in a place name are in their ranges.
  * @param {string} word
- * @param {PlaceForm} found
+ * @param {PlaceSyntax} found
  */
-function isInRange(word, { form, most }) {
-  const numbers = /** @type {RegExpExecArray} */ (form.exec(word)).slice(1).map(Number);
-  return numbers.every((number, at) => number <= most[at]);
+function isInRange(word, { pattern, most }) {
+  const placeNumbers = /** @type {RegExpExecArray} */ (pattern.exec(word)).slice(1).map(Number);
+  return placeNumbers.every((number, at) => number <= most[at]);
 }
 
 /** @type {(word: string, names: string[]) => LineFault} */
@@ -106,7 +109,7 @@ const noSuchPlaceError = (word) => ({ number: BAD_NUMBER, words: say.noSuchPlace
  * @param {string} value
  */
 function findPokeError(word, value) {
-  const found = findPlaceForm(word, PLACE_FORMS);
+  const found = findPlaceSyntax(word, PLACE_SYNTAXES);
   if (!found) return unknownPlaceError(word, POKE_NAMES);
   return isInRange(word, found) ? findNumberError(value, rangeTo(found.value)) : noSuchPlaceError(word);
 }
@@ -117,11 +120,11 @@ function findPokeError(word, value) {
  * @param {string[]} places
  */
 function findTraceError(count, places) {
-  const forms = [...PLACE_FORMS, ...TRACE_ONLY_FORMS];
-  const unknownWord = places.slice(0, MAX_PLACES).find((word) => !findPlaceForm(word, forms));
+  const forms = [...PLACE_SYNTAXES, ...TRACE_ONLY_SYNTAXES];
+  const unknownWord = places.slice(0, MAX_PLACES).find((word) => !findPlaceSyntax(word, forms));
   if (unknownWord !== undefined) return unknownPlaceError(unknownWord, TRACE_NAMES);
   if (places.length > MAX_PLACES) return { number: NOT_A_COMMAND, words: say.tooManyPlaces(MAX_PLACES) };
-  const wrongWord = places.find((word) => !isInRange(word, /** @type {PlaceForm} */ (findPlaceForm(word, forms))));
+  const wrongWord = places.find((word) => !isInRange(word, /** @type {PlaceSyntax} */ (findPlaceSyntax(word, forms))));
   return wrongWord === undefined ? findNumberError(count, [1, MAX_CYCLES]) : noSuchPlaceError(wrongWord);
 }
 
@@ -133,11 +136,11 @@ function findTraceError(count, places) {
 function findWordError([first, ...words]) {
   if (first === undefined) return null;
   if (!ANSWER_FORMS.has(first)) return { number: NOT_A_COMMAND, words: say.noLine(first, findSimilarWords(first, ANSWER_FORMS.keys())) };
-  const otherForm = { number: NOT_A_COMMAND, words: say.otherForm(first) };
-  if (first === "trace") return words.length === 0 ? otherForm : findTraceError(words[0], words.slice(1));
-  if (first === "poke") return words.length === 2 ? findPokeError(words[0], words[1]) : otherForm;
+  const syntaxError = { number: NOT_A_COMMAND, words: say.lineSyntax(first) };
+  if (first === "trace") return words.length === 0 ? syntaxError : findTraceError(words[0], words.slice(1));
+  if (first === "poke") return words.length === 2 ? findPokeError(words[0], words[1]) : syntaxError;
   const ranges = NUMBER_RANGES[first] || [];
-  if (words.length !== ranges.length) return otherForm;
+  if (words.length !== ranges.length) return syntaxError;
   const errors = words.map((word, at) => findNumberError(word, ranges[at]));
   return errors.find((fault) => fault !== null) || null;
 }

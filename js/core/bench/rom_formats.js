@@ -19,7 +19,7 @@ const END_TYPES = ["7", "8", "9"];
  * @param {ImageBytes} image
  */
 function storeSRecord(record, image) {
-  if (!/^S\d([0-9A-F]{2}){4,}$/i.test(record)) throw new NotARecord(say.S_RECORD_FORM);
+  if (!/^S\d([0-9A-F]{2}){4,}$/i.test(record)) throw new NotARecord(say.S_RECORD_SYNTAX);
   const [count, ...bytes] = (record.slice(2).match(/../g) || []).map((digits) => parseInt(digits, 16));
   if (bytes.length !== count) throw new NotARecord(say.wrongByteCount(count, bytes.length));
   const expected = 0xff - (bytes.slice(0, -1).reduce((sum, byte) => sum + byte, count) & 0xff);
@@ -85,7 +85,7 @@ export function readBnpf(text, from = 0) {
       image.put(count, [parseInt(word.slice(1).replace(/P/g, "1").replace(/N/g, "0"), 2)]);
       count += 1;
       word = "";
-    } else if (!/[ \t]/.test(letter)) throw new NotAnImage(say.bnpfForm(word + letter));
+    } else if (!/[ \t]/.test(letter)) throw new NotAnImage(say.bnpfSyntax(word + letter));
   };
   readLines(text, (rawLine) => {
     const line = rawLine.trim();

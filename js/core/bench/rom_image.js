@@ -1,4 +1,4 @@
-// Reads raw ROM images and Intel HEX; writes Intel HEX. (For S-records and BNPF, see rom_formats.js.)
+// Reads raw ROM images and Intel HEX; writes Intel HEX. See rom_formats.js for S-records and BNPF.
 
 import { ADDRESS_COUNT, NO_BYTE } from "./rom_bytes.js";
 import { hex } from "./numbers.js";
@@ -86,7 +86,7 @@ export function readLines(text, read) {
  */
 function readRecord(text) {
   if (!text.startsWith(":")) throw new NotARecord(say.BEGINS_WITH_COLON);
-  if (!/^:([0-9A-F]{2}){5,}$/i.test(text)) throw new NotARecord(say.RECORD_FORM);
+  if (!/^:([0-9A-F]{2}){5,}$/i.test(text)) throw new NotARecord(say.RECORD_SYNTAX);
   const bytes = (text.slice(1).match(/../g) || []).map((digits) => parseInt(digits, 16));
   const [count, high, low, type] = bytes;
   if (bytes.length !== count + 5) throw new NotARecord(say.wrongByteCount(count, bytes.length - 5));

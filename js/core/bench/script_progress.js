@@ -43,8 +43,8 @@ function splitState(answers) {
 export function differingLines(actual, expected) {
   const differs = (/** @type {number} */ at) => actual[at] !== expected[at];
   if (actual.length === expected.length) {
-    const at = indices(actual.length).filter(differs).slice(0, MAX_DIFFERING_LINES / 2);
-    return [...at.map((index) => `< ${actual[index]}`), ...at.map((index) => `> ${expected[index]}`)];
+    const differingIndexes = indices(actual.length).filter(differs).slice(0, MAX_DIFFERING_LINES / 2);
+    return [...differingIndexes.map((index) => `< ${actual[index]}`), ...differingIndexes.map((index) => `> ${expected[index]}`)];
   }
   const shorter = Math.min(actual.length, expected.length);
   const prefix = indices(shorter).find(differs) ?? shorter;

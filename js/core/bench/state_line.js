@@ -32,9 +32,9 @@ export function parseState(answer) {
  * @param {string} key
  */
 export function stateValue(answer, key) {
-  const at = answer.indexOf(` ${key} `);
-  if (at < 0) throw new Error(`the bench answers state by ${answer}`);
-  return answer.slice(at + key.length + 2).split(" ", 1)[0];
+  const keyIndex = answer.indexOf(` ${key} `);
+  if (keyIndex < 0) throw new Error(`the bench answers state by ${answer}`);
+  return answer.slice(keyIndex + key.length + 2).split(" ", 1)[0];
 }
 
 /**

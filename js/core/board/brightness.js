@@ -42,9 +42,9 @@ export function brightnessLevel(duty) {
 }
 
 /**
- * Decides whether a lamp or display is steady. A rest is a time without a change. A lamp is steady if the current rest is at least EYE_MS,
- * or more than twice the longest rest in the current series of changes. A single change is therefore perceived at once. Bits that shift in
- * are perceived at the end of the shift. A flickering lamp is never steady.
+ * Decides whether a lamp or display is steady. A rest is a time during which nothing changes. A lamp is steady if the current rest is at
+ * least EYE_MS, or more than twice the longest rest in the current series of changes. A single change is therefore perceived at once. Bits
+ * that shift in are perceived at the end of the shift. A flickering lamp is never steady.
  */
 class Stillness {
   constructor() {

@@ -97,14 +97,14 @@ function directPatterns({ first, rows, columns }, marks) {
   const patterns = [];
   let isLeading = true;
   for (let digit = 0; digit < rows; digit++) {
-    const at = first + digit * columns;
-    const point = hasPoints(columns) && isLit(marks, at + columns - 1) ? POINT_BIT : 0;
+    const firstMark = first + digit * columns;
+    const point = hasPoints(columns) && isLit(marks, firstMark + columns - 1) ? POINT_BIT : 0;
     if (columns >= 7) {
-      patterns.push(segmentsAt(marks, at) + point);
+      patterns.push(segmentsAt(marks, firstMark) + point);
       continue;
     }
     const isLast = digit === rows - 1;
-    const value = valueAt(marks, at);
+    const value = valueAt(marks, firstMark);
     isLeading = isLeading && value === 0 && point === 0 && !isLast;
     patterns.push(isLeading ? 0 : (value < 10 ? DIGIT_PATTERNS[value] : INVALID_DIGIT) + (isLast ? 0 : point));
   }

@@ -71,7 +71,7 @@ function isDisplayLamp(lamp, { face }) {
  */
 export function compileLamps(words, names, dependencies) {
   const count = names.board.lamps.length;
-  if (words.length === 0) fail(say.LAMPS_FORM);
+  if (words.length === 0) fail(say.LAMPS_SYNTAX);
   let required = words.join("");
   if (!/^[*.?]+$/.test(required)) {
     const requiredLamps = new Set(words.join(" ") === "none" ? [] : words.map((name) => findLampNumber(name, names)));
@@ -101,7 +101,7 @@ export function compileDisplay(words, names, dependencies) {
   const { face, board } = names;
   const displays = face.groups.filter(({ kind }) => kind === "display");
   if (displays.length === 0) fail(say.NO_DISPLAY);
-  if (words.length === 0 || /^([<>]=?|!=?|==?)$/.test(words[0])) fail(say.DISPLAY_FORM);
+  if (words.length === 0 || /^([<>]=?|!=?|==?)$/.test(words[0])) fail(say.DISPLAY_SYNTAX);
   const required = words.join(" ");
   /** @type {(shown: { number: string, names: string }) => string} */
   const displayedWords = ({ number, names: lit }) => (lit === "" || number === required ? number : `${number} ${lit}`);
@@ -124,7 +124,7 @@ export function compileDisplay(words, names, dependencies) {
  */
 export function compilePrinted(words, { face, board }, dependencies) {
   if (!findPrinter(board, face)) fail(say.NO_PRINTER);
-  if (words.length === 0) fail(say.PRINTED_FORM);
+  if (words.length === 0) fail(say.PRINTED_SYNTAX);
   dependencies.addNeed("printed", say.LINE_BY_LINE);
   const required = words.join(" ");
   return makeMeaning({
@@ -142,7 +142,7 @@ export function compilePrinted(words, { face, board }, dependencies) {
 export function compileCycles(words, names, dependencies) {
   const comparison = words[0] === "at" ? words.slice(0, 2).join(" ") : "";
   const cycles = parseWholeDuration(words.slice(comparison === "" ? 0 : 2));
-  if (cycles < 1 || !/^(|at most|at least)$/.test(comparison)) fail(say.CYCLES_FORM);
+  if (cycles < 1 || !/^(|at most|at least)$/.test(comparison)) fail(say.CYCLES_SYNTAX);
   dependencies.addNeed("cycles", say.onlyInTests("cycles"));
   /** @type {(actual: number) => boolean} */
   const matches = (actual) => (comparison === "" ? actual === cycles : comparison === "at most" ? actual <= cycles : actual >= cycles);
@@ -165,8 +165,10 @@ export function compileChain(name, words, { board }, dependencies) {
   const bits = 10 * board.chains[Number(name.slice("chain".length))].chips;
   const required = words.join("");
   if (!/^[01?]+$/.test(required) || required.length !== bits) fail(say.chainBits(name.slice("chain".length), bits));
-  const at = dependencies.addPlace(name);
-  return makeMeaning({ subject: name, required, measure: (values) => values[at], matches: (actual) => matchesPattern(actual, required) });
+  const valueIndex = dependencies.addPlace(name);
+  return makeMeaning({
+    subject: name, required, measure: (values) => values[valueIndex], matches: (actual) => matchesPattern(actual, required),
+  });
 }
 
 /**
@@ -188,10 +190,10 @@ function formatAddress(address, { map }) {
  */
 export function compileCounter(address, required, names, dependencies) {
   const digits = hex(address, 3);
-  const at = dependencies.addPlace("pc");
+  const valueIndex = dependencies.addPlace("pc");
   return makeMeaning({
     subject: "pc", required, address,
-    measure: (values, { owed }) => `${formatAddress(parseInt(values[at], 16), names)}${owed === "1" ? say.WITHIN_INSTRUCTION : ""}`,
+    measure: (values, { owed }) => `${formatAddress(parseInt(values[valueIndex], 16), names)}${owed === "1" ? say.WITHIN_INSTRUCTION : ""}`,
     matches: (actual, { owed }) => actual.slice(0, 3) === digits && owed !== "1",
   });
 }

@@ -51,7 +51,7 @@ const CONDITION_KINDS = new Set(["or", "and", "not", "compare", "form", "values"
 const SPACED_NUMERALS = new Map([["ram", 2], ["st", 3]]);
 /** The node kinds whose text needs no parentheses: single names and numbers. */
 const BARE_KINDS = new Set(["number", "name", "lamp", "key"]);
-const PANEL_MESSAGES = { lamp: say.LAMP_FORM, key: say.KEY_FORM };
+const PANEL_MESSAGES = { lamp: say.LAMP_SYNTAX, key: say.KEY_SYNTAX };
 const PANEL_STATES = new Map([["on", true], ["off", false], ["down", true], ["up", false]]);
 
 /**
@@ -191,7 +191,7 @@ class Parser {
       return this.parseRightSide(left, OPERATORS[token.text]);
     }
     if (left.kind === "name" && PORT_NAME.test(left.text) && left.direction === "" && this.isValueNext()) {
-      fail(say.portForm(left.text), left.column);
+      fail(say.portSyntax(left.text), left.column);
     }
     return left.kind === "name" && this.isValueNext() ? this.placeValuesNode(left, this.parseValues()) : left;
   }
@@ -326,7 +326,7 @@ class Parser {
     const numeralCount = SPACED_NUMERALS.get(word) || 0;
     for (let count = 0; count < numeralCount; count++) {
       const { kind, column } = this.scanner.next();
-      if (kind !== "number") fail(say.SPACED_FORM, Math.min(column, this.lastColumn));
+      if (kind !== "number") fail(say.SPACED_SYNTAX, Math.min(column, this.lastColumn));
     }
     const text = numeralCount === 0 ? token.text : this.textFrom(token.column);
     return { kind: "name", text, direction: this.parseDirection(word), column: token.column };
@@ -352,7 +352,7 @@ class Parser {
    */
   parseLabel(column) {
     const name = this.scanner.peek();
-    if (name.kind !== "word") fail(say.AT_FORM, column);
+    if (name.kind !== "word") fail(say.AT_SYNTAX, column);
     this.scanner.next();
     return { kind: "at", label: name.text.replace(/^@/, ""), text: this.textFrom(column), column };
   }

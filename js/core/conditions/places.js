@@ -140,10 +140,10 @@ function lampPlace(name) {
   }
   const lamp = /^lamp[ .]?(\d+)$/.exec(name);
   if (lamp) {
-    const at = Number(lamp[1]);
+    const lampNumber = Number(lamp[1]);
     // The value of a lamp is the level of its signal line.
     return {
-      ...linePlace(`lamp ${at}`, () => true), probesOn: ({ lamps }) => lamps.slice(at, at + 1),
+      ...linePlace(`lamp ${lampNumber}`, () => true), probesOn: ({ lamps }) => lamps.slice(lampNumber, lampNumber + 1),
       value: ([answer]) => (answer === "1" ? "*" : "."),
     };
   }

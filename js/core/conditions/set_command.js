@@ -51,10 +51,10 @@ export function settingLines(place, value) {
  * @returns {Setting}
  */
 export function parseSetting(text) {
-  if (text.trim() === "") return fail(say.SET_FORM, 0);
+  if (text.trim() === "") return fail(say.SET_SYNTAX, 0);
   const node = parseExpression(text);
   if (node.kind === "compare" && node.sign === "=" && node.left.kind === "name") return makeSetting(node.left, node.right);
-  return node.kind === "values" && node.values.length === 1 ? makeSetting(node.place, node.values[0]) : fail(say.SET_FORM, node.column);
+  return node.kind === "values" && node.values.length === 1 ? makeSetting(node.place, node.values[0]) : fail(say.SET_SYNTAX, node.column);
 }
 
 /**

@@ -53,8 +53,8 @@ export class Dependencies {
    * @param {string} place
    */
   addPlace(place) {
-    const at = this.places.indexOf(place);
-    return at >= 0 ? at : this.places.push(place) - 1;
+    const knownIndex = this.places.indexOf(place);
+    return knownIndex >= 0 ? knownIndex : this.places.push(place) - 1;
   }
 
   /**
@@ -199,14 +199,14 @@ function portValue({ text, direction }, { board }, dependencies) {
   const port = text.toLowerCase();
   const place = parsePlace(port);
   if (!place || place.probesOn(board).length === 0) return fail(say.boardLacks(port));
-  if (port.startsWith("ram") && direction === "in") fail(say.portForm(port));
+  if (port.startsWith("ram") && direction === "in") fail(say.portSyntax(port));
   const rom = board.roms.find(({ chip }) => `rom${Number(chip)}` === place.name);
   const mask = rom ? [...rom.port] : [];
   const sumBits = (/** @type {string} */ mark) => mask.reduce((sum, each, at) => sum + (each === mark ? 2 ** (3 - at) : 0), 0);
   const [inputs, ones] = [sumBits("i"), sumBits("1")];
-  const at = dependencies.addPlace(place.name);
+  const valueIndex = dependencies.addPlace(place.name);
   const read = (/** @type {string[]} */ values) => {
-    const levels = parseInt(values[at], 16);
+    const levels = parseInt(values[valueIndex], 16);
     return direction === "in" ? (levels & inputs) | ones : levels & ~inputs;
   };
   return { name: `${place.name} ${direction}`, most: 15, isConstant: false, read };
@@ -307,8 +307,8 @@ export function characterValues({ text, column }, count, names, dependencies) {
     const place = parsePlace(text);
     const [, bank, byte] = /^ram\.(\d)\.0x(\w+)$/.exec(place ? place.name : "") || fail(say.isOneValue(place ? place.name : text));
     return Array.from({ length: count }, (_, index) => {
-      const at = parseInt(byte, 16) + index;
-      const characterPlace = at <= LAST_CHARACTER ? parsePlace(`ram.${bank}.${at}`) : null;
+      const characterAddress = parseInt(byte, 16) + index;
+      const characterPlace = characterAddress <= LAST_CHARACTER ? parsePlace(`ram.${bank}.${characterAddress}`) : null;
       if (index > 0 && (!characterPlace || characterPlace.probesOn(names.board).length === 0)) fail(say.NO_RAM_FOR_LAST);
       return placeValue(characterPlace || place, names, dependencies) || failForUnknown(text, names);
     });

@@ -35,7 +35,7 @@ export const MAX_NOTES = 200;
  * Returns an empty result, without events.
  * @returns {BreakpointEvents}
  */
-export function emptyEvents() {
+export function createEmptyEvents() {
   return { cycles: -1, id: 0, hits: new Map(), notes: [], noted: 0, why: "break", change: "", changes: new Map() };
 }
 
@@ -67,7 +67,7 @@ export class Arrivals {
    * @returns {BreakpointEvents}
    */
   searchLines(engine, file, planned) {
-    const events = emptyEvents();
+    const events = createEmptyEvents();
     if (this.isEmpty) return events;
     if (this.density === 0 && this.hasNoArrival(engine, file, planned)) return events;
     if (this.copy.length !== file.length) this.copy = new Uint8Array(file.length);

@@ -217,9 +217,9 @@ export class BreakpointList {
   restoreDeleted({ from, text }, first, count) {
     const countBefore = this.all.length;
     for (let line = first + count - 1; line >= first; line--) {
-      const at = this.deletedBreakpoints.map((each) => each.text).lastIndexOf(text[line - from.line - 1]);
-      if (at < 0 || this.findByLine(line)) continue;
-      const [{ breakpoint }] = this.deletedBreakpoints.splice(at, 1);
+      const deletedIndex = this.deletedBreakpoints.map((each) => each.text).lastIndexOf(text[line - from.line - 1]);
+      if (deletedIndex < 0 || this.findByLine(line)) continue;
+      const [{ breakpoint }] = this.deletedBreakpoints.splice(deletedIndex, 1);
       this.all.push({ ...breakpoint, line });
     }
     this.sort();

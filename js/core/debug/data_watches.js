@@ -58,9 +58,9 @@ export function compileWatches(requestedWatches, names) {
     const allPlaces = new Set([...places, ...probes, ...(condition ? condition.places : [])]);
     const placeError = !place || probes.length === 0 ? boardLacks(name)
       : name === UNWATCHABLE_PLACE ? CHANGES_ALWAYS : fault && inColumn(fault, column);
-    const words = placeError || (allPlaces.size > MAX_PLACES ? tooManyPlaces(allPlaces.size, MAX_PLACES) : "");
-    if (words) faults.set(id, words);
-    if (words || !place) return [];
+    const message = placeError || (allPlaces.size > MAX_PLACES ? tooManyPlaces(allPlaces.size, MAX_PLACES) : "");
+    if (message) faults.set(id, message);
+    if (message || !place) return [];
     for (const each of allPlaces) places.add(each);
     return [{ id, place, probes, condition, from, hits: 0 }];
   });

@@ -185,8 +185,8 @@ export class DebugSession {
       const isOver = done >= maxCycles;
       if (!isOver && await shouldContinue(done, frame.tally)) continue;
       debug.endMove();
-      const words = wordsOfHalt(goal, done, this.counterText);
-      return { why: isOver ? "passed" : "pause", id: 0, cycles: done, returns: false, words, tally };
+      const message = wordsOfHalt(goal, done, this.counterText);
+      return { why: isOver ? "passed" : "pause", id: 0, cycles: done, returns: false, words: message, tally };
     }
   }
 

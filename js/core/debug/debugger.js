@@ -23,7 +23,7 @@ import { SEARCH_PIECE_CYCLES } from "../engine/piece_size.js";
 import { ForecastAnswers } from "../engine/forecast_answers.js";
 import { CYCLES_PER_SECOND } from "../time/mcs4_time.js";
 import { cyclesToGoal, searchGoal, truncateLines } from "./goal_search.js";
-import { Arrivals, MAX_NOTES, emptyEvents } from "./arrivals.js";
+import { Arrivals, MAX_NOTES, createEmptyEvents } from "./arrivals.js";
 import { compileSearchCondition } from "./condition_search.js";
 import { DataWatches, SoftStops, compileWatches } from "./data_watches.js";
 import { parseCounter, createWatcher } from "./goals.js";
@@ -356,7 +356,7 @@ export class Debugger {
    * @param {ShouldContinue} shouldContinue
    */
   async searchStops(cycles, shouldContinue) {
-    const all = emptyEvents();
+    const all = createEmptyEvents();
     if (this.arrivals.isEmpty) return all;
     const { engine, file } = this.session;
     const copy = file.slice();

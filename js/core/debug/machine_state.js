@@ -37,8 +37,8 @@ export class MachineState {
   /** @returns {Map<number, Ram>} the contents of the banks, by bank number */
   get ram() {
     if (!this.parsedRam) {
-      const numbers = this.ports.sources.slice(1).map((item) => Number(item.split(".")[0]));
-      this.parsedRam = new Map(this.banks.map((answer, at) => [numbers[at], readRam(answer.split("\n"))]));
+      const bankNumbers = this.ports.sources.slice(1).map((item) => Number(item.split(".")[0]));
+      this.parsedRam = new Map(this.banks.map((answer, at) => [bankNumbers[at], readRam(answer.split("\n"))]));
     }
     return this.parsedRam;
   }

@@ -53,15 +53,15 @@ export function compileNote(text, names) {
   /** @type {string[]} */
   const places = [];
   let fault = "";
-  let begin = text.length - text.trimStart().length;
+  let start = text.length - text.trimStart().length;
   const pieces = text.trim().split(/(\{[^{}]*\})/).map((piece) => {
-    const at = begin;
-    begin += piece.length;
+    const pieceStart = start;
+    start += piece.length;
     const found = /^\{(.*)\}$/.exec(piece);
     if (!found) return () => piece;
     const { note, fault: bracesError, column } = compileBraces(found[1], names);
     if (!note) {
-      fault = fault || inColumn(say.noteAsks(piece, bracesError), at + 1 + column);
+      fault = fault || inColumn(say.noteAsks(piece, bracesError), pieceStart + 1 + column);
       return () => piece;
     }
     const from = places.length;

@@ -166,7 +166,7 @@ function expressionError(value, begin, names) {
 export function parseWatch(text, names = null) {
   if (text.length > MAX_LENGTH) return { watched: null, fault: say.tooLong(MAX_LENGTH) };
   const { name, value, column } = splitWatchExpression(text);
-  if (name !== "" && !NAME.test(name)) return { watched: null, fault: say.NAME_FORM };
+  if (name !== "" && !NAME.test(name)) return { watched: null, fault: say.NAME_SYNTAX };
   if (value === "") return { watched: null, fault: say.EXPRESSION_MISSING };
   const place = parsePlace(value);
   const fault = place ? "" : expressionError(value, column, names);

@@ -255,8 +255,8 @@ function perform(editedBoard, action) {
       return ["keys", say.keysHave(formatQuantity(action.rows, "row"))];
     case "column": return [addColumn(editedBoard), say.MORE_COLUMNS];
     case "delete": {
-      const words = deletePart(editedBoard, action.part);
-      return ["", `${completionMessage(action.part, "deleted")}${words && say.andWithIt(words)}`];
+      const message = deletePart(editedBoard, action.part);
+      return ["", `${completionMessage(action.part, "deleted")}${message && say.andWithIt(message)}`];
     }
     case "name":
       renamePart(editedBoard, action.part, action.name);

@@ -40,11 +40,11 @@ export function toWord(name) {
  */
 function setListWord(draft, kind, lamp, text) {
   const lists = faceLines(draft).filter((line) => line.kind === kind && line.first && !line.last);
-  const list = lists.find((line) => headNumber(line) <= lamp && lamp < headNumber(line) + line.words.length);
-  if (list) {
-    const others = list.words.filter((_, at) => headNumber(list) + at !== lamp);
-    if (text === "" && others.every((word) => word.text === NO_WORD)) return [removeFaceLine(draft, list)];
-    return setWord(list.words[lamp - headNumber(list)], text || NO_WORD);
+  const containingLine = lists.find((line) => headNumber(line) <= lamp && lamp < headNumber(line) + line.words.length);
+  if (containingLine) {
+    const others = containingLine.words.filter((_, at) => headNumber(containingLine) + at !== lamp);
+    if (text === "" && others.every((word) => word.text === NO_WORD)) return [removeFaceLine(draft, containingLine)];
+    return setWord(containingLine.words[lamp - headNumber(containingLine)], text || NO_WORD);
   }
   if (text === "") return [];
   const precedingList = lists.find((line) => headNumber(line) + line.words.length === lamp);
@@ -61,8 +61,8 @@ function setListWord(draft, kind, lamp, text) {
 export function nameLamp(draft, lamp, name) {
   const word = toWord(name);
   const lines = faceLines(draft);
-  const list = lines.find((line) => line.kind === "lamp" && headNumber(line) <= lamp && lamp < headNumber(line) + line.words.length);
-  const oldName = list && list.words[lamp - headNumber(list)].text;
+  const nameLine = lines.find((line) => line.kind === "lamp" && headNumber(line) <= lamp && lamp < headNumber(line) + line.words.length);
+  const oldName = nameLine && nameLine.words[lamp - headNumber(nameLine)].text;
   const gridWords = lines.filter(({ kind }) => kind === "grid").flatMap(({ words }) => words)
     .filter(({ text }) => text === oldName && text !== NO_WORD);
   return [...setListWord(draft, "lamp", lamp, word), ...gridWords.flatMap((each) => setWord(each, word || String(lamp)))];
@@ -177,9 +177,9 @@ function renumberList(draft, line, deletedLamps, newNumber) {
   const head = setWord(/** @type {import("./face_lines.js").FaceWord} */ (line.first), String(newNumber(remainingLamps[0])));
   if (!isGroup) return [...head, ...removeWords(line, (at) => deletedLamps.has(first + at))];
   // In `scanned by N`, N is also a lamp number.
-  const scanWord = line.words[line.words.findIndex(({ text }) => text === "scanned") + 2];
+  const scanLampWord = line.words[line.words.findIndex(({ text }) => text === "scanned") + 2];
   const isMultiplexed = line.words.some(({ text }) => text === "scanned");
-  return isMultiplexed && scanWord ? [...head, ...setWord(scanWord, String(newNumber(Number(scanWord.text))))] : head;
+  return isMultiplexed && scanLampWord ? [...head, ...setWord(scanLampWord, String(newNumber(Number(scanLampWord.text))))] : head;
 }
 
 /**

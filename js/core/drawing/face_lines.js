@@ -25,8 +25,8 @@ const LINE_HEAD = /^[ \t]*#[ \t]*[A-Za-z]+[ \t]*/;
  */
 function splitWithOffsets(text, from) {
   return [...text.matchAll(/[^ \t\r]+/g)].map((found) => {
-    const at = from + (found.index || 0);
-    return { text: found[0], from: at, to: at + found[0].length };
+    const start = from + (found.index || 0);
+    return { text: found[0], from: start, to: start + found[0].length };
   });
 }
 
@@ -69,9 +69,9 @@ export function addFaceLine(draft, kind, text) {
   const last = lines.filter((line) => line.kind === kind).pop() || lines.pop();
   if (last) return [{ from: last.end, to: last.end, insert: `\n${text}` }];
   const first = draft.lines.findIndex((line) => !line.startsWith("#"));
-  const at = first < 0 ? draft.text.length : draft.lineOffsets[first];
+  const insertionOffset = first < 0 ? draft.text.length : draft.lineOffsets[first];
   const gap = first === 0 && draft.text.trim() !== "" && draft.lines[0].trim() !== "" ? "\n" : "";
-  return [{ from: at, to: at, insert: `${first < 0 ? "\n" : ""}${text}\n${gap}` }];
+  return [{ from: insertionOffset, to: insertionOffset, insert: `${first < 0 ? "\n" : ""}${text}\n${gap}` }];
 }
 
 /**

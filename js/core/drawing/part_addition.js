@@ -134,11 +134,11 @@ function freeLampLines(board) {
  * @param {number} chips
  */
 export function addChain(editedBoard, chips = 1) {
-  const at = editedBoard.board.chains.length;
-  if (at >= MAX_PARTS.chain) throw new ImpossibleAction(say.maxChains(MAX_PARTS.chain));
+  const chainNumber = editedBoard.board.chains.length;
+  if (chainNumber >= MAX_PARTS.chain) throw new ImpossibleAction(say.maxChains(MAX_PARTS.chain));
   const [clock, data] = ensureLines(editedBoard, 2, freeOutputs, () => addRom(editedBoard, OUTPUT_MASK));
   editedBoard.edit(addPart(editedBoard.draft, "chain", { clock, data, chips }));
-  return `chain ${at}`;
+  return `chain ${chainNumber}`;
 }
 
 /**
@@ -239,13 +239,13 @@ function addLamps(editedBoard, lines) {
 export function addLamp(editedBoard, line = "", colour = "") {
   checkLampCount(editedBoard, 1);
   ensureRom(editedBoard);
-  const at = editedBoard.board.lamps.length;
+  const lampNumber = editedBoard.board.lamps.length;
   const hasRam = editedBoard.board.banks.length > 0;
   // The first lamp of a board without RAM gets a RAM chip, so that later lamps can be at the same port.
-  if (!line && !hasRam && at === 0) addRequired(editedBoard, () => addRam(editedBoard));
+  if (!line && !hasRam && lampNumber === 0) addRequired(editedBoard, () => addRam(editedBoard));
   addLamps(editedBoard, [line || ensureLines(editedBoard, 1, freeLampLines, () => addRam(editedBoard))[0]]);
-  if (colour) editedBoard.edit(colourLamp(editedBoard.draft, at, colour));
-  return `lamp ${at}`;
+  if (colour) editedBoard.edit(colourLamp(editedBoard.draft, lampNumber, colour));
+  return `lamp ${lampNumber}`;
 }
 
 /**
@@ -271,14 +271,14 @@ export function addDisplay(editedBoard, kind, digits) {
   if (!Number.isInteger(digits) || digits < 1) throw new ImpossibleAction(say.MIN_DIGITS);
   checkLampCount(editedBoard, digits * LINES_PER_DIGIT[kind]);
   ensureRom(editedBoard);
-  const at = editedBoard.board.lamps.length;
+  const firstLamp = editedBoard.board.lamps.length;
   if (kind === "digit") for (let digit = 0; digit < digits; digit++) addLamps(editedBoard, takeDigitPort(editedBoard));
   else addLamps(editedBoard, takeSegmentBits(editedBoard, digits * LINES_PER_DIGIT.segments));
   // (The next literal is a comment in the board text, in the syntax of tools/lib/face.txt.)
   // eslint-disable-next-line no-restricted-syntax
   const display = `${formatQuantity(digits, "digit")}${kind === "segments" ? " of 7 segments" : ""}`;
-  editedBoard.edit(addGroup(editedBoard.draft, "display", at, display));
-  return `lamp ${at}`;
+  editedBoard.edit(addGroup(editedBoard.draft, "display", firstLamp, display));
+  return `lamp ${firstLamp}`;
 }
 
 /**
@@ -292,15 +292,15 @@ export function addMultiplexedDisplay(editedBoard, digits) {
   const count = LINES_PER_DIGIT.segments + digits;
   checkLampCount(editedBoard, count);
   ensureRom(editedBoard);
-  const at = editedBoard.board.lamps.length;
+  const firstLamp = editedBoard.board.lamps.length;
   /** @type {(board: Board) => string[]} */
   const find = (board) => freeLampLines(board).filter((line) => line.startsWith("ram"));
   addLamps(editedBoard, ensureLines(editedBoard, count, find, () => addRam(editedBoard)));
   // (The next literal is a comment in the board text, in the syntax of tools/lib/face.txt.)
   // eslint-disable-next-line no-restricted-syntax
-  const display = `${formatQuantity(digits, "digit")} of 7 segments scanned by ${at + LINES_PER_DIGIT.segments}`;
-  editedBoard.edit(addGroup(editedBoard.draft, "display", at, display));
-  return `lamp ${at}`;
+  const display = `${formatQuantity(digits, "digit")} of 7 segments scanned by ${firstLamp + LINES_PER_DIGIT.segments}`;
+  editedBoard.edit(addGroup(editedBoard.draft, "display", firstLamp, display));
+  return `lamp ${firstLamp}`;
 }
 
 /**

@@ -72,7 +72,7 @@ function addDependents(board, face, deletedParts) {
     deletedParts.keys = deletedParts.keys || deletedParts.chains.has(matrix.chain) || deletedParts.columns.size === matrix.columns.length;
   }
   board.lamps.forEach((line, at) => isLineDeleted(deletedParts, line) && deletedParts.lamps.add(at));
-  // The whole group of a deleted lamp is deleted. (The loop also visits the lamps that it adds.)
+  // The whole group of a deleted lamp is deleted. The loop also visits the lamps that are added to the set while the loop runs.
   for (const at of deletedParts.lamps) {
     const groups = face.groups.map(groupLamps).filter((lamps) => lamps.includes(at));
     for (const lamp of groups.flat()) if (lamp < board.lamps.length) deletedParts.lamps.add(lamp);
@@ -146,11 +146,11 @@ function removeChain(editedBoard, chain) {
   const { draft } = editedBoard;
   const values = draft.partsOfKind("lamp").map((entry) => draft.requireKey(entry, "line").value);
   const bits = values.filter(({ inner }) => rename(String(inner)) !== inner);
-  const numbers = draft.partsOfKind("keys").map((entry) => draft.requireKey(entry, "chain").value)
+  const chainNumbers = draft.partsOfKind("keys").map((entry) => draft.requireKey(entry, "chain").value)
     .filter(({ inner }) => Number(inner) > chain);
   editedBoard.edit([
     ...bits.map((value) => replaceValue(draft, value, rename(String(value.inner)))),
-    ...numbers.map((value) => replaceValue(draft, value, Number(value.inner) - 1)),
+    ...chainNumbers.map((value) => replaceValue(draft, value, Number(value.inner) - 1)),
   ]);
   editedBoard.edit(renamePorts(editedBoard.draft, (port) => (port === `chain${chain}` ? "" : rename(port))));
   editedBoard.edit(removePart(editedBoard.draft, "chain", chain));

@@ -67,8 +67,8 @@ export function addPart(draft, kind, values) {
   const last = draft.partsOfKind(kind).pop();
   if (!last) return [appendTable(draft, gap, block)];
   const line = draft.lastLine(last);
-  const at = draft.offset(line, draft.lines[line - 1].length);
-  return [{ from: at, to: at, insert: gap + block }];
+  const insertionOffset = draft.offset(line, draft.lines[line - 1].length);
+  return [{ from: insertionOffset, to: insertionOffset, insert: gap + block }];
 }
 
 /**
@@ -79,11 +79,11 @@ export function addPart(draft, kind, values) {
  * @returns {TextEdit}
  */
 function appendTable({ text, lines }, gap, block) {
-  const at = text.length;
-  if (text.trim() === "") return { from: 0, to: at, insert: `${block}\n` };
-  if (!text.endsWith("\n")) return { from: at, to: at, insert: `${gap}${block}\n` };
+  const endOffset = text.length;
+  if (text.trim() === "") return { from: 0, to: endOffset, insert: `${block}\n` };
+  if (!text.endsWith("\n")) return { from: endOffset, to: endOffset, insert: `${gap}${block}\n` };
   const isSpaced = isBlank(lines[lines.length - 2]);
-  return { from: at, to: at, insert: `${isSpaced ? "" : gap.slice(1)}${block}\n` };
+  return { from: endOffset, to: endOffset, insert: `${isSpaced ? "" : gap.slice(1)}${block}\n` };
 }
 
 /**
@@ -114,18 +114,18 @@ export function appendElement(draft, array, element) {
   const inner = /** @type {Value[]} */ (array.inner);
   const last = inner[inner.length - 1];
   if (!last) return [{ from: draft.startOffset(array) + 1, to: draft.startOffset(array) + 1, insert: element }];
-  const at = draft.endOffset(last);
+  const elementEnd = draft.endOffset(last);
   const line = draft.lines[last.end.line - 1];
   const previousElement = inner[inner.length - 2];
   const hasOwnLine = previousElement ? previousElement.end.line < last.line : last.line > array.line;
   const isShort = line.length + element.length + 2 <= MAX_LINE_LENGTH;
-  if (!hasOwnLine && isShort) return [{ from: at, to: at, insert: `, ${element}` }];
-  const { next } = tokensAround(draft, at, at);
+  if (!hasOwnLine && isShort) return [{ from: elementEnd, to: elementEnd, insert: `, ${element}` }];
+  const { next } = tokensAround(draft, elementEnd, elementEnd);
   const hasComma = next !== null && next.text === ",";
   const indent = last.line > array.line ? (/^[ \t]*/.exec(line) || [""])[0] : INDENT;
   // The new line goes before the remaining text of the array.
-  const end = next && next.text === "]" && array.end.line === last.end.line ? at : draft.offset(last.end.line, line.length);
-  const comma = { from: at, to: at, insert: "," };
+  const end = next && next.text === "]" && array.end.line === last.end.line ? elementEnd : draft.offset(last.end.line, line.length);
+  const comma = { from: elementEnd, to: elementEnd, insert: "," };
   return [{ from: end, to: end, insert: `\n${indent}${element}${hasComma ? "," : ""}` }, ...(hasComma ? [] : [comma])];
 }
 

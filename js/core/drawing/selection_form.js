@@ -83,9 +83,9 @@ function portField(face, part) {
  * @returns {Field}
  */
 function directionField(line, port) {
-  const at = Number(line.split(".")[1]);
+  const lineNumber = Number(line.split(".")[1]);
   const options = say.DIRECTIONS.map(([value, words]) => ({ value, words }));
-  return choiceField(say.lineIsA(at), port[3 - at], options, (as) => ({ kind: "port", line, as }));
+  return choiceField(say.lineIsA(lineNumber), port[3 - lineNumber], options, (as) => ({ kind: "port", line, as }));
 }
 
 /** @type {(part: string) => Button} returns the button that copies a part */
@@ -117,12 +117,12 @@ function romFields(board, face, part) {
  * @returns {SelectionForm}
  */
 function chainFields(board, face, part) {
-  const at = splitTarget(part)[1];
-  const chips = choiceField("chips", String(board.chains[at].chips), rangeNumbers(VALUE_RANGES["chain.chips"]), (value) => (
-    { kind: "chips", chain: at, chips: Number(value) }));
-  const lines = [lineField(board, `clock ${at}`, "clock"), lineField(board, `data ${at}`, "data")];
+  const chainNumber = splitTarget(part)[1];
+  const chips = choiceField("chips", String(board.chains[chainNumber].chips), rangeNumbers(VALUE_RANGES["chain.chips"]), (value) => (
+    { kind: "chips", chain: chainNumber, chips: Number(value) }));
+  const lines = [lineField(board, `clock ${chainNumber}`, "clock"), lineField(board, `data ${chainNumber}`, "data")];
   const fields = [portField(face, part), ...lines, chips];
-  return { title: say.chainOf(at), part, fields, buttons: [copyButton(part), deleteButton(part)] };
+  return { title: say.chainOf(chainNumber), part, fields, buttons: [copyButton(part), deleteButton(part)] };
 }
 
 /**

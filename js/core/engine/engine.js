@@ -99,8 +99,8 @@ class Instance {
 
   /** Returns the report of the last call: a number and a count. */
   readReport() {
-    const words = new DataView(this.calls.memory.buffer, Number(this.report.offset), REPORT_SIZE);
-    return { number: words.getUint32(0, true), count: Number(words.getBigUint64(COUNT_OFFSET, true)) };
+    const report = new DataView(this.calls.memory.buffer, Number(this.report.offset), REPORT_SIZE);
+    return { number: report.getUint32(0, true), count: Number(report.getBigUint64(COUNT_OFFSET, true)) };
   }
 }
 
@@ -228,7 +228,7 @@ export class Engine {
   }
 
   /**
-   * Returns the state in a session file. (Unlike `slice`, the constructor also copies the memory of a Node Buffer.)
+   * Returns the state in a session file. Unlike `slice`, the constructor also copies the memory of a Node Buffer.
    * @param {Uint8Array} bytes
    */
   stateOf(bytes) {

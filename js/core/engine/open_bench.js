@@ -131,8 +131,8 @@ export class OpenBench {
     const { map, refusal } = this.program;
     const { file, statusQueries } = this.session;
     const difference = findDifference(this.engine, file, statusQueries.board, this.program);
-    const isInRom = refusal === null && difference === null && map.length > 0;
-    this.debugger.commonMistakes.map = isInRom ? new SourceMap(map, text) : null;
+    const isProgramInRom = refusal === null && difference === null && map.length > 0;
+    this.debugger.commonMistakes.map = isProgramInRom ? new SourceMap(map, text) : null;
     return { map, refusal, difference };
   }
 

@@ -27,8 +27,9 @@ import { readProgram } from "./program_check.js";
  * @returns {OtherByte | null}
  */
 function firstDifference(codes, bytes, map) {
-  const at = bytes.findIndex((byte, address) => byte >= 0 && byte !== codes[address]);
-  return at < 0 ? null : { address: hex(at, 3), is: hex(codes[at], 2), line: map.lineOf(at), makes: hex(bytes[at], 2) };
+  const address = bytes.findIndex((byte, index) => byte >= 0 && byte !== codes[index]);
+  if (address < 0) return null;
+  return { address: hex(address, 3), is: hex(codes[address], 2), line: map.lineOf(address), makes: hex(bytes[address], 2) };
 }
 
 /**

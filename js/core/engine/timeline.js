@@ -171,9 +171,9 @@ export class Timeline {
   /** Removes the oldest segment without a stop; if all segments have stops, removes the oldest segment. */
   dropSegment() {
     const found = this.segments.findIndex(({ entries }, at) => at < this.segments.length - 1 && !entries.some(({ isStop }) => isStop));
-    const at = Math.max(0, found);
-    this.segments = this.segments.filter((_, each) => each !== at);
-    this.segments[at] = { ...this.segments[at], follows: false };
+    const droppedIndex = Math.max(0, found);
+    this.segments = this.segments.filter((_, each) => each !== droppedIndex);
+    this.segments[droppedIndex] = { ...this.segments[droppedIndex], follows: false };
   }
 
   /** @returns {Moment} the present */

@@ -100,7 +100,7 @@ export function listingLinesAt(engine, file, addresses) {
 }
 
 /**
- * Records the next cycles without a stop at breakpoints and watches. The file does not change.
+ * Records the next cycles without stopping at breakpoints or watches. The file does not change.
  * @param {Engine} engine
  * @param {Uint8Array} file
  * @param {number} cycles

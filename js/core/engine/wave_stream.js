@@ -29,8 +29,8 @@ const dependsOnCounter = ({ kind }) => kind === "pc" || kind === "label";
  */
 export function neededLines(lines, chosenLines) {
   const neededIndices = [...new Set(chosenLines.flatMap((line) => [line, ...lines[line].members]))];
-  const numbers = new Map(neededIndices.map((line, at) => [line, at]));
-  const newIndex = (/** @type {number} */ line) => numbers.get(line) ?? -1;
+  const positions = new Map(neededIndices.map((line, at) => [line, at]));
+  const newIndex = (/** @type {number} */ line) => positions.get(line) ?? -1;
   return {
     lines: neededIndices.map((line) => ({ ...lines[line], members: lines[line].members.map(newIndex) })),
     chosen: chosenLines.map(newIndex),

@@ -123,7 +123,7 @@ class PropertiesReader {
     const name = word.replace(/^@/, "");
     const found = this.names.map.names.get(name);
     return word.startsWith("@") && found && found.isLabel ? found.value
-      : fail(word.startsWith("@") ? noLabel(name) : say.labelForm(word));
+      : fail(word.startsWith("@") ? noLabel(name) : say.labelSyntax(word));
   }
 
   /** @param {string} name */
@@ -142,24 +142,24 @@ class PropertiesReader {
 
   /**
    * @param {string} text
-   * @param {string} form
+   * @param {string} syntax
    */
-  parseTime(text, form) {
+  parseTime(text, syntax) {
     const cycles = parseWholeDuration(text.trim().split(/\s+/));
-    return cycles > 0 ? cycles : fail(form);
+    return cycles > 0 ? cycles : fail(syntax);
   }
 }
 
 /**
  * Parses two times, with or without `to` between them.
  * @param {string[]} words
- * @param {string} form
+ * @param {string} syntax
  */
-function parseTwoTimes(words, form) {
+function parseTwoTimes(words, syntax) {
   const first = parseDuration(words, 0);
   const rest = words.slice(first.words).filter((word, index) => index > 0 || word !== "to");
   const second = parseWholeDuration(rest);
-  if (first.cycles === 0 || second === 0) fail(form);
+  if (first.cycles === 0 || second === 0) fail(syntax);
   return [first.cycles, second];
 }
 
@@ -170,56 +170,56 @@ function parseTwoTimes(words, form) {
  */
 const SETTINGS = {
   press: (reader, words) => {
-    if (words.length === 0) fail(say.PRESS_FORM);
+    if (words.length === 0) fail(say.PRESS_SYNTAX);
     for (const word of words) reader.addInput(reader.findInput(word));
   },
   test: (reader, words) => {
-    if (words.length > 0) fail(say.TEST_FORM);
+    if (words.length > 0) fail(say.TEST_SYNTAX);
     reader.addInput(createTestInput(reader.names.face));
   },
   reset: (reader, words) => {
-    if (words.length > 0) fail(say.RESET_FORM);
+    if (words.length > 0) fail(say.RESET_SYNTAX);
     reader.canReset = true;
   },
   together: (reader, words) => {
-    if (words.length !== 1 || !/^[1-9]\d?$/.test(words[0])) fail(say.TOGETHER_FORM);
+    if (words.length !== 1 || !/^[1-9]\d?$/.test(words[0])) fail(say.TOGETHER_SYNTAX);
     reader.maxKeysDown = Number(words[0]);
   },
   wait: (reader, words) => {
-    [reader.minWait, reader.maxWait] = parseTwoTimes(words, say.WAIT_FORM);
+    [reader.minWait, reader.maxWait] = parseTwoTimes(words, say.WAIT_SYNTAX);
     // A wait must fit into one run.
-    if (reader.maxWait > MAX_RUN_CYCLES || reader.minWait > reader.maxWait) fail(say.WAIT_FORM);
+    if (reader.maxWait > MAX_RUN_CYCLES || reader.minWait > reader.maxWait) fail(say.WAIT_SYNTAX);
   },
   held: (reader, words) => {
-    const form = say.HELD_FORM;
-    if (words[0] !== "at" || words[1] !== "most") fail(form);
-    reader.maxHoldTime = reader.parseTime(words.slice(2).join(" "), form);
+    const syntax = say.HELD_SYNTAX;
+    if (words[0] !== "at" || words[1] !== "most") fail(syntax);
+    reader.maxHoldTime = reader.parseTime(words.slice(2).join(" "), syntax);
   },
   apart: (reader, words) => {
-    const form = say.APART_FORM;
-    if (words[0] !== "at" || words[1] !== "least") fail(form);
-    reader.minReleaseTime = reader.parseTime(words.slice(2).join(" "), form);
+    const syntax = say.APART_SYNTAX;
+    if (words[0] !== "at" || words[1] !== "least") fail(syntax);
+    reader.minReleaseTime = reader.parseTime(words.slice(2).join(" "), syntax);
   },
   from: (reader, words) => {
     const [state, of, ...file] = words;
     if (!state || (words.length > 1 && (of !== "of" || file.length === 0))) {
-      fail(say.FROM_FORM);
+      fail(say.FROM_SYNTAX);
     }
     if (reader.from) fail(say.FROM_TWICE);
     reader.from = { state, file: file.join(" ") };
   },
   begin: (reader, words) => {
-    const form = say.BEGIN_FORM;
-    if (words[0] !== "after") fail(form);
-    reader.begin = reader.parseTime(words.slice(1).join(" "), form);
+    const syntax = say.BEGIN_SYNTAX;
+    if (words[0] !== "after") fail(syntax);
+    reader.begin = reader.parseTime(words.slice(1).join(" "), syntax);
   },
   pace: (reader, words) => {
-    const form = say.PACE_FORM;
-    [reader.down, reader.up] = parseTwoTimes(words, form);
+    const syntax = say.PACE_SYNTAX;
+    [reader.down, reader.up] = parseTwoTimes(words, syntax);
   },
   note: (reader, words) => {
-    if (words.length === 0) fail(say.NOTE_FORM);
-    for (const word of words) reader.notes.push(...parseNotePlaces(reader, word));
+    if (words.length === 0) fail(say.NOTE_SYNTAX);
+    for (const word of words) reader.notes.push(...findNotePlaces(reader, word));
     if (reader.notes.length > MAX_NOTES) fail(say.mostNoted(MAX_NOTES));
   },
 };
@@ -236,7 +236,7 @@ export const isSetting = (line) => Object.prototype.hasOwnProperty.call(SETTINGS
  * @param {string} word
  * @returns {string[]}
  */
-function parseNotePlaces({ names }, word) {
+function findNotePlaces({ names }, word) {
   if (word.toLowerCase() === "pc") fail(say.NOT_PC);
   const place = parsePlace(word);
   const places = place ? place.probesOn(names.board) : [];
@@ -254,31 +254,31 @@ const FOR_DURATION = /^(.*) for (\S+(?: \S+)?)$/;
 const PROPERTIES = {
   never: (reader, rest, text) => {
     const [, condition, time] = FOR_DURATION.exec(rest) || ["", rest, ""];
-    if (condition === "") fail(say.NEVER_FORM);
-    return time ? neverForProperty(text, reader.parseViolation(condition), reader.parseTime(time, say.FOR_FORM))
+    if (condition === "") fail(say.NEVER_SYNTAX);
+    return time ? neverForProperty(text, reader.parseViolation(condition), reader.parseTime(time, say.FOR_SYNTAX))
       : neverProperty(text, reader.parseViolation(condition));
   },
   always: (reader, rest, text) => alwaysProperty(text, reader.parseRequirement(rest)),
   at: (reader, rest, text) => {
     const [word, ...words] = rest.split(" ");
-    if (words.length === 0) fail(say.AT_FORM);
+    if (words.length === 0) fail(say.AT_SYNTAX);
     return atProperty(text, reader.parseRequirement(words.join(" ")), reader.parseLabel(word));
   },
   after: (reader, rest, text) => {
-    const form = say.AFTER_FORM;
+    const syntax = say.AFTER_SYNTAX;
     const found = /^press (\S+) within (.*)$/.exec(rest);
-    if (!found) fail(form);
+    if (!found) fail(syntax);
     const [, key, requirement] = /** @type {RegExpExecArray} */ (found);
     const words = requirement.split(" ");
     const { cycles, words: count } = parseDuration(words, 0);
-    if (cycles === 0 || words.length === count) fail(form);
+    if (cycles === 0 || words.length === count) fail(syntax);
     return afterPressProperty(text, reader.findInput(key).name, reader.parseCondition(words.slice(count).join(" ")), cycles);
   },
   every: (reader, rest, text) => {
-    const form = say.EVERY_FORM;
+    const syntax = say.EVERY_SYNTAX;
     const words = rest.split(" ");
-    if (words.length < 2) fail(form);
-    return everyProperty(text, reader.parseLabel(words[words.length - 1]), reader.parseTime(words.slice(0, -1).join(" "), form));
+    if (words.length < 2) fail(syntax);
+    return everyProperty(text, reader.parseLabel(words[words.length - 1]), reader.parseTime(words.slice(0, -1).join(" "), syntax));
   },
   reach: (reader, rest, text) => {
     const line = /^line (\d+)$/.exec(rest);
@@ -291,7 +291,7 @@ const PROPERTIES = {
   },
   model: (reader, rest, text) => {
     if (reader.command) fail(say.MODEL_TWICE);
-    if (rest === "") fail(say.MODEL_FORM);
+    if (rest === "") fail(say.MODEL_SYNTAX);
     if (!reader.names.face.groups.some(({ kind }) => kind === "display")) {
       fail(NO_DISPLAY);
     }
@@ -314,7 +314,7 @@ function splitGuard(text) {
   if (!GUARD_START.test(text)) return null;
   const [, guard, rest] = /^((?:"[^"]*"|[^"])*?),(?: (.*))?$/.exec(text) || [];
   if (text.startsWith("after") && !/^after press \S+( within \S+( \S+)?)?$/.test(guard || "")) return null;
-  return guard === undefined ? fail(say.GUARD_FORM) : { guard, rest: rest || "" };
+  return guard === undefined ? fail(say.GUARD_SYNTAX) : { guard, rest: rest || "" };
 }
 
 /**
@@ -326,8 +326,8 @@ function parseGuard(reader, text) {
   const [, condition] = /^once (.+)$/.exec(text) || [];
   if (condition !== undefined) return { kind: "once", key: "", limit: 0, condition: reader.parseCondition(condition) };
   const [, key, time] = /^after press (\S+)(?: within (.+))?$/.exec(text) || [];
-  if (key === undefined) return fail(say.GUARD_FORM);
-  const limit = time === undefined ? 0 : reader.parseTime(time, say.GUARD_FORM);
+  if (key === undefined) return fail(say.GUARD_SYNTAX);
+  const limit = time === undefined ? 0 : reader.parseTime(time, say.GUARD_SYNTAX);
   return { kind: "press", key: reader.findInput(key).name, limit, condition: null };
 }
 
@@ -352,10 +352,10 @@ function parseGuardedLine(reader, text, firstGuard) {
     if (condition === undefined) guards.push(parseGuard(reader, next.guard));
     else reader.whileCondition = `${reader.whileCondition && `${reader.whileCondition} and `}(${reader.parseCondition(condition).text})`;
   }
-  if (unguardedText === "") return firstGuard ? fail(say.GUARD_FORM) : null;
+  if (unguardedText === "") return firstGuard ? fail(say.GUARD_SYNTAX) : null;
   reader.searchStart = text.length - unguardedText.length;
   const property = parseUnguardedLine(reader, unguardedText);
-  if (!property || !GUARDABLE_FORMS.has(property.form)) return fail(say.GUARD_FORM);
+  if (!property || !GUARDABLE_FORMS.has(property.form)) return fail(say.GUARD_SYNTAX);
   // For a press, the `while` condition counts at the moment of the press.
   if (property.form === "after press" && reader.whileCondition !== "") {
     guards.push({ kind: "while", key: "", limit: 0, condition: reader.parseCondition(reader.whileCondition) });
@@ -393,16 +393,16 @@ function parseUnguardedLine(reader, text) {
   const onlyAfterParts = ONLY_AFTER_LINE.exec(text);
   if (onlyAfterParts) {
     const keys = onlyAfterParts[2].split(/ *, */).map((each) => (/^press (\S+)$/.exec(each)
-      || fail(say.ONLY_AFTER_FORM))[1]);
+      || fail(say.ONLY_AFTER_SYNTAX))[1]);
     return onlyAfterProperty(text, reader.parseCondition(onlyAfterParts[1]), keys.map((key) => reader.findInput(key).name));
   }
   const onceParts = ONCE_PER_PRESS_LINE.exec(text);
   if (onceParts) return oncePerPressProperty(text, reader.parseLabel(onceParts[1]));
   const [, start, target, time] = WITHIN_LINE.exec(text) || [];
-  if (start) return withinProperty(text, reader.parseLabel(start), reader.parseLabel(target), reader.parseTime(time, say.WITHIN_FORM));
+  if (start) return withinProperty(text, reader.parseLabel(start), reader.parseLabel(target), reader.parseTime(time, say.WITHIN_SYNTAX));
   const [kind, ...words] = text.split(" ");
   if (Object.prototype.hasOwnProperty.call(PROPERTIES, kind)) return PROPERTIES[kind](reader, words.join(" "), text);
-  if (!Object.prototype.hasOwnProperty.call(SETTINGS, kind)) fail(say.noForm(kind.slice(0, 30), say.FORMS));
+  if (!Object.prototype.hasOwnProperty.call(SETTINGS, kind)) fail(say.unknownFirstWord(kind.slice(0, 30), say.FORMS));
   SETTINGS[kind](reader, words);
   return null;
 }

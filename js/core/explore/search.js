@@ -153,8 +153,8 @@ export class Search {
   }
 
   /**
-   * Repeats a walk up to its last new state, to determine the memories. Only counts the walk if this is sufficient. Otherwise, or if the
-   * walk executes code for the first time, watches the walk.
+   * Repeats a walk up to its last new state to determine the memories of the properties. Counts cycles only if that is sufficient and the
+   * walk executes no code for the first time. Otherwise, watches the walk.
    * @param {import("./walk_watcher.js").WalkStart} start
    * @param {WalkStep[]} steps
    * @param {number[]} newSteps the steps that show something new; the steps that execute code for the first time are added

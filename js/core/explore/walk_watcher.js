@@ -76,7 +76,7 @@ export class Watcher {
   }
 
   /**
-   * Watches a change of an input without a wait.
+   * Watches a change of an input that no wait precedes.
    * @param {WalkStart} start
    * @param {WalkStep} step
    * @param {number[]} openProperties the numbers of properties
@@ -263,8 +263,8 @@ class Walk {
   /** @param {StepReport} report */
   notifyCode({ runAnswer }) {
     if (this.broken || !/ code$/.test(runAnswer)) return;
-    const at = this.watcher.campaign.properties.findIndex(({ form }) => form === "code");
-    if (this.openProperties.includes(at)) this.broken = { property: at, time: this.time };
+    const codeProperty = this.watcher.campaign.properties.findIndex(({ form }) => form === "code");
+    if (this.openProperties.includes(codeProperty)) this.broken = { property: codeProperty, time: this.time };
   }
 
   /** @param {WalkStep} step */

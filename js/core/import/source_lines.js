@@ -87,10 +87,10 @@ function commentAt(line) {
 function splitComment(text) {
   if (/^[*/]/.test(text)) return { code: "", comment: text.slice(1) };
   const begin = text.slice(0, LONGEST_SOURCE_LINE + 1);
-  const at = commentAt(begin);
-  const code = at < 0 ? begin : begin.slice(0, at);
-  const isWhole = at >= 0 || begin.length <= LONGEST_SOURCE_LINE;
-  return { code: isWhole ? code.replace(/[ \t]+$/, "") : code, comment: at < 0 ? "" : text.slice(at + 1) };
+  const commentStart = commentAt(begin);
+  const code = commentStart < 0 ? begin : begin.slice(0, commentStart);
+  const isWhole = commentStart >= 0 || begin.length <= LONGEST_SOURCE_LINE;
+  return { code: isWhole ? code.replace(/[ \t]+$/, "") : code, comment: commentStart < 0 ? "" : text.slice(commentStart + 1) };
 }
 
 /**

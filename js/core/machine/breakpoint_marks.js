@@ -38,12 +38,12 @@ export function describeBreakpoint(breakpoint) {
  * @returns {BreakpointMark}
  */
 export function breakpointMark(breakpoint, fault) {
-  const words = describeBreakpoint(breakpoint);
-  if (fault) return { mark: ALWAYS_STOPS_MARK, words: say.stopsAlwaysByError(words, fault) };
-  if (!breakpoint.isOn) return { mark: NEVER_STOPS_MARK, words: say.isOff(words) };
-  if (breakpoint.address < 0) return { mark: NEVER_STOPS_MARK, words: say.stopsLater(words) };
-  if (breakpoint.note.trim()) return { mark: LOG_MARK, words };
-  return { mark: breakpoint.condition.trim() || breakpoint.from > 1 ? CONDITION_MARK : ALWAYS_STOPS_MARK, words };
+  const description = describeBreakpoint(breakpoint);
+  if (fault) return { mark: ALWAYS_STOPS_MARK, words: say.stopsAlwaysByError(description, fault) };
+  if (!breakpoint.isOn) return { mark: NEVER_STOPS_MARK, words: say.isOff(description) };
+  if (breakpoint.address < 0) return { mark: NEVER_STOPS_MARK, words: say.stopsLater(description) };
+  if (breakpoint.note.trim()) return { mark: LOG_MARK, words: description };
+  return { mark: breakpoint.condition.trim() || breakpoint.from > 1 ? CONDITION_MARK : ALWAYS_STOPS_MARK, words: description };
 }
 
 /**

@@ -42,7 +42,7 @@ export function heatLevels({ cycles, cells }, kind) {
 }
 
 /** Collects the changes in the last cycles while time runs. */
-export class PassingHeat {
+export class RecentHeat {
   constructor() {
     this.totalCycles = 0;
     /** @type {{ from: number, cells: Map<string, HeatCell & { at: number }> }[]} the intervals, each with the cycle count at its start */

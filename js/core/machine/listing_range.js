@@ -69,6 +69,6 @@ export function visibleLines(lines, from, rows) {
  * @param {number} address
  */
 export function isInsideLine(lines, address) {
-  const at = lines.findIndex((line) => line.address > address);
-  return at > 0 && lines[at - 1].address < address;
+  const nextIndex = lines.findIndex((line) => line.address > address);
+  return nextIndex > 0 && lines[nextIndex - 1].address < address;
 }

@@ -214,9 +214,9 @@ export class Screen {
   keyRows() {
     const { panel: { subject: { board }, keys, snapshot }, test } = this;
     const rows = indices(board.rows).map((row) => [plainPiece(indices(board.columns).map((column) => {
-      const at = row * board.columns + column;
-      const label = this.labels[at];
-      return (snapshot.isDown(keys[at].key) ? `[${label || "_"}]` : ` ${label} `).padEnd(this.keyWidth);
+      const keyIndex = row * board.columns + column;
+      const label = this.labels[keyIndex];
+      return (snapshot.isDown(keys[keyIndex].key) ? `[${label || "_"}]` : ` ${label} `).padEnd(this.keyWidth);
     }).join(""))]);
     if (!test) return rows;
     const label = escapeControls(say.testKey(testName(test)));

@@ -253,7 +253,7 @@ const step = (panel) => panel.step();
 const end = (panel) => panel.end();
 
 /**
- * The actions of the panel's own keys: blank, Enter, Tab, Ctrl-T, Ctrl-R, Ctrl-C and Ctrl-D.
+ * The actions of the panel's own keys: Space, Enter, Tab, Ctrl-T, Ctrl-R, Ctrl-C and Ctrl-D.
  * @type {Record<string, (panel: Panel, now: number) => Promise<unknown> | void>}
  */
 const KEY_ACTIONS = {

@@ -36,7 +36,7 @@ function bytesError(bytes) {
   if (bytes.length === 0) return say.EMPTY;
   const { length } = bytes;
   if (length > LONGEST_PROJECT_FILE) return say.tooLong(length, LONGEST_PROJECT_FILE);
-  return bytes.includes(0) ? say.ZERO_BYTES : "";
+  return bytes.includes(0) ? say.CONTAINS_NUL : "";
 }
 
 /**
@@ -57,8 +57,8 @@ function listPaths({ board, program, tests, properties, speed }) {
  * @returns {ProjectFolder}
  */
 export function readProject(bytes, checkFile, file = PROJECT_FILE) {
-  const words = bytesError(bytes);
-  if (words) throw new ProjectError(file, words);
+  const message = bytesError(bytes);
+  if (message) throw new ProjectError(file, message);
   const { names, faults } = readProjectToml(new TextDecoder().decode(bytes));
   if (!names) throw new ProjectError(file, faults[0].words, faults[0].line);
   for (const { path, key, line } of listNamedFiles(names).sort((one, other) => one.line - other.line)) {

@@ -71,8 +71,8 @@ function keyErrors({ name, line, from, to, value }) {
   return values.flatMap((each) => {
     if (typeof each.inner !== "string") return [errorAt(each, description)];
     if (name === "speed") return SPEEDS.some(({ id }) => id === each.inner) ? [] : [errorAt(each, description)];
-    const words = pathError(name, each.inner);
-    return words ? [errorAt(each, words)] : [];
+    const message = pathError(name, each.inner);
+    return message ? [errorAt(each, message)] : [];
   });
 }
 

@@ -276,9 +276,9 @@ export class SessionPrompt {
    */
   help(topic) {
     const [word = ""] = topic.split(/[ \t]+/);
-    const words = word === "" ? listAllLines() : this.describeTopic(word);
-    if (words === "") throw new RejectedLine(noLine(word, []));
-    this.calls.print(words);
+    const helpText = word === "" ? listAllLines() : this.describeTopic(word);
+    if (helpText === "") throw new RejectedLine(noLine(word, []));
+    this.calls.print(helpText);
     return true;
   }
 

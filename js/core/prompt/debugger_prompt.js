@@ -234,11 +234,11 @@ export class Prompt {
   async makeMove(startMove) {
     startMove();
     await this.machine.move;
-    const words = this.lastStop.words.replace(say.PAGE_REMEMBERS, say.SESSION_REMEMBERS);
-    if (words.startsWith(say.NOTHING_DONE)) rejectCommand(words);
+    const message = this.lastStop.words.replace(say.PAGE_REMEMBERS, say.SESSION_REMEMBERS);
+    if (message.startsWith(say.NOTHING_DONE)) rejectCommand(message);
     const reached = await this.stops.commandsAtStop();
     this.stopActions = { ...reached, hasMoved: true };
-    return reached.words ? `${words} ${reached.words}` : words;
+    return reached.words ? `${message} ${reached.words}` : message;
   }
 
   /**
@@ -268,7 +268,7 @@ export class Prompt {
    * @param {string} command the prompt command, for messages
    */
   parsePlace(text, command) {
-    if (text === "") rejectCommand(say.placeForm(command));
+    if (text === "") rejectCommand(say.placeSyntax(command));
     const lamp = this.face.lampNumbers.get(text.replace(/ /g, "_"));
     const place = parsePlace(lamp === undefined ? text : `lamp ${lamp}`);
     if (!place) return rejectCommand(say.noPlace(text, NAMED_PLACES));

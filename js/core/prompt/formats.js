@@ -48,7 +48,7 @@ export function formattedValue(text, context) {
   if (format === undefined) return evaluateExpression(text, context);
   const formatNames = Object.keys(FORMATS);
   const formatter = formatNames.includes(format) ? FORMATS[format] : rejectCommand(say.noFormat(format, formatNames.join(", ")));
-  if (expression === "") rejectCommand(say.PRINT_FORM);
+  if (expression === "") rejectCommand(say.PRINT_SYNTAX);
   if (/^(display|lamps)$/.test(expression.trim())) rejectCommand(say.noNumberOf(expression));
   return formatter(evaluateNumber(expression, context.session), context.session);
 }

@@ -43,7 +43,7 @@ export class InspectCommands {
     const { calls, machine, session } = this.prompt;
     return {
       lamps: () => calls.print(machine.frontPanelText.currentText() || say.NO_LAMPS),
-      print: (argumentText) => calls.print(this.evaluate(argumentText || rejectCommand(say.PRINT_FORM))),
+      print: (argumentText) => calls.print(this.evaluate(argumentText || rejectCommand(say.PRINT_SYNTAX))),
       display: (argumentText) => this.addDisplay(argumentText),
       undisplay: (argumentText) => this.removeDisplays(argumentText),
       x: (argumentText) => this.printMemory(argumentText),
@@ -68,13 +68,13 @@ export class InspectCommands {
    */
   switchView(argumentText) {
     const { view } = this.prompt.calls;
-    if (!/^(|on|off|enable|disable|src|regs|asm|split)$/.test(argumentText)) rejectCommand(say.VIEW_FORM);
+    if (!/^(|on|off|enable|disable|src|regs|asm|split)$/.test(argumentText)) rejectCommand(say.VIEW_SYNTAX);
     if (!view) {
       rejectCommand(say.VIEW_NEEDS_TERMINAL);
       return;
     }
-    const words = argumentText === "" ? view.toggle() : view.turn(!/^(off|disable)$/.test(argumentText));
-    if (words) rejectCommand(words);
+    const message = argumentText === "" ? view.toggle() : view.turn(!/^(off|disable)$/.test(argumentText));
+    if (message) rejectCommand(message);
   }
 
   /**
@@ -117,10 +117,10 @@ export class InspectCommands {
 
   /** @param {string} argumentText */
   removeDisplays(argumentText) {
-    const numbers = argumentText.split(/\s+/).filter(Boolean).map(Number);
-    const hasInvalidNumber = numbers.some((each) => !(each >= 1 && each <= this.displays.length));
+    const ids = argumentText.split(/\s+/).filter(Boolean).map(Number);
+    const hasInvalidNumber = ids.some((each) => !(each >= 1 && each <= this.displays.length));
     if (hasInvalidNumber) rejectCommand(say.NO_DISPLAY);
-    this.displays = argumentText === "" ? [] : this.displays.filter((_, at) => !numbers.includes(at + 1));
+    this.displays = argumentText === "" ? [] : this.displays.filter((_, at) => !ids.includes(at + 1));
   }
 
   /** @param {string} argumentText */
@@ -174,7 +174,7 @@ export class InspectCommands {
       session: () => (launchResult.writer ? say.SESSION_FILE : say.IN_MEMORY),
       line: (place) => stateText.lineText(session, findInstruction(place, session)),
       symbol: (place) => {
-        const address = parseAddress(place || rejectCommand(say.SYMBOL_FORM), session);
+        const address = parseAddress(place || rejectCommand(say.SYMBOL_SYNTAX), session);
         return address === undefined ? rejectCommand(say.noPlaceOfMemory(place)) : stateText.addressText(session, address);
       },
       frame: () => this.frameText,

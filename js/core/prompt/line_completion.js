@@ -70,7 +70,7 @@ export async function completeLine(line, calls) {
   if (FILE_WORDS.includes(word)) return [calls.files(rest), rest];
   const words = line.trimStart().split(/[ \t]+/);
   const begin = /** @type {string} */ (words.pop());
-  const at = WORDS_AFTER[word];
-  const found = ANSWER_FORMS.has(word) || word === "help" ? await (at ? at(words.length - 1, calls.ask) : []) : [];
+  const findWordsAfter = WORDS_AFTER[word];
+  const found = ANSWER_FORMS.has(word) || word === "help" ? await (findWordsAfter ? findWordsAfter(words.length - 1, calls.ask) : []) : [];
   return [filterByPrefix(found, begin), begin];
 }

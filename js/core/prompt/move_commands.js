@@ -36,7 +36,7 @@ export class MoveCommands {
       },
       "finish": (argumentText) => this.finishSubroutine(argumentText),
       "until": (argumentText) => {
-        if (argumentText === "") rejectCommand(say.UNTIL_FORM);
+        if (argumentText === "") rejectCommand(say.UNTIL_SYNTAX);
         const condition = parseConditionText(argumentText, this.prompt.session);
         if (condition !== "") return this.moveAndShow(() => machine.go({ kind: "when", condition }));
         const { address } = findInstruction(argumentText, this.prompt.session);
@@ -52,7 +52,7 @@ export class MoveCommands {
       "reverse-next": (argumentText) => this.repeatMove(argumentText, () => machine.beginMove(async () => (
         machine.toRunResult(await stepBackOver(this.prompt.session, () => machine.finishPiece()), "goal")), () => false)),
       "reverse-continue": (argumentText) => {
-        if (argumentText !== "") rejectCommand(say.REVERSE_FORM);
+        if (argumentText !== "") rejectCommand(say.REVERSE_SYNTAX);
         return this.moveAndShow(() => machine.goBack({ kind: "arrival", place: this.prompt.watchedPlace }));
       },
       "back": (argumentText) => {
@@ -80,24 +80,24 @@ export class MoveCommands {
    */
   async repeatMove(argumentText, startMove) {
     const { prompt } = this;
-    let words = "";
+    let stopText = "";
     for (let left = parseCountArgument(argumentText, MAX_STEPS); left > 0; left--) {
-      words = await prompt.makeMove(startMove);
+      stopText = await prompt.makeMove(startMove);
       if (prompt.lastStop.reason !== "step" || prompt.machine.mustPause) break;
     }
-    prompt.showStop(words);
+    prompt.showStop(stopText);
   }
 
   /** @param {string} argumentText */
   finishSubroutine(argumentText) {
-    if (argumentText !== "") rejectCommand(say.FINISH_FORM);
+    if (argumentText !== "") rejectCommand(say.FINISH_SYNTAX);
     if (openCallCount(this.prompt.session) === 0) rejectCommand(NO_CALL_WAITS);
     return this.moveAndShow(() => this.prompt.machine.go({ kind: "out" }));
   }
 
   /** @param {string} argumentText */
   continueRun(argumentText) {
-    if (argumentText !== "") rejectCommand(say.CONTINUE_FORM);
+    if (argumentText !== "") rejectCommand(say.CONTINUE_SYNTAX);
     const { session, watchedPlace, calls, machine } = this.prompt;
     const hasWatches = watchedPlace !== "" || session.debugger.session.ask("watches\n")[0] !== "watches -";
     const stops = session.breakpoints.enabledCount > 0 || hasWatches;
@@ -115,14 +115,14 @@ export class MoveCommands {
     const keys = prompt.keys.parseKeys(argumentText, "press");
     for (const [at, { key }] of keys.entries()) {
       let stopReason = "";
-      const words = await prompt.makeMove(() => machine.beginMove(async () => {
+      const stopText = await prompt.makeMove(() => machine.beginMove(async () => {
         const stop = await pressKey(session, key, (_, tally) => machine.finishPiece(tally));
         ({ why: stopReason } = stop);
         return stop;
       }, () => true));
       if (stopReason === "passed") continue;
       const left = keys.slice(at + 1).map(({ name }) => name).join(" ");
-      prompt.showStop(left === "" ? words : say.notPressed(words, left));
+      prompt.showStop(left === "" ? stopText : say.notPressed(stopText, left));
       return;
     }
     prompt.showStop(stoppedAt(session.counterText));

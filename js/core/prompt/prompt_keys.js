@@ -62,7 +62,7 @@ export class PromptKeys {
    * @param {string} command the prompt command, for messages
    */
   parseKeys(text, command) {
-    if (text === "") rejectCommand(say.keyForm(command));
+    if (text === "") rejectCommand(say.keySyntax(command));
     /** @type {(word: string) => NamedKey} */
     const requireKey = (word) => {
       const { names } = this;

@@ -42,7 +42,7 @@ export class SourceCommand {
    * @param {string} name
    */
   async serve(name) {
-    if (name === "") throw new Error(say.SOURCE_FORM);
+    if (name === "") throw new Error(say.SOURCE_SYNTAX);
     if (this.files.length === MAX_NESTING) throw new Error(say.tooDeep(MAX_NESTING));
     const lines = this.calls.read(name).replace(/\n$/, "").split("\n");
     const file = { name, at: 0 };

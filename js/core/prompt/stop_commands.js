@@ -84,14 +84,14 @@ export class StopCommands {
 
   /** @param {string} argumentText */
   async setCondition(argumentText) {
-    const { breakpoint: { id }, more } = this.parseBreakpoint(argumentText, say.CONDITION_FORM);
+    const { breakpoint: { id }, more } = this.parseBreakpoint(argumentText, say.CONDITION_SYNTAX);
     await this.prompt.breakpoints.change(id, { condition: more.replace(/^if\s+/, "") });
     if (more === "") this.prompt.calls.print(say.stopsAlways(id));
   }
 
   /** @param {string} argumentText */
   async ignoreHits(argumentText) {
-    const { breakpoint: { id, hits }, more } = this.parseBreakpoint(argumentText, say.IGNORE_FORM);
+    const { breakpoint: { id, hits }, more } = this.parseBreakpoint(argumentText, say.IGNORE_SYNTAX);
     const count = /^\d{1,9}$/.test(more) ? Number(more) : -1;
     if (count < 0) rejectCommand(say.ignoredIs(MAX_IGNORED.toLocaleString("en"), more || say.NOTHING));
     await this.prompt.breakpoints.change(id, { from: count === 0 ? 1 : hits + count + 1 });
@@ -102,8 +102,8 @@ export class StopCommands {
 
   /** @param {string} argumentText */
   beginCommands(argumentText) {
-    const { breakpoint: { id }, more } = this.parseBreakpoint(argumentText || LAST_BREAKPOINT, say.COMMANDS_FORM);
-    if (more !== "") rejectCommand(say.COMMANDS_FORM);
+    const { breakpoint: { id }, more } = this.parseBreakpoint(argumentText || LAST_BREAKPOINT, say.COMMANDS_SYNTAX);
+    if (more !== "") rejectCommand(say.COMMANDS_SYNTAX);
     this.unfinishedCommands = { id, lines: [] };
   }
 
@@ -157,7 +157,7 @@ export class StopCommands {
   /** @param {string} argumentText */
   saveBreakpoints(argumentText) {
     const [, word = "", name = ""] = /^(\S*)\s*(.*)$/.exec(argumentText) || [];
-    if (!/^b(r(e(akpoints?)?)?)?$/.test(word) || name === "") rejectCommand(say.SAVE_FORM);
+    if (!/^b(r(e(akpoints?)?)?)?$/.test(word) || name === "") rejectCommand(say.SAVE_SYNTAX);
     const watches = this.prompt.breakpoints.watchedPlaces.map((place) => `watch ${place}`);
     const lines = [...this.list.all.flatMap((each) => this.formatBreakpoint(each)), ...watches];
     this.prompt.calls.write(name, `${[say.SAVED_HEAD, ...lines].join("\n")}\n`);

@@ -87,19 +87,19 @@ class Evaluation {
    * @param {[string, string]} marks the characters for 0 and 1
    */
   createMarks(lines, marks) {
-    const markAt = (/** @type {number} */ at) => {
-      const text = this.readField(outputLine(lines[at], this.board), lines[at]);
+    const readMark = (/** @type {number} */ index) => {
+      const text = this.readField(outputLine(lines[index], this.board), lines[index]);
       return marks[Number(text)];
     };
     const eachMark = function* each() {
-      for (const at of lines.keys()) yield markAt(at);
+      for (const at of lines.keys()) yield readMark(at);
     };
     return new Proxy({}, {
       get: (_, key) => {
         if (key === Symbol.iterator) return eachMark;
         if (key === "length") return lines.length;
-        if (key === "charCodeAt") return (/** @type {number} */ at) => (at < lines.length ? markAt(at).charCodeAt(0) : NaN);
-        return typeof key === "string" && /^\d+$/.test(key) && Number(key) < lines.length ? markAt(Number(key)) : undefined;
+        if (key === "charCodeAt") return (/** @type {number} */ at) => (at < lines.length ? readMark(at).charCodeAt(0) : NaN);
+        return typeof key === "string" && /^\d+$/.test(key) && Number(key) < lines.length ? readMark(Number(key)) : undefined;
       },
     });
   }

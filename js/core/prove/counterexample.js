@@ -186,8 +186,8 @@ class Replay {
    */
   isAllowed({ steps, time }) {
     const { allowedCampaign, freeCampaign } = this;
-    const numbers = freeCampaign.inputs.map(({ down }) => allowedCampaign.inputs.findIndex((input) => input.down === down));
-    const allowedSteps = steps.map((step) => ({ ...step, input: step.kind === "none" ? -1 : numbers[step.input] }));
+    const inputIndexes = freeCampaign.inputs.map(({ down }) => allowedCampaign.inputs.findIndex((input) => input.down === down));
+    const allowedSteps = steps.map((step) => ({ ...step, input: step.kind === "none" ? -1 : inputIndexes[step.input] }));
     const rest = allowedSteps.reduce((left, { wait }) => left - wait, time);
     const isChecked = time > allowedCampaign.begin || allowedCampaign.begin === 0;
     return isChecked && allowedSteps.every(({ kind, input }) => kind === "none" || input >= 0)

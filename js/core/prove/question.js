@@ -202,7 +202,7 @@ const QUESTIONS_BY_FORM = {
  */
 export function createQuestion(property, { from }, subject) {
   const form = QUESTIONS_BY_FORM[property.form];
-  if (!form) return { question: null, words: say.otherForm(property.form) };
+  if (!form) return { question: null, words: say.unprovableForm(property.form) };
   if (from) return { question: null, words: say.BEGINS_LATER };
   try {
     return { question: form(/** @type {Property & { condition: Condition }} */ (property), subject.names.board, subject), words: "" };

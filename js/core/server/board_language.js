@@ -52,9 +52,9 @@ export class BoardLanguage {
    */
   hover({ lines, text }, { line, character }) {
     if (character > commentAt(lines[line], "#")) return null;
-    const words = helpForBoard(lines, line, character, this.tables);
+    const helpText = helpForBoard(lines, line, character, this.tables);
     const word = wordAt(lines[line], character);
-    if (words && word) return { words, markdown: escapeMarkdown(words), range: rangeInLine(line + 1, word.from, word.to) };
+    if (helpText && word) return { words: helpText, markdown: escapeMarkdown(helpText), range: rangeInLine(line + 1, word.from, word.to) };
     const references = new BoardReferences(text);
     const value = references.valueAt(line + 1, character);
     const hoverText = value ? references.describeValue(value, new Face(text)) : "";
@@ -136,7 +136,7 @@ export class BoardLanguage {
       if (kind !== "bare" && kind !== "string") return [];
       const previousWord = words[at - 1] ? words[at - 1].text : "";
       const isHeader = headers.has(line) && previousWord === "[" && /^\s*\[/.test(lines[line - 1]);
-      const isKey = words[at + 1] && words[at + 1].text === "=" && words[at + 1].kind === "mark";
+      const isKey = words[at + 1] && words[at + 1].text === "=" && words[at + 1].kind === "punctuation";
       const valueType = kind === "string" ? "string" : /^[+-]?\d/.test(word) ? "number" : "";
       const type = isHeader ? "class" : isKey ? "property" : valueType;
       return type ? [{ line: line - 1, from, to, type }] : [];

@@ -71,8 +71,8 @@ export class Connection extends MessageStream {
     // The server ignores responses to its own requests.
     if (method === undefined && isId(id) && ("result" in message || "error" in message)) return;
     if (typeof method !== "string" || getField(message, "jsonrpc") !== "2.0" || !(id === undefined || isId(id))) {
-      const words = say.MESSAGE_FORM;
-      this.rejectRequest(isId(id) ? id : null, new ProtocolError(INVALID_REQUEST, words));
+      const errorText = say.MESSAGE_SYNTAX;
+      this.rejectRequest(isId(id) ? id : null, new ProtocolError(INVALID_REQUEST, errorText));
     } else if (id === undefined) this.serveNotification(method, message.params);
     else this.serveRequest(id, method, message.params);
   }

@@ -37,13 +37,13 @@ const VALUE_COMPLETION = 12;
  * @returns {ShownFault}
  */
 export function locateError(lines, { line, column, words: fullMessage }) {
-  const words = column < 0 ? fullMessage : fullMessage.replace(inColumn("", column), "");
+  const message = column < 0 ? fullMessage : fullMessage.replace(inColumn("", column), "");
   const text = lines[line - 1] || "";
   const end = text.trimEnd().length;
   const begin = Math.min(end, text.length - text.trimStart().length);
-  if (column < 0 || column >= end) return { number: 0, line, from: begin, to: end, words, isError: true };
+  if (column < 0 || column >= end) return { number: 0, line, from: begin, to: end, words: message, isError: true };
   const [word = ""] = /^\S+/.exec(text.slice(column)) || [];
-  return { number: 0, line, from: column, to: column + Math.max(1, word.length), words, isError: true };
+  return { number: 0, line, from: column, to: column + Math.max(1, word.length), words: message, isError: true };
 }
 
 /**

@@ -62,9 +62,9 @@ export function lengthError({ lines, length }) {
  * @param {Range} range
  */
 function touchesRange({ line, from, to }, { start, end }) {
-  const at = line - 1;
-  const beginsBefore = at < end.line || (at === end.line && from <= end.character);
-  const endsAfter = at > start.line || (at === start.line && to >= start.character);
+  const lineIndex = line - 1;
+  const beginsBefore = lineIndex < end.line || (lineIndex === end.line && from <= end.character);
+  const endsAfter = lineIndex > start.line || (lineIndex === start.line && to >= start.character);
   return beginsBefore && endsAfter;
 }
 

@@ -25,7 +25,7 @@ export class StreamError extends Error {}
  */
 function contentLength(header) {
   const sizes = header.split("\r\n").map((line) => CONTENT_LENGTH.exec(line)).filter((each) => each !== null);
-  if (sizes.length !== 1) throw new StreamError(say.HEAD_FORM);
+  if (sizes.length !== 1) throw new StreamError(say.HEAD_SYNTAX);
   const size = Number(/** @type {RegExpExecArray} */ (sizes[0])[1]);
   if (size > MAX_SKIPPED) throw new StreamError(say.sizeTooLarge(size, MAX_SKIPPED));
   return size;

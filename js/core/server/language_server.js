@@ -50,8 +50,8 @@ export class LanguageServer {
     this.host = host;
     /** @type {Map<string, CheckedText>} */
     this.texts = new Map();
-    const words = new ErrorMessages(refusals);
-    const refusalMessage = (/** @type {number} */ number) => words.refusalMeaning(number);
+    const errorMessages = new ErrorMessages(refusals);
+    const refusalMessage = (/** @type {number} */ number) => errorMessages.refusalMeaning(number);
     const bench = new TextBench(engine);
     const readText = (/** @type {string} */ uri, /** @type {string} */ folder) => this.readText(uri, folder);
     const dependencies = (/** @type {string} */ uri) => this.findDependencies(uri);

@@ -68,6 +68,6 @@ export function programCompletion(lines, { line, character }, trigger, context) 
     const isLabel = !splitStatement(lines[(names.get(text) || 1) - 1]).defines;
     return { text, what: context.meaningOf(text), kind: isLabel ? FUNCTION_COMPLETION : CONSTANT_COMPLETION };
   };
-  const list = found.list.map((each) => ({ ...completedWord(each.text), ...(each.what ? { what: each.what } : {}) }));
-  return { ...found, list: [...matchingConditions(before, context), ...list] };
+  const completions = found.list.map((each) => ({ ...completedWord(each.text), ...(each.what ? { what: each.what } : {}) }));
+  return { ...found, list: [...matchingConditions(before, context), ...completions] };
 }

@@ -75,17 +75,17 @@ function instructionTable(instruction) {
 export function programHover(lines, { line, character }, context) {
   const text = lines[line];
   if (character > splitStatement(text).comment) return null;
-  const words = helpForProgram(lines, line, character, context.instructions, context.meaningOf);
+  const helpText = helpForProgram(lines, line, character, context.instructions, context.meaningOf);
   const word = wordAt(text, character);
   const condition = word ? describeCondition(text, word, context) : "";
   const place = context.describeLine(line + 1);
   const instruction = word && context.instructions.get(word.text.toUpperCase());
   const comment = word && !instruction ? findNameComment(lines, word.text) : [];
   const markdown = [
-    instruction ? instructionTable(instruction) : escapeMarkdown(words), escapeMarkdown(condition),
+    instruction ? instructionTable(instruction) : escapeMarkdown(helpText), escapeMarkdown(condition),
     comment.length > 0 ? formatBlock(comment) : "", escapeMarkdown(place),
   ].filter((each) => each !== "").join("\n\n");
-  const range = word && (words !== "" || condition !== "") ? { range: rangeInLine(line + 1, word.from, word.to) } : {};
-  const plainTexts = [words, condition, comment.join("\n"), place].filter((each) => each !== "");
+  const range = word && (helpText !== "" || condition !== "") ? { range: rangeInLine(line + 1, word.from, word.to) } : {};
+  const plainTexts = [helpText, condition, comment.join("\n"), place].filter((each) => each !== "");
   return plainTexts.length === 0 ? null : { words: plainTexts.join("\n\n"), markdown, ...range };
 }

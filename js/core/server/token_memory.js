@@ -38,8 +38,8 @@ export class TokenMemory {
    * @param {ColouredWord[]} words
    */
   allTokens({ uri }, words) {
-    const data = encodeTokens(words);
-    return { resultId: this.store(uri, data), data };
+    const encodedTokens = encodeTokens(words);
+    return { resultId: this.store(uri, encodedTokens), data: encodedTokens };
   }
 
   /**
@@ -51,8 +51,8 @@ export class TokenMemory {
   changedTokens(openText, words, previousId) {
     const lastResponse = this.sentTokens.get(openText.uri);
     if (!lastResponse || lastResponse.resultId !== previousId) return this.allTokens(openText, words);
-    const data = encodeTokens(words);
-    return { resultId: this.store(openText.uri, data), edits: codeEdits(lastResponse.data, data) };
+    const encodedTokens = encodeTokens(words);
+    return { resultId: this.store(openText.uri, encodedTokens), edits: codeEdits(lastResponse.data, encodedTokens) };
   }
 
   /**

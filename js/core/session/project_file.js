@@ -242,8 +242,8 @@ export function readTexts(lines, acceptsLong = false) {
   const [testText, propertiesText] = (/** @type {Word[]} */ (["test", "properties"])).map((word) => (
     lines.next === word ? readText(lines, word, unended) : ""));
   const texts = { name, boardText, programText, testText, propertiesText };
-  const words = tooLongMessage(texts);
-  if (words && !acceptsLong) throw new TextTooLong(words);
+  const message = tooLongMessage(texts);
+  if (message && !acceptsLong) throw new TextTooLong(message);
   const withBreakpoints = breakpoints.length > 0 ? { ...texts, breakpoints: limitBreakpoints(breakpoints) } : texts;
   return watched.length > 0 ? { ...withBreakpoints, watched } : withBreakpoints;
 }
@@ -278,7 +278,7 @@ function readFile(lines, size) {
  */
 export function readProject(bytes, size, acceptsLong = false) {
   if (bytes.length > MAX_PROJECT_BYTES) throw new InvalidProject(say.TOO_MANY_BYTES);
-  if (bytes.includes(0)) throw new InvalidProject(say.HAS_ZERO_BYTES);
+  if (bytes.includes(0)) throw new InvalidProject(say.CONTAINS_NUL);
   const text = decodeUtf8(bytes);
   checkEnvelope(text);
   const lines = new Lines(text);

@@ -14,13 +14,13 @@ import * as say from "../../words/session.js";
  * @param {string} mark the character that starts a comment
  */
 function firstSentence(text, mark) {
-  const comment = [];
+  const commentLines = [];
   for (const line of text.split("\n")) {
-    const words = line.startsWith(mark) ? line.replace(/^[#; ]+|[#; ]+$/g, "") : "";
-    if (words === "" || parseFaceLine(line)) break;
-    comment.push(words);
+    const comment = line.startsWith(mark) ? line.replace(/^[#; ]+|[#; ]+$/g, "") : "";
+    if (comment === "" || parseFaceLine(line)) break;
+    commentLines.push(comment);
   }
-  const [sentence] = comment.join(" ").split(/[.:](?: |$)/);
+  const [sentence] = commentLines.join(" ").split(/[.:](?: |$)/);
   return sentence && `${sentence[0].toUpperCase()}${sentence.slice(1)}.`;
 }
 

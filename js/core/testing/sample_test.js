@@ -1,5 +1,5 @@
-// Creates a sample test for a board without tests. The test presses the first key of the board, if there is one, and expects the result:
-// the display text, or a lamp that is on.
+// Creates a sample test for a board without tests. If the board has keys, the test presses the first one. The test expects the result: the
+// display text, or a lamp that is on.
 
 import { convertLampAnswers } from "../board/lamp_answers.js";
 import { LAMPS_FORECAST_QUERY, hasScannedDisplay } from "../engine/perceived_text.js";

@@ -115,9 +115,9 @@ export class TestRun {
         if (failure) return failure;
         continue;
       }
-      const words = await this.execute(session, action);
+      const message = await this.execute(session, action);
       const context = enclosing.length > 0 ? `; in ${enclosing.join(", in ")}` : "";
-      if (words !== "") return { ...stepLocation(step), words: words + context, ...this.describeState(session) };
+      if (message !== "") return { ...stepLocation(step), words: message + context, ...this.describeState(session) };
     }
     return null;
   }

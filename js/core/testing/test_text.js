@@ -254,7 +254,7 @@ class TestReader {
   endRepeat(words) {
     const open = this.openRepeats.pop();
     if (open) this.steps = open.outer;
-    if (words.length > 1) fail(say.END_FORM);
+    if (words.length > 1) fail(say.END_SYNTAX);
     if (!open) fail(say.NO_REPEAT);
   }
 
@@ -286,7 +286,7 @@ class TestReader {
       this.steps = [];
       step.action = { kind: "repeat", times, steps: this.steps };
       this.openRepeats.push({ line, times, outer });
-      if (!isCount) fail(say.REPEAT_FORM);
+      if (!isCount) fail(say.REPEAT_SYNTAX);
     } else if (words[0] === "do") {
       step.action = this.readDo(words);
     } else {
@@ -301,7 +301,7 @@ class TestReader {
    * @returns {Action}
    */
   readDo(words) {
-    if (words.length !== 2) fail(say.DO_FORM);
+    if (words.length !== 2) fail(say.DO_SYNTAX);
     const [, name] = words;
     const { currentShared } = this;
     if (currentShared && currentShared.name === name) fail(say.stepsUseThemselves(name));
@@ -327,12 +327,12 @@ class TestReader {
     if (kind === "from" || kind === "save") return this.readState(kind, operands);
     if (kind === "press" || kind === "release" || kind === "keys") return this.readKeys(kind, operands);
     if (kind === "pace") return parsePace(operands);
-    if (kind === "run") return { kind, cycles: parseWholeDuration(operands) || fail(say.RUN_FORM) };
+    if (kind === "run") return { kind, cycles: parseWholeDuration(operands) || fail(say.RUN_SYNTAX) };
     if (kind === "until") return this.readUntil(text, startColumn);
     if (kind === "expect") return { kind, condition: this.readCondition(text.slice(startColumn), startColumn) };
     if (kind === "set") return { kind, ...this.readSet(text.slice(startColumn), startColumn) };
     if (kind === "mark" || kind === "reset") return operands.length === 0 ? { kind } : fail(say.takesNoArgument(kind));
-    return fail(say.noForm(kind.slice(0, 30), say.FIRST_WORDS));
+    return fail(say.unknownFirstWord(kind.slice(0, 30), say.FIRST_WORDS));
   }
 
   /**
@@ -342,7 +342,7 @@ class TestReader {
    */
   readState(kind, words) {
     const [state] = words;
-    if (words.length !== 1) fail(say.stateForm(kind));
+    if (words.length !== 1) fail(say.stateSyntax(kind));
     if (kind === "save" && this.openRepeats.length > 0) fail(say.SAVED_ONCE);
     if (this.currentShared) fail(say.noStates(kind));
     const savingTest = this.savedBy.get(state);
@@ -351,7 +351,7 @@ class TestReader {
       this.savedBy.set(state, this.test);
       return { kind, state };
     }
-    if (this.test.steps.length > 1 || this.openRepeats.length > 0) fail(say.FROM_FORM);
+    if (this.test.steps.length > 1 || this.openRepeats.length > 0) fail(say.FROM_POSITION);
     const knownStates = this.savedBy.size > 0 ? say.knownStates([...this.savedBy.keys()].join(" ")) : "";
     if (!savingTest) fail(say.noSuchState(state, knownStates));
     if (savingTest === this.test) fail(say.OWN_STATE);
@@ -366,7 +366,7 @@ class TestReader {
    * @returns {Action}
    */
   readKeys(kind, words) {
-    if (words.length === 0) fail(say.keysForm(kind, kind === "keys"));
+    if (words.length === 0) fail(say.keysSyntax(kind, kind === "keys"));
     const keys = words.flatMap((word) => {
       const key = this.keys.get(word) || this.parseChosenKey(word);
       if (key) return [key];
@@ -388,7 +388,7 @@ class TestReader {
     const [, place, list] = /^([^:]*)(?::(.*))?$/.exec(inner) || ["", ""];
     const found = parsePlace(place);
     const placeName = found ? found.name : place.toLowerCase();
-    if (!/^(acc|cy|dcl|r\d+|(ram|st)\..+)$/.test(placeName) || list === "") return fail(say.CHOICE_FORM);
+    if (!/^(acc|cy|dcl|r\d+|(ram|st)\..+)$/.test(placeName) || list === "") return fail(say.CHOICE_SYNTAX);
     const keys = list === undefined ? [] : list.split(",").map((name) => this.keys.get(name) || this.failForKey(name, name));
     const { expression, fault } = compileExpression(place, this.names);
     const { places: [probe] } = expression || fail(fault);
@@ -425,9 +425,9 @@ class TestReader {
    */
   readUntil(text, startColumn) {
     const [, conditionText, time] = /^(.*\S)[ \t]+within[ \t]+(.*)$/.exec(text) || [];
-    if (conditionText === undefined || conditionText.length <= startColumn) return fail(say.UNTIL_FORM);
+    if (conditionText === undefined || conditionText.length <= startColumn) return fail(say.UNTIL_SYNTAX);
     const cycles = parseWholeDuration(time.split(/[ \t]+/));
-    if (cycles < 1) fail(say.WITHIN_FORM);
+    if (cycles < 1) fail(say.WITHIN_SYNTAX);
     const condition = this.readCondition(conditionText.slice(startColumn), startColumn);
     if (condition.needs.includes("cycles")) fail(say.NO_CYCLES);
     return { kind: "until", condition, cycles };
@@ -458,7 +458,7 @@ function parsePace(words) {
   const up = parseDuration(words, down.words);
   const isWhole = down.cycles > 0 && up.cycles > 0 && down.words + up.words === words.length;
   return isWhole ? { kind: "pace", down: down.cycles, up: up.cycles }
-    : fail(say.PACE_FORM);
+    : fail(say.PACE_SYNTAX);
 }
 
 /**

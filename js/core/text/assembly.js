@@ -33,8 +33,8 @@ function trimmedWord(line, from, to) {
   const text = line.slice(from, to);
   const trimmed = text.trim();
   if (trimmed === "") return null;
-  const at = from + text.indexOf(trimmed);
-  return { text: trimmed, from: at, to: at + trimmed.length };
+  const start = from + text.indexOf(trimmed);
+  return { text: trimmed, from: start, to: start + trimmed.length };
 }
 
 /**

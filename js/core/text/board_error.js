@@ -83,9 +83,9 @@ class BoardErrorText {
     const { entry, key } = this.findWrongPart();
     if (number === UNKNOWN_KEY) return this.createUnknownKeyFault(entry, key);
     const value = key && number !== MISSING_KEY ? this.findWrongValue(key) : null;
-    const words = this.formatMessage(entry, key, value);
+    const message = this.formatMessage(entry, key, value);
     const place = value || entry;
-    return place ? faultAt(number, place, words) : this.createLineFault(words);
+    return place ? faultAt(number, place, message) : this.createLineFault(message);
   }
 
   /** Returns the error in a text that is not valid TOML. */

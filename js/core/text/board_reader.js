@@ -75,7 +75,7 @@ export class BoardReader {
 
   /** @param {string} mark */
   isMark(mark) {
-    return this.word.kind === "mark" && this.word.text === mark;
+    return this.word.kind === "punctuation" && this.word.text === mark;
   }
 
   /**
@@ -122,10 +122,10 @@ export class BoardReader {
 
   readHeader() {
     const { line, from } = this.word;
-    const isArray = this.words[this.at + 1].text === "[" && this.words[this.at + 1].kind === "mark";
+    const isArray = this.words[this.at + 1].text === "[" && this.words[this.at + 1].kind === "punctuation";
     this.at += isArray ? 2 : 1;
     const name = this.word;
-    if (name.kind !== "bare" && name.kind !== "string") throw new NotToml(name, say.TABLE_FORM);
+    if (name.kind !== "bare" && name.kind !== "string") throw new NotToml(name, say.TABLE_SYNTAX);
     this.at += 1;
     this.expectMark("]", say.bracketMissing(isArray ? `[[${name.text}]]` : `[${name.text}]`));
     if (isArray) this.expectMark("]", say.bracketMissing(`[[${name.text}]]`));
@@ -170,7 +170,7 @@ export class BoardReader {
   /** @returns {Key} */
   readKey() {
     const name = this.word;
-    if (name.kind !== "bare" && name.kind !== "string") throw new NotToml(name, name.fault || say.KEY_FORM);
+    if (name.kind !== "bare" && name.kind !== "string") throw new NotToml(name, name.fault || say.KEY_SYNTAX);
     this.at += 1;
     this.expectMark("=", say.equalsMissing(name.text));
     return { name: name.text, line: name.line, from: name.from, to: name.to, value: this.readValue(name.text) };
@@ -187,7 +187,7 @@ export class BoardReader {
     if (this.isMark("[")) return { inner: this.readNested(() => this.readArray(key)), whole: true, ...range, end: this.lastEnd };
     if (this.isMark("{")) return { inner: this.readNested(() => this.readTable()), whole: true, ...range, end: this.lastEnd };
     if (kind === "end") throw new NotToml(this.word, say.valueMissing(key));
-    if (kind === "mark" || kind === "bad") throw new NotToml(this.word, fault || say.noValue(text));
+    if (kind === "punctuation" || kind === "bad") throw new NotToml(this.word, fault || say.noValue(text));
     const inner = this.parseScalar(kind, text);
     this.at += 1;
     return { inner, whole: typeof inner !== "number" || INTEGER.test(text), ...range, end: { line, to } };
@@ -220,8 +220,8 @@ export class BoardReader {
     if (INTEGER.test(text)) return Number(text.replace(/_/g, ""));
     if (text === "true" || text === "false") return text === "true";
     if (/^[+-]?\d+(\.\d+)?([eE][+-]?\d+)?$/.test(text) && !/^[+-]?0\d/.test(text)) return Number(text);
-    if (/^0\d+$/.test(text)) throw new NotToml(this.word, say.numberForm(text));
-    throw new NotToml(this.word, say.textForm(text));
+    if (/^0\d+$/.test(text)) throw new NotToml(this.word, say.hasLeadingZero(text));
+    throw new NotToml(this.word, say.needsQuotes(text));
   }
 
   /** Skips line ends. */

@@ -41,8 +41,8 @@ export function filterCompletions(line, column, words, typedPattern = /\w*$/) {
   const found = typedPattern.exec(line.slice(0, column));
   const typed = found ? found[0] : "";
   const low = typed.toLowerCase();
-  const list = words.filter(({ text }) => text.toLowerCase().startsWith(low) && text !== typed).slice(0, MAX_COMPLETIONS);
-  return { from: column - typed.length, to: column, list };
+  const matchingWords = words.filter(({ text }) => text.toLowerCase().startsWith(low) && text !== typed).slice(0, MAX_COMPLETIONS);
+  return { from: column - typed.length, to: column, list: matchingWords };
 }
 
 /**

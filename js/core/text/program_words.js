@@ -62,12 +62,12 @@ function foreignNumber(text) {
  * @param {string} text
  */
 function describeNumberError(text) {
-  const foreignForm = foreignNumber(text);
-  if (foreignForm) return foreignForm.words;
+  const converted = foreignNumber(text);
+  if (converted) return converted.words;
   if (/^-\d+$/.test(text)) return say.NO_NEGATIVES;
   if (/[-+*/()<>]/.test(text)) return say.NO_EXPRESSIONS;
   if (/\s/.test(text)) return say.COMMA_OF_OPERANDS;
-  if (/^\d/.test(text)) return say.NUMBER_FORM;
+  if (/^\d/.test(text)) return say.NUMBER_SYNTAX;
   return "";
 }
 
@@ -76,8 +76,8 @@ function describeNumberError(text) {
  * @param {string} text
  */
 function numberFixes(text) {
-  const foreignForm = foreignNumber(text);
-  return foreignForm ? [foreignForm.number] : [];
+  const converted = foreignNumber(text);
+  return converted ? [converted.number] : [];
 }
 
 /**
@@ -99,7 +99,7 @@ function createError(word, words, cures) {
 function describeNameError(text, { instructions }) {
   const upperCaseWord = text.toUpperCase();
   if (text.length > MAX_NAME_LENGTH) return say.nameTooLong(MAX_NAME_LENGTH, text.length);
-  if (!NAME.test(text)) return say.NAME_FORM;
+  if (!NAME.test(text)) return say.NAME_SYNTAX;
   if (instructions.has(upperCaseWord)) return say.isInstruction(text);
   if (upperCaseWord === "WPM" || DIRECTIVES.includes(upperCaseWord)) return say.cannotBeName(text);
   return REGISTER.test(text) || PAIR.test(text) ? say.isRegister(text) : "";
@@ -154,12 +154,12 @@ function findHeadError({ label, operands }, head, { instructions }) {
   const replacement = say.ELSEWHERE.get(upperCaseWord);
   const isName = !label && NAME.test(head.text);
   if (isName && operands.length > 0 && isHead(operands[0].text.split(/\s/)[0], instructions)) {
-    return createError(head, say.noInstruction(head.text, say.labelForm(head.text)), [`${head.text}:`]);
+    return createError(head, say.noInstruction(head.text, say.labelSyntax(head.text)), [`${head.text}:`]);
   }
   const isAlone = isName && operands.length === 0;
   const similar = replacement ? [] : findSimilarWords(upperCaseWord, [...instructions.keys(), ...DIRECTIVES]);
   const question = replacement ? `; ${replacement}?` : formatSuggestion(similar);
-  const message = say.noInstruction(head.text, question || (isAlone ? say.labelForm(head.text) : ""));
+  const message = say.noInstruction(head.text, question || (isAlone ? say.labelSyntax(head.text) : ""));
   const labelFix = isAlone && !question ? [`${head.text}:`] : similar;
   if (!replacement) return createError(head, message, labelFix);
   return createError(head, message, replacement.split(" or ").filter((each) => /^[A-Z]+( \d+,?)?$/.test(each)).map(formatFix));
@@ -195,10 +195,10 @@ function findDirectiveError(head, operands, facts) {
     const isNumber = operands.length === 1 && NUMBER.test(operands[0].text);
     if (isNumber) return null;
     const reason = operands[0] && !NAME.test(operands[0].text) ? describeNumberError(operands[0].text) : "";
-    const message = say.orgForm(reason && `; ${reason}`);
+    const message = say.orgSyntax(reason && `; ${reason}`);
     return createError(operands[0] || head, message, reason ? numberFixes(operands[0].text) : []);
   }
-  if (operands.length === 0) return { word: head, words: say.DB_FORM };
+  if (operands.length === 0) return { word: head, words: say.DB_SYNTAX };
   return operands.map((word) => findOperandError("DB", "b", word, facts, true)).find((found) => found !== null) || null;
 }
 
@@ -214,10 +214,10 @@ function findFormError(parts, facts) {
   if (badName) return { word: label, words: badName };
   if (defines) {
     const reason = operands[0] ? describeNumberError(operands[0].text) : "";
-    const message = say.equalsForm(reason && `; ${reason}`);
+    const message = say.equalsSyntax(reason && `; ${reason}`);
     return createError(operands[0] || label, message, reason ? numberFixes(operands[0].text) : []);
   }
-  if (!head) return { word: label, words: say.COLON_FORM };
+  if (!head) return { word: label, words: say.COLON_SYNTAX };
   const upperCaseWord = head.text.toUpperCase();
   if (DIRECTIVES.includes(upperCaseWord)) return findDirectiveError(head, operands, facts);
   const instruction = facts.instructions.get(upperCaseWord);

@@ -44,8 +44,8 @@ export function commentAt(line, mark) {
   const first = line.indexOf(mark);
   if (first < 0 || mark === ";") return first < 0 ? line.length : first;
   const before = /^([^"'#]|"(\\.|[^"\\])*"|'[^']*')*/.exec(line);
-  const at = before ? before[0].length : 0;
-  return line[at] === "#" ? at : line.length;
+  const end = before ? before[0].length : 0;
+  return line[end] === "#" ? end : line.length;
 }
 
 /**
@@ -66,8 +66,8 @@ export function toggleComments(lines, mark) {
  */
 function alignedLine(line, mark) {
   if (/^[\t -~]*$/.test(line)) return line;
-  const at = commentAt(line, mark);
-  return line.slice(0, at) + line.slice(at).replace(/[^\t -~]/g, " ");
+  const commentStart = commentAt(line, mark);
+  return line.slice(0, commentStart) + line.slice(commentStart).replace(/[^\t -~]/g, " ");
 }
 
 /**

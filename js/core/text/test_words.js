@@ -118,8 +118,9 @@ export function completeWord(line, column, findWords) {
   const before = line.slice(0, column);
   if (/^\s*[#;]/.test(before)) return { from: column, to: column, list: [] };
   const typed = /\S*$/.exec(before) || [""];
-  const list = findWords(before.slice(0, column - typed[0].length).split(/\s+/).filter(Boolean), typed[0]);
-  return { from: column - typed[0].length, to: column, list: list.filter(({ text }) => text.startsWith(typed[0]) && text !== typed[0]) };
+  const candidates = findWords(before.slice(0, column - typed[0].length).split(/\s+/).filter(Boolean), typed[0]);
+  const matchingWords = candidates.filter(({ text }) => text.startsWith(typed[0]) && text !== typed[0]);
+  return { from: column - typed[0].length, to: column, list: matchingWords };
 }
 
 /**

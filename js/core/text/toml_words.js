@@ -3,9 +3,9 @@
 import * as say from "../../words/text.js";
 
 /**
- * A word: a mark, a string without its quotes, a bare word, the end of a line, or an invalid word. `fault` is the error message for an
- * invalid word.
- * @typedef {{ kind: "mark" | "string" | "bare" | "end" | "bad", text: string, line: number, from: number, to: number,
+ * A word: a punctuation sign, a string without its quotes, a bare word, the end of a line, or an invalid word. `fault` is the error message
+ * for an invalid word.
+ * @typedef {{ kind: "punctuation" | "string" | "bare" | "end" | "bad", text: string, line: number, from: number, to: number,
  *   fault: string }} TomlWord
  */
 
@@ -34,10 +34,10 @@ function parseWord(text, line, from) {
   }
   const bare = BARE_WORD.exec(remainingText);
   if (bare) return { kind: "bare", text: bare[0], line, from, to: from + bare[0].length, fault: "" };
-  const isMark = /^[[\]{}=,.]/.test(remainingText);
+  const isPunctuation = /^[[\]{}=,.]/.test(remainingText);
   const [character] = remainingText;
   const word = { text: character, line, from, to: from + 1 };
-  return isMark ? { kind: "mark", ...word, fault: "" } : { kind: "bad", ...word, fault: say.noMeaning(character) };
+  return isPunctuation ? { kind: "punctuation", ...word, fault: "" } : { kind: "bad", ...word, fault: say.noMeaning(character) };
 }
 
 /**

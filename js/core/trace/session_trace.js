@@ -19,8 +19,8 @@ import * as say from "../../words/trace.js";
 /** The length of the first piece, and of all other pieces, in cycles. A short first piece shows the first lines soon. */
 const FIRST_PIECE = 500;
 const PIECE = 10000;
-/** The `run` answer's reason for the end of a run without a stop. */
-const NO_STOP = "end";
+/** The reason in the `run` answer if nothing stopped the run before its last cycle. */
+const RAN_TO_END = "end";
 
 /**
  * Runs a state. Returns the number of cycles run, and the reason for the stop (`end` if all cycles ran).
@@ -35,10 +35,10 @@ async function runState(engine, state, cycles, yieldToMessages) {
     const run = readRun(answer);
     if (!run) throw new Error(`the bench answered a run by: ${answer}`);
     done += run.cycles;
-    if (run.end !== NO_STOP) return { cycles: done, end: run.end };
+    if (run.end !== RAN_TO_END) return { cycles: done, end: run.end };
     await yieldToMessages();
   }
-  return { cycles, end: NO_STOP };
+  return { cycles, end: RAN_TO_END };
 }
 
 export class SessionTrace {
@@ -61,7 +61,7 @@ export class SessionTrace {
    */
   async* next(cycles, names) {
     const state = copyWithoutStops(this.engine, this.startState);
-    yield* this.lines(state, { from: 0, to: cycles, end: NO_STOP }, names);
+    yield* this.lines(state, { from: 0, to: cycles, end: RAN_TO_END }, names);
   }
 
   /**
@@ -80,7 +80,7 @@ export class SessionTrace {
     /** @type {string[]} */
     const lines = [];
     for await (const piece of this.lines(state, { from, to: stop.cycles, end: stop.end }, names)) lines.push(...piece);
-    const isStopped = stop.end !== NO_STOP;
+    const isStopped = stop.end !== RAN_TO_END;
     yield lines.slice(-count - Number(isStopped));
   }
 
@@ -99,9 +99,9 @@ export class SessionTrace {
       const count = Math.min(piece, to - stop.at);
       yield trace.runLines(state, count, stop.at);
       const run = await runState(engine, state, count, this.yieldToMessages);
-      const at = stop.at + run.cycles;
-      stop = { at, end: at < to ? run.end : end };
+      const cyclesDone = stop.at + run.cycles;
+      stop = { at: cyclesDone, end: cyclesDone < to ? run.end : end };
     }
-    if (stop.end !== NO_STOP) yield [`${trace.next(state, stop.at)}${say.stopsBefore(stop.end)}`];
+    if (stop.end !== RAN_TO_END) yield [`${trace.next(state, stop.at)}${say.stopsBefore(stop.end)}`];
   }
 }

@@ -1,5 +1,5 @@
 // Creates the lines of a trace: one line per instruction of a run, with the changes that the instruction makes. Uses the answers to `count`
-// and `trace`, which predict a run without a change of the state.
+// and `trace`, which predict a run without changing the state.
 
 import { MAX_PLACES } from "../bench/inputs.js";
 import { stateValue } from "../bench/state_line.js";

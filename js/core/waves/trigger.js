@@ -17,7 +17,7 @@ import * as say from "../../words/waves.js";
  */
 
 /** Matches an edge: the name of a line, and the kind of edge. */
-const EDGE_FORM = /^(.*\S)\s+(rises|falls|changes)$/;
+const EDGE_SYNTAX = /^(.*\S)\s+(rises|falls|changes)$/;
 /** The condition of an edge trigger, which is never true. */
 const neverTrue = () => false;
 
@@ -56,7 +56,7 @@ export function findLineByName(text, lines) {
  * @param {string} text
  */
 export function lineNameInEdge(text) {
-  const found = EDGE_FORM.exec(text.trim());
+  const found = EDGE_SYNTAX.exec(text.trim());
   return found ? found[1] : "";
 }
 
@@ -69,7 +69,7 @@ export function lineNameInEdge(text) {
  */
 export function readTrigger(text, lines, names) {
   if (text.trim() === "") return { trigger: null, fault: "" };
-  const found = EDGE_FORM.exec(text.trim());
+  const found = EDGE_SYNTAX.exec(text.trim());
   if (found) return parseEdge(found[1], /** @type {Edge} */ (found[2]), lines);
   const { condition, fault, column } = compileTracedCondition(text, names);
   if (!condition) return { trigger: null, fault: inColumn(fault, column) };
@@ -88,10 +88,10 @@ function parseEdge(name, edge, lines) {
   const line = findLineByName(name, lines);
   if (line < 0) return { trigger: null, fault: say.noSuchName(name) };
   const { kind, members, width } = lines[line];
-  if (kind === "pc" || kind === "label") return { trigger: null, fault: say.LABEL_FORM };
-  if (isDecoder(lines[line])) return { trigger: null, fault: say.decodedForm(lines[line].name) };
+  if (kind === "pc" || kind === "label") return { trigger: null, fault: say.LABEL_SYNTAX };
+  if (isDecoder(lines[line])) return { trigger: null, fault: say.isDecodedLine(lines[line].name) };
   if (edge !== "changes" && width > 1) {
-    return { trigger: null, fault: say.numberForm(name) };
+    return { trigger: null, fault: say.numberConditionSyntax(name) };
   }
   return { trigger: { edge, members: kind === "port" ? members : [line], places: [], address: -1, holds: neverTrue }, fault: "" };
 }

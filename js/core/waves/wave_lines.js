@@ -126,12 +126,12 @@ function portLines(lines, face) {
  * @param {Face} face
  */
 function decoderLines({ chains, matrix }, lines, face) {
-  const numbers = (/** @type {string[]} */ places) => places.map((place) => lines.findIndex(({ name }) => name === place));
+  const indexesOf = (/** @type {string[]} */ places) => places.map((place) => lines.findIndex(({ name }) => name === place));
   const bitsOf = (/** @type {number} */ chain, /** @type {number} */ first, /** @type {number} */ count) => (
     indices(count).map((bit) => `chain${chain}.${first + bit}`));
   const decoders = chains.map(({ clock, data, chips }, at) => {
     const bits = bitsOf(at, 0, BITS_PER_CHIP * chips);
-    const members = numbers([clock, data, ...bits]);
+    const members = indexesOf([clock, data, ...bits]);
     return createLine(`shift.chain${at}`, "decoders", "shift", { title: say.shiftOf(at), members, width: bits.length });
   });
   if (!matrix) return decoders;
@@ -140,7 +140,7 @@ function decoderLines({ chains, matrix }, lines, face) {
     const faceText = face.keys.get(`${row} ${column}`);
     return faceText ? faceText.text : `${row}.${column}`;
   }));
-  const members = numbers([...columns, ...bitsOf(chain, first, rows)]);
+  const members = indexesOf([...columns, ...bitsOf(chain, first, rows)]);
   return [...decoders, createLine("scan.keys", "decoders", "scan",
     { title: say.KEY_SCAN, places, members, width: members.length, columns: columns.length })];
 }

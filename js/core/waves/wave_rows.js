@@ -75,15 +75,15 @@ export class WaveRows {
    * @returns {WaveRow[]}
    */
   arrange(lines, chosen) {
-    const numbers = new Map(chosen.map((line) => [lines[line].name, line]));
+    const linesByName = new Map(chosen.map((line) => [lines[line].name, line]));
     /** @type {WaveRow[]} */
     const rows = [];
     let lastGroup = "";
-    for (const name of this.sortNames([...numbers.keys()])) {
+    for (const name of this.sortNames([...linesByName.keys()])) {
       const { title = "", colour = "", group = "" } = this.getAppearance(name);
       const isFolded = this.folded.has(group);
       if (group !== "" && group !== lastGroup) rows.push({ line: -1, name: "", title: group, colour: "", group, isFolded });
-      if (group === "" || !isFolded) rows.push({ line: numbers.get(name) || 0, name, title, colour, group, isFolded: false });
+      if (group === "" || !isFolded) rows.push({ line: linesByName.get(name) || 0, name, title, colour, group, isFolded: false });
       lastGroup = group;
     }
     return rows;

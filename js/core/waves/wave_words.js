@@ -78,7 +78,7 @@ export function describeCursor(name, moment, waves) {
  */
 export function screenReaderText(moment, waves, line) {
   const value = line < 0 ? "" : say.valueIs(waves.lines[line].name, waves.valueAt(line, moment));
-  return say.cycleAt(value, formatNumber(moment), instructionText(waves.instructionAt(moment)));
+  return say.cursorDescription(value, formatNumber(moment), instructionText(waves.instructionAt(moment)));
 }
 
 /**

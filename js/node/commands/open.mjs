@@ -1,4 +1,4 @@
-// `mcs4 open` at a terminal. (Without a terminal, the starter script runs the native program directly.)
+// Runs `mcs4 open` at a terminal. Without a terminal, the launcher script runs the native program directly, without this module.
 import { checkArguments } from "../arguments.mjs";
 import { servePrompt } from "../session_terminal.mjs";
 

@@ -61,7 +61,7 @@ function readFileIn(folder, name) {
  */
 function readText(folder, name) {
   const bytes = readFileIn(folder, name);
-  if (bytes.includes(0)) throw new CommandError(say.zeroBytes(name));
+  if (bytes.includes(0)) throw new CommandError(say.containsNul(name));
   try {
     return new TextDecoder("utf-8", { fatal: true }).decode(bytes);
   } catch {
@@ -143,8 +143,8 @@ async function joinFiles(folder, name) {
   const names = await textPaths(folder);
   const [boardText, programText, testText, propertiesText] = [names.board, names.program, names.tests, names.properties]
     .map((path) => (path === "" ? "" : readText(folder, path)));
-  const words = tooLongMessage({ boardText, programText, testText, propertiesText });
-  if (words) throw new CommandError(`${folder}: ${words}`);
+  const message = tooLongMessage({ boardText, programText, testText, propertiesText });
+  if (message) throw new CommandError(`${folder}: ${message}`);
   const project = {
     name: projectName(folder),
     boardText, programText, testText, propertiesText,

@@ -156,8 +156,8 @@ export class WiringView {
    */
   drawPart(part, nodes) {
     const { id, kind, title, x, y, width, height, descriptions } = part;
-    const words = `${title}: ${descriptions.join("; ")}`;
-    const box = svgElement("g", { class: `part of-${kind}`, role: "button", tabindex: -1, "aria-label": words });
+    const description = `${title}: ${descriptions.join("; ")}`;
+    const box = svgElement("g", { class: `part of-${kind}`, role: "button", tabindex: -1, "aria-label": description });
     const head = svgElement("text", { class: "title", x: x + width / 2, y: y + TITLE_HEIGHT - 9 }, title);
     const isChip = part.pins.some(({ number }) => number !== undefined);
     const [middle, notch] = [x + width / 2, NOTCH];
@@ -191,13 +191,13 @@ export class WiringView {
     const label = svgElement("text", { class: side, x: pin.x + (isLeft ? 10 : -10), y: pin.y + 4 }, pin.label);
     nodes.set(pin.line, [...(nodes.get(pin.line) || []), circle]);
     const hitArea = svgElement("circle", { class: "reach", ...centre, r: PIN_REACH });
-    const words = `${part.title}, ${pin.label}, ${this.describePin(pin)}`;
+    const description = `${part.title}, ${pin.label}, ${this.describePin(pin)}`;
     const { number } = pin;
     const title = svgElement("title", {}, (pin.line || say.TEST_PIN) + (number === undefined ? "" : say.pinOf(number)));
     const leg = number === undefined ? [] : [
       svgElement("rect", { class: "leg", x: isLeft ? pin.x - LEG : pin.x, y: pin.y - 3, width: LEG, height: 6 }),
       svgElement("text", { class: `number ${isLeft ? "at-right" : ""}`, x: pin.x + (isLeft ? -LEG : LEG), y: pin.y - 5 }, String(number))];
-    const node = svgElement("g", { "class": "at-pin", "role": "button", "tabindex": -1, "aria-label": words },
+    const node = svgElement("g", { "class": "at-pin", "role": "button", "tabindex": -1, "aria-label": description },
       title, ...leg, circle, label, hitArea);
     this.registerNode(node, pin.id);
     return node;

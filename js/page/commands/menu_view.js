@@ -154,7 +154,7 @@ export class MenuView {
   }
 }
 
-/** A context menu, which opens at a point of the window. */
+/** A context menu. It opens at a given point in the window. */
 export class ContextMenu {
   /**
    * @param {string} id

@@ -119,9 +119,9 @@ export class ToolbarView {
 
   /** @param {Theme} theme */
   themeMenu(theme) {
-    const items = Object.entries(say.THEMES).map(([name, words]) => ({
+    const themeItems = Object.entries(say.THEMES).map(([name, words]) => ({
       words, act: () => this.executeCommand(commandById(`theme.${name}`)), isChosen: () => theme.name === name,
     }));
-    return new MenuView(this.menuButton("theme-button", say.THEME, "theme"), "theme-menu", say.THEME, items);
+    return new MenuView(this.menuButton("theme-button", say.THEME, "theme"), "theme-menu", say.THEME, themeItems);
   }
 }

@@ -30,7 +30,7 @@ import * as say from "../../words/drawing.js";
  */
 
 /** The parts for which the user chooses a number of digits. */
-const DIGIT_PARTS = new Set(["digit", "segments", "scanned"]);
+const PARTS_WITH_DIGIT_COUNT = new Set(["digit", "segments", "scanned"]);
 /** The parts that the user can drop on a line, to which they are then wired. */
 const LINE_PARTS = new Set(["lamp", "buzzer"]);
 
@@ -85,7 +85,7 @@ export class DrawingView {
     }
     const displays = block("shelf-displays");
     for (const [part, node] of this.shelf) {
-      if (DIGIT_PARTS.has(part)) displays.lastElementChild?.before(node);
+      if (PARTS_WITH_DIGIT_COUNT.has(part)) displays.lastElementChild?.before(node);
       else block("shelf").append(node);
     }
     block("shelf").append(displays);
@@ -104,7 +104,7 @@ export class DrawingView {
    * @returns {DrawingAction}
    */
   makeAddAction(part, line = "") {
-    if (DIGIT_PARTS.has(part)) return { kind: "add", part, digits: Number(field("shelf-digits").value) };
+    if (PARTS_WITH_DIGIT_COUNT.has(part)) return { kind: "add", part, digits: Number(field("shelf-digits").value) };
     return { kind: "add", part, ...(line ? { line } : {}) };
   }
 

@@ -177,10 +177,10 @@ export class PictureInput {
     if (shiftKey) return part !== undefined;
     /** @type {(item: string) => boolean} */
     const canReceiveFocus = (item) => (this.startPin ? this.endPins.has(item) : x === 0 || view.parts.has(item));
-    const items = [...view.items.keys()].filter((item) => item === name || canReceiveFocus(item));
-    const count = items.length;
-    const targetIndex = items.indexOf(name) + x + y;
-    const nextItem = items[this.startPin ? (targetIndex + count) % count : targetIndex];
+    const focusableItems = [...view.items.keys()].filter((item) => item === name || canReceiveFocus(item));
+    const count = focusableItems.length;
+    const targetIndex = focusableItems.indexOf(name) + x + y;
+    const nextItem = focusableItems[this.startPin ? (targetIndex + count) % count : targetIndex];
     if (nextItem) view.focus(nextItem);
     return true;
   }

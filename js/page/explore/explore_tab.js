@@ -46,8 +46,8 @@ import * as say from "../../words/explore.js";
  */
 
 const NUMBER_FIELDS = [
-  { id: "explore-seconds", max: 86400, words: say.SECONDS_FORM },
-  { id: "explore-seed", max: 99999999, words: say.SEED_FORM },
+  { id: "explore-seconds", max: 86400, words: say.SECONDS_RANGE },
+  { id: "explore-seed", max: 99999999, words: say.SEED_RANGE },
 ];
 
 export class ExploreTab {

@@ -34,12 +34,12 @@ class PropertyRow {
     this.index = index;
     this.calls = calls;
     const mark = element("b", {});
-    const words = element("span", { className: "time" });
+    const statusText = element("span", { className: "time" });
     const name = line > 0 ? makeButton(text, () => calls.goTo(line), { className: "name", title: wordsOfLine(line) })
       : element("span", {}, text);
-    this.node = element("li", {}, element("p", {}, mark, " ", name, " ", words));
+    this.node = element("li", {}, element("p", {}, mark, " ", name, " ", statusText));
     this.mark = new Cell(mark);
-    this.words = new Cell(words);
+    this.words = new Cell(statusText);
     this.rightSwitch = new Switch((isOn) => mark.classList.toggle("ok", isOn));
     this.wrongSwitch = new Switch((isOn) => mark.classList.toggle("not-ok", isOn));
     this.hasCounterexample = false;

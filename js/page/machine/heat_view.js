@@ -4,7 +4,7 @@
 import { block, byId, field } from "../ui/dom.js";
 import { parseCount } from "../../core/bench/numbers.js";
 import {
-  PassingHeat, heatLevels, describeHeat, describeChanges, describeHeatStatus, describeSeenChanges,
+  RecentHeat, heatLevels, describeHeat, describeChanges, describeHeatStatus, describeSeenChanges,
 } from "../../core/machine/heat_levels.js";
 import * as say from "../../words/machine.js";
 
@@ -53,7 +53,7 @@ export class HeatView {
     this.isStale = true;
     /** @type {Heat | null} the result of the last count */
     this.heat = null;
-    this.passingHeat = new PassingHeat();
+    this.passingHeat = new RecentHeat();
     /** The time of the last update while time was running, in milliseconds. */
     this.lastDrawTime = 0;
     this.kind.value = preferences.get("heat");

@@ -21,8 +21,8 @@ import * as say from "../../words/machine.js";
  */
 function insideMark(address, breakpoints) {
   if (!breakpoints.has(address)) return undefined;
-  const words = say.insideBreakpoint(address);
-  return { mark: "\u25CB", words };
+  const message = say.insideBreakpoint(address);
+  return { mark: "\u25CB", words: message };
 }
 
 export class ListingRows {

@@ -139,7 +139,7 @@ export class Proofs {
     const { value } = field("prove-states");
     const isNumber = /^\d{1,9}$/.test(value.trim()) && Number(value) >= 1 && Number(value) <= MAX_STATES;
     field("prove-states").setAttribute("aria-invalid", String(!isNumber));
-    this.calls.showMessage(isNumber ? "" : say.STATES_FORM);
+    this.calls.showMessage(isNumber ? "" : say.STATES_RANGE);
     return isNumber ? Number(value) : 0;
   }
 

@@ -27,13 +27,13 @@ class VerdictRow {
     this.judgedLine = judgedLine;
     const { text, line, isGoal, verdict } = judgedLine;
     const mark = element("b", {});
-    const words = element("span", { className: "time" });
+    const statusText = element("span", { className: "time" });
     // A common mistake has no line in the text, because all programs are checked for it.
     const name = line === 0 ? element("span", { className: "name" }, text)
       : makeButton(text, () => calls.goTo(judgedLine), { className: "name", title: wordsOfLine(line) });
-    this.node = element("li", {}, element("p", {}, mark, " ", name, " ", words));
+    this.node = element("li", {}, element("p", {}, mark, " ", name, " ", statusText));
     this.mark = new Cell(mark);
-    this.words = new Cell(words);
+    this.words = new Cell(statusText);
     this.litSwitch = new Switch((isOn) => mark.classList.toggle("lit", isOn));
     this.wrongSwitch = new Switch((isOn) => mark.classList.toggle("not-ok", isOn));
     if (verdict.kind === "found") this.node.append(...this.counterexampleNodes(isGoal, verdict.found, calls));

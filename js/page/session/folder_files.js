@@ -14,8 +14,8 @@ const MAX_DEPTH = 6;
  * @returns {FileSystemDirectoryEntry[]}
  */
 export function droppedFolders(data) {
-  const items = (data ? [...data.items] : []).filter((item) => item.kind === "file" && item.webkitGetAsEntry);
-  const entries = items.map((item) => item.webkitGetAsEntry());
+  const fileItems = (data ? [...data.items] : []).filter((item) => item.kind === "file" && item.webkitGetAsEntry);
+  const entries = fileItems.map((item) => item.webkitGetAsEntry());
   return entries.flatMap((entry) => (entry && entry.isDirectory ? [/** @type {FileSystemDirectoryEntry} */ (entry)] : []));
 }
 

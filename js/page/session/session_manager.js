@@ -184,10 +184,10 @@ export class SessionManager {
       const folder = await read();
       name = folder.name || name;
       const { texts, speed, words } = await readFolderTexts(folder);
-      const isDone = await this.openSession(await this.exampleRecord(texts));
-      if (isDone && speed) this.calls.setSpeed(speed);
-      if (isDone && words) this.calls.refuse(words);
-      return isDone;
+      const hasOpened = await this.openSession(await this.exampleRecord(texts));
+      if (hasOpened && speed) this.calls.setSpeed(speed);
+      if (hasOpened && words) this.calls.refuse(words);
+      return hasOpened;
     } catch (fault) {
       return this.rejectAction(say.fileNotOpened(name, this.words.errorMessage(fault)));
     }

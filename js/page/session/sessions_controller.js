@@ -85,9 +85,9 @@ export class SessionsController {
       restoreSessions: (records) => trash.restoreSessions(records),
       begin: (example) => this.begin(example),
       beginStory: async (example) => {
-        const isDone = await this.begin(example);
-        if (isDone) this.showExample(example);
-        return isDone;
+        const hasBegun = await this.begin(example);
+        if (hasBegun) this.showExample(example);
+        return hasBegun;
       },
       openFile: (file) => manager.openFile(file),
       openFolder: (read) => manager.openFolder(read),
@@ -128,8 +128,8 @@ export class SessionsController {
    * @param {Example} example
    */
   async begin(example) {
-    const isDone = await this.manager.begin(example);
-    if (!isDone) return false;
+    const hasBegun = await this.manager.begin(example);
+    if (!hasBegun) return false;
     this.lines.offer(example.lines);
     if (example.lines !== "" && example.board === "") this.calls.showLines();
     return true;

@@ -21,7 +21,7 @@ function findComment(line, from) {
  * @param {boolean} isKey
  */
 function tokenStyle({ kind, text }, isKey) {
-  if (kind === "mark") return text === "[" || text === "]" ? "bracket" : "";
+  if (kind === "punctuation") return text === "[" || text === "]" ? "bracket" : "";
   if (isKey) return "property";
   if (kind === "string" || kind === "bad") return "string";
   return /^[+-]?\d/.test(text) ? "number" : "atom";
@@ -37,7 +37,7 @@ export function boardColours(line) {
   const comment = findComment(line, lastWord ? lastWord.to : 0);
   const table = /^\s*\[[^\]]*\]?\]?/.exec(line);
   if (table) return [{ from: 0, to: table[0].length, style: "atom" }, ...comment];
-  const equalsSign = words.find(({ kind, text }) => kind === "mark" && text === "=");
+  const equalsSign = words.find(({ kind, text }) => kind === "punctuation" && text === "=");
   /** @param {{ from: number }} word */
   const isKey = ({ from }) => equalsSign !== undefined && from < equalsSign.from;
   const ranges = words.map((word) => ({ from: word.from, to: word.to, style: tokenStyle(word, isKey(word)) }));

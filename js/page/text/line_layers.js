@@ -64,7 +64,7 @@ class TextAfterLine extends WidgetType {
   }
 
   toDOM() {
-    return element("span", { className: this.className, title: say.LINE_CHANGED }, this.words);
+    return element("span", { className: this.className, title: say.CHANGES_BY_LINE }, this.words);
   }
 }
 

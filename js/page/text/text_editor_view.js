@@ -199,9 +199,9 @@ export class EditorView {
    */
   describeAtPointer(left, top) {
     const position = this.editor.editor.positionAt({ left, top });
-    const words = this.messageOrHelpAt(position);
+    const helpText = this.messageOrHelpAt(position);
     const values = this.valuesAt(position);
-    if (words || values.length > 0) this.meaning.set(values, words);
+    if (helpText || values.length > 0) this.meaning.set(values, helpText);
     this.meaning.showTooltip(values, { left, top });
   }
 

@@ -51,7 +51,7 @@ export class Notice {
     this.rows = [];
     /** @type {Map<NoticeKind, string>} the texts of dismissed notices about lasting errors */
     this.dismissedTexts = new Map();
-    /** @type {HTMLElement | null} the element that had the focus before the notices */
+    /** @type {HTMLElement | null} the element that had the focus before the notices appeared */
     this.priorFocus = null;
     this.block.addEventListener("focusin", (event) => {
       const from = event.relatedTarget;
@@ -129,7 +129,7 @@ export class Notice {
     if (hadFocus) this.giveFocus();
   }
 
-  /** Moves the focus to the next notice, or to the element that had the focus before the notices. */
+  /** Moves the focus to the next notice, or to the element that had the focus before the notices appeared. */
   giveFocus() {
     const next = this.block.querySelector("button") || this.priorFocus;
     if (next) next.focus();

@@ -137,8 +137,8 @@ export class WaveView {
   /** The visible lines, in row order. */
   get lines() {
     const { waves, names, chosenLines } = this;
-    const numbers = new Map(waves ? chosenLines.map((line) => [waves.lines[line].name, line]) : []);
-    return names.map((name) => numbers.get(name) || 0);
+    const linesByName = new Map(waves ? chosenLines.map((line) => [waves.lines[line].name, line]) : []);
+    return names.map((name) => linesByName.get(name) || 0);
   }
 
   /** @param {Waves} waves the recording to show */
