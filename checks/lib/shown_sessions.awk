@@ -1,6 +1,6 @@
 # Turns what a chapter of a document shows (`title`) into a script. The commands, `$ ..`, with the lines that are typed after them, go into
 # `script`, and their output into `printed`. Typed lines stand between output lines: they are a text (after wire or asm, up to its dot), or lines
-# that are not answers. A command can have its own text, `<< 'end'`. Pictures are left out.
+# that are not answers. A command can have its own text, `<< 'EOF'`. Pictures are left out.
 
 function is_answer(line) {
     return line ~ /^(session|ok|no) [0-9]|^(lamps|breaks|watches|seq|state|acc|keys) .|^[0-9A-F][0-9A-F][0-9A-F] [0-9A-F][0-9A-F]( |$)|^[0-7]\.[0-3](\.[0-3])? |^ram [0-7] chips|^(rom|ram|chain)[0-9].* (in|out) |^mcs4: /
@@ -27,7 +27,7 @@ until_word != "" {
     end_session()
     sub(/^[$] /, "")
     in_text = 0
-    if (match($0, /<< *'[a-z]+'/)) {
+    if (match($0, /<< *'[A-Za-z]+'/)) {
         until_word = substr($0, RSTART, RLENGTH)
         gsub(/[<' ]/, "", until_word)
         print > script
