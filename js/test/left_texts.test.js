@@ -15,16 +15,32 @@ const storage = (items = new Map()) => ({
 const recordOf = (programText, revision) => (
   { ...newRecord("one", Uint8Array.of(1), { boardText: "# b", programText }), id: "one", revision });
 
-test("texts that the store lacks are there at the next opening, once", () => {
+test("texts that the store lacks are there at each opening until the store has a later revision", () => {
   const store = storage();
   const left = new LeftTexts(store);
   left.note(recordOf("; old", 3));
   left.leave(recordOf("; typed", 4));
-  const record = recordOf("; old", 3);
-  new LeftTexts(store).restore(record);
-  assert.equal(record.programText, "; typed");
-  assert.equal(record.boardText, "# b");
-  assert.equal(record.revision, 3);
+  for (const opening of ["the first", "the second, without a write after the first"]) {
+    const record = recordOf("; old", 3);
+    const leftAgain = new LeftTexts(store);
+    leftAgain.restore(record);
+    assert.equal(record.programText, "; typed", opening);
+    assert.equal(record.boardText, "# b");
+    assert.equal(record.revision, 4, "the next write has a later revision");
+    leftAgain.note(record);
+    leftAgain.leave(record);
+  }
+  const written = recordOf("; after", 5);
+  new LeftTexts(store).restore(written);
+  assert.equal(written.programText, "; after");
+  assert.equal(store.items.size, 0);
+});
+
+test("the texts of a deleted session are removed", () => {
+  const store = storage();
+  const left = new LeftTexts(store);
+  left.leave(recordOf("; typed", 4));
+  left.forget("one");
   assert.equal(store.items.size, 0);
 });
 

@@ -42,15 +42,24 @@ export class LeftTexts {
   }
 
   /**
-   * Puts the kept texts into a record from the session store, if the store does not have the record's last revision.
+   * Puts the kept texts into a record from the session store, if the store does not have the record's last revision. The texts stay here
+   * until the store has a later revision, because the user can leave again before the next write.
    * @param {SessionRecord} record
    */
   restore(record) {
     this.change((store) => {
       const { revision = 0, texts = "{}" } = JSON.parse(store.getItem(KEY + record.id) || "{}");
-      store.removeItem(KEY + record.id);
-      if (revision > record.revision) Object.assign(record, JSON.parse(texts));
+      if (revision > record.revision) Object.assign(record, JSON.parse(texts), { revision });
+      else store.removeItem(KEY + record.id);
     });
+  }
+
+  /**
+   * Removes the kept texts of a session that is deleted.
+   * @param {string} id
+   */
+  forget(id) {
+    this.change((store) => store.removeItem(KEY + id));
   }
 
   /** @param {(store: TextStore) => void} action */

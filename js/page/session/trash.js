@@ -54,6 +54,7 @@ export class Trash {
       if (newestRecord) Object.assign(record, newestRecord);
       this.leftTexts.restore(record);
       await this.store.remove(record.id);
+      this.leftTexts.forget(record.id);
       return true;
     } catch (fault) {
       this.refuse(say.notDeleted(record.name, describeStoreError(fault)));
