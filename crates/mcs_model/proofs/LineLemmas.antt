@@ -1,4 +1,4 @@
--- The lines of a text byte by byte: the first bytes of a line, and the last line of a text.
+-- The lines of a text, read byte by byte.
 use Rattle.std.proofs.Common.{◌≡◌, ℕ, ◌<◌, Bool, true, false, cond, if◌then◌else◌, List, [], ◌∷◌, ◌++◌, length, refl, sym, ap, ◌∙◌, append_assoc, append-nil, arith}
 use Rattle.std.specs.List.{onto_first, slice_split}
 use Rattle.std.specs.Str.Lines.{strip_carriage_return}
@@ -6,7 +6,7 @@ use Rattle.mcs_model.specs.TextLines.{is_line_feed, last_line, lines, lines_in}
 use Rattle.mcs_model.specs.Cutting.{HasNone}
 use Rattle.mcs_model.proofs.Cutting.{before, before_nothing, first_piece_of}
 
--- the lines of a text, where `line` is what was already read of the first
+-- the lines of `line` followed by a text; `line` is the part of the first line that is already read
 unfoldable pub lines_after : Bool → List ℕ → List ℕ → List (List ℕ)
 lines_after whole line [] = last_line whole line
 lines_after whole line (b ∷ text) =
@@ -14,12 +14,12 @@ lines_after whole line (b ∷ text) =
     then strip_carriage_return line ∷ lines_after whole [] text
     else lines_after whole (line ++ b ∷ []) text
 
--- a byte that is put after what goes before the first piece
+-- prepending b and then `line` to the first piece is the same as prepending `line` followed by b
 moved : (line : List ℕ) (b : ℕ) (ps : List (List ℕ)) (p : List ℕ) (rest : List (List ℕ)) → ps ≡ p ∷ rest → before line (onto_first b ps) ≡ before (line ++ b ∷ []) ps
 moved line b [] p rest e = absurd (cc)
 moved line b (q ∷ qs) p rest e = ap (λ (v : List ℕ). v ∷ qs) (sym (append_assoc line (b ∷ []) q))
 
--- a piece that is followed by others is a line
+-- a piece that other pieces follow is a line
 led : (whole : Bool) (line : List ℕ) (ps : List (List ℕ)) (p : List ℕ) (rest : List (List ℕ)) → ps ≡ p ∷ rest → lines_in whole ((line ++ []) ∷ ps) ≡ strip_carriage_return line ∷ lines_in whole ps
 led whole line [] p rest e = absurd (cc)
 led whole line (q ∷ qs) p rest e = ap (λ (v : List ℕ). strip_carriage_return v ∷ lines_in whole (q ∷ qs)) (append-nil line)
@@ -43,7 +43,7 @@ byte_by_byte text whole =
     let f = first_piece_of is_line_feed text in
     ap (lines_in whole) (sym (before_nothing (slice_split is_line_feed text) f.0 f.1 f.2)) ∙ in_pieces whole [] text
 
--- bytes without a line feed begin a line, or go on with it
+-- bytes without a line feed extend the line that is being read
 pub line_begun : (whole : Bool) (line bytes more : List ℕ) → HasNone is_line_feed bytes → lines_after whole line (bytes ++ more) ≡ lines_after whole (line ++ bytes) more
 unfolding lines_after
 line_begun whole line [] more none = ap (λ (l : List ℕ). lines_after whole l more) (sym (append-nil line))
@@ -57,13 +57,13 @@ lines-feed line bytes whole none =
     byte_by_byte (line ++ 10 ∷ bytes) whole ∙ line_begun whole [] line (10 ∷ bytes) none
     ∙ ap (λ (ls : List (List ℕ)). strip_carriage_return line ∷ ls) (sym (byte_by_byte bytes whole))
 
--- an unfinished line is the last one
+-- if a text contains no line feed, all of it is the last line
 pub lines-unfed : (line : List ℕ) (whole : Bool) → HasNone is_line_feed line → lines line whole ≡ last_line whole line
 unfolding lines_after
 lines-unfed line whole none =
     ap (λ (l : List ℕ). lines l whole) (sym (append-nil line)) ∙ byte_by_byte (line ++ []) whole ∙ line_begun whole [] line [] none
 
--- a last line that has bytes
+-- a nonempty last line is one line
 pub some_last : (line : List ℕ) → 0 < length line → last_line true line ≡ strip_carriage_return line ∷ []
 some_last [] some = absurd (omega (arith, some))
 some_last (b ∷ line) some = refl

@@ -1,4 +1,4 @@
--- The words of a line, one after the other.
+-- The words of a line, split off from the front.
 use Rattle.std.proofs.Common.{◌≡◌, ℕ, zero, suc, ◌+◌, ◌<◌, List, [], ◌∷◌, ◌++◌, Bool, true, false, length, filter, nat_lt, take, drop, get_or, ap, sym, ◌∙◌, refl, subst, arith, rules, take-append-drop}
 use Rattle.std.proofs.lemmas.List.{drop_more, append-nil}
 use Rattle.std.specs.List.{slice_split}
@@ -12,12 +12,12 @@ is_word_piece w = nat_lt 0 (length w)
 no_piece : (ps : List (List ℕ)) → filter is_word_piece ([] ∷ ps) ≡ filter is_word_piece ps
 no_piece ps = refl
 
--- a blank in front changes no word
+-- a blank in front of a line does not change its words
 pub words_of-blank : (b : ℕ) (bs : List ℕ) → is_blank b ≡ true → words_of (b ∷ bs) ≡ words_of bs
 unfolding words_of
 words_of-blank b bs e = ap (filter is_word_piece) (split-cut is_blank b bs e) ∙ no_piece (slice_split is_blank bs)
 
--- what is empty, or has a blank in front, has an empty first piece
+-- a list that is empty or begins with a blank has an empty first piece
 ends_first : (rest : List ℕ) → EndsAtFront is_blank rest → (ps : List (List ℕ)) × (slice_split is_blank rest ≡ [] ∷ ps)
 ends_first [] h = ([], split-nothing is_blank)
 ends_first (b ∷ bs) h = (slice_split is_blank bs, split-cut is_blank b bs h)
@@ -31,7 +31,7 @@ filter_first b word ps e = rw e refl
 some_bytes : (b : ℕ) (word : List ℕ) → nat_lt 0 (length (b ∷ word)) ≡ true
 some_bytes b word = search rules
 
--- a word in front is the first
+-- a word at the front of a line is the first word of the line
 pub words_of-word : (b : ℕ) (word rest : List ℕ) → EndsPiece is_blank (b ∷ word) rest → words_of ((b ∷ word) ++ rest) ≡ (b ∷ word) ∷ words_of rest
 unfolding words_of
 words_of-word b word rest h =
@@ -43,14 +43,14 @@ words_of-word b word rest h =
 no_front : (b : ℕ) → is_blank b ≡ false → is_blank b ≡ true → ⊥
 no_front b h k = cc (h, k)
 
--- the word of n bytes that a line begins with is its first
+-- if a line begins with a word of n bytes, this word is the first word of the line
 pub words_of-front : (line : List ℕ) (n : ℕ) → 0 < length line → BeginsWord line → EndsPiece is_blank (take n line) (drop n line) → words_of line ≡ take n line ∷ words_of (drop n line)
 words_of-front [] n some begins ends = absurd (omega arith)
 words_of-front (b ∷ bs) zero some begins ends = absurd (no_front b begins (ends.1))
 words_of-front (b ∷ bs) (suc n) some begins ends =
     ap words_of (sym (take-append-drop (suc n) (b ∷ bs))) ∙ words_of-word b (take n bs) (drop n bs) ends
 
--- what follows where a line is blank
+-- if byte n of a line is a blank, the rest of the line from n on begins with a separator
 pub ends_at : (line : List ℕ) (n : ℕ) → n < length line → is_blank (get_or line n 0) ≡ true → EndsAtFront is_blank (drop n line)
 ends_at [] n inside e = absurd (omega arith)
 ends_at (b ∷ bs) zero inside e = e

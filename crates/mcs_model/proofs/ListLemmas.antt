@@ -1,22 +1,22 @@
--- Ranges, and the elements and the rest of a list.
+-- Lemmas about ranges, and about elements and tails of lists.
 use Rattle.std.proofs.Common.{◌≡◌, ℕ, zero, suc, ◌+◌, ◌-◌, ◌<◌, ◌≤◌, Bool, true, false, inl, inr, List, [], ◌∷◌, ◌++◌, length, get_or, take, drop, find, Some, ap, ◌∙◌, arith}
 use Rattle.std.specs.List.{list_any, range_with_len}
 use Rattle.std.proofs.lemmas.Bool.{cases_Bool, cases_eq}
 use Rattle.std.proofs.lemmas.List.{length-drop, take_all}
 use Rattle.std.proofs.lemmas.List.Folds.{list_any_at}
 
--- where no element passes, the one at an index does not
+-- if no element of the list satisfies p, the element at index i does not satisfy p
 pub none_at : {X : Type 0} (p : X → Bool) (xs : List X) (i : ℕ) (d : X) → list_any p xs ≡ false → i < length xs → p (get_or xs i d) ≡ false
 none_at p xs i d none l = elim (cases_Bool (p (get_or xs i d))) [ inl y ↦ absurd (let t = list_any_at p xs i d l y in cc) | inr n ↦ n ]
 
--- a range, and one number more
+-- a range that is one number longer is the same range, followed by that number
 pub range_more : (a n : ℕ) → range_with_len a (suc n) ≡ range_with_len a n ++ (a + n) ∷ []
 range_more a zero = ap (λ (k : ℕ). k ∷ []) (omega arith)
 range_more a (suc n) =
     let e : a + 1 + n ≡ a + suc n = omega arith in
     ap (λ (l : List ℕ). a ∷ l) (range_more (a + 1) n ∙ ap (λ (k : ℕ). range_with_len (a + 1) n ++ k ∷ []) e)
 
--- the first number of a range that passes
+-- `find` gives k if k satisfies p and no number below k does
 pub find_at : (p : ℕ → Bool) (a n k : ℕ) → a ≤ k → k < a + n → ((j : ℕ) → j < k → p j ≡ false) → p k ≡ true → find p (range_with_len a n) ≡ Some k
 find_at p a zero k l h before here = absurd (omega arith)
 find_at p a (suc n) k l h before here =
@@ -25,6 +25,6 @@ find_at p a (suc n) k l h before here =
       | inr ne ↦ (let t : p a ≡ false = before a (omega arith) in rw t (find_at p (a + 1) n k (omega arith) (omega arith) before here))
     ]
 
--- what `&list[at..]` is
+-- the slice `&list[at..]` is the list without its first `at` elements
 pub tail_whole : {X : Type 0} (at : ℕ) (xs : List X) → take (length xs - at) (drop at xs) ≡ drop at xs
 tail_whole at xs = take_all (length xs - at) (drop at xs) (omega (arith, length-drop at xs))

@@ -1,8 +1,8 @@
--- How many pairs an image has.
+-- The maximum number of pairs in an image.
 use Rattle.std.proofs.Common.{ℕ, zero, suc, ◌<◌, ◌≤◌, List, [], ◌∷◌, length, get_or, arith}
 use Rattle.mcs_model.specs.Images.{IsRising, IsImage}
 
--- the address at a place is at least the number of places before it
+-- if the addresses are in strictly ascending order, the address of pair i is at least i
 index_le : (pairs : List (ℕ × ℕ)) (d : ℕ × ℕ) → IsRising pairs → (i : ℕ) → i < length pairs → i ≤ (get_or pairs i d).0
 index_le pairs d rising zero lt = omega arith
 index_le pairs d rising (suc i) lt =
@@ -10,7 +10,7 @@ index_le pairs d rising (suc i) lt =
     let here : (get_or pairs i d).0 < (get_or pairs (suc i) d).0 = rising i (suc i) d (omega arith) lt in
     omega arith
 
--- as many pairs at most as there are addresses
+-- an image has at most 4096 pairs
 pub length-rising : (pairs : List (ℕ × ℕ)) → IsImage pairs → length pairs ≤ 4096
 length-rising [] image = omega arith
 length-rising (p ∷ pairs) image =

@@ -1,4 +1,4 @@
--- Runs without breakpoints: each comes to where its cycles do, one after the other.
+-- A run of n cycles without breakpoints and watches reaches the machine after n cycles.
 use Rattle.std.proofs.Common.{◌≡◌, ℕ, ◌+◌, ◌-◌, ◌<◌, zero, suc, Bool, true, false, cond, [], Option, Some, None, is_some, is_none, unwrap_or, ◌⊎◌, inl, inr, refl, sym, ap, ◌∙◌, arith, find, eqb}
 use Rattle.std.specs.List.{range_with_len}
 use Rattle.std.proofs.Math.Nat.{add-suc}
@@ -19,7 +19,7 @@ stays_for : (o : Option (Regs × BusState)) (s : Machine) → is_none o ≡ true
 stays_for None s _ = refl
 stays_for (Some t) s e = cc
 
--- a machine that no cycle can follow stays as it is
+-- a machine does not change if no cycle is possible
 cycled-outside : (k : ℕ) (s : Machine) → is_outside s ≡ true → after_cycles k s ≡ s
 cycled-outside zero s h = refl
 cycled-outside (suc k) s h = ap next (cycled-outside k s h) ∙ stays_for (cycle_of s.0 s.1) s h
@@ -28,7 +28,8 @@ pub cycled-add : (a b : ℕ) (s : Machine) → after_cycles (a + b) s ≡ after_
 cycled-add a zero s = ap (λ n. after_cycles n s) (omega arith)
 cycled-add a (suc b) s = ap (λ n. after_cycles n s) (add-suc a b) ∙ ap next (cycled-add a b s)
 
--- what holds of each number that passes, and of the default, holds of the first that passes
+-- if Q holds for the default, and for each number of the range that satisfies p, then Q holds for the result of the
+-- search
 found : (p : ℕ → Bool) (Q : ℕ → Type 0) (d : ℕ) → Q d → (a n : ℕ) → ((k : ℕ) → k < a + n → p k ≡ true → Q k) → Q (unwrap_or (find p (range_with_len a n)) d)
 found p Q d holds a zero h = holds
 found p Q d holds a (suc n) h =
@@ -43,7 +44,7 @@ some_stop false true w f e = cc
 some_stop false false true f e = inr refl
 some_stop false false false f e = cc
 
--- without breakpoints, a run stops where no cycle can follow or at its end
+-- without breakpoints and watches, a run stops only if no cycle is possible, or at its end
 stop_cases : (n k : ℕ) (s : Machine) → is_some (stop_after no_stops n s k) ≡ true → (is_outside (after_cycles k s) ≡ true) ⊎ (eqb k n ≡ true)
 stop_cases n k s e = some_stop (is_outside (after_cycles k s)) (at_break [] k (after_cycles k s)) (eqb k n) (and-false _) e
 
@@ -56,7 +57,7 @@ after_run-nil n s =
       | inr ended ↦ ap (λ m. after_cycles m s) (eqb-true k n ended)
     ])
 
--- two runs one after the other, without breakpoints, come to where one run of all their cycles does
+-- without breakpoints and watches, two consecutive runs reach the same machine as one run of all their cycles
 pub after_run-after_run : (a b : ℕ) (s : Machine) → after_run no_stops b (after_run no_stops a s) ≡ after_run no_stops (a + b) s
 after_run-after_run a b s =
     after_run-nil b (after_run no_stops a s) ∙ ap (after_cycles b) (after_run-nil a s) ∙ sym (cycled-add a b s) ∙ sym (after_run-nil (a + b) s)

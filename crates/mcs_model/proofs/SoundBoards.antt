@@ -1,4 +1,4 @@
--- What a board with which nothing is wrong has.
+-- The conditions that the parts of a valid board satisfy.
 use Rattle.std.proofs.Common.{◌≡◌, Bool, true, false, not, ◌||◌, cond, Some, None, refl, nat_lt}
 use Rattle.std.specs.List.{list_any}
 use Rattle.std.proofs.lemmas.Bool.{or_parts}
@@ -6,21 +6,22 @@ use Rattle.mcs_model.specs.declared.board.BoardFault.TheVariants.{BadValue, NoSu
 use Rattle.mcs_model.specs.declared.board.BoardParts.{BoardParts}
 use Rattle.mcs_model.specs.Boards.{board_fault_of, has_bad_value, has_bad_matrix, lacks_line, lacks_rows, has_wrong_direction, any_line, exists_on, in_range, is_chain_size}
 
--- of the three tests that tell a fault, none passes
+-- if the parts have no error, all three tests for errors are false
 pub no_fault : (a b c : Bool) → cond a (Some BadValue) (cond b (Some NoSuchLine) (cond c (Some WrongDirection) None)) ≡ None → (a ≡ false) × (b ≡ false) × (c ≡ false)
 no_fault true b c h = absurd (cc)
 no_fault false true c h = absurd (cc)
 no_fault false false true h = absurd (cc)
 no_fault false false false h = (refl, refl, refl)
 
--- no value is bad
+-- holds if all numbers in the parts are in range
 pub record HasGoodValues (b : BoardParts) : Type 0 where
   pub banks : list_any (λ n. nat_lt 4 n) b.banks ≡ false
   pub chains : list_any (λ c. not (is_chain_size c)) b.chains.items ≡ false
   pub matrix : has_bad_matrix b ≡ false
   pub lines : any_line (λ line. not (in_range line)) b ≡ false
 
--- each line that it names exists, the keys have their rows, and each line has its direction
+-- holds if all numbers are in range, each named line exists, each key row has its chain bit, and each line has the
+-- right direction
 pub record IsSound (b : BoardParts) : Type 0 where
   pub values : HasGoodValues b
   pub lines : any_line (λ line. not (exists_on b line)) b ≡ false

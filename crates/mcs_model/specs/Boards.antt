@@ -22,19 +22,19 @@ masks_on b chip = slice_index_or b.roms chip None
 abbrev pub input_on : BoardParts → ℕ → ℕ → Bool
 input_on b chip k = elim (masks_on b chip) [ Some mask ↦ is_input (mask_at mask k) | None ↦ false ]
 
--- the value of `chain_part` past the last chain: a chain without bits, whose two lines have no
--- meaning
+-- The chain that `chain_part` gives if the board has no chain with the given number. It has no
+-- bits, and its two lines have no meaning.
 abbrev pub no_chain : ChainPart
 no_chain = record { clock = Rom 0 0; data_in = Rom 0 0; chips = 0 }
 
--- chain i of the board, or `no_chain` past the last chain
+-- chain i of the board, or `no_chain` if the board has no chain i
 abbrev pub chain_part : BoardParts → ℕ → ChainPart
 chain_part b i = slice_index_or b.chains.items i no_chain
 
 abbrev pub chain_count : BoardParts → ℕ
 chain_count b = length b.chains.items
 
--- the number of bits in chain i: ten for each chip (4003 data sheet; that the chips form one
+-- the number of bits in chain i: ten for each chip (4003 data sheet; treating the chips as one
 -- sequence of bits is our own choice)
 abbrev pub chain_bits : BoardParts → ℕ → ℕ
 chain_bits b i = 10 * (chain_part b i).chips
@@ -49,7 +49,7 @@ empty_parts = record {
   lamps = record { items = [] };
 }
 
--- true if all numbers of a line are in range
+-- true if each number that names the line (bank, chip, chain, line or bit) is in range
 abbrev pub in_range : Line → Bool
 in_range (Rom chip k) = nat_lt chip ROMS && nat_lt k 4
 in_range (Ram bank chip k) = nat_lt bank BANKS && nat_lt chip BANK_CHIPS && nat_lt k 4
@@ -75,8 +75,8 @@ is_output_line b (Rom chip k) = exists_on b (Rom chip k) && not (input_on b chip
 is_output_line b (Ram bank chip k) = exists_on b (Ram bank chip k)
 is_output_line b (Chain n i) = false
 
--- True if p is true of the clock line or the data line of at least one chain. The next two
--- definitions say the same of key columns and of lamps.
+-- True if p is true for the clock line or the data line of at least one chain. `any_column` and
+-- `any_lamp` are the same for key columns and for lamps.
 abbrev pub any_chain_line : (Line → Bool) → BoardParts → Bool
 any_chain_line p b = list_any (λ (c : ChainPart). p c.clock || p c.data_in) b.chains.items
 
@@ -86,7 +86,7 @@ any_column p b = elim b.keys [ Some m ↦ list_any p m.columns.items | None ↦ 
 abbrev pub any_lamp : (Line → Bool) → BoardParts → Bool
 any_lamp p b = list_any p b.lamps.items
 
--- true if p is true of at least one line that the parts name
+-- true if p is true for at least one line that the parts name
 abbrev pub any_line : (Line → Bool) → BoardParts → Bool
 any_line p b = any_chain_line p b || any_column p b || any_lamp p b
 
@@ -95,7 +95,7 @@ abbrev pub is_chain_size : ChainPart → Bool
 is_chain_size c = nat_lt 0 c.chips && nat_le c.chips CHAIN_CHIPS
 
 -- True if the numbers of a key matrix are in range: chain 0 to 3, first bit 0 to 79, and 1 to 10
--- rows. There must be at least one column; the type limits the columns to 8.
+-- rows. There must also be at least one column; the type limits the columns to 8.
 abbrev pub is_matrix_size : KeyMatrix → Bool
 is_matrix_size m =
     nat_lt m.chain CHAINS && nat_lt m.first CHAIN_BITS && nat_lt 0 m.rows && nat_le m.rows KEY_ROWS
@@ -120,7 +120,8 @@ lacks_rows b =
       | None ↦ false
     ]
 
--- true if the parts name a line, or need a chain bit for a key row, that the board does not have
+-- true if a line that the parts name is not on the board, or if the key matrix lacks its chain or a
+-- chain bit for a row
 abbrev pub lacks_line : BoardParts → Bool
 lacks_line b = any_line (λ line. not (exists_on b line)) b || lacks_rows b
 
@@ -148,8 +149,8 @@ has_key b row column =
       | None ↦ false
     ]
 
--- The number of keys on the board. The next definition is the index of the key at a row and a
--- column; keys are indexed row by row.
+-- The number of keys on the board. `key_index` is the index of the key at a row and a column; keys
+-- are indexed row by row.
 abbrev pub key_count : BoardParts → ℕ
 key_count b = elim b.keys [ Some m ↦ m.rows * length m.columns.items | None ↦ 0 ]
 

@@ -1,4 +1,4 @@
--- Everything that the processor accesses outside itself: the board, and the contents of its chips.
+-- Everything outside the processor that it accesses: the board, and the contents of its chips.
 -- (MCS-4 Users Manual and data sheets, as each definition says. The following is our own choice.
 -- Logic is positive: level 1 is the bit 1. The value of the command register, 0 to 7, is the bank
 -- number. Each bank stores its own SRC byte. Absent parts contain 0, read as 0 and ignore writes.)
@@ -6,24 +6,24 @@ use Rattle.std.specs.Prelude.{ℕ, ◌+◌, ◌*◌, ◌/◌, List, [], replicat
 use Rattle.mcs_model.specs.declared.board.BoardParts.{BoardParts}
 use Rattle.mcs_model.specs.Boards.{empty_parts}
 
--- The comments give the length of each list in a valid state (`IsInRange` of Validity), and the
--- entries that are 0 because a part is absent (`IsAbsentZero`). `fetch_of`, `ram_of` and
--- `status_of` give 0 for absent chips only because these entries are 0.
+-- The state of the bus. The comments give the length of each list in a valid state (`IsInRange` of
+-- Validity), and the entries that are 0 because a part is absent (`IsAbsentZero`). `fetch_of`,
+-- `ram_of` and `status_of` give 0 for absent chips only because these entries are 0.
 pub record BusState : Type 0 where
   pub board : BoardParts
-  -- the ROM bytes by address: 4,096; the bytes of absent ROMs are 0
+  -- the 4,096 ROM bytes, indexed by address; the bytes of absent ROMs are 0
   pub rom : List ℕ
-  -- the RAM nibbles by `ram_index`: 2,048; absent ones are 0
+  -- the 2,048 RAM nibbles, indexed by `ram_index`; absent nibbles are 0
   pub ram : List ℕ
-  -- the status characters by `status_index`: 512; absent ones are 0
+  -- the 512 status characters, indexed by `status_index`; absent status characters are 0
   pub status : List ℕ
-  -- the port latches of the RAM chips by `ram_port_index`: 32; absent ones are 0
+  -- the 32 port latches of the RAM chips, indexed by `ram_port_index`; absent latches are 0
   pub ram_ports : List ℕ
-  -- the port latches of the ROMs: 16; absent ones, and the bits of input lines, are 0
+  -- the 16 port latches of the ROMs; absent latches, and the latch bits of input lines, are 0
   pub rom_ports : List ℕ
   -- the SRC byte that the ROMs store
   pub rom_src : ℕ
-  -- the SRC byte that each bank stores; 0 in a bank without chips
+  -- the SRC byte that each of the 8 banks stores; 0 in a bank without chips
   pub ram_src : List ℕ
   -- the bits of each chain, bit 0 first
   pub chains : List (List ℕ)
@@ -78,7 +78,7 @@ after_src s bank byte =
 abbrev pub ram_index : ℕ → ℕ → ℕ
 ram_index bank src = bank * 256 + src
 
--- the selected RAM nibble of a bank (4002 data sheet); an absent one reads as 0 (our own choice)
+-- the selected RAM nibble of a bank (4002 data sheet); an absent nibble reads as 0 (our own choice)
 unfoldable pub ram_of : BusState → ℕ → ℕ
 ram_of s bank = slice_index s.ram (ram_index bank (src_of s bank))
 
@@ -94,13 +94,13 @@ with_ram s bank src n =
 unfoldable pub after_ram : BusState → ℕ → ℕ → BusState
 after_ram s bank n = with_ram s bank (src_of s bank) n
 
--- the index of status character k of the register that the upper SRC nibble `high` selects in a
--- bank
+-- the index of status character k in a bank; `high`, the upper nibble of an SRC byte, selects the
+-- chip and the register
 abbrev pub status_index : ℕ → ℕ → ℕ → ℕ
 status_index bank high k = bank * 64 + (high * 4 + k)
 
--- status character k of the selected register of a bank (4002 data sheet); an absent one reads as 0
--- (our own choice)
+-- status character k of the selected register of a bank (4002 data sheet); an absent character
+-- reads as 0 (our own choice)
 unfoldable pub status_of : BusState → ℕ → ℕ → ℕ
 status_of s bank k = slice_index s.status (status_index bank (src_of s bank / 16) k)
 
@@ -108,8 +108,8 @@ status_of s bank k = slice_index s.status (status_index bank (src_of s bank / 16
 abbrev pub ram_port_index : ℕ → ℕ → ℕ
 ram_port_index bank chip = bank * 4 + chip
 
--- The bus after a write to a status character: character k of the register that the upper SRC
--- nibble `high` selects in a bank (4002 data sheet). The write is lost if the chip is absent (our
+-- The bus after a write to status character k in a bank. `high`, the upper nibble of an SRC byte,
+-- selects the chip and the register (4002 data sheet). The write is lost if the chip is absent (our
 -- own choice).
 unfoldable pub with_status : BusState → ℕ → ℕ → ℕ → ℕ → BusState
 with_status s bank high k n =

@@ -1,6 +1,7 @@
 -- The bus after a change of one location, after a reset, and after a change of the board. In the
--- definitions `with_`.., the last argument is the new value. (Our own choice: writes to absent
--- chips are lost; latch bits of input lines stay 0; what a reset and a new board clear.)
+-- definitions whose names begin with `with_`, the last argument is the new value. (Our own choices:
+-- writes to absent chips are lost, latch bits of input lines stay 0, and which contents a reset and
+-- a new board clear.)
 use Rattle.std.specs.Prelude.{ℕ, ◌*◌, ◌/◌, List, [], ◌∷◌, Some, None, is_some, map, replicate, slice_index, slice_index_or, slice_set, if◌then◌else◌, nat_lt}
 use Rattle.mcs_nibble.specs.Tables.{table_of}
 use Rattle.mcs_nibble.specs.Ports.{latch_value}
@@ -17,7 +18,7 @@ with_rom_byte s at byte =
     then record s { rom = slice_set s.rom at byte }
     else s
 
--- the bus after the bytes of an image are written to ROM, each at its address
+-- the bus after each byte of an image is written to ROM at its address
 abbrev pub with_rom_bytes : BusState → List (ℕ × ℕ) → BusState
 with_rom_bytes s [] = s
 with_rom_bytes s (p ∷ image) = with_rom_bytes (with_rom_byte s p.0 p.1) image
@@ -39,7 +40,8 @@ with_rom_latch s chip n =
       | None ↦ s
     ]
 
--- the bus after a write to the SRC byte that a bank stores; in a bank without chips it stays 0
+-- the bus after a write to the SRC byte that a bank stores; the SRC byte of a bank without chips
+-- stays 0
 unfoldable pub with_ram_src : BusState → ℕ → ℕ → BusState
 with_ram_src s bank byte =
     if nat_lt 0 (chips_of s bank)
@@ -75,8 +77,8 @@ unfoldable pub kept_rom : BoardParts → List ℕ → List ℕ
 kept_rom b rom =
     table_of 4096 (λ at. if is_some (masks_on b (at / 256)) then slice_index rom at else 0)
 
--- The bus after the board is replaced. All keys are up, and everything that a reset clears is
--- cleared. The bytes of ROMs that are not on the new board become 0.
+-- The bus after the board is replaced. All keys are up, and everything that a reset clears is 0.
+-- The bytes of ROMs that are not on the new board become 0.
 abbrev pub after_wire : BusState → BoardParts → BusState
 after_wire s b = record (after_reset (record s { board = b })) {
   rom = kept_rom b s.rom;

@@ -26,7 +26,7 @@ use Rattle.mcs_model.specs.Running.{Machine, Stops, run_length, after_run, run_s
 abbrev pub lacks_rom : BoardParts → ℕ → Bool
 lacks_rom b at = is_none (masks_on b (at / 256))
 
--- the reason why a location cannot be set to a value, or none
+-- the reason why the location cannot be set, or none
 abbrev pub place_refusal : BusState → Place → Option BenchFault
 place_refusal s (Rom at byte) = if lacks_rom s.board at then Some NoRom else None
 place_refusal s (Ram bank src n) = if has_chip s bank src then None else Some NoSuchPlace
@@ -36,7 +36,8 @@ place_refusal s (Status bank high k n) =
     else Some NoSuchPlace
 place_refusal s _ = None
 
--- the reason why a state rejects a command, or none, apart from the limit on the number of commands
+-- The reason why a state rejects a command, or none. This definition ignores the limit on the
+-- number of commands.
 abbrev pub refusal_of_command : BenchState → Command → Option BenchFault
 refusal_of_command s (Load image) =
     if list_any (λ p. lacks_rom s.bus.board p.0) image
@@ -91,7 +92,7 @@ with_place s (Rom at byte) = with_bus s (with_rom_byte s.bus at byte)
 with_place s (Ram bank src n) = with_bus s (with_ram s.bus bank src n)
 with_place s (Status bank high k n) = with_bus s (with_status s.bus bank high k n)
 
--- the state after a command has had its effect; the command is not yet counted
+-- the state after the effect of a command, before the command is counted
 abbrev pub after_change : BenchState → Command → BenchState
 after_change s (Wire board) = with_machine s (new_regs, after_wire s.bus board)
 after_change s (Load image) = with_bus s (with_rom_bytes s.bus image)
@@ -108,7 +109,8 @@ after_change s (Watch bank src) = record s { watches = with_listed s.watches (ra
 after_change s (Unwatch bank src) =
     record s { watches = without_listed s.watches (ram_index bank src) }
 
--- the state after an accepted command; each one adds 1 to the count, even if nothing else changes
+-- The state after an accepted command. Every accepted command adds 1 to the count, even if nothing
+-- else changes.
 abbrev pub after : BenchState → Command → BenchState
 after s c = record (after_change s c) { seq = s.seq + 1 }
 

@@ -1,7 +1,7 @@
 -- The effect of each instruction, and one instruction cycle. (Intel MCS-4 Users Manual, instruction
--- set: each rule is the manual's description of the instruction, in the manual's three groups. Our
--- own choices are the opcodes outside the table, one list of return addresses, and the value of the
--- command register as the bank number. Two more are an SRC byte for each bank, and that a two-cycle
+-- set: each rule is the manual's description of the instruction, in the manual's three groups. Five
+-- rules are our own choice: some opcodes are outside the table; the return addresses are one list;
+-- the command register contains the bank number; each bank stores its own SRC byte; a two-cycle
 -- instruction does all its work in the first cycle.)
 use Rattle.std.specs.Prelude.{ℕ, ◌+◌, ◌-◌, ◌*◌, ◌/◌, ◌%◌, Bool, ◌&&◌, ◌||◌, not, [], ◌∷◌, Option, Some, None, slice_index, if◌then◌else◌, nat_lt, ◌==◌}
 use Rattle.mcs_model.specs.declared.regs.Regs.{Regs}
@@ -17,22 +17,23 @@ use Rattle.mcs_model.specs.Table.{instruction_of, word_count_of, cycles_of}
 abbrev pub with_acc : Regs → ℕ → Regs
 with_acc s n = record s { acc = n }
 
--- the registers with a sum x in the accumulator (x % 16) and the carry (x / 16)
+-- the registers after a sum x is stored: x % 16 in the accumulator, x / 16 in the carry
 abbrev pub with_sum : Regs → ℕ → Regs
 with_sum s x = record s { acc = x % 16; cy = x / 16 }
 
--- The address of word w on the page of another address. For JCN, ISZ, FIN and JIN, that other
--- address is the one after the instruction (Manual, these instructions at the end of a page).
+-- The address on the page of `address` whose lower eight bits are w. JCN, ISZ, FIN and JIN use the
+-- page of the address after the instruction (Manual, these instructions at the end of a page).
 abbrev pub address_beside : ℕ → ℕ → ℕ
 address_beside address w = word_on_page (page_of address) w
 
--- The registers with the program counter set to word w on its own page. In s, the program counter
--- is already the address after the instruction.
+-- The registers after a jump to word w on the program counter's page. In s, the program counter is
+-- already the address after the instruction.
 abbrev pub with_word : Regs → ℕ → Regs
 with_word s w = record s { pc = address_beside s.pc w }
 
 -- JCN: true if the jump is taken. Condition bit 2 tests whether the accumulator is 0, bit 1 whether
--- the carry is 1, and bit 0 whether TEST is 0. One true test is enough. Bit 3 inverts the result.
+-- the carry is 1, and bit 0 whether TEST is 0. The jump is taken if at least one of the selected
+-- tests is true. Condition bit 3 inverts the result.
 abbrev pub is_taken : ℕ → Regs → ℕ → Bool
 is_taken condition s test =
     let holds =
@@ -87,9 +88,9 @@ key_of n =
     else 15
 
 -- The registers after an instruction. In s, the program counter is already the address after the
--- instruction's words. First are the machine instructions (NOP to LDM), then those for RAM and
--- ports (WRM to RD3), then the accumulator group (CLB to DCL). SUB and SBM: a carry of 1 before the
--- instruction is a borrow, and a carry of 1 after it means no borrow.
+-- instruction's words. The rules are in the manual's groups: machine instructions (NOP to LDM), RAM
+-- and port instructions (WRM to RD3), and accumulator instructions (CLB to DCL). For SUB and SBM, a
+-- carry of 1 before the instruction is a borrow, and a carry of 1 after it means no borrow.
 abbrev pub registers_after : Op → Regs → BusState → Regs
 registers_after Nop s _ = s
 registers_after (Jcn c b) s m = after_jcn c b s m.test
@@ -150,8 +151,8 @@ bus_after Wr2 s m = after_status m s.dcl 2 s.acc
 bus_after Wr3 s m = after_status m s.dcl 3 s.acc
 bus_after _ _ m = m
 
--- the registers with the program counter at the address after the instruction's words, and with its
--- pending second cycle, if any
+-- The registers after the program counter moves past the instruction's words. `owed` becomes 1 if
+-- the instruction has a second cycle, otherwise 0.
 abbrev pub after_words : Op → Regs → Regs
 after_words op s = record s { pc = (s.pc + word_count_of op) % 4096; owed = cycles_of op - 1 }
 
@@ -159,8 +160,8 @@ after_words op s = record s { pc = (s.pc + word_count_of op) % 4096; owed = cycl
 abbrev pub effect : Op → Regs → BusState → Regs × BusState
 effect op s m = (registers_after op (after_words op s) m, bus_after op s m)
 
--- the instruction at the program counter, or none if its opcode is outside the table; after address
--- 4095 comes address 0
+-- the instruction at the program counter, or none if its opcode is outside the table; address 0
+-- follows address 4095
 abbrev pub instruction_at : Regs → BusState → Option Op
 instruction_at s m = instruction_of (fetch_of m s.pc) (fetch_of m ((s.pc + 1) % 4096))
 

@@ -4,13 +4,13 @@ use Rattle.mcs_model.specs.declared.command.Command.{Command}
 use Rattle.mcs_model.specs.BenchState.{BenchState}
 use Rattle.mcs_model.specs.Command.{refusal, after}
 
--- the state after a sequence of commands, each of them applied as an accepted command
--- (`AreAccepted` states that each is accepted)
+-- the state after a sequence of commands, each applied as an accepted command (`AreAccepted` states
+-- that each is accepted)
 abbrev pub fold : BenchState → List Command → BenchState
 fold s [] = s
 fold s (c ∷ cs) = fold (after s c) cs
 
--- holds if each command of a sequence is accepted in the state that the commands before it lead to
+-- holds if each command of a sequence is accepted in the state after the commands before it
 abbrev pub AreAccepted : BenchState → List Command → Type 0
 AreAccepted s [] = Unit {0}
 AreAccepted s (c ∷ cs) = (refusal s c ≡ None) × AreAccepted (after s c) cs

@@ -2,12 +2,12 @@
 use Rattle.std.specs.Prelude.{ℕ, ◌+◌, ◌<◌, ◌==◌, Bool, ◌&&◌, List, [], ◌∷◌, find, nat_lt, nat_le}
 use Rattle.std.specs.List.{list_any, filter_map, range_with_len, All, AllPairs}
 
--- bytes at consecutive addresses, beginning at `at`: each byte with its address
+-- each byte with its address; the addresses are consecutive and begin at `at`
 abbrev pub from_address : ℕ → List ℕ → List (ℕ × ℕ)
 from_address at [] = []
 from_address at (b ∷ bytes) = (at, b) ∷ from_address (at + 1) bytes
 
--- true if one of the `count` addresses that begin at `at` has a byte
+-- true if the image has a byte at one of the `count` consecutive addresses that begin at `at`
 abbrev pub overlaps : List (ℕ × ℕ) → ℕ → ℕ → Bool
 overlaps pairs at count = list_any (λ p. nat_le at p.0 && nat_lt p.0 (at + count)) pairs
 
@@ -15,8 +15,8 @@ overlaps pairs at count = list_any (λ p. nat_le at p.0 && nat_lt p.0 (at + coun
 abbrev pub IsRising : List (ℕ × ℕ) → Type 0
 IsRising image = AllPairs (λ p q. p.0 < q.0) image
 
--- holds if the list can be an image: addresses in strictly ascending order, each below 4096, and
--- values below 256
+-- holds if the list is an image: its addresses are below 4096 and in strictly ascending order, and
+-- its values are below 256
 pub record IsImage (image : List (ℕ × ℕ)) : Type 0 where
   pub rising : IsRising image
   pub in_range : All (λ p. (p.0 < 4096) × (p.1 < 256)) image

@@ -10,7 +10,7 @@ outside_codes =
     0x01 ∷ 0x02 ∷ 0x03 ∷ 0x04 ∷ 0x05 ∷ 0x06 ∷ 0x07 ∷ 0x08 ∷ 0x09 ∷ 0x0A ∷ 0x0B ∷ 0x0C ∷ 0x0D ∷ 0x0E ∷ 0x0F
     ∷ 0xE3 ∷ 0xFE ∷ 0xFF ∷ []
 
--- holds if exactly these of the 256 opcodes are in no row of the table
+-- holds if `codes` are exactly the opcodes that are in no row of the table
 abbrev pub LeavesOut : List ℕ → Type 0
 LeavesOut codes = filter (λ code. is_none (row_of code)) (range_with_len 0 256) ≡ codes
 

@@ -30,7 +30,7 @@ abbrev pub drives : List ℕ → List ℕ → KeyMatrix → ℕ → ℕ → Bool
 drives bits keys m j r =
     slice_index bits (m.first + r) == 1 && slice_index keys (r * length m.columns.items + j) == 1
 
--- true if at least one column is line k of ROM `chip` and is driven by at least one row
+-- true if at least one row drives a column that is line k of ROM `chip`
 abbrev pub is_pulled_by : List ℕ → List ℕ → KeyMatrix → ℕ → ℕ → Bool
 is_pulled_by bits keys m chip k =
     list_any
@@ -64,25 +64,25 @@ unfoldable pub clock_levels : BusState → List ℕ
 clock_levels s = table_of (chain_count s.board) (λ i. level s (chain_part s.board i).clock)
 
 -- The bits of chain i after a port write. s is the bus after the write, before any shift; `was` is
--- the level of the clock line before the write. If that level rises from 0 to 1, each bit moves up
--- by one, the level of the data line becomes bit 0, and the last bit is lost. (4003 data sheet: a
--- shift register with a serial input. The clock edge, the bit order and the data level are our own
--- choice.)
+-- the level of the clock line before the write. If the clock line rises from 0 to 1, each bit moves
+-- up by one position. The level of the data line becomes bit 0, and the last bit is lost. (4003
+-- data sheet: a shift register with a serial input. The clock edge, the bit order and the data
+-- level are our own choice.)
 unfoldable pub chain_clocked : BusState → ℕ → ℕ → List ℕ → List ℕ
 chain_clocked s i was bits =
     if was == 0 && level s (chain_part s.board i).clock == 1
     then bits_after_shift (level s (chain_part s.board i).data_in) bits
     else bits
 
--- the bus with each chain shifted whose clock line rose; `before` has the levels of the clock lines
--- before the port write
+-- the bus after each chain whose clock line rose is shifted; `before` contains the levels of the
+-- clock lines before the port write
 unfoldable pub chains_clocked : List ℕ → BusState → BusState
 chains_clocked before s = record s {
   chains = table_of (chain_count s.board) (λ i. chain_clocked s i (slice_index before i) (slice_index_or s.chains i []));
 }
 
--- The bus with one port latch set, without clocking. This definition sets the latch of a ROM, by
--- ROM number. The next one sets the latch of a RAM chip, by `ram_port_index`.
+-- The bus after the port latch of a ROM is set, without clocking. `with_ram_ports_at` sets the
+-- latch of a RAM chip, by its `ram_port_index`.
 abbrev pub with_rom_ports_at : BusState → ℕ → ℕ → BusState
 with_rom_ports_at s c n = record s { rom_ports = slice_set s.rom_ports c n }
 

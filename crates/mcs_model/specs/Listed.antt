@@ -15,13 +15,13 @@ insert_in_order (a ∷ numbers) at =
     then at ∷ a ∷ numbers
     else a ∷ insert_in_order numbers at
 
--- the list with a number added; it does not change if it already has the number
+-- the list with a number added; unchanged if the number is already in the list
 abbrev pub with_listed : List ℕ → ℕ → List ℕ
 with_listed numbers at =
     if is_listed numbers at
     then numbers
     else insert_in_order numbers at
 
--- the list with a number removed; it does not change if it does not have the number
+-- the list with a number removed; unchanged if the number is not in the list
 abbrev pub without_listed : List ℕ → ℕ → List ℕ
 without_listed numbers at = filter (λ a. not (a == at)) numbers

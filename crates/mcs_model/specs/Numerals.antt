@@ -15,8 +15,8 @@ digits_in base (d ∷ ds) =
     then Some (digits_value base (d ∷ ds))
     else None
 
--- the value of a word as a number: decimal digits, or `0x` and hexadecimal digits of either case;
--- leading zeros are allowed
+-- The number that a word spells, or none. A number is decimal digits, or `0x` and hexadecimal
+-- digits of either case. Leading zeros are allowed.
 abbrev pub number_written : List ℕ → Option ℕ
 number_written (z ∷ x ∷ ds) =
     if z == 48 && x == 120
@@ -27,10 +27,11 @@ number_written word = digits_in 10 word
 abbrev pub up_to : ℕ → ℕ → Option ℕ
 up_to most n = if nat_le n most then Some n else None
 
--- the value of a word as a number, if it is at most `most`
+-- the number that a word spells, or none if the word is not a number or the number is above `most`
 abbrev pub number_up_to : ℕ → List ℕ → Option ℕ
 number_up_to most word = option_and_then (up_to most) (number_written word)
 
--- a number, limited to 2^32: words can have any length, and 2^32 is outside every range
+-- The number, or 2^32 if the number is larger. Words can have any length, and 2^32 is outside every
+-- accepted range.
 abbrev pub capped_number : ℕ → ℕ
 capped_number n = min n LARGE

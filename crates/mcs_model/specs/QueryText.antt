@@ -1,5 +1,5 @@
--- The answers of a bench to queries about its state: one text for each query and state, without the
--- last line feed. (Our own choice.)
+-- The answers of a bench to queries: one text for each query and state, without the last line feed.
+-- (Our own choice.)
 use Rattle.std.specs.Prelude.{ℕ, ◌+◌, ◌*◌, ◌/◌, ◌%◌, ◌==◌, List, [], ◌∷◌, ◌++◌, map, take, drop, length, codes, nat_lt, if◌then◌else◌, slice_index, Some, None}
 use Rattle.std.specs.Fmt.{decimal}
 use Rattle.std.specs.List.{flat_map, join_by, join_with_byte, range_with_len}
@@ -98,7 +98,7 @@ breaks_text breakpoints = codes "breaks " ++ or_dash (join_by address_text (code
 abbrev pub hex_2 : ℕ → List ℕ
 hex_2 b = hex_digit (b / 16) ∷ hex_digit (b % 16) ∷ []
 
--- a watched RAM nibble: its bank and its SRC byte
+-- the text of a watched RAM nibble: its bank number, a dot, and its SRC byte
 abbrev pub watch_text : ℕ → List ℕ
 watch_text w = digit_text (w / 256) ++ codes "." ++ hex_2 (w % 256)
 
@@ -108,15 +108,15 @@ watches_text watches = codes "watches " ++ or_dash (join_by watch_text (codes " 
 
 -- ---- the items of the state outside ROM and RAM
 
--- a bank as an item: its number, and the SRC byte that it stores; no item if it has no chips
+-- the item of a bank: its number, and the SRC byte that it stores; no item if the bank has no chips
 abbrev pub bank_items : BusState → ℕ → List (List ℕ)
 bank_items s bank =
     if nat_lt 0 (chips_of s bank)
     then (digit_text bank ++ codes "." ++ hex_2 (slice_index s.ram_src bank)) ∷ []
     else []
 
--- a ROM as an item: its number, the contents of its port latch, and the value that the processor
--- reads at its port; no item if it is absent
+-- the item of a ROM: its number, the contents of its port latch, and the value that the processor
+-- reads at its port; no item if the ROM is absent
 abbrev pub rom_items : BusState → ℕ → List (List ℕ)
 rom_items s chip =
     elim (masks_on s.board chip) [
@@ -127,18 +127,18 @@ rom_items s chip =
       | None ↦ []
     ]
 
--- the key at a row and a column as an item; no item if it is up
+-- the item of the key at a row and a column; no item if the key is up
 abbrev pub key_item : BusState → ℕ → ℕ → List (List ℕ)
 key_item s row column =
     if slice_index s.keys (key_index s.board row column) == 1
     then (digit_text row ++ codes "." ++ digit_text column) ∷ []
     else []
 
--- the keys of a row that are down, as items
+-- the items of the keys in a row that are down
 abbrev pub row_items : BusState → ℕ → ℕ → List (List ℕ)
 row_items s columns row = flat_map (key_item s row) (range_with_len 0 columns)
 
--- the keys that are down, as items, row by row
+-- the items of all keys that are down, row by row
 abbrev pub key_items : BusState → List (List ℕ)
 key_items s =
     elim s.board.keys [
@@ -152,12 +152,12 @@ seq_text seq = codes "seq " ++ decimal seq
 
 -- ---- the state in one line
 
--- items as one word: separated by commas, or a dash if there are no items
+-- the items, separated by commas, or a dash if there are no items
 abbrev pub one_word : List (List ℕ) → List ℕ
 one_word [] = codes "-"
 one_word items = join_with_byte 44 items
 
--- the ports of the RAM chips of a bank, as items
+-- the items of the RAM chips of a bank: the contents of each port latch
 abbrev pub ram_items : BusState → ℕ → List (List ℕ)
 ram_items s bank = map (ram_port_text (codes ".") s bank) (range_with_len 0 (chips_of s bank))
 
@@ -165,8 +165,8 @@ ram_items s bank = map (ram_port_text (codes ".") s bank) (range_with_len 0 (chi
 abbrev pub chain_item : BusState → ℕ → List ℕ
 chain_item s n = map (λ i. hex_digit (chain_bit s n i)) (range_with_len 0 (chain_bits s.board n))
 
--- the answer to `state`: everything except the board and the contents of ROM and RAM; each part has
--- a name and one word
+-- the answer to `state`: everything except the board and the contents of ROM and RAM, as a name and
+-- one word for each part
 abbrev pub state_text : BenchState → List ℕ
 state_text s =
     codes "state " ++ seq_text s.seq

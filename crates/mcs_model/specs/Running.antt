@@ -16,13 +16,13 @@ Machine = Regs × BusState
 abbrev pub is_outside : Machine → Bool
 is_outside s = is_none (cycle_of s.0 s.1)
 
--- the machine after k cycles; it does not change if no cycle is possible
+-- the machine after k cycles; it stays the same if no cycle is possible
 abbrev pub after_cycles : ℕ → Machine → Machine
 after_cycles zero s = s
 after_cycles (suc k) s = unwrap_or (cycle_of (after_cycles k s).0 (after_cycles k s).1) (after_cycles k s)
 
--- True if a run is at a breakpoint after k cycles. A breakpoint at the start of the run does not
--- count, and neither does one between the two cycles of an instruction.
+-- True if a run is at a breakpoint after k cycles. A breakpoint does not count at the start of the
+-- run, or between the two cycles of an instruction.
 abbrev pub at_break : List ℕ → ℕ → Machine → Bool
 at_break breaks k s = nat_lt 0 k && s.0.owed == 0 && list_any (λ a. a == s.0.pc) breaks
 
@@ -65,8 +65,8 @@ abbrev pub run_stop : Stops → ℕ → Machine → Stop
 run_stop stops n s = unwrap_or (stop_after stops n s (run_length stops n s)) Ended
 
 -- The reason why a step stops after k cycles, or none; s is the machine after these k cycles. A
--- step stops at its start if no cycle is possible, and otherwise after the first cycle that leaves
--- none pending.
+-- step stops at its start if no cycle is possible. Otherwise it stops after the first cycle that
+-- leaves no second cycle pending.
 abbrev pub step_at : ℕ → Machine → Option Stop
 step_at zero s = if is_outside s then Some Outside else None
 step_at (suc k) s = if s.0.owed == 0 then Some Ended else None

@@ -13,8 +13,8 @@ pub data Lower : Type 0 where
   Odd : Lower
   Only : ℕ → Lower
 
--- a row: the upper nibble of its opcodes, their lower nibbles, and the instruction for such an
--- opcode and the word after it
+-- a row: the upper nibble of its opcodes, their lower nibbles, and the instruction for one of these
+-- opcodes and the word after it
 pub record Row : Type 0 where
   pub upper : ℕ
   pub lower : Lower
@@ -27,8 +27,8 @@ row upper lower op = record { upper = upper; lower = lower; op = op }
 abbrev pub bare : ℕ → ℕ → Op → Row
 bare upper lower op = row upper (Only lower) (λ _ _. op)
 
--- The operand in the lower nibble of an opcode: a condition, a register, a page or a value. The
--- next definition is the register pair in the upper three bits of that nibble.
+-- The operand in the lower nibble of an opcode: a condition, a register, a page or a value.
+-- `pair_in` is the register pair in the upper three bits of that nibble.
 abbrev pub nibble_in : ℕ → ℕ
 nibble_in code = code % 16
 

@@ -19,8 +19,8 @@ as_line bytes = bytes ++ line_feed ∷ []
 abbrev pub text_of : List (List ℕ) → List ℕ
 text_of lines = flat_map as_line lines
 
--- the part after the last line feed, as a list of lines: one line if the text ends there (`whole`)
--- and the part is not empty, otherwise none
+-- the line after the last line feed, as a list; the list is empty if the line is empty, or if the
+-- text was cut off (`whole` is false)
 abbrev pub last_line : Bool → List ℕ → List (List ℕ)
 last_line false line = []
 last_line true [] = []
@@ -32,8 +32,8 @@ lines_in whole [] = []
 lines_in whole (last ∷ []) = last_line whole last
 lines_in whole (line ∷ next ∷ pieces) = strip_carriage_return line ∷ lines_in whole (next ∷ pieces)
 
--- The lines of a text, each without its line feed and without one final CR. `whole` means that the
--- text ends there; otherwise it was cut off.
+-- The lines of a text, each without its line feed and without one final CR. `whole` is true if the
+-- text is complete, and false if it was cut off.
 unfoldable pub lines : List ℕ → Bool → List (List ℕ)
 lines text whole = lines_in whole (slice_split is_line_feed text)
 

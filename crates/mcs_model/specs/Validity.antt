@@ -24,9 +24,8 @@ pub record IsValidBoard (b : BoardParts) : Type 0 where
 
 -- ---- the contents of the chips
 
--- Holds if each number is in the range of its kind, and each list has the required length. There
--- are as many chains, chain bits and keys as the board has. All other lists are as long as a full
--- board needs.
+-- Holds if each number is in its range, and each list has the required length. There are as many
+-- chains, chain bits and keys as the board has. All other lists are as long as a full board needs.
 pub record IsInRange (s : BusState) : Type 0 where
   pub rom : AreBelow 4096 256 s.rom
   pub ram : AreBelow 2048 16 s.ram

@@ -15,7 +15,7 @@ use mcs_nibble::LineMask;
 use std::marker::Model;
 use thiserror::Error;
 
-/// A line of a board. Its numbers can have any values: each board decides whether it has such a line.
+/// A line, named by its numbers. The numbers can have any values, so a board does not necessarily have the line.
 #[derive(Clone, Copy, Debug, PartialEq, Eq)]
 pub enum Line {
     /// A port line of a ROM: the chip, 0 to 15, and the line, 0 to 3.
@@ -82,7 +82,8 @@ impl KeyMatrix {
 /// The parts of a board. They can be invalid: `Board::of` checks them.
 #[derive(Debug, Drop)]
 pub struct BoardParts {
-    /// The ROMs, indexed by chip number. Each has the mask options of its port lines, line 0 first.
+    /// The mask options of the four port lines of each ROM, line 0 first, indexed by chip number. The entry of an
+    /// absent ROM is `None`.
     pub roms: [Option<[LineMask; 4]>; ROMS],
     /// The number of 4002 chips in each bank.
     pub banks: [u8; BANKS],
@@ -94,16 +95,18 @@ pub struct BoardParts {
     pub lamps: ArrayVec<Line, LAMPS>,
 }
 
-/// The reason why parts do not form a board. If several apply, the first in this order is reported.
+/// The reason why parts do not form a valid board. If several reasons apply, the first in the order of the variants
+/// is reported.
 #[derive(Clone, Copy, Debug, PartialEq, Eq, Error)]
 pub enum BoardFault {
-    /// A number is out of range, or a key matrix has no columns (no 23).
+    /// A number is out of range, or a key matrix has no columns (refusal 23).
     #[error("a number is out of its range, or a key matrix has no column")]
     BadValue,
-    /// A line, a chain or the chain bit of a key row is not on the board (no 25).
+    /// A line, a chain or the chain bit of a key row is not on the board (refusal 25).
     #[error("a line, a chain or a row's bit is not on the board")]
     NoSuchLine,
-    /// An input line is used where an output line is needed, or the other way round (no 26).
+    /// An input line is used where an output line is required, or an output line where an input line is required
+    /// (refusal 26).
     #[error("an input line is used as an output line, or an output line as an input line")]
     WrongDirection,
 }
@@ -121,7 +124,7 @@ impl BoardFault {
     }
 }
 
-/// Returns true if all numbers of a line are in range.
+/// Returns true if each number that names the line (bank, chip, chain, line or bit) is in range.
 fn is_in_range(line: Line) -> bool
     ensures { result ≡ in_range line }
 {
@@ -132,29 +135,29 @@ fn is_in_range(line: Line) -> bool
     }
 }
 
-/// Returns true if any of the lines has a number out of range.
+/// Returns true if a number that names one of the lines is out of range.
 fn has_line_out_of_range(lines: &[Line]) -> bool
     ensures { result ≡ list_any (λ line. not (in_range line)) lines.now }
 {
     lines.iter().any(|line| !is_in_range(*line))
 }
 
-/// Returns true if the clock line or the data line of a chain has a number out of range.
+/// Returns true if a number that names the clock line or the data line of the chain is out of range.
 fn has_bad_line(chain: ChainPart) -> bool
     ensures { result ≡ (not (in_range chain.clock) || not (in_range chain.data_in)) }
 {
     !is_in_range(chain.clock) || !is_in_range(chain.data_in)
 }
 
-/// Returns true if a chain has a valid number of chips.
+/// Returns true if the chain has 1 to 8 chips.
 fn is_sized(chain: ChainPart) -> bool
     ensures { result ≡ is_chain_size chain }
 {
     0 < chain.chips && chain.chips <= CHAIN_CHIPS
 }
 
-/// Proves that an array of four mask options has length 4. The prover knows the length of an array that is passed by
-/// value.
+/// Proves that an array of four mask options has length 4. The array is passed by value because the prover then knows
+/// its length.
 fn is_four(mask: [LineMask; 4])
     ensures { length mask ≡ 4 }
 {
@@ -170,7 +173,8 @@ fn are_four(masks: Option<[LineMask; 4]>)
 }
 
 impl KeyMatrix {
-    /// Returns true if all numbers of the matrix are in range.
+    /// Returns true if the chain number, the first bit and the number of rows are in range, and there is at least one
+    /// column.
     fn is_sized(&self) -> bool
         ensures { result ≡ is_matrix_size self.now }
     {
@@ -201,7 +205,7 @@ impl BoardParts {
         if at < BANKS { self.banks[at] } else { 0 }
     }
 
-    /// Returns the number of bits in chain `n`, or 0 if there is no such chain.
+    /// Returns the number of bits in chain `n`, or 0 if the board does not have the chain.
     fn chain_bits(&self, n: u8) -> u16
         ensures { result ≡ chain_bits self.now n }
     {
@@ -359,7 +363,8 @@ impl BoardParts {
         }
     }
 
-    /// Returns true if the parts name a line, or need a chain bit for a key row, that the board does not have.
+    /// Returns true if a line that the parts name is not on the board. Also returns true if the chain of the key
+    /// matrix is not on the board, or has too few bits for the rows.
     fn lacks_line(&self) -> bool
         ensures { result ≡ lacks_line self.now }
     {
@@ -412,7 +417,8 @@ impl BoardParts {
         self.lamps.iter().any(|line| self.has_input_line(*line))
     }
 
-    /// Returns true if any line has the wrong direction for its use.
+    /// Returns true if a clock or data line is not an output line, a column is not an input line, or a lamp is at an
+    /// input line.
     fn has_wrong_direction(&self) -> bool
         ensures { result ≡ has_wrong_direction self.now }
     {
@@ -425,7 +431,7 @@ impl BoardParts {
         self.has_input_lamp()
     }
 
-    /// Proves that each ROM has four mask options. The types imply this, and the call makes it known to proofs.
+    /// Proves that each ROM has four mask options, as its type implies. Callers get this fact from the contract.
     fn have_four_masks(&self)
         ensures { (chip : ℕ) (mask : List LineMask) → masks_on self.now chip ≡ Some mask →
             length mask ≡ 4 }
@@ -435,7 +441,7 @@ impl BoardParts {
         }
     }
 
-    /// Proves that the lists have the lengths that their types imply. The call makes these lengths known to proofs.
+    /// Proves that the lists have the lengths that their types imply. Callers get these facts from the contract.
     fn are_sized(&self)
         ensures { IsSized self.now }
     {
@@ -493,7 +499,7 @@ fn copied<T: Copy + Default + Drop, const CAP: usize>(items: &ArrayVec<T, CAP>) 
     copy
 }
 
-/// A valid board: parts without errors. Contracts see it as its parts.
+/// A valid board: parts without errors. In contracts, the value of a board is its parts.
 #[derive(Debug, Drop)]
 pub struct Board {
     parts: BoardParts,
@@ -592,7 +598,7 @@ impl Board {
         self.parts.chains[n]
     }
 
-    /// Returns the line of lamp `i`, counted from 0, or `None` if there is no such lamp.
+    /// Returns the line of lamp `i`, counted from 0, or `None` if the board does not have the lamp.
     pub fn lamp_line(&self, i: usize) -> Option<Line>
         ensures { result ≡ slice_get self.now.lamps.items i }
     {

@@ -14,23 +14,24 @@ pub enum Place {
     Cy(Bit),
     /// The program counter.
     Pc(Addr),
-    /// An index register.
+    /// An index register: its number and its new value.
     Register(RegNo, Nibble),
     /// The command register: the number of the designated bank.
     Dcl(BankNo),
-    /// A ROM byte, by its address.
+    /// A ROM byte: its address and its new value.
     Rom(Addr, u8),
-    /// A RAM nibble: its bank, and the SRC byte that selects it.
+    /// A RAM nibble: its bank, the SRC byte that selects it, and its new value.
     Ram(BankNo, u8, Nibble),
-    /// A status character: its bank, the upper nibble of the SRC byte that selects its register, and its number.
+    /// A status character: its bank, the upper nibble of the SRC byte that selects its register, its number, and its
+    /// new value.
     Status(BankNo, Nibble, StatusNo, Nibble),
 }
 
 /// A command to a bench.
 #[derive(Debug, Drop)]
 pub enum Command {
-    /// Replaces the board. Afterwards all keys are up, and everything that a reset clears is cleared. The bytes of ROMs
-    /// that are not on the new board become 0.
+    /// Replaces the board, releases all keys, and clears everything that `Reset` clears. The bytes of ROMs that are
+    /// not on the new board become 0.
     Wire(Board),
     /// Writes the bytes of an image to ROM.
     Load(Image),
@@ -38,9 +39,10 @@ pub enum Command {
     Press(u8, u8),
     /// Releases the key at a row and a column.
     Release(u8, u8),
-    /// Runs for a number of instruction cycles, 1 to 100,000, or until an earlier reason to stop.
+    /// Runs for the given number of instruction cycles, 1 to 100,000. The run ends earlier if another reason to stop
+    /// occurs.
     Run(u32),
-    /// Executes one instruction, or only the pending second cycle of the last one.
+    /// Executes the pending second cycle if there is one, otherwise one instruction.
     Step,
     /// Sets a location to a value. Nothing else changes, and no chain shifts.
     Poke(Place),

@@ -1,4 +1,4 @@
-//! Theorems about the definitions. Each is proved as the contract of a function that does nothing.
+//! Theorems about the definitions. Each theorem is the contract of a function with an empty body.
 ghost use Rattle.std.specs.Prelude.{[], ◌∷◌, ◌≡◌, true};
 ghost use Rattle.mcs_model.specs.declared.limits.TheConstants.{ACCEPTED_COMMANDS, BANKS, BANK_CHIPS, BREAKPOINTS, CHAINS, CHAIN_BITS, CHAIN_CHIPS, CHAIN_SOCKETS, INPUT_BYTES, KEYS, KEY_COLUMNS, KEY_ROWS, LAMPS, LINE_BYTES, LISTING_LINES, NAMES, NAME_BYTES, REPLAY_CYCLES, ROMS, RUN_CYCLES, TEXT_BYTES, WATCHES};
 ghost use Rattle.mcs_model.specs.declared.refusal_numbers.TheConstants.{BAD_COUNT, BAD_NUMBER, BAD_STATEMENT, BAD_TOML, BAD_VALUE, BREAKS_FULL, CLOSED, DAMAGED, DEVICE, DOUBLE_CHIP, DOUBLE_NAME, LINE_TOO_LONG, MISSING_KEY, NOT_ASCII, NOT_A_COMMAND, NOT_A_SESSION, NOT_BLANK, NO_END, NO_KEY, NO_MEMORY, NO_ROM, NO_SUCH_LINE, NO_SUCH_PLACE, OUT_OF_RANGE, OVERLAP, PAST_END, TEXT_TOO_LONG, TOO_MANY_NAMES, TOO_MANY_PARTS, UNKNOWN_KEY, UNKNOWN_NAME, WATCHES_FULL, WORN, WRONG_DIRECTION, WRONG_PAGE};
@@ -18,8 +18,8 @@ pub fn runs_compose()
     ensures { RunsCompose }
 {}
 
-/// Proves the values of the refusal numbers. There is one clause each for lines and texts, for boards, for programs,
-/// for commands, and for sessions and memory.
+/// Proves the values of the refusal numbers, with one clause for each group: lines and texts, boards, programs,
+/// commands, and sessions with memory.
 pub fn refusal_numbers_are()
     ensures lines { NOT_A_COMMAND ∷ BAD_NUMBER ∷ LINE_TOO_LONG ∷ TEXT_TOO_LONG ∷ NOT_ASCII
         ∷ NO_END ∷ []

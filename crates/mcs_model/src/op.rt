@@ -2,31 +2,32 @@
 
 use mcs_nibble::{Nibble, PairNo, RegNo};
 
-/// An instruction with its operands, under its name in Intel's manual.
-/// In a variant with two operands, the `u8` is the second word: a value, or the lower eight bits of an address.
-/// Source: Intel MCS-4 Users Manual, instruction set.
+/// An instruction with its operands. Each variant has the name of the instruction in Intel's manual. In a variant
+/// with two operands, the `u8` is the second word: a value, or the lower eight bits of an address. Source: Intel
+/// MCS-4 Users Manual, instruction set.
 #[derive(Clone, Copy)]
 pub enum Op {
     /// No operation.
     Nop,
-    /// Jump on condition: the condition, and the target word on the page of the address after the instruction.
+    /// Jump on condition: the condition, and the lower eight bits of the target. The target is on the page of the
+    /// address after the instruction.
     Jcn(Nibble, u8),
     /// Fetch immediate: the register pair, and its new value.
     Fim(PairNo, u8),
-    /// Send register control: the register pair that is sent out.
+    /// Send register control: the register pair whose byte is sent to the ROM and RAM chips.
     Src(PairNo),
     /// Fetch indirect: the register pair that is loaded from program memory.
     Fin(PairNo),
-    /// Jump indirect: the register pair that holds the target word.
+    /// Jump indirect: the register pair that holds the lower eight bits of the target.
     Jin(PairNo),
-    /// Jump unconditional: the target page and the target word.
+    /// Jump unconditional: the page and the lower eight bits of the target.
     Jun(Nibble, u8),
-    /// Jump to subroutine: the target page and the target word.
+    /// Jump to subroutine: the page and the lower eight bits of the target.
     Jms(Nibble, u8),
     /// Increment a register.
     Inc(RegNo),
-    /// Increment a register, and jump if it is then not 0: the register, and the target word on the page of the address
-    /// after the instruction.
+    /// Increment a register, and jump if it is then not 0: the register, and the lower eight bits of the target. The
+    /// target is on the page of the address after the instruction.
     Isz(RegNo, u8),
     /// Add a register to the accumulator with carry.
     Add(RegNo),

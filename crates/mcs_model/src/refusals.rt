@@ -8,7 +8,7 @@ use thiserror::Error;
 /// The reason why a bench rejects a command. A rejected command changes nothing.
 #[derive(Clone, Copy, Debug, PartialEq, Eq, Error)]
 pub enum BenchFault {
-    /// The board has no such key.
+    /// The key is not on the board.
     #[error("the board has no such key")]
     NoKey,
     /// The address is in a ROM that is not on the board.

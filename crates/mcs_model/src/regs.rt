@@ -16,12 +16,12 @@ pub struct Regs {
     pub r: [Nibble; 16],
     /// The program counter.
     pub pc: Addr,
-    /// The three return addresses. The first is the address to which BBL returns. That they are one list is this
-    /// project's own choice.
+    /// The three return addresses. BBL returns to the first one. Keeping them as one list is this project's own
+    /// choice.
     pub ret: [Addr; 3],
-    /// The command register, 0 to 7. That its value is the number of the RAM bank is this project's own choice.
+    /// The command register, 0 to 7. Using its value as the RAM bank number is this project's own choice.
     pub dcl: u8,
-    /// The number of pending second cycles of the last instruction: 0 or 1.
+    /// 1 if the second cycle of the last instruction is pending, otherwise 0.
     pub owed: u8,
 }
 

@@ -1,4 +1,4 @@
--- Both are computed, code by code.
+-- Both clauses are proved by computation, opcode by opcode.
 use Rattle.std.proofs.Common.{refl}
 use Rattle.mcs_model.specs.Table.{row_of}
 use Rattle.mcs_model.proofs.laws.codes_are_in_one_row.Goals as goal
