@@ -1,4 +1,4 @@
--- Columns and flat rows: what one element's change does to them.
+-- The effect of a change of one element on columns and flat rows.
 use Rattle.std.proofs.Common.{◌≡◌, ◌≢◌, ℕ, ◌+◌, ◌*◌, ◌/◌, ◌%◌, ◌<◌, inl, inr, List, length, get_or, slice_set, slice_index, refl, sym, ap, ◌∙◌, arith, get_or-set_same, get_or-set_other, replicate}
 use Rattle.std.proofs.Math.Nat.{div-add-mod, mul-le-mul_right}
 use Rattle.std.proofs.lemmas.Nat.{div-mul-add, mod-mul-add}
@@ -8,7 +8,7 @@ use Rattle.std.proofs.lemmas.List.{get_or-replicate, length-replicate}
 use Rattle.mcs_nibble.specs.Tables.{column, flat_rows}
 use Rattle.mcs_nibble.proofs.TabledLemmas.{set-tabled, same_tabled, get_or-tabled, tabled_from, length-tabled}
 
--- what f gives of each element, where one element was replaced by one of which f gives the same
+-- if f is the same for an element and its replacement, the replacement changes f of no element of the list
 pub kept-at : {X Y : Type 0} (f : X → Y) (d : X) (xs : List X) (i j : ℕ) (e : X) → i < length xs → f e ≡ f (get_or xs i d) → f (get_or (slice_set xs i e) j d) ≡ f (get_or xs j d)
 kept-at f d xs i j e l same =
     elim (cases_eq j i) [
@@ -43,7 +43,7 @@ get-flat n wide f d xs i k h l =
     ∙ ap (λ j. slice_index (f (get_or xs j d)) ((i * wide + k) % wide)) (div-mul-add i wide k l)
     ∙ ap (λ j. slice_index (f (get_or xs i d)) j) (mod-mul-add i wide k l)
 
--- an element's list written at k
+-- if the list of element i changes only at index k, flat rows change only at index i * wide + k
 pub set-flat : {X : Type 0} (n wide : ℕ) (f : X → List ℕ) (d : X) (xs : List X) (i k : ℕ) (e : X) (v : ℕ) → i < n → k < wide → i < length xs → k < length (f (get_or xs i d)) → f e ≡ slice_set (f (get_or xs i d)) k v → flat_rows n wide f d (slice_set xs i e) ≡ slice_set (flat_rows n wide f d xs) (i * wide + k) v
 unfolding flat_rows
 set-flat n wide f d xs i k e v h l len inner is =
@@ -77,7 +77,7 @@ pub same_column : {X : Type 0} (n : ℕ) (f : X → ℕ) (d : X) (xs ys : List X
 unfolding column
 same_column n f d xs ys h = same_tabled n _ _ h
 
--- where every element has 0 throughout
+-- if all numbers of all rows are 0, flat rows are a list of zeros
 pub blank-flat : {X : Type 0} (n wide : ℕ) (f : X → List ℕ) (d : X) (xs : List X) → ((i k : ℕ) → slice_index (f (get_or xs i d)) k ≡ 0) → flat_rows n wide f d xs ≡ replicate (n * wide) 0
 unfolding flat_rows
 blank-flat n wide f d xs h =

@@ -1,11 +1,11 @@
--- A port's latch: its bits at input lines are 0, so that to write what it holds changes nothing.
+-- Port latches: writing the contents of a latch to the latch again changes nothing.
 use Rattle.std.proofs.Common.{◌≡◌, ℕ, ◌+◌, ◌*◌, ◌<◌, List, refl, arith, if◌then◌else◌, Some}
 use Rattle.mcs_nibble.specs.Bits.{bit_of, nibble_of}
 use Rattle.mcs_nibble.specs.Ports.{is_input, mask_at, latch_bit, latch_value, mask_character, mask_of}
 use Rattle.mcs_nibble.specs.declared.lines.LineMask.{LineMask}
 use Rattle.mcs_nibble.specs.declared.lines.LineMask.TheVariants.{Input, Zero, One}
 
--- the bits of a number that is given by four bits
+-- holds if bits 0 to 3 of n are a, b, c and d
 record Bits (n a b c d : ℕ) : Type 0 where
   at_0 : bit_of n 0 ≡ a
   at_1 : bit_of n 1 ≡ b
@@ -54,7 +54,7 @@ pub latch_value-zero : (mask : List LineMask) → latch_value mask 0 ≡ 0
 unfolding latch_value
 latch_value-zero mask = rw (latch_bit-zero mask 0 refl, latch_bit-zero mask 1 refl, latch_bit-zero mask 2 refl, latch_bit-zero mask 3 refl) refl
 
--- the character of a line's mask is read as that mask
+-- the character that represents a mask option is read as that mask option
 pub mask_again : (m : LineMask) → mask_of (mask_character m) ≡ Some m
 mask_again Input = refl
 mask_again Zero = refl

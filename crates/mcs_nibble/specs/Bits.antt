@@ -1,4 +1,4 @@
--- The bits of a nibble. (Binary numbers; bit 0 is the least significant bit.)
+-- The bits of a nibble. Bit 0 is the least significant bit.
 use Rattle.std.specs.Prelude.{ℕ, ◌+◌, ◌*◌, ◌/◌, ◌%◌, ◌^◌}
 
 -- bit k of the number n

@@ -1,7 +1,7 @@
 -- The port of a 4001, line by line: the contents of its latch, and the value that the processor
 -- reads. (4001 data sheet: the mask makes each line an input or an output. WRR writes the latch,
--- and RDR reads the input lines. Our own choice: positive logic; the latch bit of an input line is
--- 0; an output line reads as the constant of its mask.)
+-- and RDR reads the input lines. Our own choices: logic is positive, the latch bit of an input line
+-- is 0, and the processor reads the constant of the mask at an output line.)
 use Rattle.std.specs.Prelude.{ℕ, Bool, true, false, ◌==◌, List, Option, Some, None, slice_index_or, if◌then◌else◌}
 use Rattle.mcs_nibble.specs.Bits.{bit_of, nibble_of}
 use Rattle.mcs_nibble.specs.declared.lines.LineMask.{LineMask}
@@ -13,14 +13,14 @@ is_input Input = true
 is_input Zero = false
 is_input One = false
 
--- The character for a port line in board texts and session files (our own choice). It is `i` for an
--- input line, and `0` or `1` for an output line that reads as 0 or 1.
+-- The character that represents a mask option in board texts and session files (our own choice):
+-- `i` for an input line, `0` or `1` for an output line at which the processor reads 0 or 1.
 abbrev pub mask_character : LineMask → ℕ
 mask_character Input = 105
 mask_character Zero = 48
 mask_character One = 49
 
--- the mask option for a character, or none if the character is not `i`, `0` or `1`
+-- the mask option that a character represents, or none if the character is not `i`, `0` or `1`
 abbrev pub mask_of : ℕ → Option LineMask
 mask_of c =
     if c == 105 then Some Input
@@ -41,7 +41,8 @@ latch_bit mask n k = if is_input (mask_at mask k) then 0 else bit_of n k
 unfoldable pub latch_value : List LineMask → ℕ → ℕ
 latch_value mask n = nibble_of (latch_bit mask n)
 
--- bit k of the value that the processor reads; `inputs` gives the level of each input line
+-- bit k of the value that the processor reads at the port; `inputs` gives the level of each input
+-- line
 abbrev pub read_bit : (ℕ → ℕ) → List LineMask → ℕ → ℕ
 read_bit inputs mask k = elim (mask_at mask k) [ Input ↦ inputs k | Zero ↦ 0 | One ↦ 1 ]
 

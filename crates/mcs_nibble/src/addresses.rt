@@ -4,8 +4,8 @@ ghost use Rattle.std.specs.Prelude.{◌≡◌, ℕ, ◌+◌, ◌*◌, ◌/◌, �
 use crate::nibbles::Nibble;
 use std::marker::Model;
 
-/// A program memory address, 0 to 4095. The upper four bits are the page, and also the number of the ROM chip. The
-/// lower eight bits select a word on that page.
+/// A program memory address, 0 to 4095. The upper four bits are the page, which is also the number of the ROM chip.
+/// The lower eight bits select a word on that page.
 #[derive(Clone, Copy, Debug, Default, PartialEq, Eq, PartialOrd, Ord)]
 pub struct Addr {
     value: u16,
@@ -40,7 +40,7 @@ impl Addr {
         }
     }
 
-    /// Returns the address of word `low` on page `page`.
+    /// Returns the address on page `page` whose lower eight bits are `low`.
     pub fn on_page(page: Nibble, low: u8) -> Addr
         ensures { result ≡ 256 * page + low }
     {
@@ -57,7 +57,7 @@ impl Addr {
         self.value
     }
 
-    /// Returns the page, 0 to 15. It is also the number of the ROM that the address selects.
+    /// Returns the page, 0 to 15, which is also the number of the ROM chip that the address selects.
     pub fn page(self) -> Nibble
         ensures page { result ≡ self / 256 }
         ensures in_range { self / 256 < 16 }
@@ -65,14 +65,14 @@ impl Addr {
         Nibble::low_of((self.value / 256) as u8)
     }
 
-    /// Returns the word on the page: the lower eight bits of the address.
+    /// Returns the lower eight bits of the address, which select a word on the page.
     pub fn low(self) -> u8
         ensures { result ≡ self % 256 }
     {
         (self.value % 256) as u8
     }
 
-    /// Returns the address `n` words later. Addresses wrap around from 4095 to 0.
+    /// Returns the address `n` words later. Address 0 follows address 4095.
     pub fn plus(self, n: u16) -> Addr
         ensures { result ≡ (self + n) % 4096 }
     {

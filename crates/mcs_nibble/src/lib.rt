@@ -1,9 +1,9 @@
-//! The bounded numbers of the MCS-4: bits, nibbles, addresses, and the numbers of registers, register pairs, RAM banks
-//! and status characters. The mask options of ROM port lines are here too.
+//! The numbers of the MCS-4, each limited to its range: bits, nibbles, addresses, and the numbers of registers,
+//! register pairs, RAM banks and status characters. The mask options of ROM port lines are also defined here.
 //!
-//! Each type holds a number that is always in its range, and contracts see a value of the type as that number. Nibble
-//! addition and subtraction follow the 4004: the result is modulo 16, and the carry is a separate bit. Addresses are
-//! modulo 4096. Source: Intel MCS-4 Users Manual, description of the 4004.
+//! In contracts, a value of a numeric type is the number itself. Nibble addition and subtraction follow the 4004: the
+//! result is modulo 16, and the carry is a separate bit. Addresses are modulo 4096. Source: Intel MCS-4 Users Manual,
+//! description of the 4004.
 #![tactic(auto)]
 
 mod addresses;

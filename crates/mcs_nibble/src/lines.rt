@@ -2,23 +2,23 @@
 ghost use Rattle.std.specs.Prelude.{◌≡◌};
 ghost use Rattle.mcs_nibble.specs.Ports.{mask_character, mask_of};
 
-/// The mask option of a ROM port line, fixed when the chip is made. Source: Intel MCS-4 Users Manual, 4001: the mask
-/// makes each line an input or an output. As this project's own choice, the mask also fixes the constant that an output
-/// line reads as.
+/// The mask option of a ROM port line, fixed when the chip is made. The mask makes each line an input or an output
+/// (Intel MCS-4 Users Manual, 4001). In this project, the mask also fixes the constant that the processor reads at an
+/// output line; this is our own choice.
 #[derive(Clone, Copy, Debug, PartialEq, Eq)]
 pub enum LineMask {
-    /// An input line. A read gives its level, and its latch bit is 0.
+    /// An input line. The processor reads the level of the line, and the latch bit of the line is 0.
     Input,
 
-    /// An output line that reads as 0.
+    /// An output line at which the processor reads 0.
     Zero,
 
-    /// An output line that reads as 1.
+    /// An output line at which the processor reads 1.
     One,
 }
 
 impl LineMask {
-    /// Returns the character for the line in board texts and session files: `i`, `0` or `1`.
+    /// Returns the character that represents the mask option in board texts and session files: `i`, `0` or `1`.
     pub fn character(self) -> u8
         ensures { result ≡ mask_character self }
     {
@@ -29,7 +29,7 @@ impl LineMask {
         }
     }
 
-    /// Returns the mask option for a character, or `None` if the character is not `i`, `0` or `1`.
+    /// Returns the mask option that a character represents, or `None` if the character is not `i`, `0` or `1`.
     pub fn of_character(character: u8) -> Option<LineMask>
         ensures { result ≡ mask_of character }
     {

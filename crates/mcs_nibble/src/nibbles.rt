@@ -5,7 +5,7 @@ ghost use Rattle.mcs_nibble.specs.Bits.{bit_of};
 use crate::bits::Bit;
 use std::marker::Model;
 
-/// A four-bit number, 0 to 15: the contents of the accumulator, a register, a RAM location or a port.
+/// A four-bit number, 0 to 15: the contents of the accumulator, a register, a RAM nibble or a port.
 #[derive(Clone, Copy, Debug, Default, PartialEq, Eq)]
 pub struct Nibble {
     value: u8,
@@ -78,7 +78,8 @@ impl Nibble {
         self.value
     }
 
-    /// Adds `n` and the carry `cy`. Returns the sum modulo 16 and the carry out. Source: Intel MCS-4 Users Manual, ADD.
+    /// Adds the nibble, `n` and the carry `cy`. Returns the sum modulo 16, and the carry out. Source: Intel MCS-4
+    /// Users Manual, ADD.
     pub fn add(self, n: Nibble, cy: Bit) -> (Nibble, Bit)
         ensures sum { result.0 ≡ (self + n + cy) % 16 }
         ensures carry { result.1 ≡ (self + n + cy) / 16 }
@@ -87,9 +88,9 @@ impl Nibble {
         (Nibble::low_of(sum), Bit::low_of(sum / 16))
     }
 
-    /// Subtracts `n` with borrow as the 4004 does: adds the complement of `n` and the complement of the carry `cy`.
-    /// Returns the sum modulo 16 and the carry out. A carry out of 1 means no borrow. Source: Intel MCS-4 Users Manual,
-    /// SUB.
+    /// Subtracts `n` from the nibble with borrow, as the 4004 does: adds the complement of `n` and the complement of
+    /// the carry `cy`. Returns the sum modulo 16, and the carry out. A carry out of 1 means no borrow. Source: Intel
+    /// MCS-4 Users Manual, SUB.
     pub fn sub_borrow(self, n: Nibble, cy: Bit) -> (Nibble, Bit)
         ensures sum { result.0 ≡ (self + (15 - n) + (1 - cy)) % 16 }
         ensures carry { result.1 ≡ (self + (15 - n) + (1 - cy)) / 16 }
