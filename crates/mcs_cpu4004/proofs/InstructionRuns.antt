@@ -1,4 +1,4 @@
--- The cycles of one instruction: none, the only one, or both.
+-- Runs of zero, one or two cycles of one instruction.
 use Rattle.std.proofs.Common.{◌≡◌, ◌≢◌, ℕ, ◌-◌, ◌<◌, ◌≤◌, subst, true, false, Some, is_none, unwrap_or, inl, inr, refl, sym, ap, ◌∙◌, arith, eqb}
 use Rattle.std.proofs.lemmas.Bool.{cases_eq}
 use Rattle.std.proofs.lemmas.Bool.Decides.{nat_tests}
@@ -10,11 +10,11 @@ use Rattle.mcs_model.specs.Running.{Machine, is_outside, after_cycles}
 use Rattle.mcs_model.proofs.RunLemmas.{next}
 use Rattle.mcs_cpu4004.specs.InstructionRan.{InstructionRan}
 
--- where one cycle has a value, it can follow, and comes to that value
+-- if `cycle_of` gives t for the machine s, a cycle is possible at s, and t is the machine after it
 pub goes-to : (s t : Machine) → cycle_of s.0 s.1 ≡ Some t → (is_outside s ≡ false) × (t ≡ next s)
 goes-to s t e = (ap is_none e, sym (ap (λ o. unwrap_or o s) e))
 
--- no cycle of an instruction
+-- if no cycle is possible, a run of one instruction has 0 cycles
 pub ran-none : (left : ℕ) (s : Machine) → is_outside s ≡ true → InstructionRan left s s 0
 ran-none left s out = record {
   within = omega arith;
@@ -24,7 +24,7 @@ ran-none left s out = record {
   between = λ j h l. absurd (omega arith);
 }
 
--- one cycle of an instruction
+-- if a cycle leads from s to t, it is a run of one instruction with 1 cycle
 pub ran-one : (left : ℕ) (s t : Machine) → 0 < left → cycle_of s.0 s.1 ≡ Some t → InstructionRan left s t 1
 ran-one left s t l e = record {
   within = omega arith;
@@ -34,7 +34,7 @@ ran-one left s t l e = record {
   between = λ j h k. absurd (omega arith);
 }
 
--- both cycles of an instruction
+-- if a cycle from s leaves a second cycle pending, both cycles are a run of one instruction with 2 cycles
 pub ran-two : (left : ℕ) (s t u : Machine) → 1 < left → cycle_of s.0 s.1 ≡ Some t → t.0.owed ≡ 1 → cycle_of t.0 t.1 ≡ Some u → InstructionRan left s u 2
 ran-two left s t u l e owed f =
     let new = (goes-to s t e).1 in
@@ -49,24 +49,25 @@ ran-two left s t u l e owed f =
       between = λ j h k. subst (λ i. (after_cycles i s).0.owed ≡ 1) (let z : 1 ≡ j = omega arith in z) (subst (λ (v : Machine). v.0.owed ≡ 1) new owed);
     }
 
--- the cycle that does an instruction
+-- if no second cycle is pending, one cycle has the effect of the instruction at the program counter
 cycle-does : (op : Op) (s : Machine) → s.0.owed ≢ 1 → instruction_at s.0 s.1 ≡ Some op → cycle_of s.0 s.1 ≡ Some (effect op s.0 s.1)
 unfolding cycle_of
 cycle-does op s free at = let e : eqb s.0.owed 1 ≡ false = grind (arith, nat_tests) in rw (e, at) refl
 
--- the idle cycle after it
+-- a pending second cycle changes only `owed`
 cycle-idles : (s : Regs) (m : BusState) → cycle_of (record s { owed = 1 }) m ≡ Some (record s { owed = 0 }, m)
 unfolding cycle_of
 cycle-idles s m = refl
 
--- the idle cycle of an instruction that was begun
+-- if a second cycle is pending, it is a run of one instruction with 1 cycle
 pub ran-idle : (left : ℕ) (s : Regs) (m : BusState) (counter : ℕ) → 0 < left → s.owed ≡ 1 → counter ≡ s.pc → InstructionRan left (s, m) (record s { pc = counter; owed = 0 }, m) 1
 ran-idle left s m counter l owed same =
     let begun : s ≡ record s { owed = 1 } = ap (λ o. record s { owed = o }) owed in
     let there : (record s { owed = 0 }, m) ≡ (record s { pc = counter; owed = 0 }, m) = ap (λ p. (record s { pc = p; owed = 0 }, m)) (sym same) in
     ran-one left (s, m) (record s { pc = counter; owed = 0 }, m) l (ap (λ (r : Regs). cycle_of r m) begun ∙ cycle-idles s m ∙ ap Some there)
 
--- an instruction done whole: its registers and its bus, except for the counter, and with no cycle owed any more
+-- If a run executes all cycles of an instruction, no second cycle is pending at its end. `regs`, with the program
+-- counter set to `counter`, are the registers after the instruction; m is the bus after it.
 pub ran-whole : (left : ℕ) (op : Op) (s : Machine) (regs : Regs) (m : BusState) (counter cycles : ℕ) → cycles ≤ left → s.0.owed ≢ 1 → instruction_at s.0 s.1 ≡ Some op → (record regs { pc = counter; owed = cycles - 1 }, m) ≡ effect op s.0 s.1 → 0 < cycles → cycles < 3 → regs.owed ≡ 0 → InstructionRan left s (record regs { pc = counter }, m) cycles
 ran-whole left op s regs m counter cycles l free at done some few none =
     let t : Machine = (record regs { pc = counter; owed = cycles - 1 }, m) in

@@ -5,9 +5,9 @@ ghost use Rattle.mcs_model.specs.Levels.{after_ram_port, after_rom_port, port_of
 
 use mcs_nibble::{Addr, Bit, Nibble};
 
-/// The chips that the processor drives, and the TEST pin. Contracts describe a call by the flat state of the bus before
-/// and after it. The bank number is the value of the command register, 0 to 7. This numbering is this project's own
-/// choice.
+/// The chips that the processor accesses, and the TEST pin. Contracts describe a call by the flat state of the bus
+/// before and after it. The bank number is the value of the command register, 0 to 7; this numbering is this
+/// project's own choice.
 pub trait Bus {
     ghost flat: { Self → BusState };
 
@@ -15,12 +15,13 @@ pub trait Bus {
     fn fetch(&self, at: Addr) -> u8
         ensures { result ≡ fetch_of (flat self.now) at };
 
-    /// Sends an SRC byte. The ROMs store the byte, and so does the bank if it has chips.
+    /// Sends an SRC byte to the ROMs and to a RAM bank. The ROMs store the byte, and the bank stores it if it has
+    /// chips.
     fn src(&mut self, bank: u8, byte: u8)
         requires { bank < 8 }
         ensures { flat self.new ≡ after_src (flat self.old) bank byte };
 
-    /// Reads the selected RAM nibble of a bank.
+    /// Returns the selected RAM nibble of a bank.
     fn ram_read(&self, bank: u8) -> Nibble
         requires { bank < 8 }
         ensures { result ≡ ram_of (flat self.now) bank };
@@ -30,7 +31,7 @@ pub trait Bus {
         requires { bank < 8 }
         ensures { flat self.new ≡ after_ram (flat self.old) bank n };
 
-    /// Reads status character `k`, 0 to 3, of the selected register of a bank.
+    /// Returns status character `k`, 0 to 3, of the selected register of a bank.
     fn status_read(&self, bank: u8, k: u8) -> Nibble
         requires bank { bank < 8 }
         requires k { k < 4 }
@@ -51,7 +52,7 @@ pub trait Bus {
     fn rom_port(&mut self, n: Nibble)
         ensures { flat self.new ≡ after_rom_port (flat self.old) n };
 
-    /// Reads the port of the ROM that the last SRC selected.
+    /// Returns the value at the port of the ROM that the last SRC selected.
     fn port_read(&self) -> Nibble
         ensures { result ≡ port_of (flat self.now) };
 

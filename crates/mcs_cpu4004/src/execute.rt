@@ -10,7 +10,7 @@ use mcs_code::{Op, instructions, taken};
 use mcs_model::regs::Regs;
 use mcs_nibble::{Addr, Bit, Nibble, PairNo, RegNo};
 
-/// Returns the address of `word` on the same page as the address `at`.
+/// Returns the address on the page of `at` whose lower eight bits are `word`.
 #[inline(always)]
 fn word_beside(at: Addr, word: u8) -> Addr
     ensures { result ≡ address_beside at word }
@@ -18,7 +18,7 @@ fn word_beside(at: Addr, word: u8) -> Addr
     Addr::on_page(at.page(), word)
 }
 
-/// Returns true if JCN with this condition jumps when TEST is at the level `test`.
+/// Returns true if a JCN with this condition jumps. `test` is the level of the TEST pin.
 #[inline(always)]
 fn takes_jump(condition: Nibble, regs: &Regs, test: Bit) -> bool
     ensures { result ≡ is_taken condition regs.now test }
@@ -30,8 +30,8 @@ fn takes_jump(condition: Nibble, regs: &Regs, test: Bit) -> bool
     if c / 8 % 2 == 1 { !holds } else { holds }
 }
 
-/// Returns the next program counter after JCN, when TEST is at the level `test`. `next` is the address after the two
-/// words of JCN.
+/// Returns the program counter after JCN. `test` is the level of the TEST pin, and `next` is the address after the
+/// two words of JCN.
 #[inline(always)]
 fn after_condition(regs: &Regs, condition: Nibble, word: u8, test: Bit, next: Addr) -> Addr
     ensures { record regs.now { pc = result }
@@ -44,7 +44,7 @@ fn after_condition(regs: &Regs, condition: Nibble, word: u8, test: Bit, next: Ad
     }
 }
 
-/// Executes FIN. `next` is the address after the one word of FIN.
+/// Loads a register pair from program memory, as FIN does. `next` is the address after the one word of FIN.
 #[inline(always)]
 fn fetch_indirect<B: Bus>(regs: &mut Regs, bus: &B, pair: PairNo, next: Addr)
     ensures { regs.new ≡ with_pair regs.old pair
@@ -54,8 +54,8 @@ fn fetch_indirect<B: Bus>(regs: &mut Regs, bus: &B, pair: PairNo, next: Addr)
     regs.set_pair(pair, bus.fetch(from));
 }
 
-/// Pushes a return address, as JMS does: `next` becomes the first entry, and the last entry is lost. `next` is the
-/// address after the two words of JMS.
+/// Pushes `next` as a return address, as JMS does: it becomes the first entry, and the last entry is lost. `next` is
+/// the address after the two words of JMS.
 #[inline(always)]
 fn push(regs: &mut Regs, next: Addr)
     ensures { regs.new ≡ record regs.old
@@ -65,8 +65,8 @@ fn push(regs: &mut Regs, next: Addr)
     regs.ret = ret;
 }
 
-/// Pops a return address, as BBL does: the first entry is removed, and `next` becomes the last entry. `next` is the
-/// address after the one word of BBL.
+/// Removes the first return address, as BBL does. `next`, the address after the one word of BBL, becomes the last
+/// entry.
 #[inline(always)]
 fn pop(regs: &mut Regs, next: Addr)
     ensures { regs.new ≡ record regs.old
@@ -76,7 +76,7 @@ fn pop(regs: &mut Regs, next: Addr)
     regs.ret = ret;
 }
 
-/// Executes INC.
+/// Increments a register modulo 16, as INC does. The carry does not change.
 #[inline(always)]
 fn count_up(regs: &mut Regs, r: RegNo)
     ensures { regs.new ≡ with_register regs.old r ((register_of regs.old r + 1) % 16) }
@@ -85,10 +85,11 @@ fn count_up(regs: &mut Regs, r: RegNo)
     regs.set_register(r, sum);
 }
 
-/// Returns `next` unchanged. It is called when ISZ does not jump, which is rare. The call makes the decision a branch:
-/// the host can predict a branch, and a branch does not wait for a register. The emulated registers are not passed,
-/// because the compiler would assume that the call can change each of them. The compiler does not see that the addition
-/// of 0 changes nothing. It therefore keeps the call.
+/// Returns `next` unchanged. `count_to_zero` calls this function when ISZ does not jump, which is rare. The call
+/// makes the decision a branch: the host can predict a branch, and a branch does not wait for a register.
+///
+/// The emulated registers are not parameters, because the compiler would assume that the call can change each of
+/// them. The compiler cannot see that adding 0 has no effect, so it keeps the call.
 #[cold]
 #[inline(never)]
 fn without_jump(next: Addr) -> Addr
@@ -97,8 +98,8 @@ fn without_jump(next: Addr) -> Addr
     Addr::ZERO.plus(next.get())
 }
 
-/// Executes ISZ, except for the program counter, and returns the next program counter. `next` is the address after the
-/// two words of ISZ.
+/// Executes ISZ, but returns the next program counter instead of storing it. `next` is the address after the two
+/// words of ISZ.
 #[inline(always)]
 fn count_to_zero(regs: &mut Regs, r: RegNo, word: u8, next: Addr) -> Addr
     ensures counted { record regs.new { pc = result }
@@ -129,7 +130,7 @@ fn subtract(regs: &mut Regs, n: Nibble)
     (regs.acc, regs.cy) = regs.acc.sub_borrow(n, regs.cy);
 }
 
-/// Executes RAR.
+/// Rotates the accumulator and the carry right by one bit, as RAR does.
 #[inline(always)]
 fn rotate_right(regs: &mut Regs)
     ensures { regs.new ≡ after_rar regs.old }
@@ -139,7 +140,7 @@ fn rotate_right(regs: &mut Regs)
     regs.cy = Bit::low_of(acc);
 }
 
-/// Executes TCS.
+/// Loads 9 plus the carry into the accumulator and clears the carry, as TCS does.
 #[inline(always)]
 fn transfer_carry_subtract(regs: &mut Regs)
     ensures { regs.new ≡ record regs.old { acc = 9 + regs.old.cy; cy = 0 } }
@@ -148,7 +149,7 @@ fn transfer_carry_subtract(regs: &mut Regs)
     regs.cy = Bit::ZERO;
 }
 
-/// Executes DCL.
+/// Sets the command register to the lower three bits of the accumulator, as DCL does.
 #[inline(always)]
 fn designate(regs: &mut Regs)
     ensures bank { regs.new ≡ record regs.old { dcl = regs.old.acc % 8 } }
@@ -173,8 +174,8 @@ fn line_number(lines: Nibble) -> Nibble
     })
 }
 
-/// Executes DAA. The new carry is 1 exactly when six is added, because the carry was then 1 already or the sum is above
-/// 15. The code has no branches, because a host cannot predict the digits.
+/// Adjusts the accumulator to decimal, as DAA does. The new carry is 1 exactly when 6 is added: either the carry was
+/// already 1, or the sum is above 15. The code has no branches, because a host cannot predict the digits.
 #[inline(always)]
 fn adjust(regs: &mut Regs)
     ensures { regs.new ≡ after_daa regs.old }
@@ -185,9 +186,10 @@ fn adjust(regs: &mut Regs)
     regs.cy = Bit::when(adds);
 }
 
-/// Expands to the next program counter for the instruction with this row name. It is `$next`, the address after the
-/// instruction, except for jumps, JMS and BBL. The expression is evaluated before the effect of the instruction. ISZ
-/// increments its register here, because the result decides whether it jumps. The operands are `$a` and `$b`.
+/// Expands to the next program counter for the instruction with this name. It is `$next`, the address after the
+/// instruction, unless the instruction is a jump, JMS or BBL. The expression is evaluated before the instruction's
+/// other effects. It also increments the register of ISZ, because the result decides whether ISZ jumps. `$a` and `$b`
+/// are the operands.
 macro_rules! goes_on {
     (Jcn $regs:ident $bus:ident $next:ident $a:ident $b:ident) => {
         after_condition($regs, $a, $b, $bus.test(), $next)
@@ -212,8 +214,8 @@ macro_rules! goes_on {
     };
 }
 
-/// Expands to the effect of the instruction with this row name on the bus and on the registers other than the program
-/// counter. ISZ has its effect in `goes_on!` instead. The operands are `$a` and `$b`, and `$next` is the address after
+/// Expands to the effect of the instruction with this name on the bus and on all registers except the program
+/// counter. `goes_on!` contains the effect of ISZ. `$a` and `$b` are the operands, and `$next` is the address after
 /// the instruction.
 macro_rules! effect {
     (Nop $regs:ident $bus:ident $next:ident $a:ident $b:ident) => {
@@ -366,8 +368,7 @@ macro_rules! effect {
     };
 }
 
-/// Expands to a match that executes the instruction of a row. It gives the next program counter and the number of
-/// cycles.
+/// Expands to a match that executes an instruction. Its value is the next program counter and the number of cycles.
 macro_rules! work_rows {
     (($regs:ident, $bus:ident, $op:ident, $at:ident) $($codes:pat, $name:ident $kind:ident $words:literal $cycles:literal $group:ident $text:literal;)*) => {
         match $op {
@@ -381,10 +382,11 @@ macro_rules! work_rows {
     };
 }
 
-/// Executes the instruction at an address, but leaves the stored program counter and the pending cycle as they are.
-/// Returns the next program counter, and the number of cycles that the instruction takes. Each match arm does all the
-/// work of its instruction, and the program counter is passed by value. From a decoded opcode, the host therefore needs
-/// only one jump to the instruction's code.
+/// Executes the instruction `op` at an address, but changes neither the stored program counter nor the pending second
+/// cycle. Returns the next program counter, and the number of cycles that the instruction takes, 1 or 2.
+///
+/// Each match arm does all the work of its instruction, and the program counter is passed by value. The host
+/// therefore needs only one jump from a decoded opcode to the code of its instruction.
 #[inline(always)]
 pub fn execute<B: Bus>(regs: &mut Regs, bus: &mut B, op: Op, at: Addr) -> (Addr, u8)
     requires { regs.old.dcl < 8 }

@@ -1,9 +1,9 @@
-//! The 4004: its instruction cycle on any bus.
+//! The 4004 and its instruction cycle, for any bus.
 //!
-//! `Bus` is the processor's interface to everything outside it. Contracts see a bus as its flat state. One cycle of
-//! `Cpu` on a bus is the cycle that `mcs_model` defines, for each of the 256 opcodes. Source: Intel MCS-4 Users Manual,
-//! description of the 4004 and its instruction set. Each definition of `mcs_model` says which parts are this project's
-//! own choice.
+//! `Bus` is the processor's interface to everything outside it. In contracts, the value of a bus is its flat state.
+//! For each of the 256 opcodes, one cycle of `Cpu` on a bus is the cycle that `mcs_model` defines. Source: Intel
+//! MCS-4 Users Manual, description of the 4004 and its instruction set. Each definition of `mcs_model` says which
+//! parts are this project's own choice.
 #![tactic(auto)]
 
 mod bus;

@@ -15,15 +15,15 @@ use std::marker::Model;
 /// The result of an instruction cycle.
 #[derive(Clone, Copy, Debug, PartialEq, Eq)]
 pub enum Cycle {
-    /// The cycle executed an instruction.
+    /// The cycle did the work of an instruction. A second cycle is pending if the instruction takes two cycles.
     Done,
-    /// The cycle was the pending second cycle of an instruction. Nothing else happened.
+    /// The cycle was the pending second cycle of an instruction, which does no work.
     Idle,
     /// The opcode at the program counter is outside the opcode table. Nothing changed.
     Outside,
 }
 
-/// A 4004. Contracts see it as its registers.
+/// A 4004. In contracts, the value of a processor is its registers.
 #[derive(Clone, Copy)]
 pub struct Cpu {
     regs: Regs,
@@ -50,7 +50,8 @@ impl Cpu {
         Cpu { regs: Regs::new() }
     }
 
-    /// Executes the first cycle of the instruction at the program counter. A second cycle must not be pending.
+    /// Executes the first cycle of the instruction at the program counter. Returns `Outside` and changes nothing if
+    /// the opcode is outside the opcode table. A second cycle must not be pending.
     #[inline(always)]
     #[tactic(auto, unfolding(mcs_model::specs::Effect::cycle_of))]
     fn begin<B: Bus>(&mut self, bus: &mut B) -> Cycle
@@ -72,7 +73,9 @@ impl Cpu {
         }
     }
 
-    /// Executes one instruction cycle on a bus.
+    /// Executes one instruction cycle: the pending second cycle if there is one, otherwise the first cycle of the
+    /// instruction at the program counter. Returns `Outside` and changes nothing if the opcode is outside the opcode
+    /// table.
     #[inline(always)]
     #[tactic(auto, unfolding(mcs_model::specs::Effect::cycle_of))]
     pub fn cycle<B: Bus>(&mut self, bus: &mut B) -> Cycle
@@ -97,9 +100,12 @@ impl Cpu {
         mcs_code::decode(bus.fetch(at), bus.fetch(second))
     }
 
-    /// Executes the instruction at an address, for at most `left` cycles. A second cycle must not be pending. Returns
-    /// the next program counter, and the number of cycles executed. The stored program counter does not change: a run
-    /// keeps the current value in a variable, and stores it at the end.
+    /// Executes the instruction `op` at an address, for at most `left` cycles. A second cycle must not be pending,
+    /// and `left` must be at least 1. Returns the next program counter, and the number of cycles executed, 1 or 2. If
+    /// only the first of two cycles was executed, the second is pending.
+    ///
+    /// The stored program counter does not change: a run keeps the current value in a variable, and stores it at the
+    /// end.
     #[inline(always)]
     #[tactic(auto, unfolding(mcs_model::specs::Effect::cycle_of))]
     pub fn run_instruction<B: Bus>(
@@ -179,7 +185,7 @@ impl Cpu {
         self.regs.pc = pc;
     }
 
-    /// Sets the three return addresses. The first entry is the address to which BBL returns.
+    /// Sets the three return addresses. BBL returns to the first one.
     pub fn set_ret(&mut self, ret: [Addr; 3])
         ensures { self.new ≡ record self.old { ret = ret } }
     {
@@ -194,7 +200,7 @@ impl Cpu {
         self.regs.dcl = dcl;
     }
 
-    /// Sets the number of pending second cycles, 0 or 1.
+    /// Sets whether a second cycle is pending: 1 if it is, otherwise 0.
     pub fn set_owed(&mut self, owed: u8)
         requires { owed < 2 }
         ensures { self.new ≡ record self.old { owed = owed } }
