@@ -1,8 +1,8 @@
-//! The opcode table of the 4004, for decoding and encoding instructions.
+//! The opcode table of the 4004, and functions that decode and encode instructions.
 //!
-//! `instructions!` is the single list of the 45 instructions. Each function here expands that list in its body with a
-//! macro of its own. Other users of the table do the same.
-//! Source: Intel MCS-4 Users Manual, instruction set.
+//! `instructions!` is the only list of the 45 instructions. Each function of this crate passes the list to a macro
+//! that expands to the body of the function. Other crates use the list in the same way. Source: Intel MCS-4 Users
+//! Manual, instruction set.
 #![tactic(auto)]
 
 ghost use Rattle.std.specs.Prelude.{◌≡◌, ◌↔◌, IsSome, Some, unwrap_or};

@@ -1,10 +1,11 @@
-//! The list of the instructions, and macros that expand its rows for the functions of this crate.
+//! The list of the instructions, and the macros that expand its rows in the functions of this crate.
 
-/// Passes `$head` and the rows of the opcode table to another macro.
+/// Passes `$head` and the rows of the opcode table to the macro `$with`.
 ///
-/// A row starts with patterns for the upper and lower nibbles of its opcodes, the instruction, and the kind of its
-/// operands. Then follow the number of words, the number of instruction cycles, the group in which its name is looked
-/// up, and its name as text. If a row has several opcodes, the first pattern for the lower nibble is the lowest.
+/// A row contains, in this order: patterns for the upper and the lower nibble of its opcodes, the instruction, and
+/// the kind of its operands. The number of words and the number of instruction cycles follow. The last two entries
+/// are the instruction's name as text, after the group in which the name is looked up. If a row has several opcodes,
+/// the first pattern for the lower nibble is the lowest one.
 #[macro_export]
 macro_rules! instructions {
     ($with:ident! $head:tt) => {
@@ -59,8 +60,8 @@ macro_rules! instructions {
     };
 }
 
-/// Expands to a pattern that matches a row's instruction and binds its operands to `$a` and `$b`. `Op` must be in scope
-/// where the macro is used.
+/// Expands to a pattern that matches the instruction of a row and binds its operands to `$a` and `$b`. The caller
+/// must have `Op` in scope.
 #[macro_export]
 macro_rules! taken {
     ($a:ident $b:ident $name:ident none) => {
@@ -80,7 +81,7 @@ macro_rules! taken {
     };
 }
 
-/// Expands to an expression that builds a row's instruction from the words `$first` and `$second`.
+/// Expands to the instruction of a row, with the operands from the words `$first` and `$second`.
 macro_rules! built {
     ($first:ident $second:ident $name:ident none) => {
         Op::$name
@@ -105,8 +106,8 @@ macro_rules! built {
     };
 }
 
-/// Expands to the encoded words of a row's instruction with the operands `$a` and `$b`. `$upper` and `$lower` are the
-/// nibbles of the row's lowest opcode.
+/// Expands to the words that encode the instruction of a row with the operands `$a` and `$b`. `$upper` and `$lower`
+/// are the nibbles of the row's lowest opcode.
 macro_rules! spelled {
     ($a:ident $b:ident $upper:literal $lower:literal none) => {
         Words { first: $upper * 16 + $lower, second: None }
@@ -128,8 +129,8 @@ macro_rules! spelled {
     };
 }
 
-/// Expands to a match that finds the row of the first word and builds the instruction from both words. The result is
-/// `None` if no row has the first word.
+/// Expands to a match that decodes an instruction from its two words. The value is `None` if the first word is in no
+/// row.
 macro_rules! decode_rows {
     (($first:ident, $second:ident) $($codes:pat, $name:ident $kind:ident $words:literal $cycles:literal $group:ident $text:literal;)*) => {
         match ($first / 16, $first % 16) {
@@ -139,7 +140,7 @@ macro_rules! decode_rows {
     };
 }
 
-/// Expands to a match that finds the row of an instruction and encodes the instruction as words.
+/// Expands to a match that encodes an instruction as words.
 macro_rules! encode_rows {
     (($op:ident) $(($upper:literal, $lower:literal $($more:tt)*), $name:ident $kind:ident $words:literal $cycles:literal $group:ident $text:literal;)*) => {
         match $op {
@@ -148,7 +149,7 @@ macro_rules! encode_rows {
     };
 }
 
-/// Expands to a match that finds the row of an opcode and gives the number of words, or 1 if no row has the opcode.
+/// Expands to a match that gives the number of words for an opcode, or 1 if the opcode is in no row.
 macro_rules! words_rows {
     (($code:ident) $($codes:pat, $name:ident $kind:ident $words:literal $cycles:literal $group:ident $text:literal;)*) => {
         match ($code / 16, $code % 16) {
@@ -158,7 +159,7 @@ macro_rules! words_rows {
     };
 }
 
-/// Expands to a match that finds the row of an instruction and gives the number of words.
+/// Expands to a match that gives the number of words of an instruction.
 macro_rules! word_count_rows {
     (($op:ident) $($codes:pat, $name:ident $kind:ident $words:literal $cycles:literal $group:ident $text:literal;)*) => {
         match $op {
@@ -167,7 +168,7 @@ macro_rules! word_count_rows {
     };
 }
 
-/// Expands to a match that finds the row of an instruction and gives the number of instruction cycles.
+/// Expands to a match that gives the number of instruction cycles of an instruction.
 macro_rules! cycles_rows {
     (($op:ident) $($codes:pat, $name:ident $kind:ident $words:literal $cycles:literal $group:ident $text:literal;)*) => {
         match $op {

@@ -1,4 +1,4 @@
-//! Encoded instructions.
+//! The words of an encoded instruction.
 
 /// The one or two words of an encoded instruction.
 #[derive(Clone, Copy, Debug, PartialEq, Eq)]
