@@ -1,4 +1,5 @@
--- Trackeds that are alike but for levels stay so until one asks.
+-- Tracked machines that differ only in their input levels: the difference stays limited to the levels until one
+-- machine reads an input.
 use Rattle.std.proofs.Common.{◌≡◌, ◌<◌, ◌≤◌, ℕ, zero, suc, Bool, false, None, refl, sym, ap, ◌∙◌, arith}
 use Rattle.mcs_model.specs.Boards.{board_fault_of}
 use Rattle.mcs_model.specs.Bus.{fetch_of}
@@ -16,7 +17,7 @@ unfolding fetch_of
 asking-plain s = refl
 
 module _ (w : Observer) where
-  -- a cycle that does not ask, and levels away
+  -- if a cycle reads no input, its result without input levels does not depend on the input levels before it
   cycle-plain : (s : Tracked) → board_fault_of s.1.board ≡ None → is_asking s ≡ false → plain (cycled w s) ≡ plain (cycled w (plain s))
   unfolding levels_of
   cycle-plain s v quiet = ap plain (cycle-rest w (levels_of s) (plain s) v (asking-plain s ∙ quiet))
@@ -33,7 +34,7 @@ module _ (w : Observer) where
       let quiet-y : is_asking y ≡ false = sym (asking-plain y) ∙ ap is_asking (sym ago) ∙ asking-plain x ∙ still in
       cycle-plain x sound still ∙ ap (λ (m : Tracked). plain (cycled w m)) ago ∙ sym (cycle-plain y (ap board_fault_of board ∙ sound) quiet-y)
 
-  -- one cycle, and then the others
+  -- suc i cycles are one cycle, followed by i cycles
   pub behind : (i : ℕ) (s : Tracked) → after_cycles w (suc i) s ≡ after_cycles w i (cycled w s)
   behind zero s = refl
   behind (suc i) s = ap (cycled w) (behind i s)

@@ -1,4 +1,4 @@
--- What is read of the outside decides.
+-- The input levels affect a cycle only through the value that the cycle reads.
 use Rattle.std.proofs.Common.{◌≡◌, ℕ, ◌+◌, ◌%◌, Bool, true, false, cond, ◌&&◌, ◌||◌, List, [], ◌∷◌, Option, Some, None, unwrap_or, length, slice_index, slice_index_or, refl, sym, ap, ◌∙◌, eqb}
 use Rattle.std.specs.List.{list_any, range_with_len}
 use Rattle.std.proofs.lemmas.Bool.{and_parts}

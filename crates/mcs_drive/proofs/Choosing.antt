@@ -1,4 +1,4 @@
--- What is read is one of 16 choices of lines.
+-- The value read at the port of a ROM is one of 16 values.
 use Rattle.std.proofs.Common.{◌≡◌, ℕ, ◌+◌, ◌*◌, ◌/◌, ◌<◌, Bool, true, false, ◌&&◌, List, Option, Some, None, refl, arith, eqb}
 use Rattle.mcs_nibble.specs.declared.lines.LineMask.{LineMask}
 use Rattle.mcs_nibble.specs.declared.lines.LineMask.TheVariants.{Input, Zero, One}

@@ -1,4 +1,4 @@
--- What levels do not change.
+-- Parts of a cycle that do not depend on the input levels.
 use Rattle.std.proofs.Common.{◌≡◌, ℕ, ◌%◌, ◌/◌, ◌<◌, Bool, true, false, not, cond, ◌&&◌, List, [], Option, Some, None, unwrap_or, slice_set, slice_index, slice_index_or, nat_lt, refl, ap, ◌∙◌, eqb}
 use Rattle.mcs_model.specs.declared.regs.Regs.{Regs}
 use Rattle.mcs_model.specs.declared.op.Op.{Op}
@@ -19,7 +19,7 @@ use Rattle.mcs_drive.proofs.Outputs.{clock-output, data-output}
 use Rattle.mcs_drive.specs.Driven.{Levels, under, cycled}
 use Rattle.mcs_drive.specs.Asking.{asks, is_asking}
 
--- a bus at these levels
+-- a bus with its keys and TEST set to the input levels l
 abbrev pub at_levels : Levels → BusState → BusState
 at_levels l m = record m { keys = l.keys; test = l.test }
 
@@ -36,7 +36,7 @@ registers-rest l _ s m e = refl
 
 -- ---- the bus
 
--- an output line is at what its latch holds
+-- the level of an output line does not depend on the input levels
 level-rest : (l : Levels) (m : BusState) (line : Line) → is_output_line m.board line ≡ true → level (at_levels l m) line ≡ level m line
 unfolding level latch_of
 level-rest l m (Rom chip k) h = let no = not-true _ (and_parts (exists_on m.board (Rom chip k)) _ h).1 in rw no refl
@@ -123,7 +123,7 @@ cycle-when : (l : Levels) (s : Machine) (b : Bool) → board_fault_of s.1.board 
 cycle-when l s true v e = refl
 cycle-when l s false v e = work-rest l (instruction_at s.0 s.1) s.0 s.1 v e
 
--- a cycle that does not ask is the same at all levels, and leaves them
+-- a cycle that reads no input does not depend on the input levels and leaves them unchanged
 pub cycle-rest : (l : Levels) (s : Machine) → board_fault_of s.1.board ≡ None → is_asking s ≡ false → cycled (under l s) ≡ under l (cycled s)
 unfolding cycle_of fetch_of
 cycle-rest l s v e = cycle-when l s (eqb s.0.owed 1) v e

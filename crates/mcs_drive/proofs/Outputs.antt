@@ -1,4 +1,4 @@
--- The clocks and the data lines of chains are output lines (as in mcs_board's BoardLemmas).
+-- The clock and data lines of chains are output lines (as in `BoardLemmas` of mcs_board).
 use Rattle.std.proofs.Common.{◌≡◌, ℕ, ◌<◌, None, true, false, not, ◌||◌}
 use Rattle.std.proofs.lemmas.Bool.{or_parts, not-false}
 use Rattle.mcs_model.specs.declared.board.BoardParts.{BoardParts}

@@ -1,4 +1,4 @@
--- Marks that an observer has seen were passed.
+-- If an observer has seen a mark, the key was at the mark.
 use Rattle.std.proofs.Common.{◌≡◌, ℕ, zero, suc, ◌+◌, ◌-◌, ◌<◌, ◌≤◌, Bool, true, false, cond, ◌&&◌, List, [], ◌∷◌, ◌++◌, Option, Some, None, inl, inr, length, nat_lt, slice_get, take, refl, sym, ap, ◌∙◌, subst, arith, add-one}
 use Rattle.std.proofs.Math.Seq.{take-suc}
 use Rattle.std.proofs.lemmas.Bool.{and_cases, cases_lt, le-ltb, lt-ltb, ltb-false, not-true}
@@ -16,14 +16,15 @@ use Rattle.mcs_drive.proofs.Seeing.{some_shown}
 use Rattle.mcs_drive.proofs.Showing.{shown-level}
 use Rattle.mcs_drive.proofs.Stations.{cycle-board}
 
--- ---- marks that are passed
+-- ---- keys at marks, in order
 
--- up to a later moment
+-- marks passed before moment b are also passed before the next moment
 passes-on : (board : BoardParts) (f : ℕ → Levels) (marks : List Mark) (a b : ℕ) → Passes board f marks a b → Passes board f marks a (suc b)
 passes-on board f [] a b h = tt
 passes-on board f (mark ∷ marks) a b h = (h.0, h.1, (let before = h.2 in omega arith), h.3, passes-on board f marks (suc h.0) b h.4)
 
--- and one mark more
+-- if the key of a mark is at its level at moment b, the marks passed before b, followed by this mark, are passed
+-- before the next moment
 passes-more : (board : BoardParts) (f : ℕ → Levels) (marks : List Mark) (mark : Mark) (a b : ℕ) → a ≤ b → IsAtMark board (f b) mark → Passes board f marks a b → Passes board f (marks ++ mark ∷ []) a (suc b)
 passes-more board f [] mark a b order at h = (b, order, omega arith, at, tt)
 passes-more board f (first ∷ marks) mark a b order at h =
@@ -47,12 +48,13 @@ progress-le-when false n seen e = ltb-false n seen e
 progress-le : (n seen : ℕ) → progress n seen ≤ n
 progress-le n seen = progress-le-when (nat_lt n seen) n seen refl
 
--- the marks that count as seen were passed since moment `a`, and the count has not passed the last mark
+-- holds if the keys were at the seen marks, in order, from moment `a` on, and the count is not above the number of
+-- marks
 record Seen (board : BoardParts) (f : ℕ → Levels) (marks : List Mark) (a i seen : ℕ) : Type 0 where
   passed : Passes board f (take (progress (length marks) seen) marks) a i
   few : a < i → seen ≤ length marks
 
--- a cycle while the condition does not hold
+-- after a cycle at which the condition does not hold, the keys were at the seen marks
 seen-next : (board : BoardParts) (f : ℕ → Levels) (marks : List Mark) (a i seen : ℕ) → a ≤ i → Passes board f (take (progress (length marks) seen) marks) a i →
     (o : Option Mark) (p : Mark → Bool) (shown : Bool) → slice_get marks (progress (length marks) seen) ≡ o → some_shown o p ≡ shown → ((mark : Mark) → p mark ≡ true → IsAtMark board (f i) mark) →
     Seen board f marks a (suc i) (marks_after (length marks) seen false shown)
@@ -85,7 +87,7 @@ module _ (w : Observer) where
   driven-board f zero s = refl
   driven-board f (suc k) s = cycle-board w (under (f k) (driven w f k s)) ∙ driven-board f k s
 
-  -- what is seen after cycle i was passed, if the condition does not hold before it
+  -- the keys were at the marks seen after cycle i, if the condition does not hold before the cycle
   seen-cycle : (s : Tracked) (f : ℕ → Levels) (a i : ℕ) → board_fault_of s.1.board ≡ None → FitBoard s.1.board (f i) → a ≤ i → opens_at w (driven w f i s) ≡ false →
       Seen s.1.board f w.marks a i (driven w f i s).2.seen → Seen s.1.board f w.marks a (suc i) (driven w f (suc i) s).2.seen
   seen-cycle s f a i v fit order closed h =
@@ -111,14 +113,14 @@ module _ (w : Observer) where
       subst (λ (i : ℕ). Seen s.1.board f w.marks a i (driven w f i s).2.seen) next
       (seen-cycle s f a (a + m) v (fit (a + m)) (omega arith) (waits (a + m) (omega arith) (omega arith)) (seen-along s f v fit a b waits first m (omega arith)))
 
-  -- no mark counts as seen
+  -- if the progress is 0, no mark counts as seen
   seen-none : (board : BoardParts) (f : ℕ → Levels) (a seen : ℕ) → progress (length w.marks) seen ≡ 0 → Seen board f w.marks a a seen
   seen-none board f a seen none = record {
     passed = subst (λ (k : ℕ). Passes board f (take k w.marks) a a) (sym none) tt;
     few = λ less. absurd (omega arith);
   }
 
-  -- right after the condition held none does
+  -- immediately after the condition held, no mark counts as seen
   opened-none : (s : Tracked) (f : ℕ → Levels) (p : ℕ) → opens_at w (driven w f p s) ≡ true → progress (length w.marks) (driven w f (suc p) s).2.seen ≡ 0
   opened-none s f p is =
       let y = under (f p) (driven w f p s) in
@@ -142,7 +144,7 @@ module _ (w : Observer) where
         | inr after ↦ before-none s f a b is after.0 after.1
       ]
 
-  -- when the condition becomes true, the count has not passed the last mark
+  -- when the condition becomes true, the count is not above the number of marks
   count-le : (s : Tracked) (f : ℕ → Levels) (a b : ℕ) → s.2.seen ≡ 0 → BecomesTrue (λ i. opens_at w (driven w f i s)) a b → (a < b → (driven w f b s).2.seen ≤ length w.marks) → (driven w f b s).2.seen ≤ length w.marks
   count-le s f a b none is few =
       elim is.start [
@@ -155,7 +157,7 @@ module _ (w : Observer) where
         | inr after ↦ few after.0
       ]
 
-  -- and it has reached it, if the property holds
+  -- if the condition holds only after all marks are seen, the count is then at least the number of marks
   count-ge : (t : Tracked) → is_open_in_turn w t ≡ true → opens_at w t ≡ true → length w.marks ≤ t.2.seen
   count-ge t turn held =
       elim (and_cases (opens_at w t) (nat_lt t.2.seen (length w.marks)) (not-true (opens_at w t && nat_lt t.2.seen (length w.marks)) turn)) [

@@ -1,4 +1,4 @@
--- The marks that a cycle shows depend on what it reads, and on nothing else of the levels.
+-- The input levels affect the marks that a cycle shows only through the value that the cycle reads.
 use Rattle.std.proofs.Common.{◌≡◌, ℕ, Bool, true, false, not, cond, ◌&&◌, Option, Some, None, length, slice_get, refl, sym, ap, ◌∙◌, eqb}
 use Rattle.mcs_model.specs.declared.board.KeyMatrix.{KeyMatrix}
 use Rattle.mcs_model.specs.declared.board.Line.{Line}
@@ -16,7 +16,7 @@ use Rattle.mcs_drive.specs.Marks.{column_line, line_shows, shows}
 use Rattle.mcs_drive.specs.Tracked.{Observer, Tracked, answer, is_asking, marks_after, opens_at, progress, seen_after, seen_reading, shows_next, under}
 use Rattle.mcs_drive.proofs.Commuting.{at_levels}
 
--- whether a mark is shown, if there is one
+-- true if there is a mark, and p is true for it
 abbrev pub some_shown : Option Mark → (Mark → Bool) → Bool
 some_shown o p = elim o [ Some mark ↦ p mark | None ↦ false ]
 
@@ -46,7 +46,7 @@ quiet-shows w s value quiet =
 quiet-seen : (w : Observer) (s : Tracked) (value : ℕ) → is_asking s ≡ false → seen_reading w s value ≡ marks_after (length w.marks) s.2.seen (opens_at w s) false
 quiet-seen w s value quiet = ap (marks_after (length w.marks) s.2.seen (opens_at w s)) (quiet-shows w s value quiet)
 
--- it sees as much at all levels
+-- a cycle that reads no input sees the same number of marks at all input levels
 pub quiet-rests : (w : Observer) (l : Levels) (s : Tracked) → is_asking s ≡ false → seen_after w (under l s) ≡ seen_after w s
 unfolding fetch_of
 quiet-rests w l s quiet = rw (quiet-seen w (under l s) (port_of (at_levels l s.1)) quiet, quiet-seen w s (port_of s.1) quiet) refl
@@ -77,7 +77,7 @@ op-levels : (l : Levels) (o : Option Op) (s : BusState) (value : ℕ) (mark : Ma
 op-levels l (Some Rdr) s value mark = ap (λ b. has_key s.board mark.row mark.column && b) (keys-levels l s value mark s.board.keys)
 op-levels l _ s value mark = refl
 
--- what a read shows does not depend on the levels, but on the value alone
+-- the marks that a read shows depend on the value read, not on the input levels
 pub reading-levels : (w : Observer) (l : Levels) (s : Tracked) (value : ℕ) → seen_reading w (under l s) value ≡ seen_reading w s value
 unfolding fetch_of
 reading-levels w l s value =
@@ -92,7 +92,7 @@ reading-decides w l l' s same =
     (same-shown (slice_get w.marks (progress (length w.marks) s.2.seen)) (shows op s.1 (port_of (at_levels l s.1))) (shows op s.1 (port_of (at_levels l' s.1)))
     (λ mark. next-decides (eqb s.0.owed 1) (instruction_at s.0 s.1) l l' s.1 mark same))
 
--- where the same is read, as much is seen
+-- if a cycle reads the same value at two sets of input levels, it sees the same number of marks at both
 pub seen-decides : (w : Observer) (l l' : Levels) (s : Tracked) → answer l s ≡ answer l' s → seen_after w (under l s) ≡ seen_after w (under l' s)
 seen-decides w l l' s same =
     reading-levels w l s (port_of (at_levels l s.1)) ∙ reading-decides w l l' s same ∙ sym (reading-levels w l' s (port_of (at_levels l' s.1)))

@@ -1,4 +1,4 @@
--- A read that shows a mark is possible only with the key at that level.
+-- A read shows a mark only if the key is at the level of the mark.
 use Rattle.std.proofs.Common.{◌≡◌, ℕ, zero, suc, ◌+◌, ◌*◌, ◌/◌, ◌<◌, Bool, true, false, not, cond, ◌&&◌, ◌||◌, List, [], ◌∷◌, Option, Some, None, is_some, inl, inr, length, get_or, nat_lt, slice_index, slice_index_or, refl, sym, ap, ◌∙◌, subst, arith, eqb}
 use Rattle.std.specs.List.{list_any, range_with_len}
 use Rattle.std.proofs.lemmas.Bool.{and_from, and_parts, cases_Bool, cases_lt, eq-eqb, eqb-false, eqb-true, ltb-true, not-false, not-true, or_parts}
@@ -27,7 +27,7 @@ use Rattle.mcs_drive.specs.Marks.{IsAtMark, can_another_pull, column_line, is_ro
 use Rattle.mcs_drive.proofs.Choosing.{bit-lt, bits}
 use Rattle.mcs_drive.proofs.Commuting.{at_levels}
 
--- ---- a bit that is read at an input line is the level of the line
+-- ---- a bit read at an input line is the level of the line
 
 bit-at : (f : ℕ → ℕ) → ((j : ℕ) → f j < 2) → (k : ℕ) → k < 4 → bit_of (nibble_of f) k ≡ f k
 bit-at f lt zero h = (bits (f 0) (f 1) (f 2) (f 3) (lt 0) (lt 1) (lt 2) (lt 3)).at_0
@@ -73,14 +73,15 @@ input-column b m j v e within =
     subst (λ (o : Option KeyMatrix). elim o as (λ _. Bool) [ Some m ↦ list_any q m.columns.items | None ↦ false ] ≡ false) e columns in
     not-false (is_input_line b (column_line m j)) (none_at q m.columns.items j (Rom 0 0) none within)
 
--- ---- a line at 1 is pulled by the key that alone can, and one at 0 by none
+-- ---- a line at 1 is pulled by the only key that can pull it, and a line at 0 by no key
 
 none-in-range : (p : ℕ → Bool) (n j : ℕ) → list_any p (range_with_len 0 n) ≡ false → j < n → p j ≡ false
 none-in-range p n j none h =
     let at : get_or (range_with_len 0 n) j 0 ≡ j = get_or-range_with_len 0 n j 0 h ∙ (let e : 0 + j ≡ j = omega arith in e) in
     ap p (sym at) ∙ none_at p (range_with_len 0 n) j 0 none (let len = length-range_with_len 0 n in omega arith)
 
--- an element that passes one test and not the other
+-- if some element satisfies p and none satisfies q, F holds if it follows from each element that satisfies p but not
+-- q
 found : {X : Type 0} (p q : X → Bool) (F : Type 0) → ((x : X) → p x ≡ true → q x ≡ false → F) → (xs : List X) → list_any p xs ≡ true → list_any q xs ≡ false → F
 found p q F h [] some none = absurd (cc)
 found p q F h (x ∷ xs) some none =
@@ -136,7 +137,7 @@ up-level s m mark chip k line row column small pulled driven =
     let rests = none-in-range (drives bits s.keys m mark.column) m.rows mark.row idle row in
     less-than-two (key_level s m mark) small (from-and (is_row_driven s m mark.row) (eqb (key_level s m mark) 1) driven rests)
 
--- ---- a mark that is shown
+-- ---- marks that a read shows
 
 when-pulled : (b : Bool) (n : ℕ) → n ≡ bit_when b → eqb n 1 ≡ true → b ≡ true
 when-pulled true n e is = refl
@@ -165,7 +166,7 @@ line-level s m mark (Rom chip k) e line input row column small is =
 line-level s m mark (Ram bank chip k) e line input row column small is = absurd (cc)
 line-level s m mark (Chain n i) e line input row column small is = absurd (cc)
 
--- levels of a board are 0 or 1
+-- the levels of keys are 0 or 1
 level-lt : (n i : ℕ) (keys : List ℕ) → AreBelow n 2 keys → slice_index keys i < 2
 level-lt n i keys fit =
     elim (cases_lt i (length keys)) [

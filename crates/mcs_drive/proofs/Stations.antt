@@ -1,4 +1,4 @@
--- From asking to asking.
+-- Runs that are split at the reads of inputs.
 use Rattle.std.proofs.Common.{◌≡◌, ℕ, ◌+◌, ◌-◌, ◌/◌, ◌<◌, zero, suc, List, Bool, true, false, cond, Option, Some, None, unwrap_or, inl, inr, refl, sym, ap, ◌∙◌, subst, arith, nat_lt, eqb}
 use Rattle.std.proofs.lemmas.Bool.{cases_lt}
 use Rattle.mcs_nibble.specs.declared.lines.LineMask.{LineMask}
@@ -17,7 +17,7 @@ use Rattle.mcs_drive.specs.Tracked.{Observer, Tracked, machine_in, under, plain,
 use Rattle.mcs_drive.specs.Leading.{Ignores, LeadsTo}
 use Rattle.mcs_drive.proofs.Tracking.{cycle-rest}
 
--- ---- the board stays
+-- ---- a cycle does not change the board
 
 either-board : (b : Bool) (m n : BusState) (board : BoardParts) → m.board ≡ board → n.board ≡ board → (cond b m n).board ≡ board
 either-board true m n board h k = h
@@ -54,7 +54,7 @@ module _ (w : Observer) where
   cycles-board zero s = refl
   cycles-board (suc k) s = cycle-board (after_cycles w k s) ∙ cycles-board k s
 
-  -- ---- driven w runs
+  -- ---- runs with changing inputs
 
   driven-add : (f : ℕ → Levels) (n m : ℕ) (s : Tracked) → driven w f (n + m) s ≡ driven w (λ i. f (n + i)) m (driven w f n s)
   driven-add f n zero s = ap (λ k. driven w f k s) (omega arith)
@@ -64,7 +64,7 @@ module _ (w : Observer) where
   driven-alike f zero s t e = e
   driven-alike f (suc k) s t e = ap (λ (m : Tracked). plain (cycled w (under (f k) m))) (driven-alike f k s t e)
 
-  -- a run of which only the first cycle may ask
+  -- in a run in which only the first cycle reads an input, only the levels before the first cycle matter
   pub driven-quiet : (f : ℕ → Levels) (n : ℕ) (a : Tracked) → board_fault_of a.1.board ≡ None → ((i : ℕ) → i < n → is_asking (after_cycles w (suc i) (under (f 0) a)) ≡ false) → plain (driven w f (suc n) a) ≡ plain (after_cycles w (suc n) (under (f 0) a))
   driven-quiet f zero a v quiet = refl
   driven-quiet f (suc n) a v quiet =
@@ -75,13 +75,13 @@ module _ (w : Observer) where
       ap (λ (m : Tracked). plain (cycled w (under l m))) ago
       ∙ ap plain (cycle-rest w l (after_cycles w (suc n) b) sound (quiet n (omega arith)))
 
-  -- ---- stations
+  -- ---- machines before a read of an input
 
-  -- at these levels, a leads to one of R
+  -- at the input levels l, a leads to a machine in R
   abbrev pub Leads : (Tracked → Bool) → (Tracked → Type 0) → Tracked → Levels → Type 0
   Leads p R a l = (to : Tracked) × R to × LeadsTo w p a to l
 
-  -- each of R has p, and leads to one of R at all levels
+  -- holds if p is true for each machine in R, and each leads to a machine in R at all input levels
   pub record Closed (p : Tracked → Bool) (R : Tracked → Type 0) : Type 0 where
     pub ignores : Ignores p
     pub sound : (a : Tracked) → R a → board_fault_of a.1.board ≡ None
@@ -114,6 +114,6 @@ module _ (w : Observer) where
             ∙ sym (c.ignores (after_cycles w (suc k) b)) ∙ leads.well k within
       ]
 
-  -- whatever the outside does, p holds at every moment from one of R on
+  -- if R is closed and contains a, then p holds at every moment of every run from a
   pub closed-holds : (p : Tracked → Bool) (R : Tracked → Type 0) → Closed p R → (a : Tracked) → R a → Holds w p a
   closed-holds p R c a is = λ f fit k. stations-holds p R c (suc k) k (omega arith) f a is fit

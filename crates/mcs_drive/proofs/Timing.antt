@@ -1,4 +1,4 @@
--- A stopwatch beside a run.
+-- The stopwatch of an observer during a run.
 use Rattle.std.proofs.Common.{◌≡◌, ◌<◌, ◌≤◌, ◌+◌, ◌⊎◌, ℕ, zero, suc, inl, inr, Bool, true, false, cond, ◌||◌, nat_lt, nat_le, refl, sym, ap, ◌∙◌, subst, arith, eqb}
 use Rattle.std.proofs.lemmas.Bool.{eqb-false, leb-true, lt-ltb, ne_eqb, or_parts}
 use Rattle.mcs_drive.specs.Driven.{Levels, FitBoard}
@@ -15,11 +15,11 @@ picked true b n h = omega arith
 picked false true n h = omega arith
 picked false false n h = h refl
 
--- once it began, it shows 1 at least
+-- after a cycle at which it begins, the stopwatch shows at least 1
 after-begun : (n : ℕ) (ends : Bool) → 1 ≤ shown_after n true ends
 after-begun n ends = picked (eqb n 0 || ends) (nat_lt n LONGEST) n (λ e. some n (eqb-false n 0 (or_parts (eqb n 0) ends e).0))
 
--- it counts while it runs
+-- a running stopwatch that does not end counts the cycle
 counts-on : (n m : ℕ) (begins ends : Bool) → 1 ≤ n → n < LONGEST → ends ≡ false → m ≤ n → suc m ≤ shown_after n begins ends
 counts-on n m begins ends runs few free more =
     let at : (eqb n 0 || ends) ≡ false = rw (ne_eqb n 0 (omega arith), free) refl in
@@ -30,7 +30,7 @@ counts-on n m begins ends runs few free more =
 module _ (w : Observer) where
   -- ---- a run
 
-  -- it ended within m cycles after cycle k, or shows more than m
+  -- the stopwatch ended at most m cycles after cycle k, or it shows more than m
   abbrev Runs : (ℕ → Levels) → ℕ → Tracked → ℕ → Type 0
   Runs f k s m =
       ((d : ℕ) × (1 ≤ d) × (d ≤ m) × (ends_at w (driven w f (k + d) s) ≡ true))

@@ -1,4 +1,4 @@
--- A machine with its counts: what holds of a cycle of the machine holds of both.
+-- Laws about one cycle of a machine hold for the machine with its counts.
 use Rattle.std.proofs.Common.{◌≡◌, ◌∙◌, ℕ, zero, suc, false, None, refl, ap}
 use Rattle.mcs_model.specs.Boards.{board_fault_of}
 use Rattle.mcs_model.specs.Bus.{fetch_of}
@@ -9,19 +9,19 @@ use Rattle.mcs_drive.proofs.Commuting.{cycle-rest as machine-rest}
 use Rattle.mcs_drive.proofs.Answering.{answers-decide as machine-decides}
 use Rattle.mcs_drive.proofs.Seeing.{quiet-rests, seen-decides}
 
--- a machine with these counts
+-- the tracked machine with machine m and counts n
 abbrev pub with_counts : Counts → Machine → Tracked
 with_counts n m = (m.0, m.1, n)
 
 module _ (w : Observer) where
-  -- a cycle that does not ask is the same at all levels, and leaves them
+  -- a cycle that reads no input does not depend on the input levels and leaves them unchanged
   pub cycle-rest : (l : Levels) (s : Tracked) → board_fault_of s.1.board ≡ None → is_asking s ≡ false → cycled w (under l s) ≡ under l (cycled w s)
   unfolding fetch_of
   cycle-rest l s v e =
       ap (λ (n : ℕ). with_counts (record (counts_after w s) { seen = n }) (cycled_machine (under_machine l (machine_in s)))) (quiet-rests w l s e)
       ∙ ap (with_counts (counts_after w s)) (machine-rest l (machine_in s) v e)
 
-  -- of the levels, a cycle depends on what is read alone
+  -- the input levels affect a cycle only through the value that the cycle reads
   pub answers-decide : (l l' : Levels) (s : Tracked) → board_fault_of s.1.board ≡ None → answer l s ≡ answer l' s → plain (cycled w (under l s)) ≡ plain (cycled w (under l' s))
   unfolding fetch_of
   answers-decide l l' s v e =

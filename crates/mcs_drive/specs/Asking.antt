@@ -21,7 +21,8 @@ asks (Some Rdr) = true
 asks (Some (Jcn c w)) = c % 2 == 1
 asks _ = false
 
--- true if a machine's next cycle reads an input; the second cycle of an instruction never does
+-- true if the next cycle of a machine reads an input; the second cycle of an instruction never
+-- reads one
 abbrev pub is_asking : Machine → Bool
 is_asking s = not (s.0.owed == 1) && asks (instruction_at s.0 s.1)
 
@@ -33,22 +34,22 @@ LevelsRest =
 
 -- ---- the value that a read returns
 
--- the value that an instruction reads at the given input levels: the selected ROM's port for RDR, TEST
--- for JCN, and 0 if it reads no input
+-- The value that an instruction reads at the input levels l: the port of the selected ROM for RDR,
+-- TEST for a JCN that tests TEST. The value is 0 if the instruction reads no input.
 abbrev pub answer_to : Option Op → Levels → BusState → ℕ
 answer_to (Some Rdr) l m = port_of (record m { keys = l.keys; test = l.test })
 answer_to (Some (Jcn c w)) l m = if c % 2 == 1 then l.test else 0
 answer_to _ l m = 0
 
--- the value that a machine's next instruction reads at the given input levels
+-- the value that the instruction at the program counter reads at the input levels l
 abbrev pub answer : Levels → Machine → ℕ
 answer l s = answer_to (instruction_at s.0 s.1) l s.1
 
--- a machine with its input levels erased: no keys, and TEST at 0
+-- a machine without its input levels: no keys, and TEST at 0
 abbrev pub plain : Machine → Machine
 plain s = under (record { keys = []; test = 0 }) s
 
--- the input levels affect a cycle only through the value that it reads
+-- the input levels affect a cycle only through the value that the cycle reads
 abbrev pub AnswersDecide : Type 0
 AnswersDecide =
     (l l' : Levels) (s : Machine) → board_fault_of s.1.board ≡ None → answer l s ≡ answer l' s →
@@ -56,7 +57,8 @@ AnswersDecide =
 
 -- ---- the values that a read can return
 
--- true if line k of a ROM's port is a column of the key matrix and some row is driven: a key can pull it
+-- true if a key can pull line k of a ROM: the line is a column of the key matrix, and at least one
+-- row is driven
 abbrev pub may_be_pulled : BusState → ℕ → ℕ → Bool
 may_be_pulled s chip k =
     elim s.board.keys [
@@ -67,14 +69,14 @@ may_be_pulled s chip k =
           (range_with_len 0 (length m.columns.items))
     ]
 
--- at any input levels, every line that is pulled is one that a driven row can pull
+-- at any input levels, a line is pulled only if a key in a driven row can pull it
 abbrev pub PulledAtMost : Type 0
 PulledAtMost =
     (l : Levels) (s : Machine) (chip k : ℕ) → is_pulled (under l s).1 chip k ≡ true →
     may_be_pulled s.1 chip k ≡ true
 
--- the value read at a ROM's port if, of the lines that can be pulled, exactly those are pulled whose bit
--- in c is 1; 0 if the ROM is absent
+-- The value read at the port of a ROM if a line is pulled exactly when a key can pull it and its
+-- bit in c is 1. The value is 0 if the ROM is absent.
 abbrev pub port_choice : BusState → ℕ → ℕ → ℕ
 port_choice s chip c =
     elim (masks_on s.board chip) [
@@ -82,7 +84,8 @@ port_choice s chip c =
       | None ↦ 0
     ]
 
--- at any input levels, the value at the selected ROM's port is `port_choice` for some c below 16
+-- at any input levels, the value read at the port of the selected ROM is `port_choice` for some c
+-- below 16
 abbrev pub ChoicesCover : Type 0
 ChoicesCover =
     (l : Levels) (s : Machine) →

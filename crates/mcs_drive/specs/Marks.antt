@@ -1,5 +1,5 @@
--- Marks: the levels of keys that an observer looks for. A read of a port shows a mark if the value that
--- it reads is possible only with the key at that level. (Our own choice.)
+-- Marks: the key levels that an observer looks for. A read of a port shows a mark if the value read
+-- is possible only with the key at that level. (Our own choice.)
 use Rattle.std.specs.Prelude.{◌≡◌, ◌<◌, ◌≤◌, ◌+◌, ◌/◌, ℕ, suc, List, [], ◌∷◌, Bool, true, false, not, ◌&&◌, ◌==◌, Option, Some, None, length, slice_index, slice_index_or, if◌then◌else◌}
 use Rattle.std.specs.List.{list_any, range_with_len}
 use Rattle.mcs_nibble.specs.Bits.{bit_of}
@@ -15,9 +15,9 @@ use Rattle.mcs_model.specs.Levels.{bit_when, chain_bit, is_rom_line}
 use Rattle.mcs_drive.specs.declared.marks.Mark.{Mark}
 use Rattle.mcs_drive.specs.Driven.{Levels}
 
--- ---- what a read shows
+-- ---- marks that a read shows
 
--- true if row r of a key matrix is driven: its bit of the chain is 1
+-- true if row r of a key matrix is driven: the chain bit of the row is 1
 abbrev pub is_row_driven : BusState → KeyMatrix → ℕ → Bool
 is_row_driven s m r = chain_bit s m.chain (m.first + r) == 1
 
@@ -25,8 +25,8 @@ is_row_driven s m r = chain_bit s m.chain (m.first + r) == 1
 abbrev pub column_line : KeyMatrix → ℕ → Line
 column_line m j = slice_index_or m.columns.items j (Rom 0 0)
 
--- true if a key other than the mark's can pull line k of a ROM: a key in a driven row, of a column at
--- that line
+-- true if a key other than the key of the mark can pull line k of a ROM: the other key is in a
+-- driven row, and its column is that line
 abbrev pub can_another_pull : BusState → KeyMatrix → Mark → ℕ → ℕ → Bool
 can_another_pull s m mark chip k =
     list_any
@@ -34,9 +34,9 @@ can_another_pull s m mark chip k =
     && list_any (λ r. is_row_driven s m r && not (r == mark.row && j == mark.column)) (range_with_len 0 m.rows))
     (range_with_len 0 (length m.columns.items))
 
--- true if a value that is read at the port of the selected ROM shows a mark whose key pulls this line.
--- The key is up if its row is driven and the line reads 0. It is down if the line reads 1 and no other
--- key can pull the line.
+-- True if a value read at the port of the selected ROM shows a mark whose key pulls this line. The
+-- value shows that the key is up if the row of the key is driven and the line reads 0. It shows
+-- that the key is down if the line reads 1 and no other key can pull the line.
 abbrev pub line_shows : BusState → KeyMatrix → ℕ → Mark → Line → Bool
 line_shows s m value mark (Rom chip k) =
     chip == s.rom_src / 16
@@ -45,8 +45,8 @@ line_shows s m value mark (Rom chip k) =
     else bit_of value k == 0 && is_row_driven s m mark.row)
 line_shows s m value mark _ = false
 
--- true if the board has a mark's key, and a value that is read at the port of the selected ROM shows the
--- mark
+-- true if the board has the key of a mark, and a value read at the port of the selected ROM shows
+-- the mark
 abbrev pub port_shows : BusState → ℕ → Mark → Bool
 port_shows s value mark =
     has_key s.board mark.row mark.column
@@ -55,19 +55,19 @@ port_shows s value mark =
       | None ↦ false
     ]
 
--- true if a cycle that begins this instruction and reads this value shows a mark: only RDR reads a port
+-- true if the instruction shows the mark when it reads `value`; only RDR reads a port
 abbrev pub shows : Option Op → BusState → ℕ → Mark → Bool
 shows (Some Rdr) s value mark = port_shows s value mark
 shows _ s value mark = false
 
--- ---- what levels show
+-- ---- marks at the levels of keys
 
--- holds if the board has a mark's key, and the key is at the mark's level
+-- holds if the board has the key of a mark, and the key is at the level of the mark
 pub record IsAtMark (b : BoardParts) (l : Levels) (mark : Mark) : Type 0 where
   pub there : has_key b mark.row mark.column ≡ true
   pub level : slice_index l.keys (key_index b mark.row mark.column) ≡ bit_when mark.is_down
 
--- holds if the keys are at these marks one after the other, at moments from `a` on and before b
+-- holds if the keys are at the marks, in order, at increasing moments from `a` on and before b
 abbrev pub Passes : BoardParts → (ℕ → Levels) → List Mark → ℕ → ℕ → Type 0
 Passes board f [] a b = Unit {0}
 Passes board f (mark ∷ marks) a b =

@@ -1,23 +1,25 @@
--- Conditions that become true only after keys were at some levels, one after the other.
+-- Conditions that become true only after the keys were at given levels, in a given order.
 use Rattle.std.specs.Prelude.{◌≡◌, ◌<◌, ◌≤◌, ◌-◌, ◌⊎◌, ℕ, Bool, true, false, None, length, nat_lt, not, ◌&&◌}
 use Rattle.mcs_model.specs.Boards.{board_fault_of}
 use Rattle.mcs_drive.specs.Driven.{Levels, FitBoard}
 use Rattle.mcs_drive.specs.Marks.{Passes}
 use Rattle.mcs_drive.specs.Tracked.{Observer, Tracked, Holds, driven, opens_at}
 
--- true unless the condition of an observer holds before all its marks were seen
+-- false if the condition of an observer holds although not all its marks are seen, otherwise true
 abbrev pub is_open_in_turn : Observer → Tracked → Bool
 is_open_in_turn w s = not (opens_at w s && nat_lt s.2.seen (length w.marks))
 
--- holds if a condition becomes true at moment b, and is false from moment `a` until then. Moment `a` is
--- the start, or the moment after the condition held last. `holds i` is true if it holds at moment i.
+-- Holds if a condition becomes true at moment b, and is false from moment `a` until then. Moment
+-- `a` is the start of the run, or the moment after the condition last held. `holds i` is true if
+-- the condition holds at moment i.
 pub record BecomesTrue (holds : ℕ → Bool) (a b : ℕ) : Type 0 where
   pub start : (a ≡ 0) ⊎ ((a < b) × (holds (a - 1) ≡ true))
   pub waits : (i : ℕ) → a ≤ i → i < b → holds i ≡ false
   pub comes : holds b ≡ true
 
--- if the condition of an observer never holds before all its marks were seen, then each time that it
--- becomes true, the keys were at the marks, one after the other, since it held last or since the start
+-- If the condition of an observer never holds before all its marks are seen, then the keys were at
+-- the marks, in order, each time it becomes true. They were at the marks after the condition last
+-- held, or after the start of the run.
 abbrev pub OpensOnlyAfter : Type 0
 OpensOnlyAfter =
     (w : Observer) (s : Tracked) → s.2.seen ≡ 0 → board_fault_of s.1.board ≡ None → Holds w (is_open_in_turn w) s →

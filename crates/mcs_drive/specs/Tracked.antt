@@ -1,7 +1,7 @@
--- A machine with three counts kept beside it, and the meaning of a property of both that holds for all
--- inputs. The counts are the number of open calls, the cycles on a stopwatch, and the number of marks
--- seen. None is part of a machine: the processor stores three return addresses but not how many are in
--- use. (Our own choice.)
+-- Machines with three counts, and properties that hold for all inputs. The counts are the number of
+-- open calls, the cycles on a stopwatch, and the number of marks seen. No count is part of the
+-- machine: the processor stores three return addresses, but not how many of them are in use. (Our
+-- own choice.)
 use Rattle.std.specs.Prelude.{◌≡◌, ◌<◌, ◌≤◌, ◌+◌, ◌-◌, ℕ, zero, suc, Bool, true, false, Option, Some, None, unwrap_or, nat_lt, nat_le, if◌then◌else◌, ◌==◌, not, ◌&&◌, ◌||◌, List, [], length, slice_get}
 use Rattle.mcs_model.specs.declared.op.Op.{Op}
 use Rattle.mcs_model.specs.declared.op.Op.TheVariants.{Jms, Bbl}
@@ -15,8 +15,7 @@ use Rattle.mcs_drive.specs.Driven.{Levels, FitBoard, driven as driven_machine}
 use Rattle.mcs_drive.specs.Asking.{asks, answer_to}
 use Rattle.mcs_drive.specs.Marks.{shows}
 
--- the counts kept beside a machine: the number of open calls, the cycles that a stopwatch shows, and how
--- many marks were seen
+-- the counts of a tracked machine: open calls, cycles that the stopwatch shows, and marks seen
 pub record Counts : Type 0 where
   pub calls : ℕ
   pub elapsed : ℕ
@@ -34,50 +33,52 @@ machine_in s = (s.0, s.1)
 abbrev pub without_calls : Machine → Tracked
 without_calls s = (s.0, s.1, record { calls = 0; elapsed = 0; seen = 0 })
 
--- a tracked machine with the given levels at its inputs
+-- a tracked machine with its keys and TEST set to the input levels l
 abbrev pub under : Levels → Tracked → Tracked
 under l s = (s.0, record s.1 { keys = l.keys; test = l.test }, s.2)
 
--- a tracked machine with its input levels erased: no keys, and TEST at 0
+-- a tracked machine without its input levels: no keys, and TEST at 0
 abbrev pub plain : Tracked → Tracked
 plain s = under (record { keys = []; test = 0 }) s
 
 -- ---- open calls
 
--- the number of open calls after an instruction, if n are open before it. JMS opens a call and BBL
--- closes one. At most three are open: a fourth call overwrites the return address of the first.
+-- The number of open calls after an instruction, if n calls are open before it. JMS opens a call,
+-- and BBL closes one. At most three calls are open: a fourth call overwrites the return address of
+-- the first.
 abbrev pub calls_after : Option Op → ℕ → ℕ
 calls_after (Some (Jms h b)) n = if nat_lt n 3 then n + 1 else n
 calls_after (Some (Bbl d)) n = n - 1
 calls_after _ n = n
 
--- the instruction that the next cycle begins. There is none if that cycle is the second one of an
--- instruction (which does no work), or if the opcode is outside the instruction table.
+-- The instruction that the next cycle begins. There is none if the next cycle is the second cycle
+-- of an instruction, which does no work, or if the opcode is outside the instruction table.
 abbrev pub next_op : Regs → BusState → Option Op
 next_op s m = if s.owed == 1 then None else instruction_at s m
 
--- the number of open calls after the next cycle, if n are open before it
+-- the number of open calls after the next cycle, if n calls are open before it
 abbrev pub open_after : Regs → BusState → ℕ → ℕ
 open_after s m n = calls_after (next_op s m) n
 
 -- ---- an observer
 
--- what an observer looks for: the states at which its stopwatch begins, those at which it ends, and
--- those at which its condition holds. The marks are to be seen, in this order, before the condition
--- becomes true.
+-- An observer: the states at which its stopwatch begins, the states at which it ends, and the
+-- states at which its condition holds. The observer looks for the marks, in this order, before the
+-- condition becomes true.
 pub record Observer : Type 0 where
   pub begins : Tracked → Bool
   pub ends : Tracked → Bool
   pub opens : Tracked → Bool
   pub marks : List Mark
 
--- an observer whose stopwatch never begins and whose condition never holds, without marks
+-- an observer without marks whose stopwatch never begins and whose condition never holds
 abbrev pub no_observer : Observer
 no_observer = record { begins = λ s. false; ends = λ s. false; opens = λ s. false; marks = [] }
 
--- ---- its stopwatch
+-- ---- the stopwatch of an observer
 
--- true if the stopwatch begins (below: ends) at a machine; the machine's input levels are ignored
+-- True if the stopwatch begins at a tracked machine. `ends_at` is true if the stopwatch ends there.
+-- Both ignore the input levels of the machine.
 abbrev pub begins_at : Observer → Tracked → Bool
 begins_at w s = w.begins (plain s)
 
@@ -88,9 +89,9 @@ ends_at w s = w.ends (plain s)
 abbrev pub LONGEST : ℕ
 LONGEST = 16777215
 
--- the number that a stopwatch shows after a cycle, if it shows n before: the cycles since it began, at
--- most LONGEST. An end resets it to 0, or to 1 if it also begins there. While it runs and does not end,
--- a begin has no effect.
+-- The number that a stopwatch shows after a cycle, if it shows n before the cycle: the cycles since
+-- it began, at most LONGEST. An end resets the number to 0, or to 1 if the stopwatch also begins
+-- there. While the stopwatch runs and does not end, a begin has no effect.
 abbrev pub shown_after : ℕ → Bool → Bool → ℕ
 shown_after n begins ends =
     if n == 0 || ends then (if begins then 1 else 0) else if nat_lt n LONGEST then n + 1 else n
@@ -98,24 +99,24 @@ shown_after n begins ends =
 abbrev pub elapsed_after : Observer → Tracked → ℕ
 elapsed_after w s = shown_after s.2.elapsed (begins_at w s) (ends_at w s)
 
--- ---- its marks
+-- ---- the marks of an observer
 
--- true if the condition holds at a machine; the machine's input levels are ignored
+-- true if the condition holds at a tracked machine; the input levels of the machine are ignored
 abbrev pub opens_at : Observer → Tracked → Bool
 opens_at w s = w.opens (plain s)
 
--- the number of marks, of n, that were seen in order since the condition held last, by the count `seen`.
--- The count is n + 1 right after the condition held: no mark has been seen since.
+-- The number of marks, out of n, that were seen in order since the condition last held; `seen` is
+-- the count. The count is n + 1 immediately after the condition held: no mark has been seen since.
 abbrev pub progress : ℕ → ℕ → ℕ
 progress n seen = if nat_lt n seen then 0 else seen
 
--- the count after a cycle, if it is `seen` before: n + 1 if the condition holds before the cycle, and
--- otherwise one mark more if the cycle shows the next mark
+-- The count of marks after a cycle, if it is `seen` before. It becomes n + 1 if the condition holds
+-- before the cycle. Otherwise it increases by one if the cycle shows the next mark.
 abbrev pub marks_after : ℕ → ℕ → Bool → Bool → ℕ
 marks_after n seen opens shown =
     if opens then n + 1 else if shown then progress n seen + 1 else progress n seen
 
--- true if there is a next mark, and the next cycle shows it if it reads this value
+-- true if there is a next mark, and a read of this value in the next cycle shows it
 abbrev pub shows_next : Observer → Tracked → ℕ → Bool
 shows_next w s value =
     elim (slice_get w.marks (progress (length w.marks) s.2.seen)) [
@@ -123,7 +124,8 @@ shows_next w s value =
       | None ↦ false
     ]
 
--- the count after the next cycle, if that reads this value (below: what the selected ROM's port gives)
+-- The count of marks after the next cycle, if that cycle reads this value. In `seen_after`, the
+-- value is the port of the selected ROM.
 abbrev pub seen_reading : Observer → Tracked → ℕ → ℕ
 seen_reading w s value = marks_after (length w.marks) s.2.seen (opens_at w s) (shows_next w s value)
 
@@ -146,35 +148,36 @@ cycled w s =
     let t = unwrap_or (cycle_of s.0 s.1) (machine_in s) in
     (t.0, t.1, counts_after w s)
 
--- a tracked machine after k cycles, with its input levels unchanged
+-- a tracked machine after k cycles at constant input levels
 abbrev pub after_cycles : Observer → ℕ → Tracked → Tracked
 after_cycles w zero s = s
 after_cycles w (suc k) s = cycled w (after_cycles w k s)
 
--- true if the next cycle reads an input; the second cycle of an instruction never does
+-- true if the next cycle reads an input; the second cycle of an instruction never reads one
 abbrev pub is_asking : Tracked → Bool
 is_asking s = not (s.0.owed == 1) && asks (instruction_at s.0 s.1)
 
--- the value that the next instruction reads at the given input levels
+-- the value that the instruction at the program counter reads at the input levels l
 abbrev pub answer : Levels → Tracked → ℕ
 answer l s = answer_to (instruction_at s.0 s.1) l s.1
 
--- a tracked machine after k cycles, with its inputs set to the levels f i before cycle i
+-- a tracked machine after k cycles, if its inputs are set to the levels f i before cycle i
 abbrev pub driven : Observer → (ℕ → Levels) → ℕ → Tracked → Tracked
 driven w f zero s = s
 driven w f (suc k) s = cycled w (under (f k) (driven w f k s))
 
--- the machine in a tracked run is the same as in the run without counts
+-- a tracked run reaches the same machine as the run without counts
 abbrev pub TracksMachine : Type 0
 TracksMachine =
     (w : Observer) (f : ℕ → Levels) (k : ℕ) (s : Tracked) →
     machine_in (driven w f k s) ≡ driven_machine f k (machine_in s)
 
--- p is an invariant of all runs with observer w: it holds at every moment, for all inputs (AG p in CTL)
+-- p is true at every moment of every run from s with observer w, for all inputs (AG p in CTL)
 abbrev pub Holds : Observer → (Tracked → Bool) → Tracked → Type 0
 Holds w p s = (f : ℕ → Levels) → ((k : ℕ) → FitBoard s.1.board (f k)) → (k : ℕ) → p (driven w f k s) ≡ true
 
--- a stopwatch that never exceeds a limit ends within that many cycles each time that it begins
+-- a stopwatch that never shows more than `limit` cycles, with `limit` below LONGEST, ends within
+-- `limit` cycles each time it begins
 abbrev pub EndsWithin : Type 0
 EndsWithin =
     (w : Observer) (limit : ℕ) (s : Tracked) → limit < LONGEST → Holds w (λ t. nat_le t.2.elapsed limit) s →

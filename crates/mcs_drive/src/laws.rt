@@ -1,4 +1,4 @@
-//! Laws of the definitions. Each law is the contract of a function with an empty body.
+//! Laws about the definitions of this crate. Each law is the contract of a function with an empty body.
 ghost use Rattle.mcs_drive.specs.Asking.{AnswersDecide, ChoicesCover, LevelsRest, PulledAtMost};
 ghost use Rattle.mcs_drive.specs.Leading.{AnswersLead};
 ghost use Rattle.mcs_drive.specs.Opening.{OpensOnlyAfter};
@@ -9,7 +9,7 @@ pub fn levels_rest()
     ensures { LevelsRest }
 {}
 
-/// Proves that the input levels affect a cycle only through the value that it reads.
+/// Proves that the input levels affect a cycle only through the value that the cycle reads.
 pub fn answers_decide()
     ensures { AnswersDecide }
 {}
@@ -19,29 +19,30 @@ pub fn pulled_at_most()
     ensures { PulledAtMost }
 {}
 
-/// Proves that, at any input levels, the value at the selected ROM's port is one of the 16 that `port_choice` computes.
+/// Proves that, at any input levels, the value read at the port of the selected ROM is one of the 16 values of
+/// `port_choice`.
 pub fn choices_cover()
     ensures { ChoicesCover }
 {}
 
-/// Proves that a run at one set of input levels is also a run at any other set at which its first cycle reads the same
-/// value.
+/// Proves that a run from one read of an input to the next is also a run at other input levels, if its first cycle
+/// reads the same value there.
 pub fn answers_lead()
     ensures { AnswersLead }
 {}
 
-/// Proves that counting calls, cycles and marks does not change the machine of a run.
+/// Proves that a tracked run reaches the same machine as the run without counts.
 pub fn tracks_machine()
     ensures { TracksMachine }
 {}
 
-/// Proves that a stopwatch that never exceeds a limit ends within that many cycles each time that it begins.
+/// Proves that a stopwatch that never shows more than a limit ends within that number of cycles each time it begins.
 pub fn ends_within()
     ensures { EndsWithin }
 {}
 
-/// Proves that a condition that never holds before all marks were seen becomes true only after the keys were at these
-/// levels, one after the other.
+/// Proves that the keys were at the marks of an observer, in order, each time its condition becomes true. The premise
+/// is that the condition never holds before all marks are seen.
 pub fn opens_only_after()
     ensures { OpensOnlyAfter }
 {}

@@ -1,4 +1,4 @@
-//! The effects of inputs on a machine: definitions, and laws about them.
+//! Definitions of the effects of inputs on a machine, and laws about them.
 #![tactic(auto)]
 
 mod laws;
