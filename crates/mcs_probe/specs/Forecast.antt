@@ -1,6 +1,6 @@
--- A forecast of a run: the instructions that it would begin, each with the machine before and after
--- it. (Our own choice. A two-cycle instruction does all its work in its first cycle, so the machine
--- after that cycle is reported.)
+-- A forecast of a run: the instructions that the run would begin, each with the machine before and
+-- after it. (Our own choice. A two-cycle instruction does all its work in its first cycle, so the
+-- forecast contains the machine after that cycle.)
 use Rattle.std.specs.Prelude.{◌≡◌, ℕ, ◌+◌, ◌%◌, ◌++◌, Bool, true, false, not, ◌&&◌, ◌==◌, List, map, Option, Some}
 use Rattle.std.specs.List.{count_by, filter, range_with_len}
 use Rattle.mcs_model.specs.declared.op.Op.{Op}
@@ -9,14 +9,14 @@ use Rattle.mcs_model.specs.declared.stop.Stop.{Stop}
 use Rattle.mcs_model.specs.Effect.{instruction_at}
 use Rattle.mcs_model.specs.Running.{Machine, Stops, after_cycles, after_run, run_length, stop_at}
 
--- an instruction that a run begins: the number of cycles done before it, and the machine before and
+-- an instruction that a run begins: the number of cycles before it, and the machine before and
 -- after its first cycle
 pub record Begun : Type 0 where
   pub cycles : ℕ
   pub before : Machine
   pub after : Machine
 
--- the cycle that follows k cycles from s
+-- cycle k of a run from s, counted from 0, with the machine before and after it
 abbrev pub cycle_at : Machine → ℕ → Begun
 cycle_at s k = record { cycles = k; before = after_cycles k s; after = after_cycles (k + 1) s }
 
@@ -24,8 +24,9 @@ cycle_at s k = record { cycles = k; before = after_cycles k s; after = after_cyc
 abbrev pub begins : Begun → Bool
 begins b = b.before.0.owed == 0
 
--- the instructions that k cycles from s begin, in order, for a k that a run from s reaches. Past an
--- opcode outside the instruction table, each further cycle would be listed as an instruction.
+-- The instructions that begin in the first k cycles from s, in order. This holds for every k that a
+-- run from s reaches. After an opcode outside the instruction table, the list would contain each
+-- further cycle as an instruction.
 unfoldable pub begun_within : ℕ → Machine → List Begun
 begun_within k s = filter begins (map (cycle_at s) (range_with_len 0 k))
 
@@ -33,14 +34,15 @@ begun_within k s = filter begins (map (cycle_at s) (range_with_len 0 k))
 abbrev pub begun_in : Stops → ℕ → Machine → List Begun
 begun_in stops n s = begun_within (run_length stops n s) s
 
--- ---- the number of instructions begun at each address
+-- ---- the number of instructions that begin at each address
 
--- true if an instruction is at the given address
+-- true if an instruction is at this address
 abbrev pub is_at : ℕ → Begun → Bool
 is_at at b = b.before.0.pc == at
 
--- true if the program counter after an instruction is not the instruction's address plus 2. It is
--- used only for JCN and ISZ. A jump to the address right after the instruction is not counted.
+-- True if the program counter after an instruction is not the address of the instruction plus 2.
+-- Only JCN and ISZ use this definition. A jump to the address that is 2 higher does not count as a
+-- jump.
 abbrev pub jumps : Begun → Bool
 jumps b = not (b.after.0.pc == (b.before.0.pc + 2) % 4096)
 
@@ -48,8 +50,8 @@ jumps b = not (b.after.0.pc == (b.before.0.pc + 2) % 4096)
 abbrev pub runs_at : List Begun → ℕ → ℕ
 runs_at begun at = count_by (is_at at) begun
 
--- the number of instructions begun at an address after which the program counter is not that address
--- plus 2
+-- the number of instructions that begin at an address and after which the program counter is not
+-- that address plus 2
 abbrev pub jumps_at : List Begun → ℕ → ℕ
 jumps_at begun at = count_by (λ b. is_at at b && jumps b) begun
 
@@ -65,19 +67,20 @@ is_branch s at = may_jump (instruction_at (record s.0 { pc = at }) s.1)
 
 -- ---- a run, cycle by cycle
 
--- the reason that a run stops after a cycle from s to t, if any, except for the end of the run;
--- with n = 0 and k = 1, `stop_at` never gives `Ended`
+-- The reason why a run stops after a cycle from s to t, or none; the end of the run is not
+-- considered. With n = 0 and k = 1, `stop_at` never gives `Ended`.
 abbrev pub early_stop : Stops → Machine → Machine → Option Stop
 early_stop stops s t = stop_at stops 0 1 s t
 
 -- ---- a run in two parts
 
--- the same instruction in a run that starts k cycles earlier
+-- the same instruction, if the run starts k cycles earlier
 abbrev pub later : ℕ → Begun → Begun
 later k b = record b { cycles = k + b.cycles }
 
 -- If nothing stops a run of m + n cycles early, it first begins the instructions of a run of m
--- cycles. Then it begins those of a run of n cycles from there.
+-- cycles. Then it begins the instructions of a run of n cycles from the machine after the first
+-- run.
 abbrev pub BegunAddUp : Type 0
 BegunAddUp =
     (stops : Stops) (m n : ℕ) (s : Machine) → run_length stops (m + n) s ≡ m + n →

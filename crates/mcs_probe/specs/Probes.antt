@@ -11,16 +11,16 @@ use Rattle.mcs_model.specs.QueryText.{address_text, chain_item, digit_text, hex_
 use Rattle.mcs_probe.specs.declared.probe.Probe.{Probe}
 use Rattle.mcs_probe.specs.declared.probe.Probe.TheVariants.{Acc, Cy, Pc, Register, Dcl, Rom, Ram, Status, Level, RomPort, RamPort, Chain, Src, Lamps, Returns}
 
--- the level of a line, or 0 if the board has no such line
+-- the level of a line, or 0 if the line is not on the board
 abbrev pub level_on : BusState → Line → ℕ
 level_on s line = if exists_on s.board line then level s line else 0
 
--- the levels of the four lines of a port as one number, with line k at bit k
+-- the levels of the four lines of a port, as a number with line k at bit k
 abbrev pub levels_on : BusState → (ℕ → Line) → ℕ
 levels_on s line =
     level_on s (line 0) + 2 * level_on s (line 1) + 4 * level_on s (line 2) + 8 * level_on s (line 3)
 
--- the bits of a chain, bit 0 first, or a dash if the board has no such chain
+-- the bits of a chain, bit 0 first, or a dash if the board does not have the chain
 abbrev pub bits_text : BusState → ℕ → List ℕ
 bits_text s n = if nat_lt n (chain_count s.board) then chain_item s n else codes "-"
 
@@ -42,6 +42,6 @@ probe_text t Src = hex_2 t.1.rom_src
 probe_text t Lamps = or_dash (map (λ line. lamp_mark (level t.1 line)) t.1.board.lamps.items)
 probe_text t Returns = one_word (map address_text t.0.ret)
 
--- a row: the values of the probes, in order, each after a space
+-- a row of a trace: the value of each probe in order, each after a space
 abbrev pub row : List Probe → Machine → List ℕ
 row probes t = flat_map (λ p. codes " " ++ probe_text t p) probes

@@ -1,5 +1,5 @@
-//! Probes: the locations whose values a trace of a run reports. `specs/` defines which instructions a run would begin
-//! and what is reported about them.
+//! Probes: the locations whose values the trace of a run reports. The definitions in `specs/` say which instructions
+//! a run would begin, and how the values of probes are written.
 #![tactic(auto)]
 
 mod laws;

@@ -2,10 +2,10 @@
 use mcs_model::board::Line;
 use mcs_nibble::{Addr, BankNo, Nibble, RegNo, StatusNo};
 
-/// The maximum number of probes.
+/// The maximum number of probes in one trace.
 pub const PROBES: usize = 16;
 
-/// A location whose value is reported, or a group of locations reported in one word.
+/// A location whose value a trace reports, or a group of locations that it reports as one word.
 #[derive(Clone, Copy, Debug)]
 pub enum Probe {
     /// The accumulator.
@@ -20,26 +20,26 @@ pub enum Probe {
     Dcl,
     /// A ROM byte.
     Rom(Addr),
-    /// A RAM character, by its bank and its SRC byte. It reads as 0 if the board has no such chip.
+    /// A RAM nibble: its bank, and the SRC byte that selects it. Its value is 0 if the board does not have the chip.
     Ram(BankNo, u8),
-    /// A status character, by its bank, the upper nibble of its SRC byte, and its number. It reads as 0 if the board
-    /// has no such chip.
+    /// A status character: its bank, the upper nibble of the SRC byte that selects its register, and its number. Its
+    /// value is 0 if the board does not have the chip.
     Status(BankNo, Nibble, StatusNo),
-    /// The level of a line, or 0 if the board has no such line.
+    /// The level of a line, or 0 if the line is not on the board.
     Level(Line),
-    /// The levels of the four lines of a ROM's port, as a nibble with line k at bit k. It is 0 if the board has no such
-    /// chip.
+    /// The levels of the four port lines of a ROM, as a nibble with line k at bit k. The nibble is 0 if the board
+    /// does not have the ROM.
     RomPort(u8),
-    /// The levels of the four lines of a RAM chip's port, as a nibble with line k at bit k. The chip is given by its
-    /// bank and its number. The nibble is 0 if the board has no such chip.
+    /// The levels of the four port lines of a RAM chip, as a nibble with line k at bit k. The fields are the bank
+    /// number and the chip number. The nibble is 0 if the board does not have the chip.
     RamPort(u8, u8),
-    /// The bits of a chain, bit 0 first, or a dash if the board has no such chain.
+    /// The bits of a chain, bit 0 first, or a dash if the board does not have the chain.
     Chain(u8),
-    /// The SRC byte latched in the ROMs.
+    /// The SRC byte that the ROMs store.
     Src,
     /// The board's lamps, in order.
     Lamps,
-    /// The three return addresses. BBL takes the first one.
+    /// The three return addresses. BBL returns to the first one.
     Returns,
 }
 
