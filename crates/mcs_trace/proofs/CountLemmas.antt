@@ -1,4 +1,4 @@
--- A run that is counted, instruction by instruction.
+-- The counts of a run, updated after each instruction.
 use Rattle.std.proofs.Common.{◌≡◌, ℕ, ◌+◌, ◌%◌, ◌<◌, ◌≤◌, ◌&&◌, ◌==◌, not, Bool, true, false, List, ◌++◌, slice_index, replicate, refl, sym, ap, ◌∙◌, subst, arith}
 use Rattle.std.specs.List.{count_by}
 use Rattle.std.proofs.lemmas.List.{length-replicate, get_or-replicate}
@@ -12,7 +12,7 @@ use Rattle.mcs_trace.specs.Counted.{IsCounted, IsTally, one_more}
 use Rattle.mcs_trace.proofs.Steps.{begun-on, one-behind, rests}
 use Rattle.mcs_trace.proofs.Tallies.{begun_at, counted-more, counted-few, one-when, tally-more}
 
--- a run of n cycles from s that came to t, with what was counted of its first k cycles
+-- holds if a run of n cycles from s is at t after k cycles, and the tallies contain the counts of these k cycles
 pub record Counting (stops : Stops) (n k : ℕ) (s t : Machine) (runs jumps : List ℕ) : Type 0 where
   pub going : GoesOn stops n k s t
   pub run_tally : IsTally runs (runs_at (begun_within k s))
@@ -43,15 +43,15 @@ counted-by stops n s t k c ran e runs jumps = record {
   jumps = subst (λ j. IsTally c.jumps.items (jumps_at (begun_within j s))) ran.cycles jumps;
 }
 
--- a tally that was handed on
+-- a list that equals a tally is a tally
 pub same-tally : (s : Machine) (k : ℕ) (xs ys : List ℕ) (p : ℕ → Begun → Bool) → ys ≡ xs → IsTally xs (λ a. count_by (p a) (begun_within k s)) → IsTally ys (λ a. count_by (p a) (begun_within k s))
 same-tally s k xs ys p e t = subst (λ v. IsTally v (λ a. count_by (p a) (begun_within k s))) (sym e) t
 
--- no number is more than the cycles that were done
+-- after k cycles, each number in a tally is at most k
 pub tally-few : (k : ℕ) (s : Machine) (xs : List ℕ) (p : ℕ → Begun → Bool) (at : ℕ) → at < 4096 → IsTally xs (λ a. count_by (p a) (begun_within k s)) → slice_index xs at ≤ k
 tally-few k s xs p at l t = let e = t.each at l in let f = counted-few k s (p at) in omega arith
 
--- nothing is counted yet
+-- before the first cycle, a list of zeros is a tally
 pub tally-none : (s : Machine) (p : ℕ → Begun → Bool) (xs : List ℕ) → xs ≡ replicate 4096 0 → IsTally xs (λ a. count_by (p a) (begun_within 0 s))
 unfolding begun_within
 tally-none s p xs e = rw e (record {

@@ -1,4 +1,4 @@
--- Why a run goes on at its start, and after a cycle.
+-- Conditions under which a run continues, at its start and after a cycle.
 use Rattle.std.proofs.Common.{◌≡◌, ℕ, ◌<◌, Bool, true, false, cond, Some, None, refl, arith, eqb, nat_lt}
 use Rattle.std.proofs.lemmas.Bool.Decides.{nat_tests}
 use Rattle.mcs_model.specs.declared.stop.Stop.TheVariants.{Outside, Breakpoint, Watched, Ended}
@@ -6,7 +6,7 @@ use Rattle.mcs_model.specs.Running.{Machine, Stops, is_outside, stop_at}
 use Rattle.mcs_bench.proofs.Writes.{same-ram}
 use Rattle.mcs_probe.specs.Forecast.{early_stop}
 
--- at its start a run of some cycles goes on where a cycle can follow
+-- a run of at least one cycle does not stop at its start if a cycle is possible
 pub none-at-start : (stops : Stops) (n : ℕ) (s : Machine) → 0 < n → is_outside s ≡ false → stop_at stops n 0 s s ≡ None
 none-at-start stops n s l inside =
     let same = same-ram stops.watches s s refl in
@@ -17,7 +17,7 @@ early-of : (out broken changed ended : Bool) → ended ≡ false → cond out (S
 early-of out broken changed true e = absurd (cc)
 early-of out broken changed false e = refl
 
--- before its end a run stops for the same reason
+-- before its last cycle, a run stops only for the reasons of `early_stop`
 pub early-before : (stops : Stops) (n k : ℕ) (s t : Machine) → 0 < k → k < n → stop_at stops n k s t ≡ early_stop stops s t
 early-before stops n k s t some l =
     let begun : nat_lt 0 k ≡ true = grind (arith, nat_tests) in

@@ -1,4 +1,4 @@
--- A run in two parts begins what a run of all its cycles begins.
+-- A run in two parts begins the same instructions as one run of all its cycles.
 use Rattle.std.proofs.Common.{◌≡◌, ℕ, zero, suc, ◌+◌, ◌-◌, ◌<◌, ◌≤◌, Bool, true, false, cond, Option, Some, None, is_some, unwrap_or, List, [], ◌∷◌, ◌++◌, map, find, inl, inr, refl, sym, ap, ◌∙◌, subst, arith, eqb, eq-eqb, append_assoc}
 use Rattle.std.specs.List.{range_with_len}
 use Rattle.std.proofs.lemmas.Bool.{cases_eq}
@@ -12,12 +12,12 @@ use Rattle.mcs_probe.specs.Forecast.{Begun, begins, begun_in, begun_within, cycl
 use Rattle.mcs_trace.proofs.Going.{early-before, none-at-start}
 use Rattle.mcs_trace.proofs.Tallies.{begun-more, begun_at}
 
--- ---- what is begun
+-- ---- the instructions that a run begins
 
 abbrev begun-of : ℕ → Machine → Machine → Begun
 begun-of k s t = record { cycles = k; before = s; after = t }
 
--- a cycle of the second part
+-- cycle m + n from s is cycle n of a run that starts after m cycles
 later-cycle : (m n : ℕ) (s : Machine) → cycle_at s (m + n) ≡ later m (cycle_at (after_cycles m s) n)
 later-cycle m n s =
     let next : m + n + 1 ≡ m + (n + 1) = omega arith in
@@ -53,9 +53,9 @@ within-adds m (suc n) s =
     ∙ append_assoc first second (map (later m) (begun_at t n))
     ∙ ap (λ (l : List Begun). first ++ l) (sym (map-append (later m) (begun_within n t) (begun_at t n)) ∙ ap (map (later m)) (sym (begun-more n t) ∙ ap (λ k. begun_within k t) (sym more)))
 
--- ---- how long the parts are
+-- ---- the lengths of the two parts
 
--- before the first number that passes none does
+-- p is false for each number of the range that is below the first number that satisfies p
 none-before : (p : ℕ → Bool) (a k d j : ℕ) → a ≤ j → j < a + k → j < unwrap_or (find p (range_with_len a k)) d → p j ≡ false
 none-before p a zero d j l h e = absurd (omega arith)
 none-before p a (suc k) d j l h e =
@@ -71,7 +71,7 @@ none-of : (o : Option Stop) → is_some o ≡ false → o ≡ None
 none-of None e = refl
 none-of (Some why) e = absurd (cc)
 
--- nothing stops a run before its end that is as long as it was asked for
+-- if a run of n cycles executes all of them, nothing stops it before its end
 passed : (stops : Stops) (n : ℕ) (s : Machine) → run_length stops n s ≡ n → (j : ℕ) → j < n → stop_after stops n s j ≡ None
 passed stops n s e j l =
     none-of (stop_after stops n s j) (none-before (λ k. is_some (stop_after stops n s k)) 0 (n + 1) n j (omega arith) (omega arith) (subst (λ k. j < k) (sym e) l))
@@ -80,7 +80,7 @@ inside-of : (out broken changed ended : Bool) → cond out (Some Outside) (cond 
 inside-of true broken changed ended e = absurd (cc)
 inside-of false broken changed ended e = refl
 
--- a run that goes on can
+-- if a run does not stop, a cycle is possible
 inside-at : (stops : Stops) (n k : ℕ) (s t : Machine) → stop_at stops n k s t ≡ None → is_outside t ≡ false
 inside-at stops n k s t e = inside-of (is_outside t) (at_break stops.breaks k t) (has_changed stops.watches s t) (eqb k n) e
 
@@ -91,7 +91,7 @@ some-at-end false false true ended e = refl
 some-at-end false false false true e = refl
 some-at-end false false false false e = absurd (cc)
 
--- a run of n cycles from s that nothing stops before its end
+-- holds if nothing stops a run of n cycles from s before its end
 record Whole (stops : Stops) (n : ℕ) (s : Machine) : Type 0 where
   pub inside : 0 < n → is_outside s ≡ false
   pub early : (j : ℕ) → 0 < j → j < n → early_stop stops (after_cycles (j - 1) s) (after_cycles j s) ≡ None
@@ -109,20 +109,20 @@ whole-passes stops n s w j l =
       | inr ne ↦ early-before stops n j (after_cycles (j - 1) s) (after_cycles j s) (omega arith) l ∙ w.early j (omega arith) l
     ]
 
--- it takes n cycles
+-- if nothing stops a run of n cycles early, the run executes n cycles
 whole-length : (stops : Stops) (n : ℕ) (s : Machine) → Whole stops n s → run_length stops n s ≡ n
 whole-length stops n s w =
     let end : is_some (stop_after stops n s n) ≡ true = some-at-end (is_outside (after_cycles n s)) (at_break stops.breaks n (after_cycles n s)) (has_changed stops.watches (after_cycles (n - 1) s) (after_cycles n s)) (eqb n n) (eq-eqb n n refl) in
     ap (λ o. unwrap_or o n) (find_at (λ k. is_some (stop_after stops n s k)) 0 (n + 1) n (omega arith) (omega arith) (λ j l. ap is_some (whole-passes stops n s w j l)) end)
 
--- its first part
+-- if nothing stops a run of m + n cycles early, nothing stops a run of m cycles early
 whole-first : (stops : Stops) (m n : ℕ) (s : Machine) → Whole stops (m + n) s → Whole stops m s
 whole-first stops m n s w = record {
   inside = λ l. w.inside (omega arith);
   early = λ j some l. w.early j some (omega arith);
 }
 
--- its second part
+-- if a run executes all its m + n cycles, nothing stops a run of n cycles from its machine after m cycles early
 whole-second : (stops : Stops) (m n : ℕ) (s : Machine) → run_length stops (m + n) s ≡ m + n → Whole stops n (after_cycles m s)
 whole-second stops m n s e = record {
   inside = λ l. inside-at stops (m + n) m (after_cycles (m - 1) s) (after_cycles m s) (passed stops (m + n) s e m (omega arith));

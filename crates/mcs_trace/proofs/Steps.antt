@@ -1,4 +1,4 @@
--- What an instruction of a run begins, and what its second cycle leaves as it is.
+-- The first cycle of an instruction begins the instruction, and the second cycle changes only `owed`.
 use Rattle.std.proofs.Common.{◌≡◌, ℕ, suc, zero, ◌+◌, ◌<◌, ◌≤◌, [], ◌++◌, refl, sym, ap, ◌∙◌, arith}
 use Rattle.std.proofs.lemmas.List.{append-nil}
 use Rattle.mcs_model.specs.Effect.{cycle_of}
@@ -8,7 +8,7 @@ use Rattle.mcs_model.proofs.RunLemmas.{cycled-add}
 use Rattle.mcs_probe.specs.Forecast.{begun_within}
 use Rattle.mcs_trace.proofs.Tallies.{begun-more, begun_at}
 
--- a machine of which nothing but what is owed is another
+-- the machine with `owed` set to n
 abbrev pub with_owed : Machine → ℕ → Machine
 with_owed s n = (record s.0 { owed = n }, s.1)
 
@@ -16,7 +16,7 @@ idles : (s : Machine) → s.0.owed ≡ 1 → after_cycles 1 s ≡ with_owed s 0
 unfolding cycle_of
 idles s e = rw e refl
 
--- behind its first cycle an instruction changes nothing but what is owed
+-- after its first cycle, an instruction changes only `owed`
 rests-after : (left d : ℕ) (t u : Machine) → InstructionRan left t u d → (j : ℕ) → 0 < j → j ≤ d → after_cycles j t ≡ with_owed (after_cycles 1 t) (after_cycles j t).0.owed
 rests-after left d t u ran zero some l = absurd (omega arith)
 rests-after left d t u ran (suc zero) some l = refl
@@ -29,14 +29,14 @@ pub rests : (left d : ℕ) (t u : Machine) → InstructionRan left t u d → 0 <
 rests left d t u ran some =
     ran.machine ∙ rests-after left d t u ran d some (omega arith) ∙ ap (λ (m : Machine). with_owed (after_cycles 1 t) m.0.owed) (sym ran.machine)
 
--- one cycle behind k cycles
+-- one cycle after k cycles gives the machine after k + 1 cycles
 pub one-behind : (k : ℕ) (s t : Machine) → t ≡ after_cycles k s → after_cycles 1 t ≡ after_cycles (k + 1) s
 one-behind k s t e = ap (after_cycles 1) e ∙ (let one : suc k ≡ k + 1 = omega arith in ap (λ j. after_cycles j s) one)
 
 begun-none : (k : ℕ) (s : Machine) → (after_cycles k s).0.owed ≡ 1 → begun_at s k ≡ []
 begun-none k s e = rw e refl
 
--- no more than one is begun by the cycles of an instruction
+-- the cycles of one instruction begin at most one instruction
 begun-by : (left k d : ℕ) (s t u : Machine) → t ≡ after_cycles k s → InstructionRan left t u d → (j : ℕ) → 0 < j → j ≤ d → begun_within (k + j) s ≡ begun_within k s ++ begun_at s k
 begun-by left k d s t u at ran zero some l = absurd (omega arith)
 begun-by left k d s t u at ran (suc zero) some l = begun-more k s

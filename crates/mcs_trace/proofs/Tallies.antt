@@ -1,4 +1,4 @@
--- What is counted of the instructions that are begun.
+-- Counts of the instructions that a run begins.
 use Rattle.std.proofs.Common.{◌≡◌, ℕ, suc, ◌+◌, ◌<◌, ◌≤◌, ◌&&◌, Bool, true, false, cond, List, [], ◌∷◌, ◌++◌, length, map, get_or, inl, inr, refl, sym, ap, ◌∙◌, arith, eqb, eq-eqb}
 use Rattle.std.specs.List.{count_by, filter, range_with_len}
 use Rattle.std.proofs.lemmas.Bool.{cases_eq}
@@ -12,11 +12,11 @@ use Rattle.mcs_model.proofs.ListLemmas.{range_more}
 use Rattle.mcs_probe.specs.Forecast.{Begun, begins, begun_within, cycle_at}
 use Rattle.mcs_trace.specs.Counted.{IsTally, one_more}
 
--- the instruction that a cycle begins, if it begins one
+-- a list of the instruction that cycle k from s begins; empty if the cycle begins none
 abbrev pub begun_at : Machine → ℕ → List Begun
 begun_at s k = cond (begins (cycle_at s k)) (cycle_at s k ∷ []) []
 
--- one cycle more
+-- k + 1 cycles begin the instructions of k cycles, then the instruction of the last cycle, if it begins one
 pub begun-more : (k : ℕ) (s : Machine) → begun_within (k + 1) s ≡ begun_within k s ++ begun_at s k
 unfolding begun_within
 begun-more k s =
@@ -31,7 +31,7 @@ length-filter p (x ∷ xs) =
     let h = length-filter p xs in
     elim (p x) as (λ v. length (cond v (x ∷ filter p xs) (filter p xs)) ≤ length (x ∷ xs)) [ true ↦ omega arith | false ↦ omega arith ]
 
--- no more are begun than cycles are done
+-- k cycles begin at most k instructions
 pub begun-few : (k : ℕ) (s : Machine) → length (begun_within k s) ≤ k
 unfolding begun_within
 begun-few k s =
@@ -40,7 +40,7 @@ begun-few k s =
     let r = length-range_with_len 0 k in
     omega arith
 
--- how many of one cycle's instruction are counted
+-- 1 if b is true, otherwise 0
 abbrev pub one-when : Bool → ℕ
 one-when b = cond b 1 0
 
@@ -50,7 +50,8 @@ and-one true false e p h = rw h refl
 and-one false true e p h = refl
 and-one false false e p h = refl
 
--- what is counted with one instruction more
+-- if the m cycles begin one instruction more than the k cycles, the count increases by 1 if p is true for that
+-- instruction
 pub counted-more : (k m : ℕ) (s : Machine) (p : Begun → Bool) → begun_within m s ≡ begun_within k s ++ begun_at s k → count_by p (begun_within m s) ≡ count_by p (begun_within k s) + one-when (begins (cycle_at s k) && p (cycle_at s k))
 counted-more k m s p e =
     ap (count_by p) e
@@ -60,7 +61,7 @@ counted-more k m s p e =
 pub counted-few : (k : ℕ) (s : Machine) (p : Begun → Bool) → count_by p (begun_within k s) ≤ k
 counted-few k s p = let a = count_by-le-length p (begun_within k s) in let b = begun-few k s in omega arith
 
--- one more at a place
+-- `one_more` adds 1 to the number at index `place` if b is true, and changes no other number
 with-one-at : (xs : List ℕ) (b : Bool) (place at : ℕ) → place < length xs → get_or (one_more xs b place) at 0 ≡ get_or xs at 0 + one-when (b && eqb place at)
 with-one-at xs false place at l = omega arith
 with-one-at xs true place at l =
@@ -73,7 +74,7 @@ with-one-length : (xs : List ℕ) (b : Bool) (place : ℕ) → length (one_more 
 with-one-length xs true place = length-set xs place (get_or xs place 0 + 1)
 with-one-length xs false place = refl
 
--- a tally with one more
+-- `one_more` keeps a tally if the counts increase by 1 at the same address
 pub tally-more : (xs : List ℕ) (b : Bool) (place : ℕ) (f g : ℕ → ℕ) → place < 4096 → IsTally xs f → ((at : ℕ) → at < 4096 → g at ≡ f at + one-when (b && eqb place at)) → IsTally (one_more xs b place) g
 tally-more xs b place f g l t more = record {
   len = with-one-length xs b place ∙ t.len;

@@ -10,8 +10,9 @@ use mcs_model::stop::Stop;
 use mcs_nibble::Addr;
 use std::alloc::{AllocError, Global};
 
-/// The length of a run, the reason that it stops, and two counts for each address. `runs` counts the instructions begun
-/// at the address. `jumps` counts those after which the program counter is not that address plus 2.
+/// The result of a counted run: its number of cycles, the reason why it stops, and two counts for each of the 4,096
+/// addresses. `runs` counts the instructions that begin at the address. `jumps` counts those after which the program
+/// counter is not that address plus 2.
 #[derive(Drop)]
 pub struct Counts {
     pub cycles: u32,
@@ -20,14 +21,14 @@ pub struct Counts {
     pub jumps: Vec<u32>,
 }
 
-/// Returns a zero count for each of the 4,096 addresses. Fails if memory cannot be allocated.
+/// Returns a list with a count of 0 for each of the 4,096 addresses. Fails if memory cannot be allocated.
 fn zeros(alloc: Global) -> Result<Vec<u32>, AllocError>
     ensures { IfOk result (λ numbers. numbers.items ≡ replicate 4096 0) }
 {
     vec![in alloc; 0u32; 4096]
 }
 
-/// Increments the count of an address.
+/// Adds 1 to the count of an address. The count must be below `u32::MAX`.
 fn add_one(numbers: &mut Vec<u32>, at: Addr)
     requires len { length numbers.old.items ≡ 4096 }
     requires few { slice_index numbers.old.items at < u32.MAX }
@@ -38,7 +39,9 @@ fn add_one(numbers: &mut Vec<u32>, at: Addr)
     numbers[i] += 1;
 }
 
-/// Counts a cycle that changed the registers from `before` to `after`, if it began an instruction.
+/// Counts the instruction at `before.pc` in `runs`, and also in `jumps` if `after.pc` is not that address plus 2.
+/// `before` and `after` are the registers before and after the instruction. Counts nothing if a second cycle is
+/// pending in `before`.
 fn note(runs: &mut Vec<u32>, jumps: &mut Vec<u32>, before: &Regs, after: &Regs)
     requires runs { length runs.old.items ≡ 4096 }
     requires few_runs { slice_index runs.old.items before.now.pc < u32.MAX }
@@ -59,8 +62,9 @@ fn note(runs: &mut Vec<u32>, jumps: &mut Vec<u32>, before: &Regs, after: &Regs)
     }
 }
 
-/// Returns the counts of a run that ended in the bench's present state. The reason to stop is an opcode outside the
-/// instruction table, else `mark`, else the end of the run.
+/// Returns the result of a run that ended in the current state of the bench. The reason to stop is `Outside` if the
+/// bench is at an opcode outside the instruction table. Otherwise it is `mark`, or the end of the run if `mark` is
+/// `None`.
 fn counts_of(
     bench: &Bench,
     cycles: u32,
@@ -81,8 +85,8 @@ fn counts_of(
     }
 }
 
-/// Counts the instructions that a run of at most `n` cycles would begin at each address. Fails if memory cannot be
-/// allocated.
+/// Counts the instructions that a run of at most `n` cycles would begin at each address. The bench does not change.
+/// Fails if memory cannot be allocated.
 pub fn count_run(alloc: Global, n: u32, bench: &Bench) -> Result<Counts, AllocError>
     ensures { IfOk result (λ counts. IsCounted (stops_of bench.now) n (machine_of bench.now) counts) }
 {
@@ -92,7 +96,7 @@ pub fn count_run(alloc: Global, n: u32, bench: &Bench) -> Result<Counts, AllocEr
     let mut done = 0;
     while done < n {
         let before = copy.regs();
-        // Reading the address makes its range known to the prover.
+        // The call of `get` gives the prover the range of the address.
         let _at = before.pc.get();
         match copy.go_on(n - done) {
             None => return Ok(counts_of(&copy, done, None, runs, jumps)),

@@ -1,4 +1,4 @@
-//! Forecast of a run. The run is executed on a copy of the bench, one instruction at a time.
+//! The forecast of a run, which is executed on a copy of the bench, one instruction at a time.
 #![tactic(auto)]
 
 mod counting;
