@@ -1,4 +1,4 @@
--- The boards of version 1 are the small ones.
+-- The valid boards of version 1 are the small valid boards of version 2.
 use Rattle.std.proofs.Common.{◌≡◌, ℕ, ◌*◌, ◌+◌, ◌<◌, ◌≤◌, Bool, true, false, not, ◌&&◌, ◌||◌, List, [], ◌∷◌, length, Option, Some, None, refl, ap, arith, nat_lt, nat_le, inl, inr}
 use Rattle.std.specs.List.{list_any}
 use Rattle.std.proofs.lemmas.Bool.{ltb-true, lt-ltb, leb-true, le-leb, cases_lt, or_parts, or_from, and_parts, not-false, not-true}
@@ -16,9 +16,10 @@ use Rattle.mcs_version1.specs.Boards.{in_range_1, is_chain_size_1, is_matrix_siz
 use Rattle.mcs_model.proofs.ListLemmas.{none_at}
 use Rattle.mcs_model.proofs.SoundBoards.{no_fault, sound}
 
--- ---- tests
+-- ---- tests of all elements of a list
 
--- where no element passes p and none passes q, none passes r
+-- if an element that satisfies neither p nor q never satisfies r, and no element satisfies p or q, then none
+-- satisfies r
 any-none : {A : Type 0} (p q r : A → Bool) → ((x : A) → p x ≡ false → q x ≡ false → r x ≡ false) → (xs : List A) → list_any p xs ≡ false → list_any q xs ≡ false → list_any r xs ≡ false
 any-none p q r f [] e g = refl
 any-none p q r f (x ∷ xs) e g =
@@ -26,7 +27,7 @@ any-none p q r f (x ∷ xs) e g =
     let b = or_parts (q x) (list_any q xs) g in
     or_from (r x) (list_any r xs) (f x a.0 b.0) (any-none p q r f xs a.1 b.1)
 
--- ---- a small board
+-- ---- small boards
 
 pub record IsSmall (b : BoardParts) : Type 0 where
   pub few : length b.chains.items ≤ 2
@@ -37,7 +38,7 @@ small b h =
     let w = and_parts (nat_le (length b.chains.items) 2) (not (list_any (λ (c : ChainPart). nat_lt 4 c.chips) b.chains.items)) h in
     record { few = leb-true _ _ w.0; short = not-true _ w.1 }
 
--- a chain of it has at most 4 chips
+-- a chain of a small board has at most 4 chips
 short-chain : (b : BoardParts) (n : ℕ) → IsSmall b → (chain_part b n).chips ≤ 4
 short-chain b n s =
     elim (cases_lt n (length b.chains.items)) [
@@ -157,7 +158,7 @@ matrix-within b s (Some m) there h =
     let f : nat_lt m.first 40 ≡ true = lt-ltb _ _ (omega arith) in
     rw (a, f, w.some, w.rows, w.columns) refl
 
--- ---- the whole
+-- ---- the complete boards
 
 pub valid-now : (b : BoardParts) → IsValidBoard1 b → IsValidBoard b
 valid-now b h =

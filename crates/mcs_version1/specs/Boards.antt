@@ -1,5 +1,5 @@
 -- The conditions under which parts form a valid board in version 1, which has fewer and shorter
--- chains. The definitions of lines are those of version 2.
+-- chains. Version 1 and version 2 share the definitions of lines.
 use Rattle.std.specs.Prelude.{◌≡◌, ◌≤◌, ◌↔◌, Bool, true, false, ◌&&◌, ◌||◌, not, Option, Some, None, length, nat_lt, nat_le, if◌then◌else◌}
 use Rattle.std.specs.List.{list_any}
 use Rattle.mcs_model.specs.declared.board.BoardFault.{BoardFault}
@@ -13,7 +13,7 @@ use Rattle.mcs_model.specs.declared.limits.TheConstants.{ROMS, BANKS, BANK_CHIPS
 use Rattle.mcs_model.specs.Boards.{IsSized, any_line, has_wrong_direction, lacks_line}
 use Rattle.mcs_model.specs.Validity.{IsValidBoard}
 
--- true if all numbers of a line are in range in version 1
+-- true if each number that names the line (bank, chip, chain, line or bit) is in range in version 1
 abbrev pub in_range_1 : Line → Bool
 in_range_1 (Rom chip k) = nat_lt chip ROMS && nat_lt k 4
 in_range_1 (Ram bank chip k) = nat_lt bank BANKS && nat_lt chip BANK_CHIPS && nat_lt k 4
@@ -23,7 +23,8 @@ in_range_1 (Chain n i) = nat_lt n 2 && nat_lt i 40
 abbrev pub is_chain_size_1 : ChainPart → Bool
 is_chain_size_1 c = nat_lt 0 c.chips && nat_le c.chips 4
 
--- true if the numbers of a key matrix are in range in version 1
+-- True if the numbers of a key matrix are in range in version 1: chain 0 or 1, first bit 0 to 39,
+-- and 1 to 10 rows. There must also be at least one column.
 abbrev pub is_matrix_size_1 : KeyMatrix → Bool
 is_matrix_size_1 m =
     nat_lt m.chain 2 && nat_lt m.first 40 && nat_lt 0 m.rows && nat_le m.rows KEY_ROWS
@@ -61,7 +62,8 @@ is_small b =
     nat_le (length b.chains.items) 2
     && not (list_any (λ chain. nat_lt 4 chain.chips) b.chains.items)
 
--- Holds if the boards of version 1 are exactly the boards of version 2 that are small. All other
--- range limits of version 1 then follow, because lines and key rows must exist.
+-- Holds if the valid boards of version 1 are exactly the small valid boards of version 2. All other
+-- range limits of version 1 then follow, because the lines and the chain bits of key rows must
+-- exist.
 abbrev pub SmallBoards : Type 0
 SmallBoards = (b : BoardParts) → IsValidBoard1 b ↔ (IsValidBoard b × (is_small b ≡ true))

@@ -1,6 +1,5 @@
--- The effects of commands in version 1, which has no watches and only small boards. For a command
--- that version 1 does not have (`in_version_1` is false), the other definitions here have no
--- meaning.
+-- The effects of commands in version 1, which has no watches and only small boards. The other
+-- definitions have no meaning for a command that version 1 does not have (`in_version_1` is false).
 use Rattle.std.specs.Prelude.{Bool, true, false, ◌+◌, ◌==◌, ◌&&◌, ◌||◌, length, Option, Some, None, nat_lt, nat_le, slice_set, if◌then◌else◌}
 use Rattle.std.specs.List.{list_any}
 use Rattle.mcs_model.specs.declared.command.Command.{Command}
@@ -24,8 +23,8 @@ use Rattle.mcs_version1.specs.Boards.{is_small}
 use Rattle.mcs_version1.specs.BenchState.{BenchState1}
 use Rattle.mcs_version1.specs.Running.{run_length_1, after_run_1, run_stop_1}
 
--- true for the locations that `poke` can set in version 1; each variant is listed, so that version
--- 1 cannot get a new one unnoticed
+-- True for the locations that `poke` can set in version 1. The definition lists each variant, so
+-- that a new variant cannot be added to version 1 unnoticed.
 abbrev pub is_place_1 : Place → Bool
 is_place_1 (Acc n) = true
 is_place_1 (Cy bit) = true
@@ -46,7 +45,8 @@ in_version_1 _ = true
 
 -- ---- which commands are accepted
 
--- the reason why a state rejects a command, or none, apart from the limit on the number of commands
+-- The reason why a state rejects a command, or none. This definition ignores the limit on the
+-- number of commands.
 abbrev pub refusal_of_command_1 : BenchState1 → Command → Option BenchFault
 refusal_of_command_1 s (Load image) =
     if list_any (λ p. lacks_rom s.bus.board p.0) image
@@ -93,7 +93,7 @@ with_place_1 s (Rom at byte) = with_bus_1 s (with_rom_byte s.bus at byte)
 with_place_1 s (Ram bank src n) = with_bus_1 s (with_ram s.bus bank src n)
 with_place_1 s (Status bank high k n) = with_bus_1 s (with_status s.bus bank high k n)
 
--- the state after a command has had its effect; the command is not yet counted
+-- the state after the effect of a command, before the command is counted
 abbrev pub after_change_1 : BenchState1 → Command → BenchState1
 after_change_1 s (Wire board) = with_machine_1 s (new_regs, after_wire s.bus board)
 after_change_1 s (Load image) = with_bus_1 s (with_rom_bytes s.bus image)
@@ -108,7 +108,8 @@ after_change_1 s (Break at) = record s { breakpoints = with_listed s.breakpoints
 after_change_1 s (Unbreak at) = record s { breakpoints = without_listed s.breakpoints at }
 after_change_1 s _ = s
 
--- the state after an accepted command; each one adds 1 to the count, even if nothing else changes
+-- The state after an accepted command. Every accepted command adds 1 to the count, even if nothing
+-- else changes.
 abbrev pub after_1 : BenchState1 → Command → BenchState1
 after_1 s c = record (after_change_1 s c) { seq = s.seq + 1 }
 

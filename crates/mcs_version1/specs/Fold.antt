@@ -9,8 +9,8 @@ abbrev pub fold_1 : BenchState1 → List Command → BenchState1
 fold_1 s [] = s
 fold_1 s (c ∷ cs) = fold_1 (after_1 s c) cs
 
--- holds if each command of a sequence is a command of version 1, and is accepted in the state that
--- the commands before it lead to
+-- holds if each command of a sequence is a command of version 1, and is accepted in the state after
+-- the commands before it
 abbrev pub AreAccepted1 : BenchState1 → List Command → Type 0
 AreAccepted1 s [] = Unit {0}
 AreAccepted1 s (c ∷ cs) =

@@ -1,5 +1,5 @@
--- Lifting: the conversion of a state of version 1 to a state of version 2. Commands and queries do
--- not distinguish the two.
+-- Lifting: the conversion of a state of version 1 to a state of version 2. Both states give the
+-- same results for commands and queries of version 1.
 use Rattle.std.specs.Prelude.{◌≡◌, [], IsTrue, List}
 use Rattle.mcs_model.specs.declared.command.Command.{Command}
 use Rattle.mcs_model.specs.declared.query.Query.{Query}
@@ -13,7 +13,7 @@ use Rattle.mcs_version1.specs.BenchState.{BenchState1}
 use Rattle.mcs_version1.specs.Fold.{fold_1, AreAccepted1}
 use Rattle.mcs_version1.specs.QueryText.{Query1, text_of_query_1, Lamps, Regs, Ram, Breaks, Seq}
 
--- the state of version 2 with the same fields as a state of version 1, and with no watches
+-- the state of version 2 that has the fields of a state of version 1 and no watches
 abbrev pub lift : BenchState1 → BenchState
 lift s =
     record { processor = s.processor; bus = s.bus; breakpoints = s.breakpoints; watches = []; seq = s.seq }
@@ -25,8 +25,7 @@ lift_query (Ram bank) = asked.Ram bank
 lift_query Breaks = asked.Breaks
 lift_query Seq = asked.Seq
 
--- holds if version 2, in the lifted state, rejects, executes and answers a command as version 1
--- does
+-- holds if version 2 in the lifted state rejects, executes and answers a command as version 1 does
 pub record IsLifted (s : BenchState1) (c : Command) : Type 0 where
   pub refusal : refusal (lift s) c ≡ refusal_1 s c
   pub after : lift (after_1 s c) ≡ after (lift s) c

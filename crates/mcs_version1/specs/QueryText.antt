@@ -5,7 +5,7 @@ use Rattle.mcs_model.specs.QueryText.{breaks_text, lamps_text, ram_lines, regs_t
 use Rattle.mcs_model.specs.TextLines.{line_feed}
 use Rattle.mcs_version1.specs.BenchState.{BenchState1}
 
--- a query of version 1, except `list` and `board` (for these two, see Version1 of mcs_answers)
+-- a query of version 1, except `list` and `board`, which `Version1` of mcs_answers defines
 pub data Query1 : Type 0 where
   Lamps : Query1
   Regs : Query1

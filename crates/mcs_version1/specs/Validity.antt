@@ -1,4 +1,4 @@
--- The states that a bench can be in, in version 1.
+-- The valid states of a bench in version 1.
 use Rattle.std.specs.Prelude.{◌≤◌}
 use Rattle.mcs_model.specs.declared.limits.TheConstants.{ACCEPTED_COMMANDS}
 use Rattle.mcs_model.specs.Bus.{BusState}

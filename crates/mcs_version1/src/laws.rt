@@ -1,20 +1,21 @@
-//! Theorems about the definitions. Each is proved as the contract of a function that does nothing.
+//! Theorems about the definitions. Each theorem is the contract of a function with an empty body.
 ghost use Rattle.mcs_version1.specs.Boards.{SmallBoards};
 ghost use Rattle.mcs_version1.specs.Lift.{CommandsLift, FoldsLift, QueriesLift};
 
-/// Proves that version 2, in the lifted state, rejects, executes and answers each command of version 1 as version 1
-/// does. The same sequence of accepted commands leads to the lifted final state.
+/// Proves that version 2 in the lifted state rejects, executes and answers each command of version 1 as version 1
+/// does. A sequence of accepted commands leads to the lifted final state of version 1.
 pub fn commands_lift()
     ensures each { CommandsLift }
     ensures folds { FoldsLift }
 {}
 
-/// Proves that version 2, in the lifted state, answers each query of `Query1` as version 1 does.
+/// Proves that version 2 in the lifted state answers each query of `Query1` as version 1 does.
 pub fn queries_lift()
     ensures { QueriesLift }
 {}
 
-/// Proves that the boards of version 1 are the boards of version 2 with at most two chains of at most four chips.
+/// Proves that the valid boards of version 1 are the valid boards of version 2 with at most two chains of at most
+/// four chips each.
 pub fn boards_are_small()
     ensures { SmallBoards }
 {}
