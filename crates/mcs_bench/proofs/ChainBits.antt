@@ -1,4 +1,4 @@
--- The bits of chains, chain by chain.
+-- Lemmas about the lists of the bits of each chain.
 use Rattle.std.proofs.Common.{◌≡◌, ℕ, zero, suc, ◌<◌, List, [], ◌∷◌, length, get_or, refl, sym, ap, arith}
 use Rattle.arrayvec.specs.ArrayVec.{ArrayVec}
 use Rattle.mcs_bench.specs.States.{bits_of_chains}

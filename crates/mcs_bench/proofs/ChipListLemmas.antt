@@ -1,4 +1,4 @@
--- The lists that the chips hold, place by place.
+-- Lemmas about the lists of the values in the chips, index by index.
 use Rattle.std.proofs.Common.{◌≡◌, ℕ, ◌+◌, ◌*◌, ◌/◌, ◌%◌, ◌<◌, ◌≤◌, true, false, inl, inr, cond, List, length, get_or, slice_index, slice_set, Option, Some, None, is_some, is_none, nat_lt, nat_le, refl, sym, ap, subst, ◌∙◌, arith}
 use Rattle.std.specs.Prelude.{MatchOption}
 use Rattle.std.proofs.lemmas.Bool.{cases_lt, le-leb, leb-true}
@@ -18,7 +18,7 @@ use Rattle.mcs_bench.specs.declared.chip_list.ChipList.TheVariants.{RomBytes, Ch
 use Rattle.mcs_bench.specs.ChipLists.{list_of, with_list, count_of, is_absent, with_cell, IsZeroWhereAbsent}
 use Rattle.mcs_bench.proofs.Filling.{IsFilled, filled-none, filled-set, filled-kept, filled-all}
 
--- ---- a number set
+-- ---- setting one element of a list
 
 ran : {A : Type 0} (a b : ℕ) (x y : A) → cond (nat_lt a b) x y ≡ cond (nat_le b a) y x
 ran a b x y =
@@ -58,7 +58,7 @@ pub set-src : (s : BusState) (i bank n : ℕ) → bank ≡ i → with_ram_src s 
 unfolding with_ram_src
 set-src s i bank n b = rw b (ran 0 (slice_index s.board.banks i) (record s { ram_src = slice_set s.ram_src i n }) s)
 
--- ---- lists in the place of others
+-- ---- replacing a list of a state
 
 pub list-of : (s : BusState) (h : ChipList) (xs : List ℕ) → list_of (with_list s h xs) h ≡ xs
 list-of s RomBytes xs = refl
@@ -88,7 +88,7 @@ list-board s StatusCharacters xs = refl
 list-board s RamPorts xs = refl
 list-board s BankSrcs xs = refl
 
--- ---- what is valid
+-- ---- the lists of a valid state
 
 pub count-of : (s : BusState) → IsInRange s → (h : ChipList) → length (list_of s h) ≡ count_of h
 count-of s v RomBytes = v.rom.count_is
@@ -101,7 +101,7 @@ none-from : {X : Type 0} (o : Option X) → is_none o ≡ true → o ≡ None
 none-from (Some _) e = absurd (cc)
 none-from None e = refl
 
--- the numbers of absent chips are 0
+-- in each list of a valid state, the elements of absent chips are 0
 pub absent-of : (s : BusState) → IsAbsentZero s → (h : ChipList) → IsZeroWhereAbsent s h
 absent-of s v RomBytes i l e = v.rom i (none-from (masks_on s.board (i / 256)) e)
 absent-of s v Characters i l e =
@@ -149,7 +149,7 @@ absent-from s v zero ports = record {
       ];
 }
 
--- all five lists
+-- a list of any kind has 0 for absent chips if each of the five lists has
 pub each-held : (s : BusState) → IsZeroWhereAbsent s RomBytes → IsZeroWhereAbsent s Characters → IsZeroWhereAbsent s StatusCharacters → IsZeroWhereAbsent s RamPorts → IsZeroWhereAbsent s BankSrcs → (h : ChipList) → IsZeroWhereAbsent s h
 each-held s a b c d e RomBytes = a
 each-held s a b c d e Characters = b
@@ -157,9 +157,10 @@ each-held s a b c d e StatusCharacters = c
 each-held s a b c d e RamPorts = d
 each-held s a b c d e BankSrcs = e
 
--- ---- a list filled
+-- ---- filling a list
 
--- of `start`, all is as it was except for one list, whose first i numbers are those of `goal`
+-- Holds if s is `start` except for one list. The first i elements of that list are those of `goal`, and the others
+-- are unchanged.
 pub record Fills (start s : BusState) (h : ChipList) (goal : List ℕ) (i : ℕ) : Type 0 where
   pub others : s ≡ with_list start h (list_of s h)
   pub filled : IsFilled (list_of start h) goal i (list_of s h)
@@ -190,13 +191,13 @@ fills-next start s t h goal i n l is gone f to =
 pub fills-all : (start s : BusState) (h : ChipList) (goal : List ℕ) (i : ℕ) → length goal ≤ i → Fills start s h goal i → s ≡ with_list start h goal
 fills-all start s h goal i l f = f.others ∙ ap (with_list start h) (filled-all (list_of start h) goal (list_of s h) i l f.filled)
 
--- ---- the latches of the ROMs filled
+-- ---- filling the port latches of the ROMs
 
 pub record FillsPorts (start s : BusState) (goal : List ℕ) (i : ℕ) : Type 0 where
   pub others : s ≡ record start { rom_ports = s.rom_ports }
   pub filled : IsFilled start.rom_ports goal i s.rom_ports
 
--- whether a latch can hold a number
+-- holds if a ROM's port latch can hold n; the latch of an absent ROM can hold only 0
 abbrev pub can_hold : Option (List LineMask) → ℕ → Type 0
 can_hold masks n = MatchOption masks (n ≡ 0) (λ mask. latch_value mask n ≡ n)
 

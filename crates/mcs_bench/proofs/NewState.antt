@@ -1,4 +1,4 @@
--- The state of a new bench, from its parts.
+-- A state is that of a new bench if each of its parts is.
 use Rattle.std.proofs.Common.{◌≡◌, ℕ, List, [], replicate, refl}
 use Rattle.arrayvec.specs.ArrayVec.{ArrayVec}
 use Rattle.mcs_model.specs.declared.board.BoardParts.{BoardParts}

@@ -1,4 +1,4 @@
--- Which instructions change a RAM character, and which characters they change: WRM alone, and the selected one alone.
+-- Only WRM changes a RAM character, and it changes only the selected one.
 use Rattle.std.proofs.Common.{◌≡◌, ◌≢◌, ℕ, ◌+◌, ◌*◌, ◌/◌, ◌<◌, Bool, true, false, ◌||◌, ◌&&◌, not, cond, List, [], ◌∷◌, Option, Some, None, slice_index, slice_set, length, unwrap_or, inl, inr, refl, sym, ap, ◌∙◌, arith, eqb, eq-eqb, nat_lt}
 use Rattle.std.proofs.lemmas.Bool.{cases_eq}
 use Rattle.std.proofs.lemmas.List.{get_or-set_other, get_or-set_same, set-get_or}
@@ -38,7 +38,7 @@ rom-port-keeps : (m : BusState) (n : ℕ) → (after_rom_port m n).ram ≡ m.ram
 unfolding after_rom_port chains_clocked
 rom-port-keeps m n = chosen (masks_on m.board (m.rom_src / 16)) m _ (λ mask. refl)
 
--- an instruction that is no WRM keeps the RAM characters
+-- an instruction other than WRM changes no RAM character
 op-keeps : (op : Op) (s : Regs) (m : BusState) → op ≢ Wrm → (bus_after op s m).ram ≡ m.ram
 op-keeps Nop s m h = refl
 op-keeps (Jcn a b) s m h = refl
@@ -90,7 +90,7 @@ op-of : (o : Option Op) (s : Machine) → o ≢ Some Wrm → (unwrap_or (elim o 
 op-of None s h = refl
 op-of (Some op) s h = op-keeps op _ s.1 (λ e. h (ap Some e))
 
--- nor does a cycle that does no WRM
+-- a cycle changes no RAM character if the instruction at the program counter is not WRM
 pub cycle-keeps : (s : Machine) → instruction_at s.0 s.1 ≢ Some Wrm → (after_cycles 1 s).1.ram ≡ s.1.ram
 unfolding cycle_of
 cycle-keeps s h =
@@ -99,17 +99,17 @@ cycle-keeps s h =
       | false ↦ op-of (instruction_at s.0 s.1) s h
     ]
 
--- nor an idle one
+-- a pending second cycle changes no RAM character
 pub idle-keeps : (s : Machine) → s.0.owed ≡ 1 → (after_cycles 1 s).1.ram ≡ s.1.ram
 unfolding cycle_of
 idle-keeps s e = rw e refl
 
--- a WRM
+-- if no second cycle is pending and WRM is at the program counter, the next cycle has the effect of WRM
 pub write-does : (s : Machine) → s.0.owed ≢ 1 → instruction_at s.0 s.1 ≡ Some Wrm → after_cycles 1 s ≡ effect Wrm s.0 s.1
 unfolding cycle_of
 write-does s free at = let e : eqb s.0.owed 1 ≡ false = grind (arith, nat_tests) in rw (e, at) refl
 
--- ---- what is seen of it
+-- ---- changes of watched RAM characters
 
 pub same-ram : (watches : List ℕ) (s t : Machine) → s.1.ram ≡ t.1.ram → has_changed watches s t ≡ false
 same-ram [] s t e = refl
@@ -120,7 +120,8 @@ absorbs true x = refl
 absorbs false true = refl
 absorbs false false = refl
 
--- where no place but one has changed, a watched one has if it is that one
+-- If no RAM character changed except the one at the index `place`, a watch changed exactly if that one is watched and
+-- changed.
 pub one-changed : (watches : List ℕ) (s t : Machine) (place : ℕ) → ((w : ℕ) → w ≢ place → slice_index s.1.ram w ≡ slice_index t.1.ram w) → has_changed watches s t ≡ (is_listed watches place && not (eqb (slice_index s.1.ram place) (slice_index t.1.ram place)))
 one-changed [] s t place others = refl
 one-changed (w ∷ ws) s t place others =
@@ -138,12 +139,12 @@ place-of : (b : Bool) (m : BusState) (place n w : ℕ) → w ≢ place → slice
 place-of true m place n w ne = sym (get_or-set_other m.ram place w n 0 ne)
 place-of false m place n w ne = refl
 
--- a write changes no other place than the selected one
+-- a write changes only the selected RAM character
 pub write-others : (m : BusState) (bank n w : ℕ) → w ≢ bank * 256 + src_of m bank → slice_index m.ram w ≡ slice_index (after_ram m bank n).ram w
 unfolding after_ram with_ram
 write-others m bank n w ne = place-of (has_chip m bank (src_of m bank)) m (bank * 256 + src_of m bank) n w ne
 
--- ---- what a write does to the selected character
+-- ---- the value of the selected RAM character after a write
 
 written-there : (b : Bool) (m : BusState) (place n : ℕ) → slice_index m.ram place ≡ n → slice_index (cond b (record m { ram = slice_set m.ram place n }) m).ram place ≡ n
 written-there true m place n e = ap (λ v. slice_index (slice_set m.ram place v) place) (sym e) ∙ ap (λ (xs : List ℕ). slice_index xs place) (set-get_or m.ram place 0) ∙ e
@@ -153,7 +154,7 @@ pub lost-write : (m : BusState) (bank n : ℕ) → has_chip m bank (src_of m ban
 unfolding after_ram with_ram
 lost-write m bank n off = rw off refl
 
--- a value that is there already
+-- if the selected RAM character already has the value n, it still has it after n is written
 pub same-write : (m : BusState) (bank n : ℕ) → slice_index m.ram (bank * 256 + src_of m bank) ≡ n → slice_index (after_ram m bank n).ram (bank * 256 + src_of m bank) ≡ n
 unfolding after_ram with_ram
 same-write m bank n e = written-there (has_chip m bank (src_of m bank)) m (bank * 256 + src_of m bank) n e

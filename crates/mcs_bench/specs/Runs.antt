@@ -13,17 +13,16 @@ use Rattle.mcs_bench.specs.declared.running.Went.{Went}
 use Rattle.mcs_model.specs.Running.{Machine, Stops, is_outside, after_cycles, at_break, has_changed, stop_after, run_length, after_run, run_stop, step_length, after_step, step_stop}
 use Rattle.mcs_cpu4004.specs.InstructionRan.{InstructionRan}
 
--- the debug stop after a cycle: a breakpoint, else a change of a watched RAM character, else none
+-- the debug stop after a cycle: a breakpoint if `broken`, else a changed watch if `altered`, else none
 abbrev pub debug_stop_of : Bool → Bool → Option Stop
 debug_stop_of broken altered = if broken then Some Breakpoint else if altered then Some Watched else None
 
--- the debug stop after k cycles, if any, at the machine t; the last of these cycles led from s to t
+-- the debug stop at the machine t, if any, after the k-th cycle of a run, which led from s to t
 abbrev pub debug_stop_at : Stops → ℕ → Machine → Machine → Option Stop
 debug_stop_at stops k s t = debug_stop_of (at_break stops.breaks k t) (has_changed stops.watches s t)
 
--- Holds if a run of at most n cycles from s stops at t after k of them, with no earlier reason to
--- stop. The reason is a breakpoint, a change of a watched RAM character, the end of the run, or
--- that no cycle can follow.
+-- Holds if a run of at most n cycles from s reaches t after k cycles and stops there, with no earlier reason to stop.
+-- `mark` is the debug stop at t. If it is `None`, all n cycles are done or no cycle can follow.
 pub record RanOn (stops : Stops) (n : ℕ) (s t : Machine) (k : ℕ) (mark : Option Stop) : Type 0 where
   pub machine : t ≡ after_cycles k s
   pub within : k ≤ n
@@ -31,16 +30,16 @@ pub record RanOn (stops : Stops) (n : ℕ) (s t : Machine) (k : ℕ) (mark : Opt
   pub found : debug_stop_at stops k (after_cycles (k - 1) s) t ≡ mark
   pub unmarked : mark ≡ None → is_outside t ≡ false → k ≡ n
 
--- Holds if a run of at most n cycles from s reaches t after k of them, with no earlier reason to
--- stop. Neither a breakpoint nor a change of a watched RAM character stops it at t.
+-- Holds if a run of at most n cycles from s reaches t after k cycles, with no earlier reason to stop. There is no
+-- debug stop at t: neither a breakpoint nor a change of a watched RAM character.
 pub record GoesOn (stops : Stops) (n k : ℕ) (s t : Machine) : Type 0 where
   pub at : t ≡ after_cycles k s
   pub within : k ≤ n
   pub before : (j : ℕ) → j < k → stop_after stops n s j ≡ None
   pub unmarked : debug_stop_at stops k (after_cycles (k - 1) s) t ≡ None
 
--- holds if a run of at most n cycles from s reaches t after k of them; it stops there for the
--- reason `mark`, or continues if there is none
+-- Holds if a run of at most n cycles from s reaches t after k cycles, with no earlier reason to stop. `mark` is the
+-- debug stop at t, if any.
 abbrev pub CameTo : Stops → ℕ → Machine → Machine → ℕ → Option Stop → Type 0
 CameTo stops n s t k mark = MatchOption mark (GoesOn stops n k s t) (λ why. RanOn stops n s t k (Some why))
 
@@ -54,16 +53,16 @@ alters_selected t =
     not (slice_index t.1.ram (selected_index t)
     == slice_index (after_ram t.1 t.0.dcl t.0.acc).ram (selected_index t))
 
--- holds if b is true exactly when the instruction at the program counter changes the value of the
--- selected RAM character, and that RAM character is watched
+-- holds if b says whether the instruction at the program counter changes the value of the selected RAM character and
+-- that RAM character is watched
 abbrev pub WillChange : List ℕ → Machine → Bool → Type 0
 WillChange watches t b =
     (((watches ≡ []) ⊎ (instruction_at t.0 t.1 ≢ Some Wrm)) × (b ≡ false))
     ⊎ ((instruction_at t.0 t.1 ≡ Some Wrm) ×
     (b ≡ (is_listed watches (selected_index t) && alters_selected t)))
 
--- holds if, in d cycles from t, no watched RAM character changes before the last cycle, and
--- `altered` is true exactly if one changes in the last
+-- Holds if none of the d cycles from t, except the last, changes a watched RAM character. `altered` says whether the
+-- last cycle changes one.
 pub record Seen (watches : List ℕ) (t : Machine) (d : ℕ) (altered : Bool) : Type 0 where
   pub before : (j : ℕ) → 0 < j → j < d → has_changed watches (after_cycles (j - 1) t) (after_cycles j t) ≡ false
   pub last : 0 < d → has_changed watches (after_cycles (d - 1) t) (after_cycles d t) ≡ altered
@@ -80,10 +79,10 @@ pub record RanTo (stops : Stops) (n : ℕ) (s t : Machine) (k : ℕ) (why : Stop
 abbrev pub stop_by : Machine → Option Stop → Stop
 stop_by t mark = if is_outside t then Outside else unwrap_or mark Ended
 
--- holds if one instruction of a run, or the pending second cycle of one, leads from s to t with the
--- result w, when `left` cycles remain
+-- holds if, with `left` cycles left in a run, one instruction or a pending second cycle leads from s to t with the
+-- result w
 pub record WentTo (stops : Stops) (left : ℕ) (s t : Machine) (w : Went) : Type 0 where
-  -- t is reached after the cycles that w counts
+  -- t is the machine after `w.cycles` cycles
   pub ran : InstructionRan left s t w.cycles
   pub some : 0 < w.cycles
   -- no watched RAM character changes before the last of these cycles

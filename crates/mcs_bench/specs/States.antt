@@ -1,4 +1,4 @@
--- The conversion of a state as plain numbers to the flat state. (Our own choice.)
+-- The flat state (`BenchState`) of a `Flat`, which has the same state as plain numbers. (Our own choice.)
 use Rattle.std.specs.Prelude.{ℕ, List, map}
 use Rattle.arrayvec.specs.ArrayVec.{ArrayVec}
 use Rattle.mcs_model.specs.BenchState.{BenchState}

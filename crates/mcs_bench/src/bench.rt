@@ -1,4 +1,4 @@
-//! The `Bench` type, its creation and copying.
+//! The `Bench` type, and how a bench is created and copied.
 ghost use Rattle.std.specs.Prelude.{◌≡◌, IfOk};
 ghost use Rattle.mcs_model.specs.BenchState.{new_bench_state};
 
@@ -9,8 +9,8 @@ use mcs_cpu4004::Cpu;
 use std::alloc::{AllocError, Global};
 use std::marker::Model;
 
-/// A processor on a rig, with breakpoints, watches and the number of accepted commands. Contracts see it as its flat
-/// state.
+/// A processor and the rig that it drives, with breakpoints, watches and the number of accepted commands. In
+/// contracts, a bench is its flat state (`BenchState`).
 #[derive(Drop)]
 pub struct Bench {
     pub(crate) rig: BenchRig,
@@ -29,7 +29,7 @@ impl Model for Bench {
 }
 
 impl Bench {
-    /// Returns a new bench. It has the empty board, and all state is 0, except the TEST level, which is 1.
+    /// Returns a new bench with the empty board. All its state is 0, except the TEST level, which is 1.
     ///
     /// # Errors
     ///

@@ -11,8 +11,8 @@ use mcs_model::limits::BREAKPOINTS;
 use mcs_nibble::Addr;
 use std::marker::Model;
 
-/// The breakpoints in ascending order, with a flag for each address. The flag lets a run look up an address in constant
-/// time.
+/// The breakpoint addresses in ascending order, with a flag for each of the 4,096 addresses. With the flags, a run
+/// checks an address in constant time.
 #[derive(Drop)]
 pub(crate) struct Breaks {
     list: ArrayVec<Addr, BREAKPOINTS>,
@@ -97,21 +97,22 @@ impl Breaks {
         self.list.as_slice()
     }
 
-    /// Returns whether an address is a breakpoint.
+    /// Returns whether a breakpoint is set at an address.
     pub(crate) fn contains(&self, at: Addr) -> bool
         ensures { result ≡ is_listed self.now at }
     {
         self.marks[usize::from(at.get())]
     }
 
-    /// Returns whether an address already is a breakpoint or there is room for another one.
+    /// Returns whether a breakpoint can be set at an address: one is set there already, or fewer than `BREAKPOINTS`
+    /// are set.
     pub(crate) fn has_room_for(&self, at: Addr) -> bool
         ensures { result ≡ (is_listed self.now at || nat_lt (length self.now) BREAKPOINTS) }
     {
         self.contains(at) || self.list.len() < BREAKPOINTS
     }
 
-    /// Sets a breakpoint at an address. Nothing changes if one is set there already.
+    /// Sets a breakpoint at an address. Does nothing if that breakpoint is already set.
     pub(crate) fn set(&mut self, at: Addr)
         requires { (is_listed self.old at || nat_lt (length self.old) BREAKPOINTS) ≡ true }
         ensures { self.new ≡ with_listed self.old at }
@@ -123,7 +124,7 @@ impl Breaks {
         }
     }
 
-    /// Removes the breakpoint at an address. Nothing changes if there is none.
+    /// Removes the breakpoint at an address. Does nothing if no breakpoint is set there.
     pub(crate) fn clear(&mut self, at: Addr)
         ensures { self.new ≡ without_listed self.old at }
     {

@@ -7,14 +7,14 @@ use mcs_board::BenchRig;
 use mcs_model::board::Board;
 use mcs_nibble::{Addr, Nibble};
 
-/// A kind of value in a board's chips. The values of a kind form a list, which has 0 for absent chips.
+/// A kind of value in a board's chips. All values of one kind form a list; the values of absent chips are 0.
 #[derive(Clone, Copy)]
 pub enum ChipList {
     /// The ROM bytes, indexed by address.
     RomBytes,
     /// The RAM characters, at index bank * 256 + SRC byte.
     Characters,
-    /// The status characters, at index (bank * 16 + upper nibble of SRC byte) * 4 + k.
+    /// The status characters. Character k, 0 to 3, is at index (bank * 16 + upper nibble of the SRC byte) * 4 + k.
     StatusCharacters,
     /// The port latches of the RAM chips, at index bank * 4 + chip.
     RamPorts,
@@ -37,7 +37,7 @@ impl ChipList {
     }
 }
 
-/// Returns whether the chip of element `i` of a list is absent.
+/// Returns whether the board lacks the chip that holds element `i` of a list.
 fn is_absent(board: &Board, list: ChipList, i: usize) -> bool
     requires { i < count_of list }
     ensures { result ≡ is_absent board.now list i }
@@ -51,7 +51,7 @@ fn is_absent(board: &Board, list: ChipList, i: usize) -> bool
     }
 }
 
-/// Returns whether all elements of absent chips are 0.
+/// Returns whether all elements of a list that belong to absent chips are 0.
 pub(crate) fn is_absent_zero(board: &Board, list: ChipList, numbers: &[u8]) -> bool
     requires { length numbers.now ≡ count_of list }
     ensures { IsTrue result
@@ -66,7 +66,7 @@ pub(crate) fn is_absent_zero(board: &Board, list: ChipList, numbers: &[u8]) -> b
     true
 }
 
-/// Sets element `i` of a list. The write is lost if its chip is absent.
+/// Sets element `i` of a list to `n`. Does nothing if the chip of that element is absent.
 fn set(rig: &mut BenchRig, list: ChipList, i: usize, n: u8)
     requires index { i < count_of list }
     requires fits { n < limit_of list }
@@ -88,7 +88,7 @@ fn set(rig: &mut BenchRig, list: ChipList, i: usize, n: u8)
     }
 }
 
-/// Sets all elements of a list.
+/// Sets all elements of a list. In `numbers`, the elements of absent chips must be 0.
 pub(crate) fn fill(rig: &mut BenchRig, list: ChipList, numbers: &[u8])
     requires fit { AreBelow (count_of list) (limit_of list) numbers.now }
     requires absent { (i : ℕ) → i < count_of list → is_absent rig.old.board list i ≡ true →

@@ -29,21 +29,21 @@ fn when(ill: bool, fault: BenchFault) -> Option<BenchFault>
     if ill { Some(fault) } else { None }
 }
 
-/// Returns whether an address is in a ROM that the board lacks.
+/// Returns whether the board lacks the ROM of an address.
 fn lacks_rom(board: &Board, at: Addr) -> bool
     ensures { result ≡ lacks_rom board.now at }
 {
     board.mask(at.page().get()).is_none()
 }
 
-/// Returns whether an image has a byte for a ROM that the board lacks.
+/// Returns whether an image has a byte at an address whose ROM the board lacks.
 fn lacks_a_rom(board: &Board, image: &Image) -> bool
     ensures { result ≡ list_any (λ p. lacks_rom board.now p.0) image.now }
 {
     image.pairs().iter().any(|pair| lacks_rom(board, pair.0))
 }
 
-/// Loads an image into ROM. The reply contains the number of its bytes.
+/// Writes the bytes of an image to ROM. Returns the reply `Loaded` with the number of these bytes.
 fn load(rig: &mut BenchRig, image: &Image) -> Reply
     ensures bytes { rig.new ≡ with_rom_bytes rig.old image.now }
     ensures count { result ≡ Reply.Loaded (length image.now) }
@@ -77,8 +77,8 @@ impl Bench {
         }
     }
 
-    /// Returns the reason that the bench rejects a command, or `None` if there is none. The limit on the number of
-    /// accepted commands is not checked here.
+    /// Returns the reason that the bench rejects a command, or `None` if there is none. Does not check the limit on
+    /// the number of accepted commands.
     fn refusal_of_command(&self, command: &Command) -> Option<BenchFault>
         ensures { result ≡ refusal_of_command self.now command.now }
     {
@@ -110,10 +110,10 @@ impl Bench {
     ///
     /// # Errors
     ///
-    /// Returns `Worn` if the bench has accepted as many commands as it can count. Otherwise returns:
-    /// - `NoKey` if the board has no such key
-    /// - `NoRom` if an address is in a ROM that the board lacks
-    /// - `NoSuchPlace` if the RAM chip is absent
+    /// Returns `Worn` if the bench has already accepted 4,294,967,295 commands. Otherwise returns:
+    /// - `NoKey` if the board has no key at the command's row and column
+    /// - `NoRom` if the command writes to a ROM that the board lacks
+    /// - `NoSuchPlace` if the command pokes a RAM chip that the board lacks
     /// - `BadCount` for a run of 0 cycles or of more than 100,000
     /// - `BreaksFull` if a 33rd breakpoint would be set
     /// - `WatchesFull` if a ninth RAM character would be watched
@@ -130,7 +130,7 @@ impl Bench {
         }
     }
 
-    /// Wires the rig to another board and resets the processor.
+    /// Replaces the board of the rig and resets the processor.
     fn wire(&mut self, board: &Board)
         ensures { self.new ≡ after_change self.old (Command.Wire board.now) }
     {
@@ -139,14 +139,14 @@ impl Bench {
         self.cpu = Cpu::new();
     }
 
-    /// Sets the command register.
+    /// Sets the command register (DCL) to a bank number.
     fn set_dcl(&mut self, bank: BankNo)
         ensures { self.new ≡ with_place self.old (Place.Dcl bank) }
     {
         self.cpu.set_dcl(bank.get());
     }
 
-    /// Writes a value to a location. The write is lost if its chip is absent.
+    /// Writes the value in `place` to its location. Does nothing if the chip of that location is absent.
     fn put(&mut self, place: Place)
         ensures { self.new ≡ with_place self.old place }
     {
@@ -164,7 +164,7 @@ impl Bench {
         }
     }
 
-    /// Performs a power cycle.
+    /// Resets the processor and the chips, as a power cycle does.
     fn reset(&mut self)
         ensures { self.new ≡ after_change self.old Command.Reset }
     {
@@ -172,7 +172,7 @@ impl Bench {
         self.rig.reset();
     }
 
-    /// Runs for at most `n` cycles.
+    /// Runs for at most `n` cycles. Returns the number of cycles done and the reason for the stop.
     fn run(&mut self, n: u32) -> Reply
         ensures state { self.new ≡ after_change self.old (Command.Run n) }
         ensures reply { result ≡ reply self.old (Command.Run n) }
@@ -181,7 +181,8 @@ impl Bench {
         Reply::Ran { cycles, stop }
     }
 
-    /// Executes one instruction, or the pending second cycle of one.
+    /// Executes the pending second cycle if there is one, else one instruction. Returns the number of cycles done and
+    /// the reason for the stop.
     fn step(&mut self) -> Reply
         ensures state { self.new ≡ after_change self.old Command.Step }
         ensures reply { result ≡ reply self.old Command.Step }
@@ -190,7 +191,7 @@ impl Bench {
         Reply::Ran { cycles, stop }
     }
 
-    /// Executes a command without counting it.
+    /// Executes a command that the bench accepts, and returns the reply. Does not count the command.
     fn change(&mut self, command: &Command) -> Reply
         requires { refusal_of_command self.old command.now ≡ None }
         ensures state { self.new ≡ after_change self.old command.now }
@@ -214,7 +215,7 @@ impl Bench {
         Reply::Done
     }
 
-    /// Executes an accepted command and returns its reply. Allocates no memory.
+    /// Executes a command that `check` accepts, counts it, and returns the reply. Allocates no memory.
     pub fn apply(&mut self, command: &Command) -> Reply
         requires accepted { refusal self.old command.now ≡ None }
         ensures state { self.new ≡ after self.old command.now }

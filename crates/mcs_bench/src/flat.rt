@@ -1,4 +1,4 @@
-//! A bench's state as plain numbers, which need not be valid.
+//! A bench's state as plain numbers, which can be out of range.
 ghost use Rattle.std.specs.Prelude.{◌≡◌, ◌<◌, ℕ, IfOk, length, replicate, slice_index, slice_set};
 ghost use Rattle.mcs_model.specs.BenchState.{new_bench_state};
 ghost use Rattle.mcs_bench.specs.States.{state_of};
@@ -9,7 +9,7 @@ use mcs_model::limits::{BREAKPOINTS, CHAIN_SOCKETS, CHAINS, KEYS, WATCHES};
 use std::alloc::{AllocError, Global};
 use std::marker::Model;
 
-/// A byte list of fixed length. Contracts see it as a list of numbers.
+/// A list of bytes whose length is fixed. In contracts, it is a list of numbers.
 #[derive(Drop)]
 pub struct Cells {
     bytes: Vec<u8>,
@@ -75,11 +75,13 @@ pub struct Flat {
     pub rom: Cells,
     /// The RAM characters, at index bank * 256 + SRC byte: 2,048 nibbles, 0 for absent chips.
     pub ram: Cells,
-    /// The status characters, at index (bank * 16 + upper nibble of SRC byte) * 4 + k: 512 nibbles, 0 for absent chips.
+    /// The status characters: 512 nibbles, 0 for absent chips. Character k, 0 to 3, is at index (bank * 16 + upper
+    /// nibble of the SRC byte) * 4 + k.
     pub status: Cells,
     /// The port latches of the RAM chips, at index bank * 4 + chip: 32 nibbles, 0 for absent chips.
     pub ram_ports: Cells,
-    /// The port latches of the ROMs: 16 nibbles, 0 for absent ROMs, with 0 in the bits of input lines.
+    /// The port latches of the ROMs: 16 nibbles. The latch of an absent ROM is 0, and so is each latch bit of an
+    /// input line.
     pub rom_ports: Cells,
     /// The accumulator, a nibble.
     pub acc: u8,
@@ -89,7 +91,7 @@ pub struct Flat {
     pub r: [u8; 16],
     /// The program counter, 0 to 4095.
     pub pc: u16,
-    /// The return addresses. BBL takes the first one.
+    /// The call stack: three return addresses, each 0 to 4095. BBL returns to the first one.
     pub ret: [u16; 3],
     /// The command register, 0 to 7.
     pub dcl: u8,
@@ -99,7 +101,7 @@ pub struct Flat {
     pub ram_src: [u8; 8],
     /// 1 if the second cycle of an instruction is pending, else 0.
     pub owed: u8,
-    /// The bits of each of the board's chains, bit 0 first.
+    /// The bits of each shift-register chain of the board, bit 0 first.
     pub chains: ArrayVec<ArrayVec<u8, CHAIN_SOCKETS>, CHAINS>,
     /// The states of the board's keys, row by row: 1 for a key that is down, else 0.
     pub keys: ArrayVec<u8, KEYS>,
@@ -112,8 +114,7 @@ pub struct Flat {
 }
 
 impl Flat {
-    /// Returns the state of a new bench. It has the empty board, and all numbers are 0, except the TEST level, which is
-    /// 1.
+    /// Returns the state of a new bench: the empty board, and all numbers 0, except the TEST level, which is 1.
     ///
     /// # Errors
     ///

@@ -1,4 +1,4 @@
-//! Laws of a bench. Each is proved as the contract of a function that changes nothing.
+//! Laws of a bench. Each law is the contract of a function that changes nothing.
 ghost use Rattle.std.specs.Prelude.{◌<◌, All};
 ghost use Rattle.mcs_model.specs.Validity.{IsValid, IsValidRegs};
 ghost use Rattle.mcs_bench.specs.Runs.{RunsAddUp};
@@ -33,7 +33,7 @@ pub(crate) fn are_addresses(list: &[Addr])
     }
 }
 
-/// Proves that each register's value is in its range, if those of `dcl` and `owed` are.
+/// Proves that all registers are in range if `dcl` and `owed` are.
 fn registers_are_valid(regs: Regs)
     requires dcl { regs.dcl < 8 }
     requires owed { regs.owed < 2 }

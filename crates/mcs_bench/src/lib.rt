@@ -1,8 +1,8 @@
-//! The bench: a processor on a rig, with breakpoints, watches and the number of accepted commands.
+//! The bench: a processor and the rig that it drives, with breakpoints, watches and the number of accepted commands.
 //!
-//! `Bench` executes commands. Contracts see it as the flat state of `mcs_model`. `Flat` is a state as plain numbers,
-//! which need not be valid. `Flat::check` returns whether a bench can be in that state, and `Bench::restore` creates a
-//! bench in a valid one.
+//! `Bench` executes commands. In contracts, a bench is its flat state, `BenchState` of `mcs_model`. `Flat` is a state
+//! as plain numbers, which need not be valid. `Flat::check` returns whether a bench can be in that state.
+//! `Bench::restore` creates a bench from a valid `Flat`.
 #![tactic(auto)]
 
 mod bench;

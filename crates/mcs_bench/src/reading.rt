@@ -114,7 +114,7 @@ impl Bench {
         self.rig.rom_latch(chip)
     }
 
-    /// Returns the value that a read of a ROM's port would give now, or 0 if the ROM is absent.
+    /// Returns the value that reading a ROM's port would give now, or 0 if the ROM is absent.
     pub fn read_port(&self, chip: Nibble) -> Nibble
         ensures { result ≡ port_at self.now.bus chip }
     {
@@ -136,7 +136,7 @@ impl Bench {
         self.rig.ram_src(bank)
     }
 
-    /// Returns element `i` of a list of chip values, or 0 if its chip is absent.
+    /// Returns element `i` of a list of chip values, or 0 if the chip of that element is absent.
     pub fn chip_number(&self, list: ChipList, i: usize) -> u8
         requires { i < count_of list }
         ensures { result ≡ slice_index (list_of self.now.bus list) i }
@@ -153,7 +153,7 @@ impl Bench {
         }
     }
 
-    /// Returns bit `i` of chain `chain`, or 0 if the board has no such bit. Both numbers start at 0.
+    /// Returns bit `i` of chain `chain`, or 0 if the board does not have that bit. Both numbers start at 0.
     pub fn chain_bit(&self, chain: u8, i: u8) -> Bit
         ensures { result ≡ chain_bit self.now.bus chain i }
     {
@@ -175,7 +175,7 @@ impl Bench {
         self.rig.test_level()
     }
 
-    /// Returns the level of a line, or 0 if the board has no such line.
+    /// Returns the level of a line, or 0 if the board does not have that line.
     pub fn level(&self, line: Line) -> Bit
         ensures { result ≡ (if exists_on self.now.bus.board line then level self.now.bus line else 0) }
     {
@@ -186,8 +186,8 @@ impl Bench {
         }
     }
 
-    /// Returns the level of the line that drives lamp `i`, counted from 0. Returns `None` if the board has no such
-    /// lamp.
+    /// Returns the level of the line that drives lamp `i`, counted from 0. Returns `None` if the board does not have
+    /// that lamp.
     pub fn lamp(&self, i: usize) -> Option<Bit>
         ensures { result ≡ option_map (level self.now.bus)
             (slice_get self.now.bus.board.lamps.items i) }

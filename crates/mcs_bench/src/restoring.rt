@@ -1,4 +1,4 @@
-//! Creation of a bench from a flat state.
+//! Functions that create a bench from a flat state.
 ghost use Rattle.std.specs.Prelude.{◌≡◌, ◌<◌, ◌≤◌, ℕ, All, IfOk, MatchOption, length, slice_index, slice_index_or, slice_set, []};
 ghost use Rattle.mcs_nibble.specs.Ports.{latch_value};
 ghost use Rattle.mcs_model.specs.Boards.{masks_on, chain_count, chain_bits, key_count};
@@ -59,7 +59,7 @@ fn processor(flat: &Flat) -> Cpu
     cpu
 }
 
-/// Sets the port latches of all ROMs.
+/// Sets the port latches of all ROMs. Each latch must be able to hold its value in `ports`.
 fn fill_rom_ports(rig: &mut BenchRig, ports: &[u8])
     requires fit { AreBelow 16 16 ports.now }
     requires kept { (chip : ℕ) →
@@ -98,8 +98,8 @@ fn fill_chains(rig: &mut BenchRig, chains: &[ArrayVec<u8, CHAIN_SOCKETS>])
     }
 }
 
-/// Returns the number of columns in a board's key matrix, or 1 if it has no keys. Dividing a key's index by it gives
-/// the key's row as the quotient and its column as the remainder.
+/// Returns the number of columns in a board's key matrix, or 1 if it has no keys. A key's index divided by this
+/// number gives the key's row; the remainder is its column.
 fn columns_of(board: &Board) -> usize
     ensures { (i : ℕ) → i < key_count board.now → IsKeyAt board.now result i }
 {
@@ -150,7 +150,7 @@ fn watches(list: &[u16]) -> Watches
     watches
 }
 
-/// Wires a rig to the board of a flat state, then sets all values in its chips, its keys and the TEST level.
+/// Gives a rig the board of a flat state, then sets all values in its chips, its keys and the TEST level.
 fn restore_rig(rig: &mut BenchRig, flat: &Flat)
     requires { IsValidBus (state_of flat.now).bus }
     ensures { rig.new ≡ (state_of flat.now).bus }
@@ -170,7 +170,7 @@ fn restore_rig(rig: &mut BenchRig, flat: &Flat)
 }
 
 impl Bench {
-    /// Creates a bench in the given state.
+    /// Creates a bench in the given state, which must be valid (`Flat::check`).
     ///
     /// # Errors
     ///

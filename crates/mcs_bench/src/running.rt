@@ -14,16 +14,16 @@ use mcs_model::op::Op;
 use mcs_model::stop::Stop;
 use mcs_nibble::Addr;
 
-/// Returns whether no cycle can follow: none is pending, and the opcode at the program counter is not in the
-/// instruction table.
+/// Returns whether the processor cannot continue: no second cycle is pending, and the opcode at the program counter
+/// is not in the instruction table.
 fn is_outside(cpu: &Cpu, rig: &BenchRig) -> bool
     ensures { result ≡ is_outside (cpu.now, rig.now) }
 {
     cpu.is_outside(rig)
 }
 
-/// Returns the reason to stop a run after a cycle if the program counter is `at`. It is a breakpoint at `at` if no
-/// second cycle is pending, else a watched RAM character if `changed` is true, else `None`.
+/// Returns the reason to stop a run after a cycle, if the program counter is then `at`. The reason is a breakpoint at
+/// `at` if no second cycle is pending, else a changed watch if `changed` is true, else `None`.
 #[inline(always)]
 fn debug_stop_at(cpu: &Cpu, at: Addr, breaks: &Breaks, changed: bool) -> Option<Stop>
     ensures mark { result ≡ debug_stop_of (cpu.now.owed == 0 && is_listed breaks.now at) changed }
@@ -47,7 +47,7 @@ fn is_wrm(op: &Op) -> bool
     matches!(op, Op::Wrm)
 }
 
-/// Returns whether the instruction at an address will change the value of a watched RAM character.
+/// Returns whether `op`, the instruction at the address `at`, will change the value of a watched RAM character.
 #[inline(always)]
 fn will_change(cpu: &Cpu, rig: &BenchRig, watches: &Watches, op: &Op, at: Addr) -> bool
     requires { instruction_at (record cpu.now { pc = at }) rig.now ≡ Some op.now }
@@ -69,8 +69,8 @@ fn will_change(cpu: &Cpu, rig: &BenchRig, watches: &Watches, op: &Op, at: Addr) 
     src / 64 < rig.board().bank_chips(bank)
 }
 
-/// Returns whether the instruction at an address will change the value of a watched RAM character. If `WATCHED` is
-/// false, none is watched, and nothing is read.
+/// Returns whether `op`, the instruction at the address `at`, will change the value of a watched RAM character. If
+/// `WATCHED` is false, no RAM character may be watched, and the function returns false at once.
 #[inline(always)]
 fn foresees_change<const WATCHED: bool>(
     cpu: &Cpu,
@@ -89,8 +89,8 @@ fn foresees_change<const WATCHED: bool>(
     will_change(cpu, rig, watches, op, at)
 }
 
-/// Returns whether the instruction at an address will change the value of a watched RAM character. First checks whether
-/// any is watched.
+/// Returns whether `op`, the instruction at the address `at`, will change the value of a watched RAM character.
+/// Returns false at once if no RAM character is watched.
 #[inline(always)]
 fn foresees(cpu: &Cpu, rig: &BenchRig, watches: &Watches, op: &Op, at: Addr) -> bool
     requires { instruction_at (record cpu.now { pc = at }) rig.now ≡ Some op.now }
@@ -143,8 +143,8 @@ fn finish(cpu: &mut Cpu, breaks: &Breaks) -> Went
     }
 }
 
-/// Executes the instruction at the program counter, or the pending second cycle of one, for at most `left` cycles.
-/// Returns `None` and changes nothing if no cycle can follow.
+/// Executes the pending second cycle if there is one, else the instruction at the program counter, for at most `left`
+/// cycles. Returns `None` and changes nothing if no cycle can follow (`is_outside`).
 #[inline(always)]
 pub(crate) fn go_on(
     cpu: &mut Cpu,
@@ -179,9 +179,9 @@ pub(crate) fn go_on(
     }
 }
 
-/// Runs for at most `n` cycles, up to a breakpoint, or to just before an instruction that can end the run for another
-/// reason. Returns the number of cycles done, the address reached, and the breakpoint stop, if any. The program counter
-/// itself does not change.
+/// Runs for at most `n` cycles. Stops at a breakpoint, or before an instruction that can end the run for another
+/// reason. Returns the number of cycles done, the address reached, and the breakpoint stop, if any. The caller must
+/// set the program counter to that address.
 #[inline(always)]
 fn fast_loop<const WATCHED: bool>(
     cpu: &mut Cpu,
@@ -196,7 +196,7 @@ fn fast_loop<const WATCHED: bool>(
 {
     let mut at = cpu.regs().pc;
     let mut left = n;
-    // From here on, no second cycle is pending when the loop body starts.
+    // Executes a pending second cycle first, so that none is pending when the loop body starts.
     if n > 0 && cpu.regs().owed == 1 {
         left = n - 1;
         if let Some(why) = finish(cpu, breaks).mark {
@@ -222,8 +222,8 @@ fn fast_loop<const WATCHED: bool>(
     (n - left, at, None)
 }
 
-/// Runs `fast_loop` and then sets the program counter. If no RAM character is watched, uses the variant that checks
-/// none.
+/// Runs `fast_loop` and then sets the program counter. If no RAM character is watched, uses the variant that does not
+/// check for changes.
 fn run_fast(
     cpu: &mut Cpu,
     rig: &mut BenchRig,
@@ -234,7 +234,7 @@ fn run_fast(
     ensures { CameTo (record { breaks = breaks.now; watches = watches.now }) n (cpu.old, rig.old)
         (cpu.new, rig.new) result.0 result.1 }
 {
-    // Nothing else refers to this copy, so its registers need not go through memory at each cycle.
+    // No reference to this copy exists outside the loop, so its registers need not go through memory at each cycle.
     let mut copy = *cpu;
     let (done, at, mark) = if watches.is_empty() {
         fast_loop::<false>(&mut copy, rig, breaks, watches, n)
@@ -272,7 +272,8 @@ pub(crate) fn run(
     (done, stop_by(cpu, rig, mark))
 }
 
-/// Executes one instruction cycle, if one can follow. Returns whether one could.
+/// Executes one instruction cycle and returns true. Returns false and changes nothing if no cycle can follow
+/// (`is_outside`).
 #[inline(never)]
 fn advance(cpu: &mut Cpu, rig: &mut BenchRig) -> bool
     ensures went { result ≡ not (is_outside (cpu.old, rig.old)) }
@@ -284,8 +285,8 @@ fn advance(cpu: &mut Cpu, rig: &mut BenchRig) -> bool
     }
 }
 
-/// Executes one instruction, or the pending second cycle of one. Returns the number of cycles done and the reason that
-/// the step stopped.
+/// Executes the pending second cycle if there is one, else one instruction. Returns the number of cycles done and the
+/// reason that the step stopped.
 pub(crate) fn step(cpu: &mut Cpu, rig: &mut BenchRig) -> (u32, Stop)
     ensures { SteppedTo (cpu.old, rig.old) (cpu.new, rig.new) result.0 result.1 }
 {

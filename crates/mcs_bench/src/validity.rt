@@ -1,4 +1,4 @@
-//! Validation of a flat state: the check that a bench can be in it.
+//! Validation of a flat state. A state is valid if a bench can be in it.
 ghost use Rattle.std.specs.Prelude.{◌≡◌, ◌<◌, ◌≤◌, ◌↔◌, ℕ, All, IsTrue, MatchOption, None, length, slice_index, slice_index_or, []};
 ghost use Rattle.std.specs.List.Sorted.{IsStrictlyIncreasing};
 ghost use Rattle.mcs_nibble.specs.Ports.{latch_value};
@@ -37,8 +37,8 @@ fn are_bytes(numbers: &[u8], count: usize) -> bool
     numbers.len() == count
 }
 
-/// Proves that an array of eight bytes has eight elements, each below 256. The type says so, but proofs need the fact
-/// stated.
+/// Proves that an array of eight bytes has eight elements, each below 256. The type implies this, but proofs need it
+/// as a fact.
 fn are_eight(numbers: &[u8; 8])
     ensures { AreBelow 8 256 numbers.now }
 {
@@ -70,7 +70,8 @@ fn is_rising(numbers: &[u16]) -> bool
     true
 }
 
-/// Returns whether the chains match the board: their number, the number of bits in each, and each bit 0 or 1.
+/// Returns whether `chains` fits the board: one list for each chain of the board, with the chain's number of bits,
+/// each 0 or 1.
 fn are_chains(board: &Board, chains: &[ArrayVec<u8, CHAIN_SOCKETS>]) -> bool
     ensures { IsTrue result
         ↔ ((length chains.now ≡ chain_count board.now) ×
@@ -101,7 +102,7 @@ fn can_hold(board: &Board, chip: u8, n: u8) -> bool
     }
 }
 
-/// Returns whether the port latch of each ROM can hold the nibble given for it.
+/// Returns whether the port latch of each ROM can hold its nibble in `ports`.
 fn can_all_hold(board: &Board, ports: &[u8]) -> bool
     requires { AreBelow 16 16 ports.now }
     ensures { IsTrue result
@@ -176,7 +177,7 @@ impl Flat {
         are_below(self.keys.as_slice(), self.board.key_count(), 2)
     }
 
-    /// Returns whether the elements of absent chips in a list are 0.
+    /// Returns whether all elements of a list that belong to absent chips are 0.
     fn is_zero_where_absent(&self, list: ChipList) -> bool
         requires { IsInRange (state_of self.now).bus }
         ensures { IsTrue result ↔ IsZeroWhereAbsent (state_of self.now).bus list }

@@ -9,8 +9,9 @@ use crate::running::{Went, go_on, stop_by};
 use mcs_model::stop::Stop;
 
 impl Bench {
-    /// Executes the instruction at the program counter, or the pending second cycle of one, for at most `left` cycles.
-    /// Returns `None` and changes nothing if no cycle can follow. This is not a command, and it allocates no memory.
+    /// Executes the pending second cycle if there is one, else the instruction at the program counter, for at most
+    /// `left` cycles. Returns `None` and changes nothing if no cycle can follow. This is not a command, and it
+    /// allocates no memory.
     #[inline(always)]
     pub fn go_on(&mut self, left: u32) -> Option<Went>
         requires { 0 < left }

@@ -9,8 +9,8 @@ use mcs_model::limits::WATCHES;
 use mcs_nibble::Addr;
 use std::marker::Model;
 
-/// The indices of the watched RAM characters, bank * 256 + SRC byte, in ascending order. A flag for each index lets a
-/// run look up a RAM character in constant time.
+/// The indices of the watched RAM characters, bank * 256 + SRC byte, in ascending order. With a flag for each index,
+/// a run checks a RAM character in constant time.
 #[derive(Drop)]
 pub(crate) struct Watches {
     indices: Breaks,
@@ -79,7 +79,7 @@ impl Watches {
         self.indices.contains(index_of(bank, src))
     }
 
-    /// Returns whether a RAM character already is watched or there is room for another one.
+    /// Returns whether a RAM character can be watched: it is watched already, or fewer than `WATCHES` are.
     pub(crate) fn has_room_for(&self, bank: u8, src: u8) -> bool
         requires { bank < 8 }
         ensures { result ≡ (is_listed self.now (ram_index bank src)
@@ -88,7 +88,7 @@ impl Watches {
         self.contains(bank, src) || self.indices.list().len() < WATCHES
     }
 
-    /// Watches a RAM character. Nothing changes if it is watched already.
+    /// Watches a RAM character. Does nothing if it is already watched.
     pub(crate) fn set(&mut self, bank: u8, src: u8)
         requires bank { bank < 8 }
         requires src { src < 256 }
@@ -99,7 +99,7 @@ impl Watches {
         self.indices.set(index_of(bank, src));
     }
 
-    /// Stops watching a RAM character. Nothing changes if it is not watched.
+    /// Stops watching a RAM character. Does nothing if it is not watched.
     pub(crate) fn clear(&mut self, bank: u8, src: u8)
         requires { bank < 8 }
         ensures { self.new ≡ without_listed self.old (ram_index bank src) }

@@ -1,4 +1,4 @@
--- The laws of a board and its parts.
+-- Reading is the inverse of encoding, for a board and for each of its parts.
 use Rattle.std.proofs.Common.{◌≡◌, ℕ, true, false, cond, eqb, List, [], ◌∷◌, ◌++◌, Option, Some, None, refl, ap, subst, arith}
 use Rattle.std.specs.Prelude.{is_none, ◌&&◌}
 use Rattle.std.proofs.lemmas.Bool.Decides.{nat_tests}
@@ -65,7 +65,7 @@ no_dash One = refl
 abbrev rom_end : Four → Reading (Option (List LineMask))
 rom_end x = rom_of x.0 x.1.0 x.1.1.0 x.1.1.1
 
--- a port line that is read
+-- if a port line is read from a byte, the byte is the character of that line
 line_read : {B : Type 0} (b : ℕ) (next : LineMask → Reading B) (rest : List ℕ) (y : B × List ℕ) → (giving_some (mask_of b) >>= next) rest ≡ Some y → (m : LineMask) × (mask_character m ≡ b) × (next m rest ≡ Some y)
 line_read {B} b next rest y =
     elim (mask_of b) as (λ o. ((m : LineMask) → o ≡ Some m → mask_character m ≡ b) → (giving_some o >>= next) rest ≡ Some y → (m : LineMask) × (mask_character m ≡ b) × (next m rest ≡ Some y)) [
@@ -114,7 +114,7 @@ unfolding chain_at
 chain_codec = giving_codec (λ p. record { clock = p.0; data_in = p.1.0; chips = p.1.1 }) chain_bytes (λ _. Unit {0})
     (next _ line_codec (λ _ _. next _ line_codec (λ _ _. last _ any_codec))) (λ p h. (refl, tt)) (λ c h. ((c.clock, (c.data_in, c.chips)), refl, (tt, (tt, tt))))
 
--- the spelling of a key matrix, after its flag
+-- the bytes of a key matrix, after the byte of 1 that comes before it
 abbrev matrix_text : KeyMatrix → List ℕ
 matrix_text m = m.chain ∷ m.first ∷ m.rows ∷ counted_bytes board_line_bytes m.columns.items
 

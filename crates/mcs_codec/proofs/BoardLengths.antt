@@ -1,4 +1,4 @@
--- What the lengths and the soundness of a board bound, in forms for lists read one by one.
+-- Bounds on the lists of a valid board, in a form that fits lists that are read element by element.
 use Rattle.std.proofs.Common.{◌≡◌, ℕ, zero, suc, ◌*◌, ◌≤◌, false, List, [], ◌∷◌, length, get_or, Option, Some, None, refl, subst, arith}
 use Rattle.std.specs.Prelude.{◌&&◌, not, nat_lt, nat_le}
 use Rattle.std.specs.List.{list_any, AllByRecursion}
@@ -21,7 +21,7 @@ abbrev pub IsKeys : Option KeyMatrix → Type 0
 IsKeys (Some m) = length m.columns.items ≤ 8
 IsKeys None = Unit {0}
 
--- the lengths of the lists of all parts, element by element
+-- holds if each list in a board's parts has a valid length
 pub record HasLengths (b : BoardParts) : Type 0 where
   pub roms : length b.roms ≡ 16
   pub masks : AllByRecursion IsMask b.roms
@@ -30,7 +30,7 @@ pub record HasLengths (b : BoardParts) : Type 0 where
   pub keys : IsKeys b.keys
   pub lamps : length b.lamps.items ≤ 64
 
--- ---- what a sound board bounds
+-- ---- bounds on a board without errors
 
 few_chips : (chains : List ChainPart) → list_any (λ c. not (is_chain_size c)) chains ≡ false → AllByRecursion (λ c. c.chips ≤ CHAIN_CHIPS) chains
 few_chips [] h = tt
@@ -54,14 +54,14 @@ chips_at [] i h = omega arith
 chips_at (c ∷ chains) zero h = h.0
 chips_at (c ∷ chains) (suc i) h = chips_at chains i h.1
 
--- no chain has more bits
+-- no chain has more than `CHAIN_BITS` bits
 pub few_bits : (b : BoardParts) (i : ℕ) → board_fault_of b ≡ None → chain_bits b i ≤ CHAIN_BITS
 few_bits b i h = omega (arith, chips_at b.chains.items i (chips_of b h))
 
 pub keys_of : (b : BoardParts) → IsKeys b.keys → board_fault_of b ≡ None → key_count b ≤ KEYS
 keys_of b k h = few_keys b.keys k (sound b h).values.matrix
 
--- ---- lengths by place, and by element
+-- ---- the same lengths, stated by index and by recursion
 
 masks_all : (roms : List (Option (List LineMask))) → ((chip : ℕ) (mask : List LineMask) → get_or roms chip None ≡ Some mask → length mask ≡ 4) → AllByRecursion IsMask roms
 masks_all [] h = tt

@@ -1,4 +1,5 @@
--- A spelling and a reading that undo each other, and how such are put together.
+-- Codecs. A codec is an encoding and a reading that are the inverses of each other. Larger codecs
+-- are built from smaller ones.
 use Rattle.std.proofs.Common.{◌≡◌, ℕ, zero, suc, ◌^◌, ◌<◌, ◌≤◌, Bool, true, false, cond, ltb, eqb, leb, List, [], ◌∷◌, ◌++◌, length, get_or, take, drop, Some, None, refl, sym, ap, subst, ◌∙◌, append_assoc, arith, inl, inr}
 use Rattle.std.specs.List.{flat_map, AllByRecursion}
 use Rattle.std.specs.Int.{Width, w16, w32, byte_len, from_be_bytes, to_be_bytes}
@@ -31,7 +32,7 @@ IsBytes-take n bytes h i =
 
 -- ---- steps
 
--- a step that reads, and reading that goes on, have each given something
+-- if a step followed by the rest of a reading gives a value, each of the two gives a value
 pub then_some : {A B : Type 0} (r : Read A) (next : A → Reading B) (y : B × List ℕ) → and_then r next ≡ Some y → (x : A × List ℕ) × (r ≡ Some x) × (next x.0 x.1 ≡ Some y)
 then_some (Some x) next y e = (x, refl, e)
 then_some None next y e = absurd cc
@@ -40,9 +41,11 @@ guarded : {A : Type 0} (b : Bool) (x y : A) → cond b None (Some x) ≡ Some y 
 guarded true x y e = absurd cc
 guarded false x y e = (refl, cc)
 
--- ---- the law
+-- ---- codecs
 
--- what is read is spelled and in range, and what is in range is read from its spelling, whatever follows
+-- Holds if `read` is the inverse of `spell`. A value that is read fits its range, and the bytes
+-- before the rest are its encoding. A value that fits its range is read from its encoding, whatever
+-- bytes follow.
 pub record IsCodec {A : Type 0} (spell : A → List ℕ) (fits : A → Type 0) (read : Reading A) : Type 0 where
   pub takes : (bytes : List ℕ) (x : A × List ℕ) → IsBytes bytes → read bytes ≡ Some x → (bytes ≡ spell x.0 ++ x.1) × fits x.0
   pub again : (a : A) (rest : List ℕ) → fits a → read (spell a ++ rest) ≡ Some (a, rest)
@@ -56,7 +59,7 @@ byte_takes (b ∷ bytes) x fits e = let same : (b, bytes) ≡ x = cc in subst (�
 pub byte_codec : IsCodec (λ b. b ∷ []) (λ b. b < 256) byte_at
 byte_codec = record { takes = byte_takes; again = λ a rest h. refl }
 
--- any byte, where its range is of no matter
+-- reads any byte, with no condition on its value
 pub any_codec : IsCodec (λ b. b ∷ []) (λ _. Unit {0}) byte_at
 any_codec = record { takes = λ bytes x all e. ((byte_takes bytes x all e).0, tt); again = λ a rest h. refl }
 
@@ -103,7 +106,7 @@ word_codec = record { takes = number_takes w16 (2 ^ 16) wide16; again = number_a
 pub long_codec : IsCodec (to_be_bytes w32) (λ n. n < 2 ^ 32) (wide_number_at w32)
 long_codec = record { takes = number_takes w32 (2 ^ 32) wide32; again = number_again w32 (2 ^ 32) wide32 }
 
--- that many bytes
+-- reads `count` bytes, with no condition on their values
 pub bytes_codec : (count : ℕ) → IsCodec (λ (l : List ℕ). l) (λ l. length l ≡ count) (bytes_at count)
 unfolding bytes_at
 bytes_codec count = record {
@@ -115,7 +118,7 @@ bytes_codec count = record {
       rw (long, take_at l rest count h, drop_at l rest count h) refl;
 }
 
--- that many numbers, each below a limit
+-- holds if there are `count` numbers, each below `limit`
 pub record AreCells (count limit : ℕ) (items : List ℕ) : Type 0 where
   pub len : length items ≡ count
   pub small : AllByRecursion (λ n. n < limit) items
@@ -124,7 +127,7 @@ bytes_below : (front rest : List ℕ) → IsBytes (front ++ rest) → AllByRecur
 bytes_below [] rest h = tt
 bytes_below (b ∷ front) rest h = (h 0, bytes_below front rest (IsBytes-rest b (front ++ rest) h))
 
--- that many bytes, where their range is of matter
+-- reads `count` bytes, with the condition that each is below 256
 pub cells_codec : (count : ℕ) → IsCodec (λ (l : List ℕ). l) (AreCells count 256) (bytes_at count)
 cells_codec count = record {
   takes = λ bytes x all e. let t = (bytes_codec count).takes bytes x all e in (t.0, record { len = t.1; small = bytes_below x.0 x.1 (subst IsBytes t.0 all) });
@@ -133,7 +136,7 @@ cells_codec count = record {
 
 -- ---- combinators
 
--- a value that passes a test
+-- reads a value, and fails if it does not pass the test
 pub only_codec : {A : Type 0} {s : A → List ℕ} {f : A → Type 0} {r : Reading A} (test : A → Bool) → IsCodec s f r → IsCodec s (λ a. f a × (test a ≡ true)) (only test r)
 only_codec {A} {s} {f} {r} test codec = record {
   takes = λ bytes x all e.
@@ -144,12 +147,13 @@ only_codec {A} {s} {f} {r} test codec = record {
   again = λ a rest h. rw (codec.again a rest h.0) (rw h.1 refl);
 }
 
--- The steps of a block, c, are read one after the other, and then the block ends.
+-- Holds if `read` is a block that reads the values c with its steps, in order, and then continues
+-- with `end`.
 pub record Steps {C B : Type 0} (s : C → List ℕ) (f : C → Type 0) (end : C → Reading B) (read : Reading B) : Type 0 where
   pub takes : (bytes : List ℕ) (x : B × List ℕ) → IsBytes bytes → read bytes ≡ Some x → (c : C × List ℕ) × (bytes ≡ s c.0 ++ c.1) × f c.0 × (end c.0 c.1 ≡ Some x)
   pub again : (c : C) (rest : List ℕ) → f c → read (s c ++ rest) ≡ end c rest
 
--- one step, and the end
+-- a block of one step and an end
 pub last : {A B : Type 0} {s : A → List ℕ} {f : A → Type 0} {r : Reading A} (end : A → Reading B) → IsCodec s f r → Steps s f end (r >>= end)
 last {A} {B} {s} {f} {r} end codec = record {
   takes = λ bytes x all e.
@@ -159,21 +163,21 @@ last {A} {B} {s} {f} {r} end codec = record {
   again = λ c rest h. rw (codec.again c rest h) refl;
 }
 
--- one step, and nothing after it
+-- a block of one step, which gives the value of that step
 pub tail : {A : Type 0} {s : A → List ℕ} {f : A → Type 0} {r : Reading A} → IsCodec s f r → Steps s f giving r
 tail codec = record {
   takes = λ bytes x all e. let t = codec.takes bytes x all e in (x, t.0, t.1, refl);
   again = λ c rest h. codec.again c rest h;
 }
 
--- no step
+-- a block without steps
 pub no_step : {B : Type 0} (end : Unit {0} → Reading B) → Steps (λ (_ : Unit {0}). []) (λ _. Unit {0}) end (end tt)
 no_step end = record {
   takes = λ bytes x all e. ((tt, bytes), refl, tt, e);
   again = λ c rest h. refl;
 }
 
--- one step, and more, which may depend on it
+-- a block of one step and further steps, which can depend on the value of the first
 pub next : {A C B : Type 0} {s : A → List ℕ} {f : A → Type 0} {r : Reading A} {t : A → C → List ℕ} {g : A → C → Type 0} {q : A → Reading B} (end : A × C → Reading B)
     → IsCodec s f r → ((a : A) → f a → Steps (t a) (g a) (λ c. end (a, c)) (q a)) → Steps (λ (p : A × C). s p.0 ++ t p.0 p.1) (λ p. f p.0 × g p.0 p.1) end (r >>= q)
 next {A} {C} {B} {s} {f} {r} {t} {g} {q} end first second = record {
@@ -189,7 +193,8 @@ next {A} {C} {B} {s} {f} {r} {t} {g} {q} end first second = record {
 
 -- ---- blocks
 
--- what the end of a block says of a value b that is read and of the steps c
+-- Holds if the end of a block makes a value b of the values c of the steps, and b and c have the
+-- same encoding. Each b that fits its range can be made from a c.
 pub record Ends {C B : Type 0} (s : C → List ℕ) (f : C → Type 0) (spell : B → List ℕ) (fits : B → Type 0) (end : C → Reading B) : Type 0 where
   pub made : (c : C) (rest : List ℕ) (x : B × List ℕ) → f c → end c rest ≡ Some x → (spell x.0 ≡ s c) × (rest ≡ x.1) × fits x.0
   pub unmade : (b : B) → fits b → (c : C) × (spell b ≡ s c) × f c × ((rest : List ℕ) → end c rest ≡ Some (b, rest))
@@ -205,7 +210,7 @@ block_codec {B} {C} {s} {f} {spell} {fits} {end} {q} steps ends = record {
       ap (λ (l : List ℕ). q (l ++ rest)) u.1 ∙ steps.again u.0 rest u.2 ∙ u.3 rest;
 }
 
--- a block that ends by giving a value made of its steps
+-- a block whose end makes its value from the values of the steps
 pub giving_codec : {C B : Type 0} {s : C → List ℕ} {f : C → Type 0} {q : Reading B} (make : C → B) (spell : B → List ℕ) (fits : B → Type 0) → Steps s f (λ c. giving (make c)) q
     → ((c : C) → f c → (spell (make c) ≡ s c) × fits (make c)) → ((b : B) → fits b → (c : C) × (make c ≡ b) × f c) → IsCodec spell fits q
 giving_codec {C} {B} {s} {f} {q} make spell fits steps made unmade = block_codec steps (record {
@@ -218,7 +223,7 @@ giving_codec {C} {B} {s} {f} {q} make spell fits steps made unmade = block_codec
       (u.0, sym (ap spell u.1) ∙ (made u.0 u.2).0, u.2, λ rest. ap (λ (v : B). Some (v, rest)) u.1);
 })
 
--- that many values
+-- a list of 0 values is empty; a list of n + 1 values has a first value and n more (`many_some`)
 many_none : {A : Type 0} (f : A → Type 0) (l : List A) → (length l ≡ 0) × AllByRecursion f l → (u : Unit {0}) × ([] ≡ l) × Unit {0}
 many_none f [] h = (tt, refl, tt)
 many_none f (a ∷ l) h = absurd cc
@@ -232,7 +237,7 @@ unfolding many
 many_codec {A} {s} {f} {r} zero codec = giving_codec (λ (_ : Unit {0}). []) (flat_map s) (λ l. (length l ≡ 0) × AllByRecursion f l) (no_step _) (λ u h. (refl, (refl, tt))) (many_none f)
 many_codec {A} {s} {f} {r} (suc n) codec = giving_codec (λ p. p.0 ∷ p.1) (flat_map s) (λ l. (length l ≡ suc n) × AllByRecursion f l) (next _ codec (λ _ _. last _ (many_codec n codec))) (λ p h. (refl, (ap suc h.1.0, (h.0, h.1.1)))) (many_some f n)
 
--- another way to say the range
+-- a codec stays a codec if its range is stated in an equivalent way
 pub refit_codec : {A : Type 0} {s : A → List ℕ} {f : A → Type 0} {r : Reading A} (fits : A → Type 0) → ((a : A) → f a → fits a) → ((a : A) → fits a → f a) → IsCodec s f r → IsCodec s fits r
 refit_codec fits to from codec = record {
   takes = λ bytes x all e. let t = codec.takes bytes x all e in (t.0, to x.0 t.1);
@@ -247,7 +252,7 @@ small_codec limit le = refit_codec (λ b. b < limit) (λ b h. ltb-true _ _ h.1) 
 pub address_codec : IsCodec address_bytes (λ n. n < 4096) address_at
 address_codec = refit_codec (λ n. n < 4096) (λ n h. ltb-true _ _ h.1) (λ n h. (omega arith, lt-ltb _ _ h)) (only_codec (λ n. ltb n 4096) word_codec)
 
--- a count, and that many values
+-- reads a count of at most `limit`, and then that many values
 pub counted_codec : {A : Type 0} {s : A → List ℕ} {f : A → Type 0} {r : Reading A} (limit : ℕ) → limit < 256 → IsCodec s f r → IsCodec (counted_bytes s) (λ l. (length l ≤ limit) × AllByRecursion f l) (counted_at limit r)
 unfolding counted_at
 counted_codec {A} {s} {f} {r} limit lt codec = giving_codec (λ (p : ℕ × List A). p.1) (counted_bytes s) (λ l. (length l ≤ limit) × AllByRecursion f l)
@@ -255,7 +260,7 @@ counted_codec {A} {s} {f} {r} limit lt codec = giving_codec (λ (p : ℕ × List
     (λ p h. let le : p.0 ≤ limit = leb-true _ _ h.0.1 in (ap (λ n. n ∷ flat_map s p.1) h.1.0, (omega (arith, h.1.0), h.1.1)))
     (λ l h. ((length l, l), refl, ((omega (arith, h.0), le-leb _ _ h.0), (refl, h.1))))
 
--- what each element of a list has
+-- each element of any list meets the condition that is always true
 pub all_units : {A : Type 0} (l : List A) → AllByRecursion (λ _. Unit {0}) l
 all_units [] = tt
 all_units (a ∷ l) = (tt, all_units l)
@@ -263,13 +268,14 @@ all_units (a ∷ l) = (tt, all_units l)
 pub any_counted_codec : {A : Type 0} {s : A → List ℕ} {r : Reading A} (limit : ℕ) → limit < 256 → IsCodec s (λ _. Unit {0}) r → IsCodec (counted_bytes s) (λ l. length l ≤ limit) (counted_at limit r)
 any_counted_codec limit lt codec = refit_codec (λ l. length l ≤ limit) (λ l h. h.0) (λ l h. (h, all_units l)) (counted_codec limit lt codec)
 
--- ---- the rows of a tag
+-- ---- tables of tags
 
--- the bytes from a tag on are those of the value that was read, and it is one
+-- holds if `tag` and the bytes after it are the encoding of the value x.0, which fits its range,
+-- and then the rest x.1
 abbrev pub Spelled : {P : Type 0} → (P → List ℕ) → (P → Type 0) → ℕ → List ℕ → P × List ℕ → Type 0
 Spelled spell fits tag bytes x = (tag ∷ bytes ≡ spell x.0 ++ x.1) × fits x.0
 
--- a row of the table of tags
+-- one row of a table of tags: if the tag is k, `read` reads the value; if not, `other` does
 pub row : {C P : Type 0} {s : C → List ℕ} {f : C → Type 0} {read : Reading P} {tag : ℕ} {bytes : List ℕ} {x : P × List ℕ} (spell : P → List ℕ) (fits : P → Type 0) (k : ℕ) (make : C → P) (other : Reading P)
     → IsBytes bytes → Steps s f (λ c. giving (make c)) read → ((c : C) → f c → (spell (make c) ≡ k ∷ s c) × fits (make c))
     → (other bytes ≡ Some x → Spelled spell fits tag bytes x) → cond (eqb tag k) read other bytes ≡ Some x → Spelled spell fits tag bytes x
@@ -285,7 +291,7 @@ row {C} {P} {s} {f} {read} {tag} {bytes} {x} spell fits k make other all steps m
       | false ↦ λ no h. otherwise h
     ]) refl e
 
--- ---- all of the bytes
+-- ---- values that take all of the bytes
 
 all_read : {A : Type 0} (r : Read A) (a : A) → whole_value r ≡ Some a → r ≡ Some (a, [])
 all_read (Some (x, [])) a e = let same : x ≡ a = cc in ap (λ v. Some (v, [])) same
@@ -300,7 +306,7 @@ whole_takes {A} {s} {f} {r} codec bytes a all e =
 pub whole_again : {A : Type 0} {s : A → List ℕ} {f : A → Type 0} {r : Reading A} → IsCodec s f r → (a : A) → f a → whole r (s a) ≡ Some a
 whole_again {A} {s} {f} {r} codec a h = ap (whole r) (sym (append-nil (s a))) ∙ rw (codec.again a [] h) refl
 
--- no bytes spell two values
+-- no bytes encode two different values
 pub same_value : {A : Type 0} {s : A → List ℕ} {f : A → Type 0} {r : Reading A} → IsCodec s f r → (a b : A) → f a → f b → s a ≡ s b → a ≡ b
 same_value {A} {s} {f} {r} codec a b h k e =
     let one : Some a ≡ Some b = sym (whole_again codec a h) ∙ ap (whole r) e ∙ whole_again codec b k in

@@ -1,4 +1,5 @@
--- The laws of places and commands: a line for each in `takes` and in `again`.
+-- Reading is the inverse of encoding, for places and for commands. `takes` and `again` have one
+-- line for each kind.
 use Rattle.std.proofs.Common.{◌≡◌, ℕ, ◌<◌, List, [], ◌∷◌, ◌++◌, Option, Some, None, refl, sym, ap, ◌∙◌, arith}
 use Rattle.std.specs.Prelude.{IfSome, IfNone, IfOk, Result, Ok, Err}
 use Rattle.mcs_model.specs.declared.command.Place.{Place}
@@ -25,7 +26,7 @@ bank_codec = small_codec 8 (omega arith)
 status_codec : IsCodec (λ n. n ∷ []) (λ n. n < 4) (small_at 4)
 status_codec = small_codec 4 (omega arith)
 
--- ---- the steps of a row
+-- ---- readings of one, two and three fields
 
 one : {A P : Type 0} {s : A → List ℕ} {f : A → Type 0} {r : Reading A} (make : A → P) → IsCodec s f r → Steps s f (λ a. giving (make a)) (do a ← r; giving (make a))
 one make a = last _ a
@@ -38,7 +39,7 @@ three : {A B C P : Type 0} {s : A → List ℕ} {f : A → Type 0} {r : Reading 
     → Steps (λ (p : A × (B × C)). s p.0 ++ (t p.1.0 ++ u p.1.1)) (λ p. f p.0 × (g p.1.0 × h p.1.1)) (λ p. giving (make p.0 p.1.0 p.1.1)) (do a ← r; b ← q; c ← w; giving (make a b c))
 three make a b c = next _ a (λ _ _. next _ b (λ _ _. last _ c))
 
--- a status character: bank, upper nibble of the SRC byte, number, value
+-- the fields of a status character: bank, upper nibble of the SRC byte, number, value
 abbrev StatusParts : Type 0
 StatusParts = ℕ × (ℕ × (ℕ × ℕ))
 
@@ -118,7 +119,7 @@ command_again (Unwatch bank src) rest h = (two Unwatch bank_codec byte_codec).ag
 pub command_codec : IsCodec command_bytes IsCommand command_at
 command_codec = record { takes = command_takes; again = command_again }
 
--- ---- what the public calls promise
+-- ---- the contracts of the public functions
 
 pub read_found : {E : Type 0} (bytes : List ℕ) (r : Result (Option Command) E) → IsBytes bytes → IfOk r (λ found. found ≡ whole command_at bytes) → IfOk r (λ found. IfSome found (λ c. Spells bytes c))
 read_found bytes (Ok (Some c)) all e = let t = whole_takes command_codec bytes c all (sym e) in record { is = t.0; in_range = t.1 }

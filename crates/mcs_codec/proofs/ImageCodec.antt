@@ -1,4 +1,4 @@
--- The law of an image: marks of its addresses, and its bytes.
+-- Reading an image, which is its marks and then its bytes, is the inverse of encoding it.
 use Rattle.std.proofs.Common.{◌≡◌, ℕ, zero, suc, ◌+◌, ◌*◌, ◌/◌, ◌%◌, ◌^◌, ◌<◌, ◌≤◌, Bool, true, false, cond, eqb, List, [], ◌∷◌, ◌++◌, length, get_or, slice_set, take, get_or-set_other, map, refl, sym, ap, ◌∙◌, arith, inl, inr, ◌⊎◌}
 use Rattle.std.specs.Prelude.{◌||◌, ◌≢◌}
 use Rattle.std.specs.List.{list_any, All}
@@ -17,19 +17,21 @@ use Rattle.mcs_codec.specs.CommandBytes.{mark, byte_of, mark_bytes, image_bytes,
 use Rattle.mcs_codec.specs.CommandReading.{mark_bit, addressed_at, image_at}
 use Rattle.mcs_codec.proofs.Codecs.{AreCells, IsCodec, byte_codec, cells_codec, last, next, no_step, tail, giving_codec, refit_codec}
 
--- by rising address from one on, below a limit
+-- Holds if the addresses of the image are strictly increasing, from `low` up, and below `limit`.
+-- Each byte is below 256.
 abbrev pub AreFrom : ℕ → ℕ → List (ℕ × ℕ) → Type 0
 AreFrom low limit [] = Unit {0}
 AreFrom low limit (p ∷ image) = (low ≤ p.0) × (p.0 < limit) × (p.1 < 256) × AreFrom (p.0 + 1) limit image
 
--- the marks have exactly the addresses of the image, from one on, that many
+-- holds if the mark of each address from `at` up to `limit - 1` is 1 exactly if the image has a
+-- byte there
 abbrev pub IsMarked : List ℕ → ℕ → ℕ → List (ℕ × ℕ) → Type 0
 IsMarked marks at limit image = (x : ℕ) → at ≤ x → x < limit → mark image x ≡ mark_bit marks x
 
 unequal : (a x : ℕ) → a < x → eqb a x ≡ false
 unequal a x lt = grind (arith, nat_tests)
 
--- no address below the first
+-- an image has no marks below its lowest address
 no_mark : (image : List (ℕ × ℕ)) (low limit x : ℕ) → AreFrom low limit image → x < low → mark image x ≡ 0
 no_mark [] low limit x h lt = refl
 no_mark (p ∷ image) low limit x h lt =
@@ -59,7 +61,7 @@ bit_cases marks at =
 above : (at v : ℕ) → at ≤ v → (at < v) ⊎ (v ≡ at)
 above at v le = elim (cases_lt at v) [ inl lt ↦ inl lt | inr ge ↦ inr (omega arith) ]
 
--- what is read of the addresses from one on, below a limit
+-- holds if the image has a byte at exactly the marked addresses from `at` up to `limit - 1`
 abbrev IsRead : List ℕ → ℕ → ℕ → List (ℕ × ℕ) → Type 0
 IsRead marks at limit image = AreFrom at limit image × IsMarked marks at limit image
 
@@ -67,7 +69,7 @@ none_read : (marks : List ℕ) (at limit : ℕ) (image : List (ℕ × ℕ)) → 
 none_read marks at limit [] le h = (tt, refl, tt)
 none_read marks at limit (p ∷ image) le h = absurd (omega (arith, h.0.0, h.0.1))
 
--- an address that has a mark
+-- at a marked address, one byte is read and added to the image
 some_read : (marks : List ℕ) (at limit : ℕ) (p : ℕ × List (ℕ × ℕ)) → at < limit → mark_bit marks at ≡ 1 → (p.0 < 256) × IsRead marks (at + 1) limit p.1 → IsRead marks at limit ((at, p.0) ∷ p.1)
 some_read marks at limit p lt one h = (
   (omega arith, lt, h.0, h.1.0),
@@ -84,7 +86,7 @@ read_some marks at limit (p ∷ image) lt one h = elim (above at p.0 h.0.0) [
   | inr is ↦ ((p.1, image), ap (λ n. (n, p.1) ∷ image) (sym is), (h.0.2, (rw is at h.0.3, λ v le below. sym (later_mark p image v (omega arith)) ∙ h.1 v (omega arith) below)))
 ]
 
--- an address that has none
+-- at an address without a mark, nothing is read
 one_passed : (marks : List ℕ) (at limit : ℕ) (image : List (ℕ × ℕ)) → mark_bit marks at ≡ 0 → IsRead marks (at + 1) limit image → IsRead marks at limit image
 one_passed marks at limit image none h = (
   from_lower image at limit h.0,
@@ -111,7 +113,7 @@ addressed_codec marks (suc n) at limit k =
       | inr none ↦ rw none (refit_codec (IsRead marks at limit) (λ image h. one_passed marks at limit image none h) (λ image h. pass_one marks at limit image (omega arith) none h) others)
     ]
 
--- ---- bits of bytes
+-- ---- the bits of a byte
 
 byte_bits : (n : ℕ) → n < 256 → byte_of (bit_of n) ≡ n
 byte_bits n lt = omega arith
@@ -178,7 +180,7 @@ rising_codec = giving_codec (λ (p : List ℕ × List (ℕ × ℕ)). p.1) image_
     (λ p h. (ap (λ (l : List ℕ). l ++ values p.1) (same_map p.0 p.1 h.0 h.1.1), h.1.0))
     (λ image h. ((mark_bytes image, image), refl, (mark_cells image, (h, map_marks image))))
 
--- ---- by element, and by two elements
+-- ---- images in the form of `AreFrom` and in the form of `IsImage`
 
 from_image : (image : List (ℕ × ℕ)) (low : ℕ) → IsImage image → All (λ p. low ≤ p.0) image → AreFrom low 4096 image
 from_image [] low h above = tt
@@ -205,9 +207,9 @@ image_from (p ∷ image) low h =
 pub image_codec : IsCodec image_bytes IsImage image_at
 image_codec = refit_codec IsImage (λ image h. (image_from image 0 h).0) (λ image h. from_image image 0 h (λ i d lt. omega arith)) rising_codec
 
--- ---- how many bytes
+-- ---- the number of bytes
 
--- each address leaves one place less
+-- an image whose addresses are from `low` up and below `limit` has at most `limit - low` bytes
 few_addresses : (image : List (ℕ × ℕ)) (low limit : ℕ) → low ≤ limit → AreFrom low limit image → length image + low ≤ limit
 few_addresses [] low limit le h = omega arith
 few_addresses (p ∷ image) low limit le h =
@@ -219,7 +221,7 @@ length-image image h =
     let few = few_addresses image 0 4096 (omega arith) (from_image image 0 h (λ i d lt. omega arith)) in
     omega (arith, few, (mark_cells image).len, length-append (mark_bytes image) (values image), length-map image (λ p. p.1))
 
--- ---- one byte more
+-- ---- an image with one more byte
 
 mark_both : (a b : Bool) → cond {A = ℕ} (a || (b || false)) 1 0 ≡ cond {A = ℕ} b 1 (cond {A = ℕ} a 1 0)
 mark_both true true = refl
@@ -227,7 +229,8 @@ mark_both true false = refl
 mark_both false true = refl
 mark_both false false = refl
 
--- the marks of one byte more: its own address has one
+-- the marks of an image with one more byte: the address of that byte is marked, and the other marks
+-- are unchanged
 pub mark_more : (image : List (ℕ × ℕ)) (p : ℕ × ℕ) (at : ℕ) → mark (image ++ p ∷ []) at ≡ cond (eqb p.0 at) 1 (mark image at)
 mark_more image p at = rw (list_any-append (λ q. eqb q.0 at) image (p ∷ [])) (mark_both (list_any (λ q. eqb q.0 at) image) (eqb p.0 at))
 
@@ -241,7 +244,7 @@ marks_go_on image marks i p a lt is same inside so_far at fits =
       | inr ne ↦ let other : eqb p.0 at ≡ false = let k : p.0 ≢ at = λ h. ne (sym (same ∙ h)) in grind (arith, nat_tests) in get_or-set_other marks a at 1 0 ne ∙ so_far at fits ∙ sym (one ∙ rw other refl)
     ]
 
--- ---- the marks, byte by byte
+-- ---- packing the marks into bytes
 
 pub same_byte : (f g : ℕ → ℕ) → ((k : ℕ) → k < 8 → f k ≡ g k) → byte_of f ≡ byte_of g
 same_byte f g h = rw (h 0 (omega arith), h 1 (omega arith), h 2 (omega arith), h 3 (omega arith), h 4 (omega arith), h 5 (omega arith), h 6 (omega arith), h 7 (omega arith)) refl

@@ -1,4 +1,5 @@
--- Values one after the other, as a loop reads them: what is still read is a step, and what is read after it.
+-- Lemmas about loops that read values one after another. A step of a loop reads one value; the rest
+-- is still to be read.
 use Rattle.std.proofs.Common.{◌≡◌, ℕ, suc, ◌-◌, ◌+◌, ◌*◌, ◌≤◌, ◌<◌, false, eqb, List, [], ◌∷◌, ◌++◌, length, get_or, drop, Some, None, refl, ap, ◌∙◌, append_assoc, arith}
 use Rattle.std.specs.Prelude.{◌≢◌}
 use Rattle.std.proofs.lemmas.Bool.Decides.{nat_tests}
@@ -8,7 +9,7 @@ use Rattle.mcs_codec.specs.Reading.{◌>>=◌, and_then, Read, Reading, giving, 
 use Rattle.mcs_codec.specs.CommandReading.{mark_bit, addressed_at}
 use Rattle.mcs_codec.specs.StateReading.{chains_at}
 
--- what was read before, and what is still read
+-- the result of a reading, with the values in `front` put before its values
 abbrev pub with_front : {A : Type 0} → List A → Read (List A) → Read (List A)
 with_front front read = and_then read (λ xs. giving (front ++ xs))
 
@@ -16,7 +17,7 @@ regroup : {A : Type 0} (front : List A) (a : A) (read : Read (List A)) → with_
 regroup {A} front a (Some x) = ap (λ (xs : List A). Some (xs, x.1)) (simp append_assoc)
 regroup front a None = refl
 
--- a value that is read, made one of the list, and those that are read later
+-- reads a value, converts it with `make`, adds it to `front`, and then reads the later values
 abbrev step_to : {A B : Type 0} → List A → (B → A) → Read B → Reading (List A) → Read (List A)
 step_to front make read later = and_then read (λ b after. with_front (front ++ make b ∷ []) (later after))
 
@@ -27,7 +28,7 @@ step front make None later = refl
 none_left : {A : Type 0} (front : List A) (bytes : List ℕ) → with_front front (Some ([], bytes)) ≡ Some (front, bytes)
 none_left {A} front bytes = ap (λ (xs : List A). Some (xs, bytes)) (append-nil front)
 
--- ---- that many values
+-- ---- reading `count` values
 
 pub many_step : {A : Type 0} (read : Reading A) (front : List A) (count i : ℕ) (bytes : List ℕ) → i < count
     → with_front front (many (count - i) read bytes) ≡ and_then (read bytes) (λ a after. with_front (front ++ a ∷ []) (many (count - (i + 1)) read after))
@@ -40,7 +41,7 @@ pub many_done : {A : Type 0} (read : Reading A) (front : List A) (count i : ℕ)
 unfolding many
 many_done read front count i bytes le = let k : count - i ≡ 0 = omega arith in rw k (none_left front bytes)
 
--- ---- the bits of each chain
+-- ---- reading the bits of each chain
 
 pub chains_step : (chains : List ChainPart) (i : ℕ) (d : ChainPart) (front : List (List ℕ)) (bytes : List ℕ) → i < length chains
     → with_front front (chains_at (drop i chains) bytes) ≡ and_then (bytes_at (10 * (get_or chains i d).chips) bytes) (λ bits after. with_front (front ++ bits ∷ []) (chains_at (drop (i + 1) chains) after))
@@ -52,7 +53,7 @@ pub chains_done : (chains : List ChainPart) (i : ℕ) (front : List (List ℕ)) 
 unfolding chains_at
 chains_done chains i front bytes le = ap (with_front front) (at_drop_all (λ l. chains_at l bytes) chains i le) ∙ none_left front bytes
 
--- ---- the bytes of the addresses that are marked
+-- ---- reading the bytes of the marked addresses
 
 pub addressed_step : (marks : List ℕ) (front : List (ℕ × ℕ)) (count at : ℕ) (bytes : List ℕ) → at < count → mark_bit marks at ≡ 1
     → with_front front (addressed_at marks (count - at) at bytes) ≡ and_then (byte_at bytes) (λ byte after. with_front (front ++ (at, byte) ∷ []) (addressed_at marks (count - (at + 1)) (at + 1) after))

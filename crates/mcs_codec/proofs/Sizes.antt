@@ -1,4 +1,4 @@
--- How many bytes a command and a state take at most.
+-- The maximum number of bytes of an encoded command and of an encoded state.
 use Rattle.std.proofs.Common.{◌≡◌, ℕ, ◌+◌, ◌*◌, ◌≤◌, List, [], ◌∷◌, ◌++◌, length, Option, Some, None, refl, arith}
 use Rattle.std.specs.List.{flat_map, AllByRecursion}
 use Rattle.std.proofs.Math.Nat.{suc-mul}
@@ -61,7 +61,7 @@ length-board b h =
     let lamps : length (counted_bytes board_line_bytes b.lamps.items) ≡ 1 + length b.lamps.items * 4 = length-lines b.lamps.items in
     simp length-append (omega (arith, roms, chains, keys, lamps, h.roms, h.banks, h.chains, h.lamps))
 
--- ---- a state
+-- ---- the size of a state
 
 length-chains : (chains : List ChainPart) (l : List (List ℕ)) → AreChains chains l → AllByRecursion (λ c. c.chips ≤ CHAIN_CHIPS) chains → length (flat_map (λ bits. bits) l) ≤ length chains * CHAIN_BITS
 length-chains [] [] h few = omega arith
@@ -102,7 +102,7 @@ length-state s valid =
       addresses s.watches,
     ))
 
--- ---- a command
+-- ---- the size of a command
 
 length-place : (p : Place) → length (place_bytes p) ≤ 5
 length-place p = elim p as (λ k. length (place_bytes k) ≤ 5) [ Acc n ↦ omega arith | Cy b ↦ omega arith | Pc at ↦ omega arith | Register r n ↦ omega arith | Dcl bank ↦ omega arith | Rom at byte ↦ omega arith | Ram bank src n ↦ omega arith | Status bank high k n ↦ omega arith ]

@@ -1,4 +1,5 @@
--- The law of a state: its fields in their widths, whether or not they make a valid state.
+-- Reading a state is the inverse of encoding it, if each field fits its width. The fields need not
+-- make a valid state.
 use Rattle.std.proofs.Common.{◌≡◌, ℕ, suc, ◌*◌, ◌<◌, ◌≤◌, ◌^◌, List, [], ◌∷◌, ◌++◌, length, get_or, Some, None, inl, inr, refl, sym, ap, subst, ◌∙◌, append_assoc, arith}
 use Rattle.std.specs.List.{flat_map, All, AllByRecursion}
 use Rattle.std.specs.Int.{w32, to_be_bytes}
@@ -30,7 +31,7 @@ use Rattle.mcs_codec.proofs.VersionCodec.{FitsVersion, FitsWatches, versioned_bo
 abbrev pub AreWords : List ℕ → Type 0
 AreWords l = AllByRecursion (λ n. n < 2 ^ 16) l
 
--- bits for each chain, ten for each of its chips
+-- holds if each chain has its list of bits, with ten bits for each of its chips
 abbrev pub AreChains : List ChainPart → List (List ℕ) → Type 0
 AreChains [] [] = Unit {0}
 AreChains (c ∷ chains) (bits ∷ others) = (length bits ≡ 10 * c.chips) × AreChains chains others
@@ -49,12 +50,12 @@ unfolding chains_at
 chains_codec [] = giving_codec (λ (_ : Unit {0}). []) (flat_map (λ bits. bits)) (AreChains []) (no_step _) (λ u h. (refl, tt)) chains_none
 chains_codec (c ∷ chains) = giving_codec (λ p. p.0 ∷ p.1) (flat_map (λ bits. bits)) (AreChains (c ∷ chains)) (next _ (bytes_codec (10 * c.chips)) (λ _ _. last _ (chains_codec chains))) (λ p h. (refl, h)) (chains_some c chains)
 
--- ---- a state in the one version or the other
+-- ---- a state in either version
 
 abbrev pub bytes_by : Version → BenchState → List ℕ
 bytes_by version s = to_be_bytes w32 s.seq ++ (versioned_board_bytes version s.bus.board ++ groups_bytes s.processor s.bus s.breakpoints (watches_bytes version s.watches))
 
--- the widths of the fields, in the order of their bytes
+-- holds if each field fits its width, in the order of the bytes
 abbrev pub HasWidths : Version → BenchState → Type 0
 HasWidths version s =
     (s.seq < 2 ^ 32) × (FitsVersion version s.bus.board
@@ -88,7 +89,7 @@ three a b c rest = simp append_assoc
 five : (a b c d e rest : List ℕ) → (a ++ (b ++ (c ++ (d ++ e)))) ++ rest ≡ a ++ (b ++ (c ++ (d ++ (e ++ rest))))
 five a b c d e rest = simp append_assoc
 
--- the fields one after the other, without their groups
+-- the groups of fields are the fields in the order of their bytes
 fields_in_order : (b : BusState) (p : Regs) (breakpoints rest : List ℕ)
     → groups_bytes p b breakpoints rest
     ≡ b.rom ++ (b.ram ++ (b.status ++ (b.ram_ports ++ (b.rom_ports ++ (p.acc ∷ p.cy ∷ (p.r ++ (address_bytes p.pc ++ (flat_map address_bytes p.ret ++ (p.dcl ∷ b.rom_src ∷ (b.ram_src ++ (p.owed ∷ (flat_map (λ bits. bits) b.chains ++ (b.keys ++ (b.test ∷ (counted_bytes address_bytes breakpoints ++ rest)))))))))))))))
@@ -113,7 +114,7 @@ state_codec = giving_codec state_from (λ p. bytes_by p.0 p.1) (λ p. HasWidths 
     last _ (watches_codec versioned.0))))))))))))))))))))))
     (λ p h. let v = (state_from p).0 in let s = (state_from p).1 in (ap (λ l. to_be_bytes w32 s.seq ++ (versioned_board_bytes v s.bus.board ++ l)) (fields_in_order s.bus s.processor s.breakpoints (watches_bytes v s.watches)), h)) (λ p h. (fields_of p, refl, h))
 
--- ---- a valid state has these widths
+-- ---- the fields of a valid state fit their widths
 
 words_of : (limit : ℕ) (items : List ℕ) → limit ≤ 2 ^ 16 → All (λ n. n < limit) items → AreWords items
 words_of limit items le h = recursion_from_All (λ n. n < 2 ^ 16) items (λ i d lt. let x = h i d lt in omega arith)
@@ -201,9 +202,9 @@ lift-valid s h = record {
   seq = h.seq;
 }
 
--- ---- what the public calls promise
+-- ---- the contracts of the public functions
 
--- what all of the bytes are read as, where it is valid, is what they spell
+-- if all of the bytes are read as a valid state, they encode that state
 pub state_read : (version : Version) (bytes : List ℕ) (s : BenchState) → IsBytes bytes → Some (version, s) ≡ whole state_at bytes → IsValid s → SpellsStateBy version bytes s
 state_read Two bytes s all e valid = record { is = (whole_takes state_codec bytes (Two, s) all (sym e)).0; valid = valid }
 state_read One bytes s all e valid =
@@ -215,7 +216,7 @@ state_read One bytes s all e valid =
       lifted = ap (λ (l : List ℕ). record s { watches = l }) no_watches;
     }
 
--- what the bytes spell is what they are read as
+-- if the bytes encode a state, they are read as that state
 pub state_again : (version : Version) (bytes : List ℕ) (s : BenchState) → SpellsStateBy version bytes s → whole state_at bytes ≡ Some (version, s)
 state_again Two bytes s h = ap (whole state_at) h.is ∙ whole_again state_codec (Two, s) (widths_of s h.valid)
 state_again One bytes s h =
@@ -228,7 +229,7 @@ pub spelled_valid : (version : Version) (bytes : List ℕ) (s : BenchState) → 
 spelled_valid Two bytes s h = h.valid
 spelled_valid One bytes s h = subst IsValid (sym h.lifted) (lift-valid h.version_1 h.spells.valid)
 
--- the version that the fifth byte tells is that of the state which the bytes spell
+-- the fifth byte determines the version in which the bytes encode a state
 pub state_version : (version : Version) (bytes : List ℕ) (s : BenchState) → SpellsStateBy version bytes s → version_of bytes ≡ Some version
 state_version Two bytes s h = ap version_of h.is
 state_version One bytes s h = ap version_of h.spells.is ∙ (board-begins h.version_1.bus.board _ (valid-now h.version_1.bus.board h.spells.valid.bus.board)).0
@@ -250,7 +251,7 @@ same_state bytes v w s t h k =
     let same : (v, s) ≡ (w, t) = cc in
     (ap (λ (p : Version × BenchState). p.0) same, ap (λ (p : Version × BenchState). p.1) same)
 
--- ---- in whichever version
+-- ---- a state in one of the two versions
 
 pub in_some_version : (version : Version) (bytes : List ℕ) (s : BenchState) → SpellsStateBy version bytes s → SpellsInSomeVersion bytes s
 in_some_version One bytes s h = inr h

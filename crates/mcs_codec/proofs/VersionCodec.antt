@@ -1,4 +1,4 @@
--- What the versions of a state have each in its own way: the board, the watches, and the fifth byte.
+-- The parts of a state that differ between the versions: the fifth byte, the board and the watches.
 use Rattle.std.proofs.Common.{◌≡◌, ℕ, ◌≤◌, Bool, true, false, cond, eqb, List, [], ◌∷◌, ◌++◌, ◌^◌, ◌<◌, length, drop, Option, Some, None, option_map, refl, sym, ap, subst, ◌∙◌, append_assoc, arith}
 use Rattle.std.specs.List.{flat_map, AllByRecursion}
 use Rattle.std.proofs.lemmas.Bool.{eqb-true}
@@ -20,7 +20,7 @@ use Rattle.mcs_codec.proofs.BoardCodec.{board_codec}
 
 -- ---- the first byte of a board is a port character
 
--- the bytes tell version 1, and are left as they are
+-- holds if the first byte determines version 1, and reading the version consumes nothing
 abbrev BeginsBoard : List ℕ → Type 0
 BeginsBoard bytes = (version_read bytes ≡ Some One) × (version_at bytes ≡ Some (One, bytes))
 
@@ -41,7 +41,7 @@ board-begins b rest h = rw append_assoc (roms-begin b.roms _ h.sized.roms)
 
 -- ---- the version
 
--- the bytes before the board that tell the version
+-- the bytes before the board that determine the version: none in version 1
 abbrev pub version_bytes : Version → List ℕ
 version_bytes One = []
 version_bytes Two = 2 ∷ []
@@ -57,7 +57,7 @@ unfolding version_at
 version-read [] x e = absurd cc
 version-read (b ∷ bytes) x e = version-judged b bytes _ (eqb b 2) x (eqb-true _ _) e
 
--- ---- the version that the next byte tells, without the rest
+-- ---- the version that the next byte determines, without the bytes after it
 
 abbrev pub and_rest : List ℕ → Version → Version × List ℕ
 and_rest rest v = (v, rest)

@@ -19,7 +19,8 @@ rom_bytes (Some mask) =
     ∷ []
 rom_bytes None = 45 ∷ 45 ∷ 45 ∷ 45 ∷ []
 
--- the four bytes of a line: its kind, and its numbers (a third number that the line lacks is 0)
+-- the four bytes of a line: its kind and three numbers; the last number is 0 if the kind has only
+-- two
 abbrev pub board_line_bytes : Line → List ℕ
 board_line_bytes (Rom chip k) = 0 ∷ chip ∷ k ∷ 0 ∷ []
 board_line_bytes (Ram bank chip k) = 1 ∷ bank ∷ chip ∷ k ∷ []
@@ -32,7 +33,7 @@ chain_bytes c = board_line_bytes c.clock ++ (board_line_bytes c.data_in ++ c.chi
 abbrev pub counted_bytes : {A : Type 0} → (A → List ℕ) → List A → List ℕ
 counted_bytes text items = length items ∷ flat_map text items
 
--- 0 if there are no keys, or 1 and then the key matrix
+-- a byte of 0 if the board has no keys; else a byte of 1 and then the key matrix
 abbrev pub keys_bytes : Option KeyMatrix → List ℕ
 keys_bytes None = 0 ∷ []
 keys_bytes (Some m) = 1 ∷ m.chain ∷ m.first ∷ m.rows ∷ counted_bytes board_line_bytes m.columns.items

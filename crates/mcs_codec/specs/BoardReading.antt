@@ -1,5 +1,5 @@
--- These definitions need not be trusted: this reading is proved to invert the bytes of
--- `BoardBytes`.
+-- How a board is read from its bytes. These definitions need not be trusted: reading is proved to
+-- be the inverse of the encoding in `BoardBytes`.
 use Rattle.std.specs.Prelude.{ℕ, ◌==◌, ◌&&◌, List, [], ◌∷◌, Option, Some, None, is_none, if◌then◌else◌}
 use Rattle.mcs_nibble.specs.declared.lines.LineMask.{LineMask}
 use Rattle.mcs_nibble.specs.Ports.{mask_of}
@@ -12,7 +12,7 @@ use Rattle.mcs_model.specs.declared.limits.TheConstants.{BANKS, CHAINS, KEY_COLU
 use Rattle.mcs_model.specs.Boards.{board_fault_of}
 use Rattle.mcs_codec.specs.Reading.{◌>>=◌, Reading, giving, giving_some, refusing, byte_at, only, many, bytes_at, counted_at}
 
--- the port lines 0 to 3 of a ROM, from the characters of its lines 3 to 0
+-- gives the port lines 0 to 3 of a ROM, from the characters of its lines 3, 2, 1 and 0
 abbrev pub masks_of : ℕ → ℕ → ℕ → ℕ → Reading (List LineMask)
 masks_of a b c d = do
   line_3 ← giving_some (mask_of a)
@@ -21,7 +21,7 @@ masks_of a b c d = do
   line_0 ← giving_some (mask_of d)
   giving (line_0 ∷ line_1 ∷ line_2 ∷ line_3 ∷ [])
 
--- the ROM that four characters encode; `----` is an absent ROM
+-- gives the ROM that four characters encode; `----` is an absent ROM
 abbrev pub rom_of : ℕ → ℕ → ℕ → ℕ → Reading (Option (List LineMask))
 rom_of a b c d =
     if a == 45 && b == 45 && c == 45 && d == 45 then giving None
@@ -35,8 +35,8 @@ rom_at = do
   d ← byte_at
   rom_of a b c d
 
--- the line of this kind with these numbers; there is none for an unknown kind or a wrong padding
--- byte
+-- gives the line of this kind with these numbers; fails if the kind is unknown or an unused number
+-- is not 0
 abbrev pub board_line_of : ℕ → ℕ → ℕ → ℕ → Reading Line
 board_line_of kind a b c =
     if kind == 0 && c == 0 then giving (Rom a b)
@@ -82,7 +82,7 @@ keys_at = do
   tag ← byte_at
   keys_after_tag tag
 
--- the parts of a board, even if they do not make a valid board
+-- reads the parts of a board, which need not make a valid board
 unfoldable pub parts_at : Reading BoardParts
 parts_at = do
   roms ← many ROMS rom_at
@@ -98,6 +98,6 @@ parts_at = do
     lamps = record { items = lamps };
   })
 
--- the parts of a board, which must be valid
+-- reads the parts of a board, and fails if they do not make a valid board
 unfoldable pub board_at : Reading BoardParts
 board_at = only (λ b. is_none (board_fault_of b)) parts_at

@@ -18,7 +18,7 @@ pub record Spells (bytes : List ℕ) (c : Command) : Type 0 where
   pub is : bytes ≡ command_bytes c
   pub in_range : IsCommand c
 
--- true if a version has a command
+-- true if the version has this command
 abbrev pub has_command : Version → Command → Bool
 has_command One c = in_version_1 c
 has_command Two c = true
@@ -47,7 +47,8 @@ pub record SpellsLifted (bytes : List ℕ) (s : BenchState) : Type 0 where
   pub spells : SpellsState1 bytes version_1
   pub lifted : s ≡ lift version_1
 
--- holds if these bytes encode this state in this version; in version 1, the state is converted
+-- Holds if these bytes encode this state in this version. In version 1, they encode a state that is
+-- converted to this state.
 abbrev pub SpellsStateBy : Version → List ℕ → BenchState → Type 0
 SpellsStateBy One bytes s = SpellsLifted bytes s
 SpellsStateBy Two bytes s = SpellsState bytes s
@@ -61,8 +62,8 @@ abbrev pub version_number : Version → ℕ
 version_number One = 1
 version_number Two = 2
 
--- The version that the first of these bytes names. It is the byte after the count of commands: a
--- port character (`i`, `0`, `1` or `-`) in version 1, and 02 in version 2.
+-- The version that the first of these bytes determines. In a state, that is the byte after the
+-- count of commands: a port character (`i`, `0`, `1` or `-`) in version 1, and 02 in version 2.
 abbrev pub version_read : List ℕ → Option Version
 version_read [] = None
 version_read (b ∷ bytes) =

@@ -17,7 +17,7 @@ use Rattle.mcs_codec.specs.BoardBytes.{board_bytes}
 abbrev pub address_bytes : ℕ → List ℕ
 address_bytes at = to_be_bytes w16 at
 
--- the bytes of a `Place` with its new value: its number, and then its fields
+-- the bytes of a `Place`: the number of its kind, and then its fields, with the new value last
 abbrev pub place_bytes : Place → List ℕ
 place_bytes (Acc n) = 0 ∷ n ∷ []
 place_bytes (Cy b) = 1 ∷ b ∷ []
@@ -32,7 +32,7 @@ place_bytes (Status bank high k n) = 7 ∷ bank ∷ high ∷ k ∷ n ∷ []
 abbrev pub mark : List (ℕ × ℕ) → ℕ → ℕ
 mark image at = if list_any (λ p. p.0 == at) image then 1 else 0
 
--- the byte whose bit k is f k
+-- the byte whose bit k is f k, for k from 0 to 7
 abbrev pub byte_of : (ℕ → ℕ) → ℕ
 byte_of f = f 0 + 2 * f 1 + 4 * f 2 + 8 * f 3 + 16 * f 4 + 32 * f 5 + 64 * f 6 + 128 * f 7
 

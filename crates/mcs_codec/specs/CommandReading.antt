@@ -1,5 +1,5 @@
--- These definitions need not be trusted: this reading is proved to invert the bytes of
--- `CommandBytes`.
+-- How a command is read from its bytes. These definitions need not be trusted: reading is proved to
+-- be the inverse of the encoding in `CommandBytes`.
 use Rattle.std.specs.Prelude.{ℕ, zero, suc, ◌+◌, ◌/◌, ◌%◌, ◌==◌, List, [], ◌∷◌, slice_index, if◌then◌else◌}
 use Rattle.std.specs.Int.{w32}
 use Rattle.mcs_nibble.specs.Bits.{bit_of}
@@ -10,7 +10,7 @@ use Rattle.mcs_model.specs.declared.command.Command.TheVariants.{Wire, Load, Pre
 use Rattle.mcs_codec.specs.Reading.{◌>>=◌, Reading, giving, refusing, byte_at, wide_number_at, address_at, bytes_at, small_at}
 use Rattle.mcs_codec.specs.BoardReading.{board_at}
 
--- the `Place` of a RAM nibble, with its value
+-- reads the `Place` of a RAM nibble: bank, SRC byte, new value
 abbrev pub character_at : Reading Place
 character_at = do
   bank ← small_at 8
@@ -18,7 +18,7 @@ character_at = do
   n ← small_at 16
   giving (Ram bank src n)
 
--- the `Place` of a status nibble, with its value
+-- reads the `Place` of a status nibble: bank, upper nibble of the SRC byte, number, new value
 abbrev pub status_character_at : Reading Place
 status_character_at = do
   bank ← small_at 8
@@ -44,11 +44,12 @@ place_at = do
   tag ← byte_at
   place_after_tag tag
 
--- the mark of an address: bit at % 8 of byte at / 8 of the marks
+-- the mark of an address, which is bit `at % 8` of byte `at / 8` of the marks
 unfoldable pub mark_bit : List ℕ → ℕ → ℕ
 mark_bit marks at = bit_of (slice_index marks (at / 8)) (at % 8)
 
--- the bytes of the marked addresses among the n addresses from `at` on, each with its address
+-- Reads one byte for each marked address among the n addresses that start at `at`. Gives each byte
+-- with its address.
 unfoldable pub addressed_at : List ℕ → ℕ → ℕ → Reading (List (ℕ × ℕ))
 addressed_at marks zero at = giving []
 addressed_at marks (suc n) at =
@@ -61,8 +62,7 @@ image_at = do
   marks ← bytes_at 512
   addressed_at marks 4096 0
 
--- the rest of a command after its tag, for any command that needs no memory: all but a load of an
--- image
+-- reads the rest of a command after its tag, for every command except a load
 abbrev pub command_without_image : ℕ → Reading Command
 command_without_image tag =
     if tag == 1 then (do board ← board_at; giving (Wire board)) else
@@ -79,7 +79,7 @@ command_without_image tag =
     if tag == 13 then (do bank ← small_at 8; src ← byte_at; giving (Unwatch bank src)) else
     refusing
 
--- the rest of a command after its tag, for any command
+-- reads the rest of a command after its tag, for every command
 unfoldable pub command_after_tag : ℕ → Reading Command
 command_after_tag tag =
     if tag == 2 then (do image ← image_at; giving (Load image)) else command_without_image tag

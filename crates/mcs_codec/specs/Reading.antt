@@ -1,7 +1,8 @@
--- These definitions need not be trusted: the readings that are built from these steps are proved to
--- invert the bytes of `BoardBytes`, `CommandBytes` and `StateBytes`. A reading consumes bytes from
--- left to right. It gives a value and the bytes after it, or nothing if the bytes do not encode
--- such a value. In a `do` block, each step starts at the byte at which the step before it stopped.
+-- The steps that read values from bytes. These definitions need not be trusted: the readings that
+-- are built from them are proved to be the inverses of the encodings in `BoardBytes`,
+-- `CommandBytes` and `StateBytes`. A reading consumes bytes from left to right. It gives a value
+-- and the bytes after it, or nothing if the bytes do not encode a value. In a `do` block, each step
+-- starts at the byte at which the step before it stopped.
 use Rattle.std.specs.Prelude.{ℕ, zero, suc, Bool, List, [], ◌∷◌, length, take, drop, Option, Some, None, nat_lt, nat_le, if◌then◌else◌}
 use Rattle.std.specs.Int.{Width, w16, byte_len, from_be_bytes}
 
@@ -86,7 +87,7 @@ counted_at limit read = do
   count ← only (λ n. nat_le n limit) byte_at
   many count read
 
--- the value that was read, or `None` if bytes are left after it
+-- the value that was read, or `None` if there is no value or bytes are left after it
 abbrev pub whole_value : {A : Type 0} → Read A → Option A
 whole_value (Some x) = elim x.1 [ [] ↦ Some x.0 | (_ ∷ _) ↦ None ]
 whole_value None = None

@@ -1,4 +1,4 @@
--- The lists in a bench's state that are written item by item.
+-- The lists in a bench's state that are written as one byte for each item.
 use Rattle.std.specs.Prelude.{ℕ, List, [], slice_index_or}
 use Rattle.mcs_model.specs.Boards.{chain_bits, key_count}
 use Rattle.mcs_model.specs.BenchState.{BenchState}

@@ -1,6 +1,7 @@
--- These definitions need not be trusted: this reading is proved to invert the bytes of `StateBytes`
--- in both versions. It reads the version and the fields of a state, in order. A later check of all
--- fields decides whether they make a valid state.
+-- How a state is read from its bytes: first the version, then the fields in order. These
+-- definitions need not be trusted: reading is proved to be the inverse of the encoding in
+-- `StateBytes` in both versions. After reading, a check of all fields decides whether they make a
+-- valid state.
 use Rattle.std.specs.Prelude.{◌≡◌, ℕ, ◌*◌, ◌==◌, ◌||◌, List, [], ◌∷◌, Some, None, length, if◌then◌else◌}
 use Rattle.std.specs.Int.{w16, w32}
 use Rattle.mcs_model.specs.declared.board.BoardParts.{BoardParts}
@@ -94,7 +95,7 @@ state_at = do
     },
   )
 
--- holds if each list whose length is the same in every state has that length, as in a new bench
+-- holds if the five lists that `Flat` stores as `Cells` have their fixed lengths, as in a new bench
 pub record HasCells (b : BusState) : Type 0 where
   pub rom : length b.rom ≡ 4096
   pub ram : length b.ram ≡ 2048

@@ -120,7 +120,7 @@ impl Decode for ChainPart {
     }
 }
 
-/// Reads a key matrix, or returns `None` if the bytes do not encode one.
+/// Reads a key matrix. Returns `None` if the bytes do not encode one.
 #[tactic(auto, unfolding(crate::specs::BoardReading::matrix_at))]
 fn read_matrix(reader: &mut Reader<'_>) -> Option<KeyMatrix>
     ensures { option_map (λ x. (x, reader.new)) result ≡ matrix_at reader.old }
@@ -137,8 +137,8 @@ fn read_matrix(reader: &mut Reader<'_>) -> Option<KeyMatrix>
     })
 }
 
-/// Reads the keys: a byte that is 1 if there are keys and 0 if not, and then the key matrix. It
-/// returns `None` if the bytes do not encode keys in this way.
+/// Reads the keys: a byte of 0 if the board has no keys, or a byte of 1 and then the key matrix.
+/// Returns `None` if the bytes encode neither.
 #[tactic(auto, unfolding(crate::specs::BoardReading::keys_at))]
 fn read_keys(reader: &mut Reader<'_>) -> Option<Option<KeyMatrix>>
     ensures { option_map (λ x. (x, reader.new)) result ≡ keys_at reader.old }
@@ -153,8 +153,8 @@ fn read_keys(reader: &mut Reader<'_>) -> Option<Option<KeyMatrix>>
     }
 }
 
-/// Writes the keys to `out` at offset `at` and returns the offset after them. They are a byte that
-/// is 1 if there are keys and 0 if not, and then the key matrix.
+/// Writes the keys to `out` at offset `at` and returns the offset after them. If the board has no
+/// keys, writes a byte of 0. Otherwise writes a byte of 1 and then the key matrix.
 fn put_keys(keys: &Option<KeyMatrix>, out: &mut [u8], at: usize) -> usize
     requires { at + length (keys_bytes keys.now) ≤ length out.old }
     ensures end { result ≡ at + length (keys_bytes keys.now) }
@@ -169,7 +169,7 @@ fn put_keys(keys: &Option<KeyMatrix>, out: &mut [u8], at: usize) -> usize
     }
 }
 
-/// Reads the parts of a board, even if they do not make a valid board. It returns `None` if the
+/// Reads the parts of a board without a check that they make a valid board. Returns `None` if the
 /// bytes do not encode parts.
 #[tactic(auto, unfolding(crate::specs::BoardReading::parts_at))]
 fn read_parts(reader: &mut Reader<'_>) -> Option<BoardParts>
@@ -191,7 +191,8 @@ fn read_parts(reader: &mut Reader<'_>) -> Option<BoardParts>
     })
 }
 
-/// Reads a valid board from the start of the bytes, or returns `None` if they do not encode one.
+/// Reads a valid board from the start of the bytes. Returns `None` if the bytes do not start with
+/// the encoding of one.
 #[tactic(auto, unfolding(crate::specs::BoardReading::board_at))]
 pub fn read_board(reader: &mut Reader<'_>) -> Option<Board>
     ensures { option_map (λ x. (x, reader.new)) result ≡ board_at reader.old }

@@ -19,12 +19,12 @@ use std::alloc::{AllocError, Global};
 /// The error that a call returns if memory runs out.
 pub type NoMemory = AllocError;
 
-/// The size of a buffer for an encoded command: the maximum length of a record. No command is
-/// longer.
+/// The size, in bytes, of a buffer for an encoded command: the maximum length of a record. No
+/// encoded command is longer.
 pub const COMMAND_BYTES: usize = RECORD_BYTES;
 
-/// Shows that each part of a command is in its range, and that the encoding has at least one byte,
-/// the tag.
+/// Proves that each part of a command is in its range. Also proves that the encoding has at least
+/// one byte, the tag.
 fn command_is_in_range(command: &Command)
     ensures range { IsCommand command.now }
     ensures tag { 1 ≤ length (command_bytes command.now) }
@@ -97,8 +97,8 @@ fn put_command(command: &Command, out: &mut [u8], at: usize) -> usize
     }
 }
 
-/// Writes a command to the start of `into` and returns its length, 1 to 4,609 bytes. It promises
-/// nothing about the bytes of `into` after it.
+/// Writes a command to the start of `into` and returns its length, 1 to 4,609 bytes. The bytes of
+/// `into` after the command are unspecified. `into` must have at least `COMMAND_BYTES` bytes.
 pub fn command_bytes(command: &Command, into: &mut [u8]) -> usize
     requires lent { COMMAND_BYTES ≤ length into.old }
     ensures spells { Spells (take result into.new) command.now }
@@ -110,8 +110,8 @@ pub fn command_bytes(command: &Command, into: &mut [u8]) -> usize
     put_command(command, into, 0)
 }
 
-/// Reads the rest of a command after its tag, for any command that needs no memory: all but a load.
-/// It returns `None` if the bytes do not encode such a command.
+/// Reads the rest of a command after its tag, for every command except a load, which needs memory.
+/// Returns `None` if the tag is that of a load or the bytes do not encode a command.
 fn read_without_image(tag: u8, reader: &mut Reader<'_>) -> Option<Command>
     ensures { option_map (λ x. (x, reader.new)) result ≡ command_without_image tag reader.old }
 {
@@ -144,8 +144,8 @@ fn read_without_image(tag: u8, reader: &mut Reader<'_>) -> Option<Command>
     }
 }
 
-/// Reads the rest of a command after its tag. It returns `None` if the bytes do not encode a
-/// command, and fails if memory runs out.
+/// Reads the rest of a command after its tag. Returns `None` if the bytes do not encode a command.
+/// Fails if memory runs out.
 #[tactic(auto, unfolding(crate::specs::CommandReading::command_after_tag))]
 fn read_after_tag(
     alloc: Global,
@@ -166,8 +166,8 @@ fn read_after_tag(
     }
 }
 
-/// Reads a command from all of these bytes. It returns `None` if they do not encode one, and fails
-/// if memory runs out.
+/// Reads a command from all of the bytes. Returns `None` if the bytes do not encode a command.
+/// Fails if memory runs out.
 #[tactic(auto, unfolding(crate::specs::CommandReading::command_at))]
 fn read_command(alloc: Global, bytes: &[u8]) -> Result<Option<Command>, NoMemory>
     ensures read { IfOk result (λ found. found ≡ whole command_at bytes.now) }
@@ -193,7 +193,7 @@ fn read_command(alloc: Global, bytes: &[u8]) -> Result<Option<Command>, NoMemory
 ///
 /// # Errors
 ///
-/// If memory runs out. Only a load needs memory.
+/// Fails if memory runs out. Only a load needs memory.
 pub fn command_of(alloc: Global, bytes: &[u8]) -> Result<Option<Command>, NoMemory>
     ensures some { IfOk result (λ found. IfSome found (λ c. Spells bytes.now c)) }
     ensures none { IfOk result (λ found. IfNone found ((c : Command) → Spells bytes.now c → ⊥)) }
@@ -202,8 +202,8 @@ pub fn command_of(alloc: Global, bytes: &[u8]) -> Result<Option<Command>, NoMemo
     read_command(alloc, bytes)
 }
 
-/// Shows that no bytes encode two different commands. (Each command has one encoding, because the
-/// definition gives one.)
+/// Proves that no bytes encode two different commands. (Each command has one encoding, because the
+/// definition of the encoding is a function.)
 pub fn one_command()
     ensures { (bytes : List ℕ) (c d : Command) → Spells bytes c → Spells bytes d → c ≡ d }
 {}

@@ -1,4 +1,4 @@
-//! Traits and functions that write and read values one after another.
+//! Traits and functions that write and read values in sequence.
 ghost use Rattle.std.specs.Prelude.{◌≡◌, ℕ, ◌+◌, ◌≤◌, ◌<◌, ◌∷◌, ◌++◌, List, [], length, take, option_map, Option, Some, None, if◌then◌else◌};
 ghost use Rattle.std.specs.List.{flat_map};
 ghost use Rattle.mcs_codec.specs.Reading.{small_at, many, counted_at};
@@ -8,7 +8,7 @@ use crate::reader::Reader;
 use arrayvec::ArrayVec;
 use mcs_nibble::{Addr, Bit, Nibble};
 
-/// A value that has one encoding.
+/// A type whose values each have one encoding.
 pub trait Encode {
     /// The encoding of the value.
     ghost spelling: { Self → List ℕ };
@@ -20,10 +20,10 @@ pub trait Encode {
         ensures front { take result out.new ≡ take at out.old ++ spelling self.now };
 }
 
-/// A value that can be read from the start of a sequence of bytes.
+/// A type whose values can be read from the start of a sequence of bytes.
 pub trait Decode: Sized + Drop {
-    /// The value at the start of the bytes, and the bytes after it, or `None` if there is no such
-    /// value.
+    /// The value at the start of the bytes, and the bytes after it, or `None` if the bytes do not
+    /// start with the encoding of a value.
     ghost reading: { List ℕ → Option (Self × List ℕ) };
 
     fn read(reader: &mut Reader<'_>) -> Option<Self>
@@ -41,7 +41,7 @@ pub fn put(out: &mut [u8], at: usize, bytes: &[u8]) -> usize
     end
 }
 
-/// Writes the values, one after another, to `out` at offset `at` and returns the offset after them.
+/// Writes the values in order to `out` at offset `at` and returns the offset after them.
 pub fn put_all<T: Encode>(items: &[T], out: &mut [u8], at: usize) -> usize
     requires { at + length (flat_map T.spelling items.now) ≤ length out.old }
     ensures end { result ≡ at + length (flat_map T.spelling items.now) }
@@ -54,7 +54,8 @@ pub fn put_all<T: Encode>(items: &[T], out: &mut [u8], at: usize) -> usize
     end
 }
 
-/// Reads a value into each item, or returns `None` if the bytes do not encode that many values.
+/// Reads a value into each element of `items`. Returns `None` if the bytes do not encode that many
+/// values.
 pub fn read_into<T: Decode>(reader: &mut Reader<'_>, items: &mut [T]) -> Option<()>
     ensures { option_map (λ _. (items.new, reader.new)) result
         ≡ many (length items.old) T.reading reader.old }
@@ -65,7 +66,7 @@ pub fn read_into<T: Decode>(reader: &mut Reader<'_>, items: &mut [T]) -> Option<
     Some(())
 }
 
-/// Reads `count` values, or returns `None` if the bytes do not encode that many.
+/// Reads `count` values. Returns `None` if the bytes do not encode that many.
 pub fn read_list<T: Decode + Default, const CAP: usize>(
     reader: &mut Reader<'_>,
     count: usize,
@@ -119,8 +120,8 @@ impl Decode for Addr {
     }
 }
 
-/// Reads a count and then that many values. It returns `None` if the count is above `CAP` or the
-/// bytes do not encode the values.
+/// Reads a one-byte count and then that many values. Returns `None` if the count is above `CAP` or
+/// the bytes do not encode the values.
 #[tactic(auto, unfolding(crate::specs::Reading::counted_at))]
 pub fn read_counted<T: Decode + Default, const CAP: usize>(
     reader: &mut Reader<'_>,
@@ -135,7 +136,8 @@ pub fn read_counted<T: Decode + Default, const CAP: usize>(
     }
 }
 
-/// Writes a count, and then each value, to `out` at offset `at` and returns the offset after them.
+/// Writes the number of values as one byte, and then the values, to `out` at offset `at`. Returns
+/// the offset after them.
 pub fn put_counted<T: Encode>(items: &[T], out: &mut [u8], at: usize) -> usize
     requires few { length items.now < 256 }
     requires room { at + length (counted_text T.spelling items.now) ≤ length out.old }

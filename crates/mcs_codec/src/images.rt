@@ -1,5 +1,5 @@
-//! The encoding of an image: a bit for each address that marks those with a byte, and then the
-//! bytes.
+//! The encoding of an image: one mark bit for each address, which is 1 if the image has a byte
+//! there, and then the bytes.
 ghost use Rattle.std.specs.Prelude.{◌≡◌, ℕ, ◌+◌, ◌*◌, ◌≤◌, ◌<◌, ◌∷◌, ◌++◌, List, [], length, take, map, slice_index, option_map, IfOk};
 ghost use Rattle.mcs_nibble.specs.Tables.{table_of};
 ghost use Rattle.mcs_codec.specs.CommandBytes.{mark, byte_of, mark_bytes, values, image_bytes};
@@ -14,10 +14,10 @@ use std::alloc::{AllocError, Global};
 /// The number of ROM addresses.
 const ADDRESSES: usize = 4096;
 
-/// The number of bytes that the marks occupy, with one bit for each address.
+/// The size of an image's marks, in bytes: one bit for each address.
 const MARK_BYTES: usize = 512;
 
-/// An address, and the byte of an image there.
+/// An address and the byte of an image at that address.
 type AddressedByte = (Addr, u8);
 
 /// Returns 1 for each address at which the image has a byte, and 0 for all others.
@@ -31,8 +31,8 @@ fn marks_of(image: &[AddressedByte]) -> [Bit; ADDRESSES]
     marks
 }
 
-/// Packs the marks of the eight addresses from `at` on into a byte, the first mark in the lowest
-/// bit.
+/// Returns a byte with the marks of the eight addresses that start at `at`. The first mark is the
+/// lowest bit.
 fn mark_byte(marks: &[Bit], at: usize) -> u8
     requires { at + 8 ≤ length marks.now }
     ensures { result ≡ byte_of (λ k. slice_index marks.now (at + k)) }
@@ -63,7 +63,7 @@ impl Encode for AddressedByte {
     }
 }
 
-/// Writes the bytes of an image, in ascending order of address, and returns the offset after them.
+/// Writes the bytes of an image in ascending order of address. Returns the offset after them.
 fn put_values(image: &[AddressedByte], out: &mut [u8], at: usize) -> usize
     requires { at + length (values image.now) ≤ length out.old }
     ensures end { result ≡ at + length (values image.now) }
@@ -83,7 +83,7 @@ pub fn put_image(image: &Image, out: &mut [u8], at: usize) -> usize
     put_values(addressed, out, at)
 }
 
-/// Returns the mark of an address.
+/// Returns the mark of an address, 0 or 1, from the packed marks.
 #[tactic(auto, unfolding(crate::specs::CommandReading::mark_bit))]
 fn mark_bit(marks: &[u8], at: u16) -> u8
     requires marks { length marks.now ≡ 512 }
@@ -93,8 +93,8 @@ fn mark_bit(marks: &[u8], at: u16) -> u8
     marks[usize::from(at / 8)] >> (at % 8) & 1
 }
 
-/// Reads the bytes of the marked addresses, in ascending order of address. It returns `None` if
-/// there are too few bytes, and fails if memory runs out.
+/// Reads one byte for each marked address, in ascending order of address. Returns `None` if too few
+/// bytes are left. Fails if memory runs out.
 fn read_addressed(
     alloc: Global,
     reader: &mut Reader<'_>,
@@ -117,8 +117,8 @@ fn read_addressed(
     Ok(Some(image))
 }
 
-/// Reads an image: the marks of its addresses, and then its bytes. It returns `None` if there are
-/// too few bytes, and fails if memory runs out.
+/// Reads an image: the marks of its addresses, and then its bytes. Returns `None` if too few bytes
+/// are left. Fails if memory runs out.
 #[tactic(auto, unfolding(crate::specs::CommandReading::image_at))]
 pub fn read_image(alloc: Global, reader: &mut Reader<'_>) -> Result<Option<Image>, AllocError>
     ensures { IfOk result (λ found. option_map (λ x. (x, reader.new)) found ≡ image_at reader.old) }

@@ -1,4 +1,4 @@
-//! Laws about migration: a state of version 1, and the state of version 2 that it is converted to.
+//! Laws about migration, the conversion of a state of version 1 to a state of version 2.
 ghost use Rattle.std.specs.Prelude.{◌≡◌, ℕ, List};
 ghost use Rattle.mcs_model.specs.BenchState.{BenchState};
 ghost use Rattle.mcs_model.specs.Bus.{BusState};
@@ -9,10 +9,10 @@ ghost use Rattle.mcs_codec.specs.Codec.{SpellsState, SpellsState1};
 use crate::versions::one_state;
 use mcs_version1::laws::{commands_lift, queries_lift};
 
-/// Shows that version 1 keeps its meaning. In a converted state, version 2 rejects, executes and
+/// Proves that version 1 keeps its meaning. In a converted state, version 2 rejects, executes and
 /// answers each command of version 1 as version 1 did. It answers each query of version 1 with the
-/// same text. Any text that depends only on the board and the contents of its chips is also the
-/// same. The answers to `list` and to `board` are such texts.
+/// same text. Any text that depends only on the board and the contents of its chips also stays the
+/// same, for example the answers to `list` and `board`.
 pub fn version_1_keeps_its_meaning()
     ensures commands { CommandsLift }
     ensures folds { FoldsLift }
@@ -24,7 +24,7 @@ pub fn version_1_keeps_its_meaning()
     queries_lift();
 }
 
-/// Shows that no bytes encode both a state of version 2 and a state of version 1.
+/// Proves that no bytes encode both a state of version 2 and a state of version 1.
 pub fn no_bytes_of_both_versions()
     ensures { (bytes : List ℕ) (s : BenchState) (t : BenchState1)
         → SpellsState bytes s → SpellsState1 bytes t → ⊥ }

@@ -1,4 +1,4 @@
-//! The encoding of a [`Place`].
+//! The encoding of a [`Place`]: a location that `poke` sets, with its new value.
 ghost use Rattle.std.specs.Prelude.{◌≡◌, ℕ, ◌+◌, ◌≤◌, ◌∷◌, ◌++◌, List, [], length, take, option_map, Option, Some, None};
 ghost use Rattle.mcs_codec.specs.CommandBytes.{place_bytes, IsPlace};
 ghost use Rattle.mcs_codec.specs.CommandReading.{place_at};
@@ -105,7 +105,7 @@ impl Encode for Place {
     }
 }
 
-/// Shows that each number of a [`Place`] is in its range.
+/// Proves that each number of a [`Place`] is in its range.
 pub fn place_is_in_range(place: Place)
     ensures { IsPlace place }
 {

@@ -7,7 +7,7 @@ ghost use Rattle.mcs_codec.specs.StateReading.{version_at};
 use crate::versions::Version;
 use std::marker::Model;
 
-/// The bytes that are not yet read. After a method returned `None`, they can be anything.
+/// The bytes that are not read yet. After a method has returned `None`, they are unspecified.
 #[derive(Drop)]
 pub struct Reader<'a> {
     rest: &'a [u8],
@@ -22,7 +22,7 @@ impl<'a> Model for Reader<'a> {
 }
 
 impl<'a> Reader<'a> {
-    /// Creates a reader of all these bytes.
+    /// Returns a reader of the bytes `rest`.
     pub fn new(rest: &'a [u8]) -> Reader<'a>
         ensures { result ≡ rest.now }
     {
@@ -36,7 +36,7 @@ impl<'a> Reader<'a> {
         self.rest.is_empty()
     }
 
-    /// Reads one byte, or returns `None` if no byte is left.
+    /// Reads one byte. Returns `None` if no byte is left.
     pub fn byte(&mut self) -> Option<u8>
         ensures { option_map (λ x. (x, self.new)) result ≡ byte_at self.old }
     {
@@ -45,8 +45,9 @@ impl<'a> Reader<'a> {
         Some(*first)
     }
 
-    /// Reads the version from the next byte. In version 1 this byte is a port character, which is
-    /// not consumed. It returns `None` if no byte is left or the byte names no version.
+    /// Reads the version from the next byte, which is 2 in version 2. In version 1, it is a port
+    /// character of the board (`i`, `0`, `1` or `-`) and is not consumed. Returns `None` for any
+    /// other byte, or if no byte is left.
     #[tactic(auto, unfolding(crate::specs::StateReading::version_at))]
     pub fn version(&mut self) -> Option<Version>
         ensures { option_map (λ x. (x, self.new)) result ≡ version_at self.old }
@@ -62,7 +63,7 @@ impl<'a> Reader<'a> {
         }
     }
 
-    /// Reads a two-byte number, the high byte first, or returns `None` if fewer bytes are left.
+    /// Reads a two-byte number, high byte first. Returns `None` if fewer than two bytes are left.
     pub fn number(&mut self) -> Option<u16>
         ensures { option_map (λ x. (x, self.new)) result ≡ wide_number_at w16 self.old }
     {
@@ -74,7 +75,8 @@ impl<'a> Reader<'a> {
         Some(u16::from_be_bytes([front[0], front[1]]))
     }
 
-    /// Reads a four-byte number, the highest byte first, or returns `None` if fewer bytes are left.
+    /// Reads a four-byte number, highest byte first. Returns `None` if fewer than four bytes are
+    /// left.
     pub fn long_number(&mut self) -> Option<u32>
         ensures { option_map (λ x. (x, self.new)) result ≡ wide_number_at w32 self.old }
     {
@@ -86,7 +88,7 @@ impl<'a> Reader<'a> {
         Some(u32::from_be_bytes([front[0], front[1], front[2], front[3]]))
     }
 
-    /// Reads `count` bytes, or returns `None` if fewer are left.
+    /// Reads `count` bytes. Returns `None` if fewer are left.
     #[tactic(auto, unfolding(crate::specs::Reading::bytes_at))]
     pub fn bytes(&mut self, count: usize) -> Option<&'a [u8]>
         ensures read { option_map (λ x. (x.now, self.new)) result ≡ bytes_at count self.old }
@@ -100,7 +102,7 @@ impl<'a> Reader<'a> {
         Some(front)
     }
 
-    /// Fills `cells` with the next bytes, or returns `None` if too few are left.
+    /// Fills `cells` with the next bytes. Returns `None` if too few bytes are left.
     #[tactic(auto, unfolding(crate::specs::Reading::bytes_at))]
     pub fn fill(&mut self, cells: &mut [u8]) -> Option<()>
         ensures { option_map (λ _. (cells.new, self.new)) result

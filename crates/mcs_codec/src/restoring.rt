@@ -34,8 +34,8 @@ impl Decode for u16 {
     }
 }
 
-/// Reads a board of the given version; in version 1 it must be small (`is_small`). It returns
-/// `None` if the bytes do not encode such a board.
+/// Reads a board in the given version. Returns `None` if the bytes do not encode a board, or if the
+/// version is 1 and the board is too large for it (`is_small`).
 #[tactic(auto, unfolding(crate::specs::StateReading::board_by))]
 fn read_board_by(version: Version, reader: &mut Reader<'_>) -> Option<Board>
     ensures { option_map (λ x. (x, reader.new)) result ≡ board_by version reader.old }
@@ -47,8 +47,8 @@ fn read_board_by(version: Version, reader: &mut Reader<'_>) -> Option<Board>
     }
 }
 
-/// Reads the version and the board. When a state is read, only this function determines the
-/// version. It returns `None` if the bytes do not encode a version and a board.
+/// Reads the version and then the board. This is the only step in reading a state that determines
+/// its version. Returns `None` if the bytes do not encode a version and a board.
 #[tactic(auto, unfolding(crate::specs::StateReading::versioned_board_at))]
 fn read_versioned_board(reader: &mut Reader<'_>) -> Option<(Version, Board)>
     ensures { option_map (λ x. (x, reader.new)) result ≡ versioned_board_at reader.old }
@@ -58,7 +58,7 @@ fn read_versioned_board(reader: &mut Reader<'_>) -> Option<(Version, Board)>
     Some((version, board))
 }
 
-/// Fills `cells` with the next bytes, or returns `None` if too few are left.
+/// Fills `cells` with the next bytes. Returns `None` if too few bytes are left.
 fn read_cells(reader: &mut Reader<'_>, cells: &mut Cells) -> Option<()>
     ensures { option_map (λ _. (cells.new, reader.new)) result
         ≡ bytes_at (length cells.old) reader.old }
@@ -70,7 +70,7 @@ fn read_cells(reader: &mut Reader<'_>, cells: &mut Cells) -> Option<()>
     Some(())
 }
 
-/// Reads `count` bytes, or returns `None` if fewer are left.
+/// Reads `count` bytes. Returns `None` if fewer are left.
 fn read_bytes<const CAP: usize>(reader: &mut Reader<'_>, count: usize) -> Option<ArrayVec<u8, CAP>>
     requires { count ≤ CAP }
     ensures { option_map (λ v. (v.items, reader.new)) result ≡ bytes_at count reader.old }
@@ -83,7 +83,7 @@ fn read_bytes<const CAP: usize>(reader: &mut Reader<'_>, count: usize) -> Option
     Some(items)
 }
 
-/// Reads the bits of each chain, or returns `None` if too few bytes are left.
+/// Reads the bits of each chain, one byte for each bit. Returns `None` if too few bytes are left.
 fn read_chains(reader: &mut Reader<'_>, chains: &[ChainPart]) -> Option<ArrayVec<ChainBits, CHAINS>>
     requires few { length chains.now ≤ CHAINS }
     requires short { All (λ c. c.chips ≤ CHAIN_CHIPS) chains.now }
@@ -97,7 +97,8 @@ fn read_chains(reader: &mut Reader<'_>, chains: &[ChainPart]) -> Option<ArrayVec
     Some(read)
 }
 
-/// Reads the watches, or returns `None` if the bytes do not encode them. Version 1 has no watches.
+/// Reads the watches; version 1 has none and reads no bytes. Returns `None` if the bytes do not
+/// encode the watches.
 #[tactic(auto, unfolding(crate::specs::StateReading::watches_at))]
 fn read_watches(version: Version, reader: &mut Reader<'_>) -> Option<ArrayVec<u16, WATCHES>>
     ensures { option_map (λ x. (x.items, reader.new)) result ≡ watches_at version reader.old }
@@ -108,8 +109,8 @@ fn read_watches(version: Version, reader: &mut Reader<'_>) -> Option<ArrayVec<u1
     }
 }
 
-/// Reads the fields of a state into `flat` and returns the state's version. It returns `None` if
-/// the bytes do not encode these fields.
+/// Reads the fields of a state into `flat` and returns the state's version. Returns `None` if the
+/// bytes do not encode these fields.
 #[tactic(auto, unfolding(crate::specs::StateReading::state_at))]
 fn read_state(reader: &mut Reader<'_>, flat: &mut Flat) -> Option<Version>
     requires { HasCells (state_of flat.old).bus }
@@ -141,8 +142,8 @@ fn read_state(reader: &mut Reader<'_>, flat: &mut Flat) -> Option<Version>
     Some(version)
 }
 
-/// Reads all of these bytes as the fields of a state, and returns the state's version. It returns
-/// `None` if the bytes do not encode these fields.
+/// Reads all of the bytes as the fields of a state, and returns the state's version. Returns `None`
+/// if the bytes do not encode these fields.
 fn read_whole(bytes: &[u8], flat: &mut Flat) -> Option<Version>
     requires { HasCells (state_of flat.old).bus }
     ensures { option_map (λ version. (version, state_of flat.new)) result
@@ -157,9 +158,9 @@ fn read_whole(bytes: &[u8], flat: &mut Flat) -> Option<Version>
     }
 }
 
-/// Returns the number of the version that the byte after the count of commands names. It returns
-/// `None` if there is no such byte or it names no version. If the bytes encode a state, they encode
-/// it in this version.
+/// Returns the number of the version, 1 or 2, that the fifth byte determines. Returns `None` if
+/// there is no fifth byte or it determines no version. If the bytes encode a state, they encode it
+/// in this version.
 pub fn version_of(bytes: &[u8]) -> Option<u8>
     ensures { result ≡ option_map version_number (version_of bytes.now) }
 {
@@ -171,12 +172,13 @@ pub fn version_of(bytes: &[u8]) -> Option<u8>
     Some(version.number())
 }
 
-/// Returns the version of these bytes and the bench whose state they encode, or `None` if they do
-/// not encode a state. A state of version 1 is converted to version 2, without watches.
+/// Returns the bench whose state the bytes encode, and the version of the encoding. Returns `None`
+/// if the bytes do not encode a state. A state of version 1 is converted to version 2, without
+/// watches.
 ///
 /// # Errors
 ///
-/// If memory runs out.
+/// Fails if memory runs out.
 pub fn versioned_bench_of(alloc: Global, bytes: &[u8]) -> Result<Option<(Version, Bench)>, NoMemory>
     ensures some { IfOk result (λ found.
         IfSome found (λ x. SpellsStateBy x.0 bytes.now x.1)) }
@@ -194,12 +196,12 @@ pub fn versioned_bench_of(alloc: Global, bytes: &[u8]) -> Result<Option<(Version
     Ok(Some((version, bench)))
 }
 
-/// Returns the bench whose state these bytes encode, in either version, or `None` if they do not
-/// encode a state. A state of version 1 is converted to version 2, without watches.
+/// Returns the bench whose state the bytes encode in either version. Returns `None` if the bytes do
+/// not encode a state. A state of version 1 is converted to version 2, without watches.
 ///
 /// # Errors
 ///
-/// If memory runs out.
+/// Fails if memory runs out.
 pub fn bench_of(alloc: Global, bytes: &[u8]) -> Result<Option<Bench>, NoMemory>
     ensures some { IfOk result (λ found. IfSome found (λ s. SpellsInSomeVersion bytes.now s)) }
     ensures none { IfOk result (λ found.

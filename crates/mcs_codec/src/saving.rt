@@ -13,13 +13,14 @@ use crate::versions::Version;
 use mcs_bench::{Bench, ChipList};
 use mcs_model::limits::SNAPSHOT_BYTES;
 
-/// The size of a buffer for an encoded state: the maximum length of a snapshot. No state is longer.
+/// The size, in bytes, of a buffer for an encoded state: the maximum length of a snapshot. No
+/// encoded state is longer.
 pub const STATE_BYTES: usize = SNAPSHOT_BYTES;
 
-/// A list in a bench's state that is written item by item.
+/// A list in a bench's state that is written as one byte for each item.
 #[derive(Clone, Copy)]
 pub enum StateList {
-    /// A list that is stored in the chips.
+    /// A list of values in the chips.
     Chips(ChipList),
     /// The port latches of the ROMs.
     RomPorts,
@@ -31,7 +32,7 @@ pub enum StateList {
     Keys,
 }
 
-/// Returns the state of the key at index `i`. Keys are counted row by row.
+/// Returns the state of the key at index `i`, counted row by row: 1 if it is down, 0 if it is up.
 fn key_at(bench: &Bench, i: usize) -> u8
     requires { i < key_count bench.now.bus.board }
     ensures { result ≡ slice_index bench.now.bus.keys i }
@@ -94,7 +95,7 @@ impl StateList {
     }
 }
 
-/// Writes the contents of the ROMs and the RAM chips, and their ports, and returns the offset after
+/// Writes the contents and the port latches of the ROMs and RAM chips. Returns the offset after
 /// them.
 fn put_memory(bench: &Bench, out: &mut [u8], at: usize) -> usize
     requires valid { IsValid bench.now }
@@ -110,7 +111,7 @@ fn put_memory(bench: &Bench, out: &mut [u8], at: usize) -> usize
 }
 
 /// Writes the accumulator, the carry, the index registers, the program counter and the return
-/// addresses, and returns the offset after them.
+/// addresses. Returns the offset after them.
 fn put_registers(bench: &Bench, out: &mut [u8], at: usize) -> usize
     requires valid { IsValid bench.now }
     requires room { at + length (registers_bytes bench.now.processor) ≤ length out.old }
@@ -124,8 +125,8 @@ fn put_registers(bench: &Bench, out: &mut [u8], at: usize) -> usize
     put_all(&registers.ret, out, at)
 }
 
-/// Writes the command register, the SRC bytes of the ROMs and of the banks, and the pending second
-/// cycle, and returns the offset after them.
+/// Writes the command register, the SRC bytes of the ROMs and of the banks, and the flag of a
+/// pending second cycle. Returns the offset after them.
 fn put_src_bytes(bench: &Bench, out: &mut [u8], at: usize) -> usize
     requires valid { IsValid bench.now }
     requires room { at + length (src_bytes bench.now.processor bench.now.bus) ≤ length out.old }
@@ -154,8 +155,8 @@ fn put_chains(bench: &Bench, out: &mut [u8], at: usize) -> usize
     end
 }
 
-/// Writes the bits of the chains, the states of the keys, TEST, and the breakpoints, and returns
-/// the offset after them.
+/// Writes the bits of the chains, the states of the keys, the TEST level and the breakpoints.
+/// Returns the offset after them.
 fn put_wiring(bench: &Bench, out: &mut [u8], at: usize) -> usize
     requires valid { IsValid bench.now }
     requires room { at + length (wiring_bytes bench.now.bus bench.now.breakpoints)
@@ -170,7 +171,8 @@ fn put_wiring(bench: &Bench, out: &mut [u8], at: usize) -> usize
     put_counted(bench.breaks(), out, at)
 }
 
-/// Writes the groups of fields after the board, and the watches, and returns the offset after them.
+/// Writes all fields after the board: memory, registers, SRC bytes, wiring and watches. Returns the
+/// offset after them.
 fn put_groups(bench: &Bench, out: &mut [u8], at: usize) -> usize
     requires valid { IsValid bench.now }
     requires room { at + length (after_board bench.now) ≤ length out.old }
@@ -198,7 +200,8 @@ fn put_state(bench: &Bench, into: &mut [u8]) -> usize
 }
 
 /// Writes the state of a bench to the start of `into` and returns its length, at most 7,632 bytes.
-/// It promises nothing about the bytes of `into` after it.
+/// The bytes of `into` after the state are unspecified. `into` must have at least `STATE_BYTES`
+/// bytes.
 pub fn state_bytes(bench: &Bench, into: &mut [u8]) -> usize
     requires lent { STATE_BYTES ≤ length into.old }
     ensures spells { SpellsState (take result into.new) bench.now }

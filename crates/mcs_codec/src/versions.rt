@@ -37,8 +37,8 @@ pub(crate) fn is_small(board: &Board) -> bool
     !has_long_chain(board)
 }
 
-/// Returns true if version 1 has this kind of [`Place`]. The match lists every kind, so that a new
-/// one is not added to version 1 unnoticed.
+/// Returns true if version 1 has this kind of [`Place`]. The match lists every kind, so a new kind
+/// must be added here before the code compiles.
 fn is_place_1(place: &Place) -> bool
     ensures { result ≡ is_place_1 place.now }
 {
@@ -54,8 +54,8 @@ fn is_place_1(place: &Place) -> bool
     }
 }
 
-/// Returns true if version 1 has a command. Version 1 has no watches, and its boards have fewer and
-/// shorter chains.
+/// Returns true if version 1 has this command. Version 1 has no watches, and its boards have fewer
+/// and shorter chains.
 pub fn in_version_1(command: &Command) -> bool
     ensures { result ≡ in_version_1 command.now }
 {
@@ -78,9 +78,9 @@ pub fn in_version_1(command: &Command) -> bool
 /// A version of the encoding of a session.
 #[derive(Clone, Copy, Debug, PartialEq, Eq)]
 pub enum Version {
-    /// The version that is read and converted, but never written.
+    /// The old version. States in it are read and converted, but never written.
     One,
-    /// The version that is written.
+    /// The current version, in which states are written.
     Two,
 }
 
@@ -95,7 +95,7 @@ impl Version {
         }
     }
 
-    /// Returns true if the version has a command.
+    /// Returns true if the version has this command.
     pub fn has(self, command: &Command) -> bool
         ensures { result ≡ has_command self command.now }
     {
@@ -106,9 +106,9 @@ impl Version {
     }
 }
 
-/// Shows that no bytes encode two different states, or states of both versions. The fifth byte
-/// names the version of the state that the bytes encode. (Each state has one encoding in each
-/// version that has it, because the definitions give one.)
+/// Proves that no bytes encode two different states, or states of both versions. If bytes encode a
+/// state, their fifth byte determines its version. (Each state has at most one encoding in a
+/// version, because its definition is a function.)
 pub fn one_state()
     ensures states { (bytes : List ℕ) (v w : Version) (s t : BenchState)
         → SpellsStateBy v bytes s → SpellsStateBy w bytes t → s ≡ t }

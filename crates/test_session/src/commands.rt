@@ -1,5 +1,5 @@
-//! Tests of command bytes that occur in no session: a command for a key that no board has, and a
-//! command of zero bytes.
+//! Tests of command bytes that occur in no session: a command for a key that no board has, and an
+//! empty command.
 use mcs_codec::{COMMAND_BYTES, command_bytes, command_of};
 use mcs_model::command::Command;
 use std::alloc::Global;
@@ -12,7 +12,8 @@ fn expect_bytes(rt: &impl Abort, command: &Command, want: &[u8]) {
     assert_eq!(rt; &bytes[..count], want);
 }
 
-/// Returns the command that the bytes encode, or none if they do not encode one.
+/// Returns the command that the bytes encode, or `None` if they do not encode one. Memory must not
+/// run out.
 fn read(rt: &impl Abort, alloc: Global, bytes: &[u8]) -> Option<Command> {
     command_of(alloc, bytes).expect(rt, "memory")
 }
@@ -29,8 +30,8 @@ fn expect_same(rt: &impl Abort, alloc: Global, want: &[u8]) {
     }
 }
 
-/// Checks that a command is encoded as the given bytes, and that decoding and encoding these bytes
-/// gives the same bytes.
+/// Checks that a command is encoded as the given bytes. Also checks that decoding these bytes and
+/// encoding the result gives the same bytes.
 fn expect_both(rt: &impl Abort, alloc: Global, command: &Command, want: &[u8]) {
     expect_bytes(rt, command, want);
     expect_same(rt, alloc, want);

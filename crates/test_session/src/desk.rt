@@ -23,7 +23,7 @@ pub(crate) fn blank(alloc: Global, rt: &impl Abort) -> MemDisk {
     MemDisk::new(alloc, FILE_SIZE).expect(rt, "memory")
 }
 
-/// Creates a session on a disk, and returns the result.
+/// Creates a session on a disk. Returns the session, or the fault and the disk.
 pub(crate) fn create<D: Disk + Drop>(
     alloc: Global,
     disk: D,
@@ -31,7 +31,7 @@ pub(crate) fn create<D: Disk + Drop>(
     Session::create(alloc, disk)
 }
 
-/// Returns a new session on a disk.
+/// Creates a session on a disk and returns it. Creation must not fail.
 pub(crate) fn made<D: Disk + Drop>(alloc: Global, rt: &impl Abort, disk: D) -> Session<D> {
     match create(alloc, disk) {
         Ok(session) => session,
@@ -39,12 +39,12 @@ pub(crate) fn made<D: Disk + Drop>(alloc: Global, rt: &impl Abort, disk: D) -> S
     }
 }
 
-/// Opens the session on a disk, and returns the result.
+/// Opens the session on a disk. Returns the session, or the fault and the disk.
 pub(crate) fn open<D: Disk + Drop>(alloc: Global, disk: D) -> Result<Session<D>, (StoreFault, D)> {
     Session::open(alloc, disk)
 }
 
-/// Returns the session that is stored on a disk.
+/// Opens the session on a disk and returns it. Opening must not fail.
 pub(crate) fn opened<D: Disk + Drop>(alloc: Global, rt: &impl Abort, disk: D) -> Session<D> {
     match open(alloc, disk) {
         Ok(session) => session,
@@ -57,7 +57,7 @@ pub(crate) fn bench_of<D: Disk + Drop>(session: &Session<D>) -> &Bench {
     session.bench()
 }
 
-/// Ends a session, and returns its disk.
+/// Ends a session and returns its disk.
 pub(crate) fn left<D: Disk + Drop>(session: Session<D>) -> D {
     session.into_disk()
 }
@@ -67,8 +67,8 @@ pub(crate) fn expect_seq<D: Disk + Drop>(alloc: Global, rt: &impl Abort, disk: D
     equal(rt, bench_of(&opened(alloc, rt, disk)).seq(), seq);
 }
 
-/// Checks that a disk stores a session that has accepted `seq` commands, and that a register has
-/// the given value.
+/// Checks that a disk stores a session that has accepted `seq` commands and has the given value in
+/// the given register.
 pub(crate) fn expect_register<D: Disk + Drop>(
     alloc: Global,
     rt: &impl Abort,
@@ -83,7 +83,7 @@ pub(crate) fn expect_register<D: Disk + Drop>(
     equal(rt, bench.regs().r[register].get(), value);
 }
 
-/// Applies a command to a session, and returns the result.
+/// Applies a command to a session. Returns the reply, or the fault.
 fn answer<D: Disk + Drop>(
     session: &mut Session<D>,
     command: &Command,
@@ -91,7 +91,7 @@ fn answer<D: Disk + Drop>(
     session.apply(command)
 }
 
-/// Checks that a session does not carry out a command, with the given fault.
+/// Checks that applying a command to a session fails with the given fault.
 pub(crate) fn expect_fault<D: Disk + Drop>(
     rt: &impl Abort,
     session: &mut Session<D>,
@@ -116,7 +116,7 @@ pub(crate) fn done<D: Disk + Drop>(rt: &impl Abort, session: &mut Session<D>, co
     expect_reply(rt, session, command, Reply::Done);
 }
 
-/// Checks that a session acknowledges a run, and that the run executes all its cycles.
+/// Checks that a session acknowledges a run, and that the run executes all of its cycles.
 pub(crate) fn run<D: Disk + Drop>(rt: &impl Abort, session: &mut Session<D>, cycles: u32) {
     let reply = Reply::Ran {
         cycles,
@@ -140,18 +140,18 @@ pub(crate) fn expect_bytes<D: Disk>(rt: &impl Abort, disk: &mut D, at: usize, wa
     assert_eq!(rt; &*found, want, "at {at}");
 }
 
-/// Overwrites bytes at an offset, as an interrupted write may have left them.
+/// Overwrites bytes of a disk at an offset, as an interrupted write can leave them.
 pub(crate) fn leave<D: Disk>(rt: &impl Abort, disk: &mut D, at: usize, bytes: &[u8]) {
     assert!(rt; at <= disk.size() && bytes.len() <= disk.size() - at);
     assert!(rt; disk.write(at, bytes).is_ok());
 }
 
-/// Returns a blank disk that fails each call after the first `calls`.
+/// Returns a blank disk on which every call after the first `calls` calls fails.
 pub(crate) fn fused(alloc: Global, rt: &impl Abort, calls: usize) -> FuseDisk {
     FuseDisk::after(blank(alloc, rt), calls)
 }
 
-/// Returns a disk that no longer fails any call.
+/// Repairs a disk, so that its calls no longer fail, and returns it.
 pub(crate) fn mended(mut disk: FuseDisk) -> FuseDisk {
     disk.mend();
     disk

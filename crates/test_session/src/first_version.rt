@@ -1,4 +1,5 @@
-//! Tests of a stop while a session of version 1 is migrated, which happens when it is first opened.
+//! Tests of a stop during the migration of a session of version 1, which happens when it is first
+//! opened.
 use crate::checks::equal;
 use crate::desk::{blank, expect_bytes, expect_register, leave, mended, open};
 use mcs_disk::{FuseDisk, MemDisk};
@@ -9,7 +10,7 @@ use std::process::Abort;
 
 const SECOND_SLOT: usize = 81_936;
 
-/// Returns a disk with a file of version 1: a new bench and the record of `poke r5 9`.
+/// Returns a disk with a file of version 1: a new bench, and the record of the command `poke r5 9`.
 fn one_register(alloc: Global, rt: &impl Abort) -> MemDisk {
     let mut disk = blank(alloc, rt);
     for (at, bytes) in NEW_BENCH {
@@ -19,8 +20,8 @@ fn one_register(alloc: Global, rt: &impl Abort) -> MemDisk {
     disk
 }
 
-/// Returns the disk after a stop that prevents the file of version 1 from opening, or none if the
-/// file opens. The disk fails each call after the first `calls`.
+/// Opens the file of version 1 on a disk on which every call after the first `calls` calls fails.
+/// Returns the repaired disk if opening fails, or `None` if the file opens.
 fn stopped(alloc: Global, rt: &impl Abort, calls: usize) -> Option<FuseDisk> {
     let disk = FuseDisk::after(one_register(alloc, rt), calls);
     match open(alloc, disk) {
@@ -44,7 +45,7 @@ fn count_calls(alloc: Global, rt: &impl Abort) -> usize {
     calls
 }
 
-/// Returns the disk after a stop `before` calls before the end of opening.
+/// Returns the disk of an opening that stopped `before` calls before its end.
 fn stopped_before(alloc: Global, rt: &impl Abort, calls: usize, before: usize) -> FuseDisk {
     assert!(rt; before <= calls);
     let call = calls - before;
@@ -54,7 +55,7 @@ fn stopped_before(alloc: Global, rt: &impl Abort, calls: usize, before: usize) -
     }
 }
 
-/// Checks the bytes on the disk after a stop `before` calls before the end of opening. The last
+/// Checks the bytes on the disk of an opening that stopped `before` calls before its end. The last
 /// four calls write the snapshot, sync it, write the selector, and sync it.
 fn expect_stage(rt: &impl Abort, disk: &mut FuseDisk, before: usize) {
     let (length, selector) = match before {

@@ -44,7 +44,7 @@ fn damage(rt: &impl Abort, disk: &mut MemDisk, at: usize, bytes: &[u8]) {
     disk.write(at, bytes).expect(rt, "a write");
 }
 
-/// Checks that the disk has the given snapshot and `records` copies of the record, and returns the
+/// Checks that the disk stores the given snapshot and `records` copies of `RECORD`. Returns the
 /// disk.
 fn expect_pair<D: Disk + Drop>(
     alloc: Global,
@@ -119,8 +119,9 @@ fn writes_the_format(rt: HostRuntime) -> Result<(), Fail> {
     Ok(())
 }
 
-/// Creates a store, appends a record and replaces the snapshot until a call fails, and returns the
-/// disk. The three operations make 5, 4 and 4 device calls.
+/// Creates a store, appends a record and replaces the snapshot, until a call fails. Every call
+/// after the first `passed` calls fails. Returns the disk. The three operations make 5, 4 and 4
+/// device calls.
 fn run_until_fault(alloc: Global, rt: &impl Abort, passed: usize) -> FuseDisk {
     let mut store = match Store::create(alloc, FuseDisk::after(blank(alloc, rt), passed), &SNAP) {
         Ok(store) => store,
@@ -232,7 +233,8 @@ fn makes_a_store_on_a_blank_disk_only(rt: HostRuntime) {
     }
 }
 
-/// Applies the laws of power cuts, which are proved for any two types of disks, to these two types.
+/// Applies the laws of power cuts to the two types of disks in memory. The laws are proved for all
+/// types of disks.
 #[test]
 fn laws_of_power_cuts_hold_of_disks_in_memory(_rt: HostRuntime) {
     read_bytes_are_an_image::<FuseDisk>();

@@ -1,5 +1,5 @@
-//! Tests of states as plain numbers whose lists have other lengths than the board requires. No file
-//! encodes such a state.
+//! Tests of states whose lists do not have the lengths that the board requires. No file encodes a
+//! state of this kind.
 use mcs_bench::Flat;
 use mcs_fixtures::boards::worked;
 use std::alloc::Global;

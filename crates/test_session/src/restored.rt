@@ -10,7 +10,7 @@ use mcs_nibble::Addr;
 use std::alloc::Global;
 use std::process::Abort;
 
-/// Returns a bench with the given state.
+/// Returns a bench in the given state, which must be valid.
 fn restored(alloc: Global, rt: &impl Abort, flat: &Flat) -> Bench {
     assert!(rt; flat.check());
     Bench::restore(alloc, flat).expect(rt, "memory")
@@ -49,7 +49,8 @@ fn jump(alloc: Global, rt: &impl Abort) -> Image {
     image
 }
 
-/// Returns a bench with the second cycle of a jump pending.
+/// Returns a bench that has executed only the first cycle of a jump, so that the second cycle is
+/// pending.
 fn owing(alloc: Global, rt: &impl Abort) -> Bench {
     let mut bench = Bench::new(alloc).expect(rt, "memory");
     let board = worked().expect(rt, "a board");
@@ -66,8 +67,7 @@ fn written(bench: &Bench) -> ([u8; STATE_BYTES], usize) {
     (bytes, count)
 }
 
-/// Checks that a pending second cycle survives writing and reading the state, together with
-/// everything else.
+/// Checks that encoding and decoding a state keeps a pending second cycle and all other values.
 #[test]
 fn an_owed_cycle(rt: HostRuntime) {
     let alloc = rt.alloc();

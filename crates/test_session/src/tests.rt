@@ -1,5 +1,5 @@
-//! Tests of sessions whose disk fails: the state that remains on the disk, and the answers of the
-//! session.
+//! Tests of sessions whose disk fails: the state that remains on the disk, and the results that the
+//! session returns.
 use crate::checks::equal;
 use crate::desk::{
     bench_of, done, expect_fault, expect_seq, fused, leave, left, made, mended, poke, run,
@@ -10,8 +10,8 @@ use mcs_session::session::Session;
 use std::alloc::Global;
 use std::process::Abort;
 
-/// Fills a log until only one byte remains, which holds a commit byte of 0. The log has 9,361
-/// records of seven bytes and one of eight.
+/// Fills the log of a session with 9,361 records of seven bytes and one of eight. One byte of the
+/// log remains: a commit byte of 0.
 fn fill_log<D: Disk + Drop>(rt: &impl Abort, session: &mut Session<D>) {
     let one = poke(rt, 0, 1);
     for _ in 0..9_361 {
@@ -20,7 +20,8 @@ fn fill_log<D: Disk + Drop>(rt: &impl Abort, session: &mut Session<D>) {
     run(rt, session, 1);
 }
 
-/// Returns the disk after a full log and a `poke r0 2` during which the disk failed.
+/// Fills the log of a session, then applies `poke r0 2`, during which the disk fails. Returns the
+/// repaired disk.
 fn stopped_in_the_turn(alloc: Global, rt: &impl Abort) -> FuseDisk {
     // Creating the session takes five calls, and each of the 9,362 commands takes four. Two more
     // calls write and sync the snapshot.
@@ -40,7 +41,8 @@ fn a_stop_in_the_turn_leaves_the_state_before(rt: HostRuntime) {
     }
 }
 
-/// Checks that the disk fails during `poke r5 9`, and that this closes the session.
+/// Checks that a device fault during `poke r5 9` closes the session, and that the bench has
+/// accepted no command.
 fn expect_close(rt: &impl Abort, session: &mut Session<FuseDisk>) {
     let command = poke(rt, 5, 9);
     expect_fault(rt, session, &command, SessionFault::Device);
@@ -52,7 +54,8 @@ fn expect_close(rt: &impl Abort, session: &mut Session<FuseDisk>) {
 #[test]
 fn a_session_is_closed_after_a_fault(rt: HostRuntime) {
     let alloc = rt.alloc();
-    // in the first row the write of the commit byte fails, in the second the sync after it
+    // In the first row, the write of the commit byte fails. In the second row, the sync after this
+    // write fails.
     for (calls, seq) in [(7, 0), (8, 1)] {
         let mut session = made(alloc, &rt, fused(alloc, &rt, calls));
         expect_close(&rt, &mut session);

@@ -3,6 +3,6 @@ use Rattle.mcs_codec.specs.Reading.{many}
 use Rattle.mcs_codec.proofs.Loops.{with_front}
 use Rattle.mcs_codec.proofs.encoding.read_into.Given as goal
 
--- the values so far, and those that are still read, are all
+-- the values already read, with those still to be read, are all values
 abbrev pub invariant-loop-i : goal.invariant-loop-i
 invariant-loop-i g l = with_front (take l.i l.items) (many (length l.items - l.i) g.T.Decode.reading l.reader) ≡ many (length l.fn.items) g.T.Decode.reading l.fn.reader

@@ -3,7 +3,7 @@ use Rattle.mcs_codec.specs.Reading.{many}
 use Rattle.mcs_codec.proofs.Loops.{with_front}
 use Rattle.mcs_codec.proofs.encoding.read_list.Given as goal
 
--- the values so far, and those that are still read, are all
+-- the values already read, with those still to be read, are all values
 abbrev pub invariant-loop : goal.invariant-loop
 invariant-loop g l = record {
   count : length l.items.items ≡ l.counter;

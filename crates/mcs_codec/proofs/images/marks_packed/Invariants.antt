@@ -2,7 +2,7 @@ use Rattle.std.proofs.Common.{◌≡◌, ℕ, ◌+◌, ◌*◌, ◌<◌, length,
 use Rattle.mcs_codec.specs.CommandBytes.{mark, byte_of}
 use Rattle.mcs_codec.proofs.images.marks_packed.Given as goal
 
--- the bytes so far are those of the map
+-- the first i bytes of `packed` are those of the packed marks
 abbrev pub invariant-loop-i : goal.invariant-loop-i
 invariant-loop-i l = record {
   len : length l.packed ≡ 512;

@@ -4,7 +4,7 @@ use Rattle.mcs_codec.specs.CommandReading.{addressed_at}
 use Rattle.mcs_codec.proofs.Loops.{with_front}
 use Rattle.mcs_codec.proofs.images.read_addressed.Given as goal
 
--- the bytes so far, and those that are still read, are all
+-- the bytes already read, with those still to be read, are all bytes of the image
 abbrev pub invariant-loop-at : goal.invariant-loop-at
 invariant-loop-at l = record {
   all : with_front l.image (addressed_at l.marks (4096 - l.at) l.at l.reader) ≡ addressed_at l.marks 4096 0 l.fn.reader;
